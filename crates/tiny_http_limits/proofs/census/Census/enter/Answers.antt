@@ -1,0 +1,14 @@
+use Rattle.std.proofs.Common.{◌≡◌, ◌+◌, ◌<◌, false, List, length, sym, ◌∙◌, subst, arith}
+use Rattle.tiny_http_limits.specs.declared.census.Guest.{Guest}
+use Rattle.tiny_http_limits.specs.Census.{Connected, is_address_full, IsKept}
+use Rattle.tiny_http_limits.proofs.CensusLemmas.{kept-with}
+use Rattle.tiny_http_limits.proofs.census.Census.enter.Goals as goal
+
+pub invariant_of-self : goal.invariant_of-self
+invariant_of-self g c =
+    let opened : Connected g.row.T.Denot = record { most = c.self.inside.most; most_of_address = c.self.inside.most_of_address; next = c.self.inside.next; guests = c.self.inside.guests.items } in
+    let room : length c.args.self.now.guests < c.args.self.now.most = grind (arith, c.is_full.ensures, c.if-is_full.false) in
+    let free : is_address_full c.args.self.now c.args.address ≡ false = sym c.is_address_full.ensures ∙ c.if-is_address_full.false in
+    let with_guests : List (Guest g.row.T.Denot) → Connected g.row.T.Denot = λ gs. record { most = opened.most; most_of_address = opened.most_of_address; next = opened.next + 1; guests = gs } in
+    subst (λ gs. IsKept (with_guests gs)) (sym {A = List (Guest g.row.T.Denot)} c.in-Ok.ensures.items)
+    (kept-with opened c.args.address c.args.item c.self.invariant (subst (λ v. length v.guests < v.most) (sym c.self.view_is) room) (subst (λ v. is_address_full v c.args.address ≡ false) (sym c.self.view_is) free))

@@ -1,0 +1,47 @@
+use Rattle.std.proofs.Common.{◌≡◌, List, Some, sym, ap, ◌∙◌, subst}
+use Rattle.std.specs.Prelude.{option_map, position}
+use Rattle.tiny_http_limits.specs.declared.census.Guest.{Guest}
+use Rattle.tiny_http_limits.specs.Census.{Connected, has_number, item_of, without, IsKept}
+use Rattle.tiny_http_limits.proofs.CensusLemmas.{no-place, nobody-found, all-stay, gone, its-item, kept-without}
+use Rattle.tiny_http_limits.proofs.census.Census.leave.Given as given
+use Rattle.tiny_http_limits.proofs.census.Census.leave.Goals as goal
+
+pub returns-in_err-at-clause-item : goal.returns-in_err-at-clause-item
+returns-in_err-at-clause-item g c =
+    let stay = no-place (has_number c.args.number) c.args.self.now.guests (sym c.in_err-at.ensures) in
+    c.from_residual.ensures ∙ sym (ap (option_map (λ x. x.item)) (nobody-found c.args.number c.args.self.now.guests stay))
+
+pub returns-in_err-at-clause-gone : goal.returns-in_err-at-clause-gone
+returns-in_err-at-clause-gone g c =
+    let stay = no-place (has_number c.args.number) c.args.self.now.guests (sym c.in_err-at.ensures) in
+    let with_guests : List (Guest g.row.T.Denot) → Connected g.row.T.Denot = λ gs. record c.args.self.now { guests = gs } in
+    ap with_guests (sym (all-stay c.args.number c.args.self.now.guests stay))
+
+-- the census as it was opened
+opened : (g : given.Over) → goal.After-remove g → Connected g.row.T.Denot
+opened g c = record { most = c.self.inside.most; most_of_address = c.self.inside.most_of_address; next = c.self.inside.next; guests = c.self.inside.guests.items }
+
+place : (g : given.Over) (c : goal.After-remove g) → Some c.in_ok-at.at ≡ position (has_number c.args.number) c.self.inside.guests.items
+place g c = c.in_ok-at.ensures ∙ ap (λ v. position (has_number c.args.number) v.guests) (sym c.self.view_is)
+
+one : (g : given.Over) (c : goal.After-remove g) → c.remove.new.self.items ≡ without c.args.number c.self.inside.guests.items
+unfolding opened
+one g c = gone c.args.number c.in_ok-at.at (opened g c) c.remove.new.self.items c.self.invariant (place g c) c.remove.ensures.items
+
+pub invariant_of-self : goal.invariant_of-self
+unfolding opened
+invariant_of-self g c =
+    let with_guests : List (Guest g.row.T.Denot) → Connected g.row.T.Denot = λ gs. record (opened g c) { guests = gs } in
+    subst (λ gs. IsKept (with_guests gs)) (sym (one g c)) (kept-without c.args.number (opened g c) c.self.invariant)
+
+pub returns-clause-item : goal.returns-clause-item
+returns-clause-item g c =
+    its-item c.args.number c.in_ok-at.at c.self.inside.guests.items c.remove.result (place g c) c.remove.ensures.value
+    ∙ ap (λ v. item_of c.args.number v.guests) c.self.view_is
+
+pub returns-clause-gone : goal.returns-clause-gone
+unfolding opened
+returns-clause-gone g c =
+    let with_guests : List (Guest g.row.T.Denot) → Connected g.row.T.Denot = λ gs. record (opened g c) { guests = gs } in
+    let leaves : Connected g.row.T.Denot → Connected g.row.T.Denot = λ v. record v { guests = without c.args.number v.guests } in
+    ap with_guests (one g c) ∙ ap leaves c.self.view_is

@@ -1,0 +1,4 @@
+pub mod Census
+pub mod Counts
+pub mod CountsText
+pub mod Times

@@ -1,0 +1,233 @@
+//! What a server counts.
+ghost use Rattle.std.specs.Prelude.{◌≡◌, Some};
+ghost use Rattle.tiny_http_limits.specs.Counts.{no_refusals, no_counts, add_count, one_more, with_refusal, with_closing, with_end};
+
+use std::fmt;
+
+/// The limit by which a connection was closed.
+#[derive(Clone, Copy, Debug, PartialEq, Eq)]
+pub enum Closing {
+    /// No byte of a head came in time.
+    Idle,
+    /// A head took too long.
+    Head,
+    /// A body took too long.
+    Body,
+    /// An answer wasn't taken in time.
+    Write,
+}
+
+/// What became of a connection.
+#[derive(Clone, Copy, Debug, PartialEq, Eq)]
+pub struct Summary {
+    /// So many requests were handed out.
+    pub requests: u64,
+    /// The status by which a head was refused that ended its requests.
+    pub refusal: Option<u16>,
+    /// The limit by which it was closed.
+    pub closing: Option<Closing>,
+}
+
+/// How many heads were refused, by the status of the answer.
+#[derive(Clone, Copy, Debug, PartialEq, Eq)]
+pub struct Refusals {
+    /// 400: a bad head.
+    pub bad_request: u64,
+    /// 408: a head that took too long.
+    pub request_timeout: u64,
+    /// 414: a target that is too long.
+    pub uri_too_long: u64,
+    /// 417: an expectation that isn't known.
+    pub expectation_failed: u64,
+    /// 431: a head that is too long.
+    pub header_fields_too_large: u64,
+    /// 501: a coding that isn't known.
+    pub not_implemented: u64,
+    /// 505: a version that isn't served.
+    pub version_not_supported: u64,
+    /// Each other status.
+    pub other: u64,
+}
+
+/// What a server has counted since it began. Each count stays at 2^64 - 1.
+#[derive(Clone, Copy, Debug, PartialEq, Eq)]
+pub struct Counts {
+    /// Clients that were admitted.
+    pub connections: u64,
+    /// Requests that were handed out.
+    pub requests: u64,
+    /// Heads that were refused, each the last of its connection.
+    pub refusals: Refusals,
+    /// Faults of accepting, after which it went on.
+    pub accept_faults: u64,
+    /// Clients that were closed at once, since as many of their address were connected as may be.
+    pub turned_away: u64,
+    /// Connections that were closed since no byte of a head came in time.
+    pub idle: u64,
+    /// Connections whose head took too long.
+    pub slow_heads: u64,
+    /// Connections whose body took too long.
+    pub slow_bodies: u64,
+    /// Connections whose answers weren't taken in time.
+    pub slow_writes: u64,
+}
+
+impl Refusals {
+    /// None was.
+    pub fn new() -> Refusals
+        ensures { result ≡ no_refusals }
+    {
+        Refusals {
+            bad_request: 0,
+            request_timeout: 0,
+            uri_too_long: 0,
+            expectation_failed: 0,
+            header_fields_too_large: 0,
+            not_implemented: 0,
+            version_not_supported: 0,
+            other: 0,
+        }
+    }
+
+    /// One more, of this status.
+    pub fn count(&mut self, status: u16)
+        ensures { self.new ≡ with_refusal status self.old }
+    {
+        match status {
+            400 => self.bad_request = one_more(self.bad_request),
+            408 => self.request_timeout = one_more(self.request_timeout),
+            414 => self.uri_too_long = one_more(self.uri_too_long),
+            417 => self.expectation_failed = one_more(self.expectation_failed),
+            431 => self.header_fields_too_large = one_more(self.header_fields_too_large),
+            501 => self.not_implemented = one_more(self.not_implemented),
+            505 => self.version_not_supported = one_more(self.version_not_supported),
+            _ => self.other = one_more(self.other),
+        }
+    }
+}
+
+impl Counts {
+    /// Nothing was counted yet.
+    pub fn new() -> Counts
+        ensures { result ≡ no_counts }
+    {
+        Counts {
+            connections: 0,
+            requests: 0,
+            refusals: Refusals::new(),
+            accept_faults: 0,
+            turned_away: 0,
+            idle: 0,
+            slow_heads: 0,
+            slow_bodies: 0,
+            slow_writes: 0,
+        }
+    }
+
+    /// One more client was admitted.
+    pub fn count_connection(&mut self)
+        ensures { self.new ≡ record self.old { connections = one_more self.old.connections } }
+    {
+        self.connections = one_more(self.connections);
+    }
+
+    /// One more fault of accepting.
+    pub fn count_accept_fault(&mut self)
+        ensures { self.new ≡ record self.old { accept_faults = one_more self.old.accept_faults } }
+    {
+        self.accept_faults = one_more(self.accept_faults);
+    }
+
+    /// One more client was turned away.
+    pub fn count_turned_away(&mut self)
+        ensures { self.new ≡ record self.old { turned_away = one_more self.old.turned_away } }
+    {
+        self.turned_away = one_more(self.turned_away);
+    }
+
+    /// So many requests more.
+    pub fn count_requests(&mut self, requests: u64)
+        ensures { self.new ≡ record self.old { requests = add_count self.old.requests requests } }
+    {
+        self.requests = self.requests.saturating_add(requests);
+    }
+
+    /// A connection ended so: its requests, its refusal and its limit are counted.
+    pub fn count_end(&mut self, summary: Summary)
+        ensures { self.new ≡ with_end summary self.old }
+    {
+        self.count_requests(summary.requests);
+        if let Some(status) = summary.refusal {
+            self.refusals.count(status);
+        }
+        if let Some(closing) = summary.closing {
+            self.count_closing(closing);
+        }
+    }
+
+    // One more connection was closed by this limit.
+    fn count_closing(&mut self, closing: Closing)
+        ensures { self.new ≡ with_closing closing self.old }
+    {
+        match closing {
+            Closing::Idle => self.idle = one_more(self.idle),
+            Closing::Head => self.slow_heads = one_more(self.slow_heads),
+            Closing::Body => self.slow_bodies = one_more(self.slow_bodies),
+            Closing::Write => self.slow_writes = one_more(self.slow_writes),
+        }
+    }
+}
+
+// One more, but 2^64 - 1 at most.
+fn one_more(count: u64) -> u64
+    ensures { result ≡ one_more count }
+{
+    count.saturating_add(1)
+}
+
+impl fmt::Display for Refusals {
+    ghost use Rattle.tiny_http_limits.specs.CountsText.{refusals_text};
+
+    ghost output = { λ r. Some (refusals_text r) };
+
+    /// Writes each status and its count, as `400:2 408:0 414:0 417:0 431:1 501:0 505:0 other:0`.
+    #[tactic(auto, unfolding(crate::specs::CountsText::refusals_text))]
+    fn fmt<W: fmt::Write>(&self, f: &mut fmt::Formatter<W>) -> fmt::Result {
+        write!(f, "400:{} 408:{} ", self.bad_request, self.request_timeout)?;
+        write!(
+            f,
+            "414:{} 417:{} ",
+            self.uri_too_long, self.expectation_failed
+        )?;
+        write!(
+            f,
+            "431:{} 501:{} ",
+            self.header_fields_too_large, self.not_implemented
+        )?;
+        write!(f, "505:{} other:{}", self.version_not_supported, self.other)
+    }
+}
+
+impl fmt::Display for Counts {
+    ghost use Rattle.tiny_http_limits.specs.CountsText.{counts_text};
+
+    ghost output = { λ c. Some (counts_text c) };
+
+    /// Writes the counts in one line, as `connections 3, requests 12, refused 400:1 .. other:0, accept faults 0, closed: turned away 0,
+    /// idle 1, head 0, body 0, write 0`.
+    fn fmt<W: fmt::Write>(&self, f: &mut fmt::Formatter<W>) -> fmt::Result {
+        write!(
+            f,
+            "connections {}, requests {}, refused {}, accept faults {}, closed: turned away {}, idle {}, head {}, body {}, write {}",
+            self.connections,
+            self.requests,
+            self.refusals,
+            self.accept_faults,
+            self.turned_away,
+            self.idle,
+            self.slow_heads,
+            self.slow_bodies,
+            self.slow_writes,
+        )
+    }
+}
