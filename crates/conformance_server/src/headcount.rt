@@ -1,0 +1,17 @@
+//! A number of those who are in.
+use crate::same::{assert_holds, assert_same};
+use tiny_http::headcount::Headcount;
+
+#[test]
+fn three_enter_and_leave(rt: HostRuntime) {
+    let mut heads = Headcount::new();
+    for _ in 0..3u8 {
+        assert_holds(&rt, "one enters", heads.enter());
+    }
+    assert_same(&rt, heads.count(), 3);
+    for _ in 0..3u8 {
+        assert_holds(&rt, "one leaves", heads.leave());
+    }
+    assert_holds(&rt, "nobody is in", !heads.leave());
+    assert_same(&rt, heads.count(), 0);
+}
