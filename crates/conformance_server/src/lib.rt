@@ -2,8 +2,6 @@
 #![tactic(auto)]
 
 #[cfg(test)]
-mod headcount;
-#[cfg(test)]
 mod messages_queue;
 #[cfg(test)]
 mod roster;

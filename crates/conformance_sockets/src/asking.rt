@@ -1,6 +1,6 @@
 //! One thread has what waits sent while another one writes.
 use crate::bench::Host;
-use crate::leaving::{Ends, ends_of};
+use crate::leaving::{Ends, HalfWriter, ends_of};
 use std::alloc::Global;
 use std::io::Read;
 use std::os::unix::net::UnixStream;
@@ -11,7 +11,6 @@ use std::time::Duration;
 use tiny_http::cork::Cork;
 use tiny_http::device::{WriteDevice, put};
 use tiny_http::refined_tcp_stream::RefinedTcpStream;
-use tiny_http::server::ServerWriter;
 
 // So often both threads begin at once.
 const ROUNDS: usize = 1_000;
@@ -21,7 +20,7 @@ const LENGTH: usize = 8_000;
 
 // Writes a byte, which is left, and a long piece while the other thread has the byte sent. Then all is sent. In every other round
 // a flush leaves the byte too.
-fn write_rounds<R: Host>(rt: &R, mut writer: ServerWriter<R>, barrier: &Barrier) {
+fn write_rounds<R: Host>(rt: &R, mut writer: HalfWriter<R>, barrier: &Barrier) {
     let piece = [b'b'; LENGTH];
     for round in 0..ROUNDS {
         barrier.wait(rt);

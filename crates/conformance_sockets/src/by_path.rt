@@ -17,7 +17,7 @@ pub type Kept<R> = MessagesQueue<ServerRequest<R>>;
 
 // Answers by the path of a request.
 #[derive(Drop)]
-struct ByPath<R: Wait + Drop> {
+struct ByPath<R: Wait + Clock + Drop> {
     kept: Arc<Kept<R>>,
     keeps_all: bool,
 }
@@ -89,7 +89,7 @@ impl<R: Wait + Clock + Drop> Handler<R, ServerRequest<R>> for ByPath<R> {
 
 /// A thread that serves, and what its handler keeps.
 #[derive(Drop)]
-pub struct Serving<R: Wait + Drop> {
+pub struct Serving<R: Wait + Clock + Drop> {
     pub kept: Arc<Kept<R>>,
     // Whether it ended well.
     pub thread: JoinHandle<bool>,

@@ -10,17 +10,24 @@ use std::time::Duration;
 use tiny_http::client::ClientConnection;
 use tiny_http::common::StatusCode;
 use tiny_http::connection::Connection;
-use tiny_http::cork::{Cork, halves};
+use tiny_http::cork::{Cork, CorkedReader, CorkedWriter, halves};
 use tiny_http::refined_tcp_stream::RefinedTcpStream;
+use tiny_http::request::Request;
 use tiny_http::response::Response;
-use tiny_http::server::{ServerReader, ServerRequest, ServerWriter, current_date};
+use tiny_http::server::current_date;
+
+// What such a connection is read by.
+pub type HalfReader = CorkedReader<RefinedTcpStream, RefinedTcpStream>;
+
+// What it is written by.
+pub type HalfWriter<R> = CorkedWriter<RefinedTcpStream, R>;
 
 // A connection whose answers leave together, and its client.
 #[derive(Drop)]
 struct Pair<R: Wait + Drop> {
     peer: UnixStream,
     cork: Arc<Cork<RefinedTcpStream>>,
-    client: ClientConnection<ServerReader, ServerWriter<R>, R>,
+    client: ClientConnection<HalfReader, HalfWriter<R>, R>,
 }
 
 // The two halves of a connection whose answers leave together, and its client.
@@ -28,8 +35,8 @@ struct Pair<R: Wait + Drop> {
 pub struct Ends<R: Wait + Drop> {
     pub peer: UnixStream,
     pub cork: Arc<Cork<RefinedTcpStream>>,
-    pub reader: ServerReader,
-    pub writer: ServerWriter<R>,
+    pub reader: HalfReader,
+    pub writer: HalfWriter<R>,
 }
 
 // A connection's halves and its client, each read of whom waits so long at most.
@@ -67,7 +74,7 @@ fn pair_of<R: Host>(rt: &R, alloc: Global) -> Pair<R> {
 }
 
 // The next request, as a worker that serves takes it.
-fn next_of<R: Host>(rt: &R, pair: &mut Pair<R>) -> ServerRequest<R> {
+fn next_of<R: Host>(rt: &R, pair: &mut Pair<R>) -> Request<HalfReader, HalfWriter<R>, R> {
     let next = pair.client.next(current_date(rt)).expect(rt, "memory");
     pair.cork.send_unless_leaving();
     next.expect(rt, "a request")
@@ -82,7 +89,12 @@ fn answered_one<R: Host>(rt: &R, alloc: Global, sent: &str) -> Pair<R> {
 }
 
 // Answers by this text.
-fn respond<R: Host>(rt: &R, alloc: Global, request: ServerRequest<R>, answer: &str) {
+fn respond<R: Host>(
+    rt: &R,
+    alloc: Global,
+    request: Request<HalfReader, HalfWriter<R>, R>,
+    answer: &str,
+) {
     let response = text(alloc, answer).expect(rt, "memory");
     let sent = request.respond(response, current_date(rt));
     sent.expect(rt, "it is answered");

@@ -9,6 +9,7 @@ use std::net::{Net, TcpStream};
 use std::sync::Wait;
 use std::sync::ledger::{Blank, Ledger, Share};
 use std::thread;
+use std::time::Clock;
 use tiny_http::connection::SocketFiles;
 use tiny_http::roster::Roster;
 use tiny_http::server::{Server, ServerRequest};
@@ -18,7 +19,7 @@ const CLIENTS: usize = 40;
 
 // What the answering threads share.
 #[derive(Drop)]
-struct Shared<'a, L: Ledger, R: Net + SocketFiles + Wait + Drop> {
+struct Shared<'a, L: Ledger, R: Net + SocketFiles + Wait + Clock + Drop> {
     alloc: Global,
     server: &'a Server<R>,
     roster: &'a Roster<L>,

@@ -10,6 +10,7 @@ use std::alloc::Global;
 use std::collections::VecDeque;
 use std::net::{Net, TcpStream};
 use std::sync::{Arc, Wait};
+use std::time::Clock;
 use tiny_http::common::{Header, Method, StatusCode};
 use tiny_http::connection::SocketFiles;
 use tiny_http::response::Response;
@@ -87,7 +88,7 @@ pub enum Way {
 
 /// A server, its clients, and its requests that aren't answered yet.
 #[derive(Drop)]
-pub struct Stage<R: Net + SocketFiles + Wait + Drop> {
+pub struct Stage<R: Net + SocketFiles + Wait + Clock + Drop> {
     server: Option<Arc<Server<R>>>,
     // Who serves, where the server does.
     serving: Option<Serving<R>>,

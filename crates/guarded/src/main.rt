@@ -1,22 +1,32 @@
-//! Answers every request by `hello world`: `guarded [--lenient|--strict|--standard] ADDRESS`. It answers as `hello`, by a handler:
-//! each connection's worker answers that connection's requests itself. Heads are read under the profile that is named, or else
-//! under `Standard`.
+//! Answers every request by `hello world`, as a server on an open port: `guarded [--lenient|--strict|--standard] ADDRESS`. It answers
+//! as `hello`, by a handler: each connection's worker answers that connection's requests itself. Heads are read under the profile that is
+//! named, or else under `Standard`, and clients have the default limits. Once a minute, and when it stops, it prints what it has
+//! counted. It stops once a line `stop` comes on standard input, and waits then for what is open, for 10 seconds at most.
 #![tactic(auto)]
 
 ghost use Rattle.std.specs.Prelude.{◌≡◌};
 
 use std::alloc::{AllocError, Global};
-use std::io::{ErrorKind, Write};
+use std::io::{ErrorKind, Input, Write};
 use std::process::ExitCode;
 use std::rt::Env;
+use std::sync::atomic::{AtomicBool, Ordering};
 use std::sync::{Arc, Wait};
-use std::time::Clock;
-use std::{env, io};
+use std::time::{Clock, Duration};
+use std::{env, io, thread};
 use thiserror::Error;
-use tiny_http::Profile;
 use tiny_http::response::Response;
-use tiny_http::server::{Server, ServerError, ServerRequest, ServerRuntime, current_date};
+use tiny_http::server::{
+    Server, ServerConfig, ServerError, ServerRequest, ServerRuntime, current_date,
+};
 use tiny_http::serving::Handler;
+use tiny_http::{ConfigListenAddr, Limits, Profile};
+
+// So many seconds lie between two lines of what was counted.
+const REPORT_SECS: u64 = 60;
+
+// So many seconds a stop waits for what is open.
+const STOP_SECS: u64 = 10;
 
 /// Why nothing is served, or no longer.
 #[derive(Debug, Drop, Error)]
@@ -100,21 +110,97 @@ fn asked(words: &[String]) -> Result<(Profile, &str), GuardedFault> {
     }
 }
 
+// Listens at the address that the words name.
+fn listen<R: ServerRuntime>(
+    rt: R,
+    alloc: Global,
+    words: &[String],
+) -> Result<Arc<Server<R>>, GuardedFault> {
+    let (profile, address) = asked(words)?;
+    let addr = ConfigListenAddr::from_socket_addrs(&rt, alloc, address).map_err(ServerError::from)?;
+    let config = ServerConfig { addr, ssl: None };
+    let server = Server::with(rt, alloc, config, profile, Limits::new())?;
+    Ok(Arc::new(alloc, server).map_err(|_| AllocError)?)
+}
+
+// Stops the server once a line `stop` comes. Where the input ends before it does nothing more.
+fn stop_when_told<R: ServerRuntime + Input>(rt: &R, alloc: Global, server: &Server<R>) {
+    for _ in rt.forever() {
+        let mut line = String::new(alloc);
+        match rt.read_line(&mut line) {
+            Ok(n) if n > 0 => {}
+            _ => return,
+        }
+        if line.as_str().trim_end() == "stop" {
+            let _ = server.stop(Duration::from_secs(STOP_SECS));
+            return;
+        }
+    }
+}
+
+// Prints what the server has counted.
+fn print_counts<R: ServerRuntime, O: Write>(server: &Server<R>, out: &mut O) {
+    let counts = server.counts();
+    let _ = writeln!(out, "{counts}");
+    let _ = out.flush();
+}
+
+// Prints once a minute what the server has counted, until it has ended.
+fn report_counts<R: ServerRuntime, O: Write>(
+    rt: &R,
+    server: &Server<R>,
+    has_ended: &AtomicBool,
+    out: &mut O,
+) {
+    let mut seconds = 0u64;
+    for _ in rt.forever() {
+        if has_ended.load(Ordering::SeqCst) {
+            return;
+        }
+        thread::sleep(rt, Duration::from_secs(1));
+        seconds = (seconds + 1) % REPORT_SECS;
+        if seconds == 0 {
+            print_counts(server, out);
+        }
+    }
+}
+
+// Answers all requests, until the server is stopped or fails.
+fn answer_all<R: ServerRuntime>(
+    alloc: Global,
+    server: &Server<R>,
+    has_ended: &AtomicBool,
+) -> Result<(), GuardedFault> {
+    let served = match Arc::new(alloc, Hello) {
+        Ok(handler) => server.serve(alloc, &handler).map_err(GuardedFault::from),
+        Err(_) => Err(GuardedFault::OutOfMemory),
+    };
+    has_ended.store(true, Ordering::SeqCst);
+    served
+}
+
 // Listens at the address that the words name, and answers all requests.
-fn serve<R: ServerRuntime, O: Write>(
+fn serve<R: ServerRuntime + Sync + Input, O: Write + Send>(
     rt: R,
     alloc: Global,
     words: &[String],
     out: &mut O,
 ) -> Result<(), GuardedFault> {
-    let (profile, address) = asked(words)?;
-    let server = Server::http_with(rt, alloc, address, profile)?;
+    let server = listen(rt, alloc, words)?;
     let listens_at = server.server_addr();
     let _ = writeln!(out, "listening on {listens_at}");
     let _ = out.flush();
-    let handler = Arc::new(alloc, Hello).map_err(|_| AllocError)?;
-    server.serve(alloc, &handler)?;
-    Ok(())
+    let theirs = Arc::try_clone(&server)?;
+    let waits = thread::spawn(&rt, move || stop_when_told(&rt, alloc, &theirs));
+    drop(waits);
+    let has_ended = AtomicBool::new(false);
+    let (served, ()) = thread::join(
+        &rt,
+        || answer_all(alloc, &server, &has_ended),
+        || report_counts(&rt, &server, &has_ended, out),
+    );
+    print_counts(&server, out);
+    served
 }
 
 // Reports a fault by a line, and gives the exit status: 2 for what was asked wrongly, and 1 for what the system refused.
@@ -129,7 +215,7 @@ fn report<E: Write>(fault: &GuardedFault, err: &mut E) -> u8 {
 /// Listens at the address that the words name, says so on `out`, and answers every request by `hello world` until there are no
 /// more. Gives the exit status: 0; or 2 where the words aren't `[--lenient|--strict|--standard] ADDRESS`, and 1 where it can't
 /// listen there or serving ends by a fault, which a line on `err` says.
-pub fn guarded_on<R: ServerRuntime, O: Write, E: Write>(
+pub fn guarded_on<R: ServerRuntime + Sync + Input, O: Write + Send, E: Write>(
     rt: R,
     alloc: Global,
     words: &[String],

@@ -1,11 +1,12 @@
 pub mod Message
 pub mod ServerError
+pub mod ServerConfig
 pub mod Clock
 pub use Rattle.tiny_http_socket.specs.Connection
 pub use Rattle.tiny_http_socket.specs.Stream
 pub use Rattle.tiny_http_threads.specs.Queue
 pub use Rattle.tiny_http_threads.specs.Pool
-pub use Rattle.tiny_http_threads.specs.Headcount
+pub use Rattle.tiny_http_threads.specs.Roster
 pub use Rattle.tiny_http_request.specs.Request
 pub use Rattle.tiny_http_request.specs.Client
 pub use Rattle.tiny_http_request.specs.Body

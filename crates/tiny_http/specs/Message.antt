@@ -4,12 +4,14 @@ use Rattle.std.specs.declared.io.Error.{Error as IoError}
 use Rattle.tiny_http_socket.specs.declared.refined_tcp_stream.RefinedTcpStream.{RefinedTcpStream}
 use Rattle.tiny_http_corked.specs.declared.cork.CorkedReader.{CorkedReader}
 use Rattle.tiny_http_corked.specs.declared.cork.CorkedWriter.{CorkedWriter}
+use Rattle.tiny_http_paced.specs.declared.paced_reader.PacedReader.{PacedReader}
+use Rattle.tiny_http_paced.specs.declared.paced_writer.PacedWriter.{PacedWriter}
 use Rattle.tiny_http_request.specs.declared.request.Request.{Request}
 use Rattle.tiny_http.specs.declared.accepting.Message.{Message}
 use Rattle.tiny_http.specs.declared.accepting.Message.TheVariants.{Error, NewRequest, NewClient}
 
 -- the request or the fault that was popped; nothing of a mark, of an empty queue, or of a client that is to be served
-abbrev pub received : {R : Type 0} → Option (Message R) → Result (Option (Request (CorkedReader RefinedTcpStream RefinedTcpStream) (CorkedWriter RefinedTcpStream R) R)) IoError
+abbrev pub received : {R : Type 0} → Option (Message R) → Result (Option (Request (PacedReader (CorkedReader RefinedTcpStream (PacedWriter R)) R) (CorkedWriter (PacedWriter R) R) R)) IoError
 received (Some (Error fault)) = Err fault
 received (Some (NewRequest request)) = Ok (Some request)
 received (Some (NewClient client)) = Ok None

@@ -3,26 +3,36 @@
 ghost use Rattle.std.specs.Prelude.{◌≡◌};
 ghost use Rattle.tiny_http.specs.Message.{received};
 
+use crate::faults::passes;
+use crate::lobby::{Link, Lobby, Presence, time_of};
 use crate::server::{ServerReader, ServerRequest, ServerWriter, current_date};
 use crate::serving::Handler;
 use std::alloc::Global;
-use std::io;
 use std::net::{Shutdown, SocketAddr};
 use std::sync::atomic::{AtomicBool, Ordering};
-use std::sync::{Arc, Mutex, Wait};
+use std::sync::{Arc, Wait};
 use std::thread::Threads;
 use std::time::{Clock, Duration};
+use std::{io, thread};
 use tiny_http_core::framing::Profile;
 use tiny_http_corked::cork::{Cork, halves};
+use tiny_http_limits::backoff::Backoff;
+use tiny_http_limits::limits::Limits;
+use tiny_http_limits::times::time_left;
+use tiny_http_paced::pace::Pace;
+use tiny_http_paced::paced_reader::PacedReader;
+use tiny_http_paced::paced_writer::PacedWriter;
 use tiny_http_request::client::ClientConnection;
 use tiny_http_socket::connection::{Connection, Listener};
 use tiny_http_socket::refined_tcp_stream::RefinedTcpStream;
-use tiny_http_threads::headcount::Headcount;
 use tiny_http_threads::messages_queue::MessagesQueue;
 use tiny_http_threads::task_pool::{Job, TaskPool};
 
 // So many milliseconds a read waits for a client that was sent the end of the answers.
 const LINGER_MILLIS: u64 = 500;
+
+// So many seconds such reads go on at most, where the connection has limits.
+const LINGER_SECS: u64 = 5;
 
 // So many bytes one such read asks for, and so many reads there are at most: 64 MiB in all.
 const LINGER_PIECE: usize = 16_384;
@@ -31,7 +41,7 @@ const LINGER_READS: u32 = 4_096;
 
 /// What waits in a server's queue.
 #[derive(Drop)]
-pub(crate) enum Message<R: Wait + Drop> {
+pub(crate) enum Message<R: Wait + Clock + Drop> {
     /// The fault by which accepting ended.
     Error(io::Error),
     /// A request that was read.
@@ -40,7 +50,7 @@ pub(crate) enum Message<R: Wait + Drop> {
     NewClient(Arrival<R>),
 }
 
-impl<R: Wait + Drop> Message<R> {
+impl<R: Wait + Clock + Drop> Message<R> {
     /// What a pop of the queue is reported as: the request, or the fault. None where nothing but a mark was popped. A client that
     /// is to be served goes back into the queue, and there is no request either; it is closed where the queue has no room.
     pub fn received(
@@ -65,35 +75,12 @@ impl<R: Wait + Drop> Message<R> {
 /// The queue of a server.
 pub(crate) type Messages<R> = MessagesQueue<Message<R>>;
 
-// A client that counts as connected, until this is dropped.
-struct Presence<R: Wait + Drop> {
-    rt: R,
-    connections: Arc<Mutex<Headcount>>,
-}
-
-impl<R: Wait + Drop> Presence<R> {
-    // Counts one more. None where no number is left.
-    fn enter(rt: R, connections: &Arc<Mutex<Headcount>>) -> Option<Presence<R>> {
-        let connections = Arc::try_clone(connections).ok()?;
-        if !connections.lock(&rt).enter() {
-            return None;
-        }
-        Some(Presence { rt, connections })
-    }
-}
-
-impl<R: Wait + Drop> Drop for Presence<R> {
-    /// Counts one less.
-    fn drop(self) {
-        let Presence { rt, connections } = self;
-        connections.lock(&rt).leave();
-    }
-}
-
 // Closes a connection in stages, once all is answered (RFC 9112, section 9.6): sends the end, and then reads away what the
-// client still sends, until it closes, waits for too long or sends too much. A connection that is closed while bytes are unread
-// is reset, and the client may lose the last answer.
-fn close_in_stages(socket: &Connection) {
+// client still sends, until it closes, waits for too long or sends too much; under limits for 5 seconds at most. A connection
+// that is closed while bytes are unread is reset, and the client may lose the last answer.
+fn close_in_stages<R: Clock>(rt: &R, socket: &Connection, has_limits: bool) {
+    let begun = time_of(rt);
+    let most = Duration::from_secs(LINGER_SECS);
     let _ = socket.shutdown(Shutdown::Write);
     if socket
         .set_read_timeout(Duration::from_millis(LINGER_MILLIS))
@@ -105,6 +92,7 @@ fn close_in_stages(socket: &Connection) {
     for _ in 0..LINGER_READS {
         match socket.read_shared(&mut away) {
             Ok(0) | Err(_) => return,
+            Ok(_) if has_limits && time_left(begun, time_of(rt), most).is_none() => return,
             Ok(_) => {}
         }
     }
@@ -112,14 +100,15 @@ fn close_in_stages(socket: &Connection) {
 
 /// A client that was accepted. It is closed where it is dropped, but for the requests that are held.
 #[derive(Drop)]
-pub(crate) struct Client<R: Wait + Drop> {
+pub(crate) struct Client<R: Wait + Clock + Drop> {
     rt: R,
     close: Arc<AtomicBool>,
-    connection: ClientConnection<ServerReader, ServerWriter<R>, R>,
+    connection: ClientConnection<ServerReader<R>, ServerWriter<R>, R>,
     // What its two halves share.
-    cork: Arc<Cork<RefinedTcpStream>>,
+    cork: Arc<Cork<PacedWriter<R>>>,
     // To close it by.
     socket: Arc<Connection>,
+    has_limits: bool,
     // It counts until the connection is let go.
     presence: Presence<R>,
 }
@@ -176,14 +165,14 @@ impl<R: Wait + Clock + Copy> Client<R> {
     fn close(&mut self) {
         self.cork.send();
         if self.connection.wait_for_answers().is_ok() {
-            close_in_stages(&self.socket);
+            close_in_stages(&self.rt, &self.socket, self.has_limits);
         }
     }
 }
 
 /// A client that is to be served, and its next request, if that was read already.
 #[derive(Drop)]
-pub(crate) struct Arrival<R: Wait + Drop> {
+pub(crate) struct Arrival<R: Wait + Clock + Drop> {
     client: Client<R>,
     next: Option<ServerRequest<R>>,
 }
@@ -216,7 +205,7 @@ impl<R: Wait + Clock + Copy> Arrival<R> {
 
 /// A client whose requests are put into the queue.
 #[derive(Drop)]
-pub(crate) struct Reading<R: Wait + Drop> {
+pub(crate) struct Reading<R: Wait + Clock + Drop> {
     // None once that is done.
     client: Option<Client<R>>,
     messages: Arc<Messages<R>>,
@@ -244,29 +233,43 @@ impl<R: Wait + Clock + Copy> Job for Reading<R> {
 
 /// What the accepting thread has.
 #[derive(Drop)]
-pub(crate) struct Accepting<R: Wait + Drop> {
+pub(crate) struct Accepting<R: Wait + Clock + Drop> {
     pub rt: R,
     pub alloc: Global,
     pub profile: Profile,
+    pub limits: Option<Limits>,
     pub listener: Listener,
     pub close: Arc<AtomicBool>,
     // Set once the server serves.
     pub serving: Arc<AtomicBool>,
     pub messages: Arc<Messages<R>>,
-    pub connections: Arc<Mutex<Headcount>>,
+    pub lobby: Arc<Lobby>,
     pub pool: TaskPool<Reading<R>, R>,
 }
 
 impl<R: Wait + Clock + Threads + Copy + Send + 'static> Accepting<R> {
-    /// Accepts clients until the server is closed, or there is a fault, which is put into the queue.
+    /// Accepts clients until the server is closed, or there is a fault, which is put into the queue. Under limits it waits while as many
+    /// clients are connected as may be, and after a fault that passes.
     pub fn run(self) {
+        let mut backoff = Backoff::new();
         for _ in self.rt.forever() {
+            self.lobby.wait_for_place(&self.rt, &self.close);
+            if self.close.load(Ordering::SeqCst) {
+                return;
+            }
             let accepted = self.listener.accept();
             if self.close.load(Ordering::SeqCst) {
                 return;
             }
             match accepted {
-                Ok((connection, remote_addr)) => self.begin(connection, remote_addr),
+                Ok((connection, remote_addr)) => {
+                    backoff = Backoff::new();
+                    self.begin(connection, remote_addr);
+                }
+                Err(fault) if self.limits.is_some() && passes(&fault) => {
+                    self.lobby.count_accept_fault(&self.rt);
+                    thread::sleep(&self.rt, backoff.take());
+                }
                 Err(fault) => {
                     let _ = self.messages.push(&self.rt, Message::Error(fault));
                     return;
@@ -299,34 +302,64 @@ impl<R: Wait + Clock + Threads + Copy + Send + 'static> Accepting<R> {
         }
     }
 
-    // The client of this connection. None where memory was refused. That its small answers are sent at once (TCP_NODELAY) is
-    // asked for, but not needed.
+    // The client of this connection. None where memory was refused, or as many of its address are connected as may be. That its small
+    // answers are sent at once (TCP_NODELAY) is asked for, but not needed.
     fn client(&self, connection: Connection, remote_addr: Option<SocketAddr>) -> Option<Client<R>> {
         let _ = connection.set_nodelay(true);
-        let (reader, writer) = RefinedTcpStream::new(self.alloc, connection).ok()?;
+        let (rt, alloc) = (self.rt, self.alloc);
+        let (reader, writer) = RefinedTcpStream::new(alloc, connection).ok()?;
         let socket = Arc::try_clone(reader.connection()).ok()?;
         let close = Arc::try_clone(&self.close).ok()?;
-        let presence = Presence::enter(self.rt, &self.connections)?;
+        let pace = Pace::new(alloc, self.limits).ok()?;
+        let presence = self.enter(remote_addr, &socket, &pace)?;
+        if self.close.load(Ordering::SeqCst) {
+            // The server was stopped before the client was there.
+            return None;
+        }
         let secure = reader.secure();
-        let (rt, profile) = (self.rt, self.profile);
-        let (reader, writer) = halves(rt, self.alloc, reader, writer).ok()?;
+        let writer = PacedWriter::new(rt, writer, Arc::try_clone(&pace).ok()?);
+        let (reader, writer) = halves(rt, alloc, reader, writer).ok()?;
+        let reader = PacedReader::new(
+            rt,
+            reader,
+            Arc::try_clone(&socket).ok()?,
+            Arc::try_clone(&pace).ok()?,
+        );
         let cork = Arc::try_clone(writer.cork()).ok()?;
+        let profile = self.profile;
         let made = ClientConnection::over_with(
             rt,
-            self.alloc,
+            alloc,
             profile,
             writer,
             reader,
             remote_addr,
             secure,
         );
+        let mut connection = made.ok()?;
+        connection.set_pace(pace).ok()?;
         Some(Client {
-            rt: self.rt,
+            rt,
             close,
-            connection: made.ok()?,
+            connection,
             cork,
             socket,
+            has_limits: self.limits.is_some(),
             presence,
         })
+    }
+
+    // Has a client of this address count as connected. None where it may not be.
+    fn enter(
+        &self,
+        remote_addr: Option<SocketAddr>,
+        socket: &Arc<Connection>,
+        pace: &Arc<Pace>,
+    ) -> Option<Presence<R>> {
+        let link = Link {
+            socket: Arc::try_clone(socket).ok()?,
+            pace: Arc::try_clone(pace).ok()?,
+        };
+        Presence::enter(self.rt, &self.lobby, remote_addr, link)
     }
 }

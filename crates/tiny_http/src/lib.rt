@@ -22,13 +22,15 @@
 #![tactic(auto)]
 
 mod accepting;
+mod faults;
 pub mod laws;
+mod lobby;
 pub mod server;
 pub mod serving;
 
 pub use crate::server::{
     IncomingRequests, Server, ServerConfig, ServerError, ServerReader, ServerRequest,
-    ServerRuntime, ServerWriter, SslConfig, current_date,
+    ServerRuntime, ServerWriter, SslConfig, Stopped, current_date,
 };
 pub use crate::serving::Handler;
 pub use tiny_http_core::framing::Profile;
@@ -37,12 +39,15 @@ pub use tiny_http_core::{
     turns, upgrading,
 };
 pub use tiny_http_corked::{cork, corked, read_ahead, write_both};
+pub use tiny_http_limits::limits::Limits;
+pub use tiny_http_limits::{backoff, census, counts, limits, times};
+pub use tiny_http_paced::{pace, paced_reader, paced_writer};
 pub use tiny_http_request::request::{ReadWrite, Request};
 pub use tiny_http_request::test::TestRequest;
 pub use tiny_http_request::{client, request, test};
 pub use tiny_http_socket::connection::{ConfigListenAddr, ListenAddr, Listener};
 pub use tiny_http_socket::{connection, refined_tcp_stream};
-pub use tiny_http_threads::{headcount, messages_queue, roster, sequential, task_pool};
+pub use tiny_http_threads::{messages_queue, roster, sequential, task_pool};
 pub use tiny_http_wire::common::{HTTPVersion, Header, HeaderField, Method, StatusCode};
 pub use tiny_http_wire::response::{Response, ResponseBox};
 pub use tiny_http_wire::{

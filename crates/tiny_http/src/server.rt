@@ -4,6 +4,7 @@ ghost use Rattle.httpdate.specs.Date.{unix_secs};
 ghost use Rattle.tiny_http.specs.Clock.{seconds_of};
 
 use crate::accepting::{Accepting, Message, Messages};
+use crate::lobby::{Lobby, time_of};
 use httpdate::HttpDate;
 use std::alloc::{AllocError, Global};
 use std::io::ErrorKind;
@@ -11,17 +12,20 @@ use std::net::{Net, TcpListener, TcpStream, ToSocketAddrs};
 use std::os::unix::net::UnixStream;
 use std::path::{AsPath, Path, PathBuf};
 use std::sync::atomic::{AtomicBool, Ordering};
-use std::sync::{Arc, Mutex, Wait};
+use std::sync::{Arc, Wait};
 use std::thread::Threads;
 use std::time::{Clock, Duration};
 use std::{io, thread};
 use thiserror::Error;
 use tiny_http_core::framing::Profile;
 use tiny_http_corked::cork::{CorkedReader, CorkedWriter};
+use tiny_http_limits::counts::Counts;
+use tiny_http_limits::limits::Limits;
+use tiny_http_paced::paced_reader::PacedReader;
+use tiny_http_paced::paced_writer::PacedWriter;
 use tiny_http_request::request::Request;
 use tiny_http_socket::connection::{ConfigListenAddr, ListenAddr, Listener, SocketFiles};
 use tiny_http_socket::refined_tcp_stream::RefinedTcpStream;
-use tiny_http_threads::headcount::Headcount;
 use tiny_http_threads::messages_queue::MessagesQueue;
 use tiny_http_threads::task_pool::TaskPool;
 
@@ -55,13 +59,22 @@ where
 {}
 
 /// What a server reads a client by.
-pub type ServerReader = CorkedReader<RefinedTcpStream, RefinedTcpStream>;
+pub type ServerReader<R> = PacedReader<CorkedReader<RefinedTcpStream, PacedWriter<R>>, R>;
 
 /// What a server writes to a client by.
-pub type ServerWriter<R> = CorkedWriter<RefinedTcpStream, R>;
+pub type ServerWriter<R> = CorkedWriter<PacedWriter<R>, R>;
 
 /// A request of a server's client.
-pub type ServerRequest<R> = Request<ServerReader, ServerWriter<R>, R>;
+pub type ServerRequest<R> = Request<ServerReader<R>, ServerWriter<R>, R>;
+
+/// How a call that stops a server ended.
+#[derive(Clone, Copy, Debug, PartialEq, Eq)]
+pub enum Stopped {
+    /// All that was handed out is answered, and each connection is closed.
+    Answered,
+    /// The time is over, and some client is still connected.
+    TimeOver,
+}
 
 /// Why no server is made.
 #[derive(Debug, Drop, Error)]
@@ -109,6 +122,40 @@ pub struct SslConfig {
     pub private_key: Vec<u8>,
 }
 
+impl ServerConfig {
+    ghost use Rattle.std.specs.Prelude.{IfOk};
+    ghost use Rattle.tiny_http.specs.ServerConfig.{IsConfigCopy};
+
+    /// A copy. An error where memory was refused.
+    pub fn try_clone(&self) -> Result<ServerConfig, AllocError>
+        ensures { IfOk result (λ copy. IsConfigCopy self.now copy) }
+    {
+        let addr = self.addr.try_clone()?;
+        let ssl = match &self.ssl {
+            Some(ssl) => Some(ssl.try_clone()?),
+            None => None,
+        };
+        Ok(ServerConfig { addr, ssl })
+    }
+}
+
+impl SslConfig {
+    ghost use Rattle.std.specs.Prelude.{IfOk};
+    ghost use Rattle.tiny_http.specs.ServerConfig.{IsSslCopy};
+
+    /// A copy. An error where memory was refused.
+    pub fn try_clone(&self) -> Result<SslConfig, AllocError>
+        ensures { IfOk result (λ copy. IsSslCopy self.now copy) }
+    {
+        let certificate = self.certificate.as_slice();
+        let private_key = self.private_key.as_slice();
+        Ok(SslConfig {
+            certificate: certificate.to_vec(*self.certificate.allocator())?,
+            private_key: private_key.to_vec(*self.private_key.allocator())?,
+        })
+    }
+}
+
 /// A server. Threads may share it, and each may ask for requests.
 ///
 /// Where it is dropped it accepts no further client, and the file of its Unix socket is removed; the accepting thread ends soon
@@ -118,14 +165,16 @@ pub struct SslConfig {
 ///
 /// A request's date, that of its 500 if it is dropped, is read before the wait for its head: on a connection that was idle
 /// it is older than the request.
-pub struct Server<R: Net + SocketFiles + Wait + Drop> {
+pub struct Server<R: Net + SocketFiles + Wait + Clock + Drop> {
     pub(crate) rt: R,
     // Set where the server is dropped.
     close: Arc<AtomicBool>,
     // Set once it serves.
     pub(crate) serving: Arc<AtomicBool>,
+    // Set once a call of `stop` has waited.
+    stopped: AtomicBool,
     pub(crate) messages: Arc<Messages<R>>,
-    connections: Arc<Mutex<Headcount>>,
+    pub(crate) lobby: Arc<Lobby>,
     listening_addr: ListenAddr,
 }
 
@@ -173,9 +222,42 @@ impl<R: ServerRuntime> Server<R> {
         ensures ssl { IsSome config.ssl → IsErr result }
         ensures refused { result ≡ Err ServerError.Ssl → IsSome config.ssl }
     {
+        Server::bound(rt, alloc, config, profile, None)
+    }
+
+    /// A server for an open port: the same, with these limits for its clients. After a temporary fault of accepting, such as no
+    /// descriptor or a connection that its client has reset, it waits and tries again. A Unix socket's file on which nobody listens
+    /// is taken over.
+    pub fn with(
+        rt: R,
+        alloc: Global,
+        config: ServerConfig,
+        profile: Profile,
+        limits: Limits,
+    ) -> Result<Server<R>, ServerError>
+        ensures ssl { IsSome config.ssl → IsErr result }
+        ensures refused { result ≡ Err ServerError.Ssl → IsSome config.ssl }
+    {
+        if let ConfigListenAddr::Unix(path) = &config.addr {
+            remove_stale(&rt, path.as_path());
+        }
+        Server::bound(rt, alloc, config, profile, Some(limits))
+    }
+
+    // A server that listens as this says, with these limits, if there are some.
+    fn bound(
+        rt: R,
+        alloc: Global,
+        config: ServerConfig,
+        profile: Profile,
+        limits: Option<Limits>,
+    ) -> Result<Server<R>, ServerError>
+        ensures ssl { IsSome config.ssl → IsErr result }
+        ensures refused { result ≡ Err ServerError.Ssl → IsSome config.ssl }
+    {
         let ServerConfig { addr, ssl } = config;
         let listener = addr.bind(&rt)?;
-        let made = Server::from_listener_with(rt, alloc, listener, ssl, profile);
+        let made = Server::over_unless_ssl(rt, alloc, listener, ssl, profile, limits);
         if made.is_err()
             && let ConfigListenAddr::Unix(path) = &addr
         {
@@ -211,28 +293,50 @@ impl<R: ServerRuntime> Server<R> {
         ensures ssl { IsSome ssl → result ≡ Err ServerError.Ssl }
         ensures refused { result ≡ Err ServerError.Ssl → IsSome ssl }
     {
+        Server::over_unless_ssl(rt, alloc, listener, ssl, profile, None)
+    }
+
+    // The same, with these limits, if there are some.
+    fn over_unless_ssl(
+        rt: R,
+        alloc: Global,
+        listener: Listener,
+        ssl: Option<SslConfig>,
+        profile: Profile,
+        limits: Option<Limits>,
+    ) -> Result<Server<R>, ServerError>
+        ensures ssl { IsSome ssl → result ≡ Err ServerError.Ssl }
+        ensures refused { result ≡ Err ServerError.Ssl → IsSome ssl }
+    {
         if ssl.is_some() {
             return Err(ServerError::Ssl);
         }
-        Ok(Server::over(rt, alloc, profile, listener)?)
+        Ok(Server::over(rt, alloc, profile, limits, listener)?)
     }
 
     // A server over this listening socket.
-    fn over(rt: R, alloc: Global, profile: Profile, listener: Listener) -> io::Result<Server<R>> {
+    fn over(
+        rt: R,
+        alloc: Global,
+        profile: Profile,
+        limits: Option<Limits>,
+        listener: Listener,
+    ) -> io::Result<Server<R>> {
         let listening_addr = listener.local_addr()?;
         let close = Arc::new(alloc, AtomicBool::new(false))?;
         let serving = Arc::new(alloc, AtomicBool::new(false))?;
         let messages = MessagesQueue::with_capacity(alloc, QUEUE_ROOM)?;
-        let connections = Arc::new(alloc, Mutex::new(Headcount::new()))?;
+        let lobby = Lobby::new(alloc, limits.as_ref())?;
         let accepting = Accepting {
             rt,
             alloc,
             profile,
+            limits,
             listener,
             close: Arc::try_clone(&close)?,
             serving: Arc::try_clone(&serving)?,
             messages: Arc::try_clone(&messages)?,
-            connections: Arc::try_clone(&connections)?,
+            lobby: Arc::try_clone(&lobby)?,
             pool: TaskPool::new(rt, alloc)?,
         };
         if thread::spawn(&rt, move || accepting.run()).is_err() {
@@ -242,14 +346,15 @@ impl<R: ServerRuntime> Server<R> {
             rt,
             close,
             serving,
+            stopped: AtomicBool::new(false),
             messages,
-            connections,
+            lobby,
             listening_addr,
         })
     }
 }
 
-impl<R: Net + SocketFiles + Wait + Drop> Server<R> {
+impl<R: Net + SocketFiles + Wait + Clock + Drop> Server<R> {
     /// The requests, one after another.
     pub fn incoming_requests(&self) -> IncomingRequests<'_, R> {
         IncomingRequests { server: self }
@@ -266,7 +371,17 @@ impl<R: Net + SocketFiles + Wait + Drop> Server<R> {
     /// How many clients that were accepted are connected. One counts until all its requests are answered and its connection is
     /// closed.
     pub fn num_connections(&self) -> usize {
-        self.connections.lock(&self.rt).count()
+        self.lobby.count(&self.rt)
+    }
+
+    /// What the server has counted since it began.
+    pub fn counts(&self) -> Counts {
+        self.lobby.counts(&self.rt)
+    }
+
+    /// How often accepting failed, and went on: under limits alone.
+    pub fn accept_faults(&self) -> u64 {
+        self.counts().accept_faults
     }
 
     /// Waits for a request. An error is the fault by which accepting ended, which one call reports, or of kind `Other` where
@@ -274,9 +389,11 @@ impl<R: Net + SocketFiles + Wait + Drop> Server<R> {
     ///
     /// A server that serves by a handler has none to give, but those of clients that came before. Where a client waits for `serve` to
     /// be called again the error is at once of kind `Other`, as if `unblock` had been called.
+    ///
+    /// Once the server was stopped the error is of kind `Other` at each call.
     pub fn recv(&self) -> io::Result<ServerRequest<R>> {
         let popped = self.messages.pop(&self.rt);
-        match Message::received(&self.messages, &self.rt, popped)? {
+        match self.received(popped)? {
             Some(request) => Ok(request),
             None => Err(ErrorKind::Other.into()),
         }
@@ -286,6 +403,15 @@ impl<R: Net + SocketFiles + Wait + Drop> Server<R> {
     /// by which accepting ended, which one call reports.
     pub fn try_recv(&self) -> io::Result<Option<ServerRequest<R>>> {
         let popped = self.messages.try_pop(&self.rt);
+        self.received(popped)
+    }
+
+    // What a pop of the queue is reported as. Once the server was stopped it is nothing, and another call that waits goes on, too.
+    fn received(&self, popped: Option<Message<R>>) -> io::Result<Option<ServerRequest<R>>> {
+        if self.has_stopped() {
+            let _ = self.messages.unblock(&self.rt);
+            return Ok(None);
+        }
         Message::received(&self.messages, &self.rt, popped)
     }
 
@@ -295,53 +421,109 @@ impl<R: Net + SocketFiles + Wait + Drop> Server<R> {
     }
 }
 
+impl<R: Net<Listener = TcpListener, Stream = TcpStream> + SocketFiles + Wait + Clock + Drop> Server<
+    R,
+> {
+    /// Stops the server, from any thread: no further client is accepted, connections that wait for a head are closed, and requests that
+    /// wait in the queue are dropped, so that they are answered by 500. It waits until all that was handed out is answered and
+    /// each connection is closed, or for so long; and then has each call that waits for a request, and `serve`, return. A
+    /// connection whose request is answered is closed behind its answer. A later call waits again for what is left. A handler that
+    /// makes this call is waited for, too, so the call lasts the whole time. It lasts longer where a client doesn't take a 500
+    /// that is sent here.
+    pub fn stop(&self, time: Duration) -> Stopped {
+        let begun = time_of(&self.rt);
+        self.close_down();
+        self.lobby.stop(&self.rt);
+        let is_empty = self.lobby.wait_until_empty(&self.rt, begun, time);
+        self.stopped.store(true, Ordering::SeqCst);
+        let _ = self.messages.unblock(&self.rt);
+        if is_empty {
+            return Stopped::Answered;
+        }
+        Stopped::TimeOver
+    }
+}
+
 impl<R: Net + SocketFiles + Wait + Clock + Drop> Server<R> {
     /// Waits for a request, for so long at most, and then reports none; less than a millisecond counts as nothing. Else as
     /// `try_recv`.
     pub fn recv_timeout(&self, timeout: Duration) -> io::Result<Option<ServerRequest<R>>> {
         let popped = self.messages.pop_timeout(&self.rt, timeout);
-        Message::received(&self.messages, &self.rt, popped)
+        self.received(popped)
     }
 }
 
-impl<R: Net + SocketFiles + Wait + Drop> Drop for Server<R> {
-    /// Ends accepting, for which it connects to itself once, drops the requests that wait, and removes the file of a Unix
-    /// socket.
-    fn drop(self) {
-        let Server {
-            rt,
-            close,
-            serving: _,
-            messages,
-            connections: _,
-            listening_addr,
-        } = self;
-        close.store(true, Ordering::SeqCst);
-        match &listening_addr {
+impl<R: Net + SocketFiles + Wait + Clock + Drop> Server<R> {
+    // Ends accepting, for which it connects to itself once, drops the requests that wait, and removes the file of a Unix socket. Once
+    // that is done it does nothing.
+    fn close_down(&self) {
+        if self.close.swap(true, Ordering::SeqCst) {
+            return;
+        }
+        let rt = &self.rt;
+        self.lobby.wake(rt);
+        match &self.listening_addr {
             ListenAddr::IP(addr) => {
                 let most = Duration::from_secs(SELF_CONNECT_SECS);
-                drop(TcpStream::connect_timeout(&rt, addr, most));
+                drop(TcpStream::connect_timeout(rt, addr, most));
             }
             ListenAddr::Unix(addr) => {
-                drop(UnixStream::connect_addr(&rt, addr));
+                drop(UnixStream::connect_addr(rt, addr));
                 if let Some(path) = addr.as_pathname() {
                     let _ = rt.remove_socket(path);
                 }
             }
         }
-        messages.clear(&rt);
+        self.messages.clear(rt);
+    }
+
+    // Whether it was stopped, and all was answered or the time was over.
+    pub(crate) fn has_stopped(&self) -> bool {
+        self.stopped.load(Ordering::SeqCst)
+    }
+}
+
+impl<R: Net + SocketFiles + Wait + Clock + Drop> Drop for Server<R> {
+    /// Ends accepting, for which it connects to itself once, drops the requests that wait, and removes the file of a Unix
+    /// socket.
+    fn drop(self) {
+        self.close_down();
+        let Server {
+            rt: _,
+            close: _,
+            serving: _,
+            stopped: _,
+            messages: _,
+            lobby: _,
+            listening_addr: _,
+        } = self;
+    }
+}
+
+// Removes the file of a Unix socket on which nobody listens any more.
+fn remove_stale<R: Net<Listener = TcpListener, Stream = TcpStream> + SocketFiles>(
+    rt: &R,
+    path: Path<'_>,
+) {
+    if !rt.is_socket(path) {
+        return;
+    }
+    if let Err(fault) = UnixStream::connect(rt, path)
+        && fault.kind() == ErrorKind::ConnectionRefused
+    {
+        let _ = rt.remove_socket(path);
     }
 }
 
 /// The requests of a server.
 #[derive(Drop)]
-pub struct IncomingRequests<'a, R: Net + SocketFiles + Wait + Drop> {
+pub struct IncomingRequests<'a, R: Net + SocketFiles + Wait + Clock + Drop> {
     server: &'a Server<R>,
 }
 
-impl<R: Net + SocketFiles + Wait + Drop> IncomingRequests<'_, R> {
+impl<R: Net + SocketFiles + Wait + Clock + Drop> IncomingRequests<'_, R> {
     /// Waits for the next request. None where `recv` reports an error: once for the fault by which accepting ended, once for
-    /// each `unblock`, and where a client waits for `serve`. A later call waits again.
+    /// each `unblock`, and where a client waits for `serve`. A later call waits again, unless the server was stopped.
     pub fn next(&mut self) -> Option<ServerRequest<R>> {
         self.server.recv().ok()
     }

@@ -26,7 +26,7 @@ pub trait Handler<R, Q> {
 
 // What a worker does by a handler.
 #[derive(Drop)]
-enum Work<R: Wait + Drop> {
+enum Work<R: Wait + Clock + Drop> {
     // It answers the requests of a client, and closes its connection.
     Client(Arrival<R>),
     // It answers a request that was in the queue before the server served. None once it has.
@@ -35,7 +35,7 @@ enum Work<R: Wait + Drop> {
 
 // Work, and what it is done by.
 #[derive(Drop)]
-struct Service<H, R: Wait + Drop> {
+struct Service<H, R: Wait + Clock + Drop> {
     alloc: Global,
     handler: Arc<H>,
     work: Work<R>,
@@ -57,7 +57,7 @@ impl<H: Handler<R, ServerRequest<R>> + Drop, R: Wait + Clock + Copy> Job for Ser
 }
 
 impl<R: ServerRuntime> Server<R> {
-    /// Serves by this handler, until `unblock` is called or accepting ends, whose fault is the error. It is also an error where
+    /// Serves by this handler, until `unblock` is called, the server was stopped, or accepting ends, whose fault is the error. It is also an error where
     /// memory or threads for its first workers are refused; a client for which no worker is found later is closed. Each client has a
     /// worker, which hands its requests to the handler one after another. Requests that came before this call are handed to it by
     /// further workers.
@@ -85,7 +85,12 @@ impl<R: ServerRuntime> Server<R> {
                 Some(Message::NewClient(arrival)) => Work::Client(arrival),
                 Some(Message::NewRequest(request)) => Work::Request(rt, Some(request)),
                 Some(Message::Error(fault)) => return Err(fault),
-                None => return Ok(()),
+                None => {
+                    if self.has_stopped() {
+                        let _ = self.messages.unblock(&rt);
+                    }
+                    return Ok(());
+                }
             };
             let service = Service {
                 alloc,

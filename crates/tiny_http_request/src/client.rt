@@ -11,9 +11,10 @@ use std::net::SocketAddr;
 use std::sync::{Arc, Wait};
 use tiny_http_corked::cork::FlushPolicy;
 use tiny_http_device::device::{ReadDevice, WriteDevice};
-use tiny_http_message::exchange::Exchange;
+use tiny_http_message::exchange::{EndOfRequests, Exchange};
 use tiny_http_message::framing::Profile;
 use tiny_http_message::next_request::{NextRequest, RefusalPlace, next_request};
+use tiny_http_paced::pace::Pace;
 use tiny_http_socket::refined_tcp_stream::RefinedTcpStream;
 use tiny_http_stream::outlet::Outlet;
 use tiny_http_stream::source::Source;
@@ -21,7 +22,8 @@ use tiny_http_threads::sequential::{
     SequentialReader, SequentialReaderBuilder, SequentialWriter, SequentialWriterBuilder,
 };
 use tiny_http_threads::turn::{
-    hold_reader, hold_writer, is_closed, is_next_writer, leave_writer, next_writer,
+    count_open_writers, hold_reader, hold_writer, is_closed, is_next_writer, leave_writer,
+    next_writer, wait_for_room,
 };
 
 /// A connection, whose requests are handed out one after another. Any thread may hold one, also while the next is read.
@@ -33,6 +35,8 @@ pub struct ClientConnection<R: ReadDevice + Drop, W: WriteDevice + Drop, Rt: Wai
     remote_addr: Option<SocketAddr>,
     // Whether flushes may leave their bytes, where they ever may.
     flush_policy: Option<Arc<FlushPolicy>>,
+    // What its reads are told, where somebody wants to know.
+    pace: Option<Arc<Pace>>,
     source: SequentialReaderBuilder<Source<R>, Rt>,
     sink: SequentialWriterBuilder<Outlet<W>, Rt>,
     // None once the connection has no further request.
@@ -133,6 +137,7 @@ impl<R: ReadDevice + Drop, W: WriteDevice + Drop, Rt: Wait + Copy> ClientConnect
             secure,
             remote_addr,
             flush_policy: None,
+            pace: None,
             source,
             sink,
             next_head,
@@ -156,6 +161,18 @@ impl<R: ReadDevice + Drop, W: WriteDevice + Drop, Rt: Wait + Copy> ClientConnect
         ensures same { (client_secure self.new ≡ client_secure self.old) × (client_address self.new ≡ client_address self.old) × (client_profile self.new ≡ client_profile self.old) }
     {
         self.flush_policy = Some(flush_policy);
+    }
+
+    /// Has `next` say here when it waits for a head and when it hands out a request. It keeps the limit of open requests from now on, 2
+    /// at least: in front of a head, and of the answer to a refused one, it waits until fewer are open. Once this was stopped, `next`
+    /// answers `None`. A `PacedReader` and a `PacedWriter` keep the other limits. An error where no handle is left.
+    pub fn set_pace(&mut self, pace: Arc<Pace>) -> Result<(), AllocError>
+        ensures over { IsOver self.new ↔ IsOver self.old }
+        ensures same { (client_secure self.new ≡ client_secure self.old) × (client_address self.new ≡ client_address self.old) × (client_profile self.new ≡ client_profile self.old) }
+    {
+        count_open_writers(&self.sink, Arc::try_clone(pace.open())?);
+        self.pace = Some(pace);
+        Ok(())
     }
 
     /// Goes to the next request, and hands it out; `None` once the connection has no further one, from then on. It waits for
@@ -182,13 +199,16 @@ impl<R: ReadDevice + Drop, W: WriteDevice + Drop, Rt: Wait + Copy> ClientConnect
         if is_closed(&self.sink) {
             return Ok(None);
         }
+        let most = most_open(&self.pace);
+        wait_if_full(&self.sink, most);
         let (alloc, profile) = (self.alloc, self.profile);
         let source = hold_reader(&mut reader);
-        if is_closed(&self.sink) {
+        if is_closed(&self.sink) || !begins_head(&self.pace, source) {
             return Ok(None);
         }
         let sink = &mut self.sink;
-        match next_request(alloc, source, profile, &mut NextWriter, sink, now) {
+        let mut place = NextWriter { most };
+        match next_request(alloc, source, profile, &mut place, sink, now) {
             Ok(NextRequest::Request(exchange)) => {
                 let Some(writer) = next_writer(&mut self.sink)? else {
                     return Ok(None);
@@ -198,7 +218,10 @@ impl<R: ReadDevice + Drop, W: WriteDevice + Drop, Rt: Wait + Copy> ClientConnect
                     Err(e) => Err(e),
                 }
             }
-            Ok(NextRequest::Ended(_)) => Ok(None),
+            Ok(NextRequest::Ended(end)) => {
+                note_end(&self.pace, end);
+                Ok(None)
+            }
             Err(_) if is_closed(&self.sink) => Ok(None),
             Err(e) => Err(e),
         }
@@ -236,6 +259,7 @@ impl<R: ReadDevice + Drop, W: WriteDevice + Drop, Rt: Wait + Copy> ClientConnect
         let holds_reader = open_request.body.holds_reader() || open_request.holds_next_head;
         let may_leave = !holds_reader && is_next_writer(&writer);
         let flush_policy = set_policy(&self.flush_policy, may_leave)?;
+        let pace = begin_body(&self.pace, holds_reader)?;
         let client = (self.secure, self.remote_addr);
         let (reader, next_head) = if holds_reader {
             (Some(reader), None)
@@ -255,9 +279,41 @@ impl<R: ReadDevice + Drop, W: WriteDevice + Drop, Rt: Wait + Copy> ClientConnect
             open_request,
             reader,
             writer,
-            flush_policy,
+            (flush_policy, pace),
         ))
     }
+}
+
+// The next head is to be read from here. False where the connection was stopped.
+fn begins_head<R: ReadDevice>(pace: &Option<Arc<Pace>>, source: &Source<R>) -> bool {
+    match pace {
+        Some(pace) => pace.begin_head(!source.held().is_empty()),
+        None => true,
+    }
+}
+
+// Notes the status by which a head was refused, if the requests ended so.
+fn note_end(pace: &Option<Arc<Pace>>, end: EndOfRequests) {
+    if let Some(pace) = pace
+        && let EndOfRequests::Refused(status) = end
+    {
+        pace.refused(status.0);
+    }
+}
+
+// A request is handed out. Another handle for it, if it reads from the connection. An error where no handle is left.
+fn begin_body(
+    pace: &Option<Arc<Pace>>,
+    holds_reader: bool,
+) -> Result<Option<Arc<Pace>>, AllocError> {
+    let Some(pace) = pace else {
+        return Ok(None);
+    };
+    pace.begin_body();
+    if !holds_reader {
+        return Ok(None);
+    }
+    Ok(Some(Arc::try_clone(pace)?))
 }
 
 // Sets this policy, if there is one, and gives another handle of it, for a request. An error where no handle is left.
@@ -276,9 +332,28 @@ fn set_policy(
     Ok(Some(Arc::try_clone(flush_policy)?))
 }
 
-// Where refused heads are answered: each by the next writer.
+// So many requests and refused heads may be open where a head is read, or refused, if that is bounded.
+fn most_open(pace: &Option<Arc<Pace>>) -> Option<usize> {
+    let limits = pace.as_ref()?.limits()?;
+    Some(limits.open_requests)
+}
+
+// Waits until fewer writers than that are given out and not finished. Below 2 it counts as 2: an answer that waits to leave is sent as
+// the connection is read.
+fn wait_if_full<W: WriteDevice + Drop, Rt: Wait + Copy>(
+    sink: &SequentialWriterBuilder<Outlet<W>, Rt>,
+    most: Option<usize>,
+) {
+    if let Some(most) = most {
+        wait_for_room(sink, most.max(2));
+    }
+}
+
+// Where refused heads are answered: each by the next writer. It waits for others where as many as this are open.
 #[derive(Drop)]
-struct NextWriter;
+struct NextWriter {
+    most: Option<usize>,
+}
 
 impl<W: WriteDevice + Drop, Rt: Wait + Copy> RefusalPlace<SequentialWriterBuilder<Outlet<W>, Rt>>
     for NextWriter {
@@ -292,6 +367,7 @@ impl<W: WriteDevice + Drop, Rt: Wait + Copy> RefusalPlace<SequentialWriterBuilde
         sink: &mut SequentialWriterBuilder<Outlet<W>, Rt>,
         text: Vec<u8>,
     ) -> Result<(), AllocError> {
+        wait_if_full(sink, self.most);
         let Some(writer) = next_writer(sink)? else {
             return Err(AllocError);
         };

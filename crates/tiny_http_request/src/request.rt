@@ -25,6 +25,7 @@ use tiny_http_message::exchange::{Head, begin_body};
 use tiny_http_message::framing::{Framing, FramingFault, HeadRules, Profile, framing_of};
 use tiny_http_message::open_request::OpenRequest;
 pub use tiny_http_message::upgrading::UpgradeError;
+use tiny_http_paced::pace::Pace;
 use tiny_http_sending::sending::reported;
 use tiny_http_stream::custom_stream::CustomStream;
 use tiny_http_stream::outlet::Outlet;
@@ -89,6 +90,8 @@ pub struct Request<R: ReadDevice + Drop, W: WriteDevice + Drop, Rt: Wait + Drop>
     head: Head,
     // Whether its connection's flushes may leave their bytes, where they ever may.
     flush_policy: Option<Arc<FlushPolicy>>,
+    // What the reads of its connection are told, where it reads from it and they are to know.
+    pace: Option<Arc<Pace>>,
     open_request: OpenRequest<Body<R, Rt>>,
     writer: SequentialWriter<Outlet<W>, Rt>,
 }
@@ -102,7 +105,7 @@ impl<R: ReadDevice + Drop, W: WriteDevice + Drop, Rt: Wait + Drop> Request<R, W,
         open_request: OpenRequest<Unread>,
         reader: Option<SequentialReader<Source<R>, Rt>>,
         writer: SequentialWriter<Outlet<W>, Rt>,
-        flush_policy: Option<Arc<FlushPolicy>>,
+        told: (Option<Arc<FlushPolicy>>, Option<Arc<Pace>>),
     ) -> Request<R, W, Rt>
         requires { is_some reader ≡ (is_streaming open_request.body || open_request.holds_next_head) }
         ensures head { request_head result ≡ head }
@@ -110,6 +113,7 @@ impl<R: ReadDevice + Drop, W: WriteDevice + Drop, Rt: Wait + Drop> Request<R, W,
         ensures client { (request_secure result ≡ client.0) × (request_address result ≡ client.1) }
     {
         let (secure, remote_addr) = client;
+        let (flush_policy, pace) = told;
         let OpenRequest {
             answer_context,
             owes_continue,
@@ -143,6 +147,7 @@ impl<R: ReadDevice + Drop, W: WriteDevice + Drop, Rt: Wait + Drop> Request<R, W,
             remote_addr,
             head,
             flush_policy,
+            pace,
             open_request,
             writer,
         }
@@ -156,6 +161,7 @@ impl<R: ReadDevice + Drop, W: WriteDevice + Drop, Rt: Wait + Drop> Request<R, W,
             remote_addr: _,
             head: _,
             flush_policy: _,
+            pace: _,
             open_request,
             writer,
         } = self;
@@ -323,6 +329,12 @@ impl<R: ReadDevice + Drop, W: WriteDevice + Drop, Rt: Wait + Drop> Request<R, W,
         let is_whole = self.open_request.body.is_whole();
         self.open_request.check_upgrade(protocol, status, is_whole)?;
         self.send_at_flush();
+        if let Some(pace) = &self.pace
+            && (self.open_request.by_standard || !is_whole)
+        {
+            // The stream still reads from the connection.
+            pace.begin_stream();
+        }
         let alloc = self.alloc;
         let (mut open_request, mut writer) = self.into_parts();
         let by_standard = open_request.by_standard;
@@ -463,5 +475,13 @@ pub fn new_request<R: ReadDevice + Drop, W: WriteDevice + Drop, Rt: Wait + Copy>
     };
     let open_request = OpenRequest::new(alloc, &head, body, now)?;
     let client = (secure, remote_addr);
-    Ok(Request::from_parts(alloc, client, head, open_request, reader, writer, None))
+    Ok(Request::from_parts(
+        alloc,
+        client,
+        head,
+        open_request,
+        reader,
+        writer,
+        (None, None),
+    ))
 }

@@ -5,6 +5,7 @@ ghost use Rattle.tiny_http_socket.specs.Connection.{IsBoundAs, HasAddressOf, IsA
 use std::alloc::{AllocError, Global};
 use std::io::{IoSlice, Read, Write};
 use std::net::{Net, Shutdown, SocketAddr, TcpListener, TcpStream, ToSocketAddrs};
+use std::os::unix::fs::FileTypeExt;
 use std::os::unix::net as unix_net;
 use std::path::{Path, PathBuf};
 use std::rt::Files;
@@ -19,6 +20,9 @@ pub trait SocketFiles {
 
     /// Removes the file at this path. The system's fault where it can't.
     fn remove_socket(&self, path: Path<'_>) -> io::Result<()>;
+
+    /// Whether the file at this path is that of a socket; no link is followed. It isn't where the system can't say.
+    fn is_socket(&self, path: Path<'_>) -> bool;
 }
 
 impl<R: Files + Net> SocketFiles for R {
@@ -30,6 +34,14 @@ impl<R: Files + Net> SocketFiles for R {
     /// Removes the file by the system.
     fn remove_socket(&self, path: Path<'_>) -> io::Result<()> {
         fs::remove_file(self, path)
+    }
+
+    /// Asks the system.
+    fn is_socket(&self, path: Path<'_>) -> bool {
+        match fs::symlink_metadata(self, path) {
+            Ok(metadata) => metadata.file_type().is_socket(),
+            Err(_) => false,
+        }
     }
 }
 
@@ -148,6 +160,23 @@ impl Connection {
         match self {
             Connection::Tcp(stream) => stream.set_read_timeout(Some(timeout)),
             Connection::Unix(stream) => stream.set_read_timeout(Some(timeout)),
+        }
+    }
+
+    /// Has each later read wait without end. The system's fault.
+    pub fn clear_read_timeout(&self) -> io::Result<()> {
+        match self {
+            Connection::Tcp(stream) => stream.set_read_timeout(None),
+            Connection::Unix(stream) => stream.set_read_timeout(None),
+        }
+    }
+
+    /// Has each later write, by this and each other handle, wait for so long at most, and then report `WouldBlock`, or what was
+    /// taken until then. The system's fault, and `InvalidInput` of no time.
+    pub fn set_write_timeout(&self, timeout: Duration) -> io::Result<()> {
+        match self {
+            Connection::Tcp(stream) => stream.set_write_timeout(Some(timeout)),
+            Connection::Unix(stream) => stream.set_write_timeout(Some(timeout)),
         }
     }
 }

@@ -1,4 +1,4 @@
 pub mod Queue
 pub mod Pool
-pub mod Headcount
+pub mod Roster
 pub mod Sequential

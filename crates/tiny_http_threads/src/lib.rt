@@ -1,6 +1,6 @@
-//! What the threads of a small HTTP server share: a queue, a pool of workers, two counts, and the line of those who use one
-//! reader or one writer after another. Locks stand elsewhere in two places: over the `Headcount` that a server's tasks share,
-//! and over the bytes that wait in `tiny_http_corked`. `tiny_http` names the modules again.
+//! What the threads of a small HTTP server share: a queue, a pool of workers, a count, and the line of those who use one reader or
+//! one writer after another. Locks stand elsewhere in two places: over who is connected, in `tiny_http`, and over the bytes that
+//! wait in `tiny_http_corked`. `tiny_http` names the modules again.
 //!
 //! Who may touch what:
 //!
@@ -11,13 +11,11 @@
 //!   a turn waits for nobody's turn.
 //! - In `messages_queue` and `task_pool` the lock is over the list of what waits and the counts beside it. A value or a job
 //!   belongs to the thread that took it out.
-//! - In `roster` the lock is over the number and the book of shares. A `Headcount` is a plain value: who shares it puts it
-//!   under a lock.
+//! - In `roster` the lock is over the number and the book of shares.
 //! - Apart from the locks themselves, a thread waits only on a condition of its value, which gives the lock up meanwhile; or,
 //!   where memory for a condition was refused, it lets the lock go and tries again.
 #![tactic(auto)]
 
-pub mod headcount;
 pub mod laws;
 mod line;
 pub mod messages_queue;

@@ -4,7 +4,7 @@ ghost use Rattle.tiny_http_turns.specs.Turns.{Finish, marks_after_step, turn_ans
 ghost use Rattle.tiny_http_turns.specs.TurnsCalls.{Finishes};
 
 use std::alloc::{AllocError, Global};
-use std::sync::atomic::{AtomicBool, Ordering};
+use std::sync::atomic::{AtomicBool, AtomicU64, Ordering};
 use std::sync::{Arc, Condvar, Mutex, Wait};
 use std::thread;
 use tiny_http_turns::turns::{Finishing, Leaving, Turns};
@@ -22,7 +22,13 @@ struct Queue<T> {
     turns: Turns<Box<T>>,
     // The last number that was issued unless the line was closed.
     last: Option<u64>,
+    // So many numbers were issued.
+    issued: u64,
+    // Where those are counted that aren't finished, if somebody wants to know.
+    open: Option<Arc<AtomicU64>>,
     waiters: Vec<Waiter>,
+    // A thread waits until a number is finished.
+    wants_room: bool,
 }
 
 // The condition on which the thread of this number waits, if it is kept.
@@ -45,6 +51,42 @@ fn take_waiter(waiters: &mut Vec<Waiter>, number: u64) -> Option<Arc<Condvar>>
 }
 
 impl<T: Drop> Queue<T> {
+    // The next number. An error where memory was refused, or no number is left.
+    fn issue(&mut self) -> Result<u64, AllocError> {
+        match self.turns.issue() {
+            Ok(number) => {
+                self.issued = number.saturating_add(1);
+                self.count_open();
+                Ok(number)
+            }
+            Err(_) => Err(AllocError),
+        }
+    }
+
+    // How many numbers were issued and aren't finished.
+    fn open(&self) -> u64 {
+        self.issued.saturating_sub(self.turns.first_unfinished())
+    }
+
+    // Whether fewer numbers than `most`, or none where that is 0, were issued and aren't finished.
+    fn has_room(&self, most: usize) -> bool {
+        self.open() < most.max(1) as u64
+    }
+
+    // Says where it is counted how many numbers aren't finished.
+    fn count_open(&self) {
+        if let Some(open) = &self.open {
+            open.store(self.open(), Ordering::SeqCst);
+        }
+    }
+
+    // Whether a thread is to be woken since a number is finished.
+    fn gives_room(&mut self) -> bool {
+        let wants_room = self.wants_room;
+        self.wants_room = false;
+        wants_room
+    }
+
     // The condition on which the thread of this number is to wait. An error where memory was refused.
     fn waiter(&mut self, alloc: Global, number: u64) -> Result<Arc<Condvar>, AllocError> {
         if let Some(waiter) = find_waiter(self.waiters.as_slice(), number) {
@@ -77,6 +119,8 @@ impl<T: Drop> Queue<T> {
 #[derive(Drop)]
 pub(crate) struct Line<T> {
     queue: Mutex<Queue<T>>,
+    // On which a thread waits that wants room.
+    finished: Condvar,
     // Set under the lock alone.
     is_closed: AtomicBool,
 }
@@ -87,10 +131,14 @@ impl<T: Drop> Line<T> {
         let queue = Queue {
             turns: Turns::new(alloc, Box::new(alloc, item)?),
             last: None,
+            issued: 0,
+            open: None,
             waiters: Vec::new(alloc),
+            wants_room: false,
         };
         let line = Line {
             queue: Mutex::new(queue),
+            finished: Condvar::new(),
             is_closed: AtomicBool::new(false),
         };
         Ok(Arc::new(alloc, line)?)
@@ -99,10 +147,8 @@ impl<T: Drop> Line<T> {
     /// The next number, and whether its turn has come. An error where memory was refused, or no number is left.
     pub fn issue<R: Wait>(&self, rt: &R) -> Result<(u64, bool), AllocError> {
         let mut queue = self.queue.lock(rt);
-        match queue.turns.issue() {
-            Ok(number) => Ok((number, queue.turns.first_unfinished() == number)),
-            Err(_) => Err(AllocError),
-        }
+        let number = queue.issue()?;
+        Ok((number, queue.turns.first_unfinished() == number))
     }
 
     /// The next number, and whether its turn has come; none once the line was closed. An error where memory was refused, or no
@@ -112,12 +158,27 @@ impl<T: Drop> Line<T> {
         if self.is_closed() {
             return Ok(None);
         }
-        match queue.turns.issue() {
-            Ok(number) => {
-                queue.last = Some(number);
-                Ok(Some((number, queue.turns.first_unfinished() == number)))
+        let number = queue.issue()?;
+        queue.last = Some(number);
+        Ok(Some((number, queue.turns.first_unfinished() == number)))
+    }
+
+    /// Has the numbers counted here from now on that were issued and aren't finished.
+    pub fn set_open<R: Wait>(&self, rt: &R, open: Arc<AtomicU64>) {
+        let mut queue = self.queue.lock(rt);
+        queue.open = Some(open);
+        queue.count_open();
+    }
+
+    /// Waits until fewer numbers than `most`, or none where that is 0, were issued and aren't finished.
+    pub fn wait_for_room<R: Wait>(&self, rt: &R, most: usize) {
+        let mut queue = self.queue.lock(rt);
+        for _ in rt.forever() {
+            if queue.has_room(most) {
+                return;
             }
-            Err(_) => Err(AllocError),
+            queue.wants_room = true;
+            queue = self.finished.wait(rt, queue);
         }
     }
 
@@ -170,9 +231,16 @@ impl<T: Drop> Line<T> {
     /// Finishes a held number. If the next one was left, that one is held: the item, and its text. Else the thread that waits
     /// for the next turn is woken, if one does.
     pub fn finish<R: Wait>(&self, rt: &R, number: u64, item: Box<T>) -> Option<(Box<T>, Vec<u8>)> {
-        let (finishing, woken) = self.queue.lock(rt).finish(number, item);
+        let mut queue = self.queue.lock(rt);
+        let (finishing, woken) = queue.finish(number, item);
+        queue.count_open();
+        let gives_room = queue.gives_room();
+        drop(queue);
         if let Some(woken) = woken {
             woken.notify_one();
+        }
+        if gives_room {
+            self.finished.notify_one();
         }
         match finishing {
             Finishing::Go(item, text) => Some((item, text)),

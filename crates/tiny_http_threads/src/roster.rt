@@ -1,6 +1,6 @@
 //! How many entries any number of threads made.
 ghost use Rattle.std.specs.Prelude.{◌≡◌, ◌+◌, ◌-◌, ◌^◌, ◌<◌, false, if◌then◌else◌};
-ghost use Rattle.tiny_http_threads.specs.Headcount.{CountsIn};
+ghost use Rattle.tiny_http_threads.specs.Roster.{CountsIn};
 
 use std::sync::ledger::{Book, Ledger, Share};
 use std::sync::{Mutex, Wait};

@@ -6,6 +6,7 @@ use crate::line::{Held, Line, Turn};
 use std::alloc::{AllocError, Global};
 use std::io;
 use std::io::{ErrorKind, Read, Write};
+use std::sync::atomic::AtomicU64;
 use std::sync::{Arc, Wait};
 use tiny_http_device::device::WriteDevice;
 use tiny_http_turns::passing::{HeldTurn, pass_on};
@@ -107,6 +108,16 @@ impl<W: Write + Drop, R: Wait + Copy> SequentialWriterBuilder<W, R> {
     /// Whether the line was closed.
     pub(crate) fn is_closed(&self) -> bool {
         self.line.is_closed()
+    }
+
+    /// Has the numbers counted here from now on that were issued and aren't finished.
+    pub(crate) fn set_open(&self, open: Arc<AtomicU64>) {
+        self.line.set_open(&self.rt, open);
+    }
+
+    /// Waits until fewer numbers than `most`, or none where that is 0, were issued and aren't finished.
+    pub(crate) fn wait_for_room(&self, most: usize) {
+        self.line.wait_for_room(&self.rt, most);
     }
 }
 

@@ -2,7 +2,8 @@
 use crate::sequential::{SequentialReader, SequentialWriter, SequentialWriterBuilder};
 use std::alloc::AllocError;
 use std::io::{Read, Write};
-use std::sync::Wait;
+use std::sync::atomic::AtomicU64;
+use std::sync::{Arc, Wait};
 use tiny_http_device::device::WriteDevice;
 
 /// Waits for the turn of this reader, and lends what it reads from.
@@ -28,6 +29,22 @@ pub fn next_writer<W: Write + Drop, R: Wait + Copy>(
 /// Whether `end_behind_writer` was called for one of the writers.
 pub fn is_closed<W: Write + Drop, R: Wait + Copy>(builder: &SequentialWriterBuilder<W, R>) -> bool {
     builder.is_closed()
+}
+
+/// Has the writers counted here from now on that were given out and aren't finished.
+pub fn count_open_writers<W: Write + Drop, R: Wait + Copy>(
+    builder: &SequentialWriterBuilder<W, R>,
+    open: Arc<AtomicU64>,
+) {
+    builder.set_open(open);
+}
+
+/// Waits until fewer writers than `most`, or none where that is 0, were given out and aren't finished.
+pub fn wait_for_room<W: Write + Drop, R: Wait + Copy>(
+    builder: &SequentialWriterBuilder<W, R>,
+    most: usize,
+) {
+    builder.wait_for_room(most);
 }
 
 /// Has `next_writer` give out no further writer.

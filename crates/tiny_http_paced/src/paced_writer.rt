@@ -1,0 +1,206 @@
+//! A writer whose client has to take its bytes in time.
+ghost use Rattle.std.specs.Prelude.{◌≡◌, ◌++◌, Ok, IfOk, IfErr};
+ghost use Rattle.std.specs.IoError.{error_kind};
+ghost use Rattle.tiny_http_paced.specs.Paced.{paced_sink, failed_sink, IsReportOf};
+
+use crate::pace::{Pace, fault_in_time};
+use std::io;
+use std::io::ErrorKind;
+use std::net::Shutdown;
+use std::sync::Arc;
+use std::time::{Clock, Duration};
+use tiny_http_corked::write_both::WriteBoth;
+use tiny_http_device::device::WriteDevice;
+use tiny_http_limits::counts::Closing;
+use tiny_http_limits::times::Stall;
+use tiny_http_socket::refined_tcp_stream::RefinedTcpStream;
+
+// So many milliseconds one call of the system waits at most. It reports that it timed out also where there is some room by then,
+// which the next call finds.
+const STEP_MILLIS: u64 = 1_000;
+
+/// A writer to the socket of a client, whose writes end in time where its connection has limits, by a fault of kind `TimedOut`. The
+/// connection is shut down then. As a `WriteDevice` it counts its failures and states no bytes.
+#[derive(Drop)]
+pub struct PacedWriter<Rt: Clock> {
+    rt: Rt,
+    socket: RefinedTcpStream,
+    pace: Arc<Pace>,
+    stall: Stall,
+    // The time for a write is over.
+    is_late: bool,
+    failures: u64,
+    last: Option<ErrorKind>,
+}
+
+impl<Rt: Clock> PacedWriter<Rt> {
+    /// A writer to this half of a socket.
+    pub fn new(rt: Rt, socket: RefinedTcpStream, pace: Arc<Pace>) -> PacedWriter<Rt> {
+        if let Some(limits) = pace.limits() {
+            let wait = limits.write_time.min(Duration::from_millis(STEP_MILLIS));
+            let wait = wait.max(Duration::from_millis(1));
+            let _ = socket.connection().set_write_timeout(wait);
+        }
+        PacedWriter {
+            rt,
+            socket,
+            pace,
+            stall: Stall::new(),
+            is_late: false,
+            failures: 0,
+            last: None,
+        }
+    }
+
+    // The time of the clock; 0 where it can't be read.
+    fn now(&self) -> Duration {
+        self.rt.monotonic().unwrap_or(Duration::from_secs(0))
+    }
+
+    // When a write begins, where its connection has limits.
+    fn begin(&self) -> Option<Duration> {
+        self.pace.limits()?;
+        Some(self.now())
+    }
+
+    // What a write that began then is reported as, and counted if it is a fault. Under limits its time is counted.
+    fn report(&mut self, begun: Option<Duration>, written: io::Result<usize>) -> io::Result<usize>
+        ensures taken { IfOk result (λ n. (written ≡ Ok n) × (paced_sink self.new ≡ paced_sink self.old)) }
+        ensures fault { IfErr result (λ e. paced_sink self.new ≡ failed_sink self.old (error_kind e)) }
+    {
+        let written = match begun {
+            Some(begun) => self.in_time(begun, written),
+            None => written,
+        };
+        self.count(&written);
+        written
+    }
+
+    // The same, where the time of the write counts: a fault of it, `TimedOut`, is reported in the place of the system's.
+    fn in_time(&mut self, begun: Duration, written: io::Result<usize>) -> io::Result<usize>
+        ensures report { IsReportOf written result }
+        ensures sink { paced_sink self.new ≡ paced_sink self.old }
+    {
+        match written {
+            Ok(n) => {
+                if self.is_over(begun, n) {
+                    self.end_late();
+                }
+                Ok(n)
+            }
+            Err(fault) => Err(fault_in_time(fault)),
+        }
+    }
+
+    // Counts a call that began then and wrote so many bytes. Whether the time for a write is over.
+    fn is_over(&mut self, begun: Duration, written: usize) -> bool
+        ensures { paced_sink self.new ≡ paced_sink self.old }
+    {
+        let waited = self.now().saturating_sub(begun);
+        let time = self.write_time();
+        self.stall.count(waited, written, time)
+    }
+
+    // Whether a write that began then is to be made again: the system timed out, and the time for a write isn't over.
+    fn tries_again(&mut self, begun: Option<Duration>, written: &io::Result<usize>) -> bool
+        ensures { paced_sink self.new ≡ paced_sink self.old }
+    {
+        let (Some(begun), Err(fault)) = (begun, written) else {
+            return false;
+        };
+        if fault.kind() != ErrorKind::WouldBlock {
+            return false;
+        }
+        if self.is_over(begun, 0) {
+            self.end_late();
+            return false;
+        }
+        true
+    }
+
+    // How long a write may take.
+    fn write_time(&self) -> Duration {
+        self.pace
+            .limits()
+            .map_or(Duration::MAX, |limits| limits.write_time)
+    }
+
+    // The time for a write is over: the connection is shut down, and each later write fails.
+    fn end_late(&mut self)
+        ensures { paced_sink self.new ≡ paced_sink self.old }
+    {
+        self.is_late = true;
+        self.pace.closed_by(Closing::Write);
+        let _ = self.socket.connection().shutdown(Shutdown::Both);
+    }
+
+    // Counts a fault, if there is one.
+    fn count(&mut self, outcome: &io::Result<usize>)
+        ensures taken { IfOk outcome.now (λ n. paced_sink self.new ≡ paced_sink self.old) }
+        ensures fault { IfErr outcome.now (λ e. paced_sink self.new ≡ failed_sink self.old (error_kind e)) }
+    {
+        if let Err(fault) = outcome {
+            self.failures = self.failures.saturating_add(1);
+            self.last = Some(fault.kind());
+        }
+    }
+}
+
+impl<Rt: Clock> WriteDevice for PacedWriter<Rt> {
+    ghost use Rattle.tiny_http_paced.specs.Paced.{paced_sink};
+
+    ghost sink = { paced_sink };
+
+    /// The count.
+    fn failures(&self) -> u64 {
+        self.failures
+    }
+
+    /// Writes once to the client, and not at all from an empty buffer. Under limits no longer than the time for a write.
+    fn write_out(&mut self, buf: &[u8]) -> Result<usize, io::Error> {
+        if buf.is_empty() {
+            return Ok(0);
+        }
+        if self.is_late {
+            return self.report(None, Err(ErrorKind::TimedOut.into()));
+        }
+        for _ in 0..u64::MAX {
+            let begun = self.begin();
+            let written = self.socket.write_out(buf);
+            if !self.tries_again(begun, &written) {
+                return self.report(begun, written);
+            }
+        }
+        self.report(None, Err(ErrorKind::TimedOut.into()))
+    }
+
+    /// Nothing is held back.
+    fn flush_out(&mut self) -> Result<(), io::Error> {
+        Ok(())
+    }
+
+    /// Shuts the direction to the client down, so that the client sees the end.
+    fn end_out(&mut self) {
+        self.socket.end_out();
+    }
+}
+
+impl<Rt: Clock> WriteBoth for PacedWriter<Rt> {
+    /// Writes once to the client, by one call of the system, and not at all where both texts are empty. Else as `write_out`.
+    fn write_both(&mut self, front: &[u8], back: &[u8]) -> Result<usize, io::Error> {
+        if front.is_empty() && back.is_empty() {
+            return Ok(0);
+        }
+        if self.is_late {
+            return self.report(None, Err(ErrorKind::TimedOut.into()));
+        }
+        for _ in 0..u64::MAX {
+            let begun = self.begin();
+            let written = self.socket.write_both(front, back);
+            if !self.tries_again(begun, &written) {
+                return self.report(begun, written);
+            }
+        }
+        self.report(None, Err(ErrorKind::TimedOut.into()))
+    }
+}
