@@ -7,13 +7,15 @@ use crate::same::{assert_holds, assert_same};
 use std::alloc::Global;
 use std::io::{ErrorKind, Read, Write};
 use std::net::TcpStream;
-use std::time::Duration;
+use std::sync::{Arc, Wait};
+use std::time::{Clock, Duration};
 use std::{io, thread};
 use tiny_http::common::StatusCode;
 use tiny_http::counts::Closing;
 use tiny_http::device::Metered;
 use tiny_http::response::Response;
 use tiny_http::server::{Server, ServerConfig, ServerRequest, Stopped, current_date};
+use tiny_http::serving::Handler;
 use tiny_http::{ConfigListenAddr, Limits, Profile};
 
 const GET: &str = "GET / HTTP/1.1\r\nHost: a\r\n\r\n";
@@ -274,7 +276,44 @@ fn assert_refuses<R: Host>(rt: &R, server: &Server<R>) {
     assert_holds(rt, "nobody is accepted", false);
 }
 
+// Answers each request by an empty 200.
+#[derive(Drop)]
+struct Answering;
+
+impl<R: Wait + Clock + Drop> Handler<R, ServerRequest<R>> for Answering {
+    fn handle(&self, rt: &R, alloc: Global, request: ServerRequest<R>) -> io::Result<()> {
+        request.respond(
+            Response::empty(alloc, StatusCode(200)),
+            current_date(rt),
+        )
+    }
+}
+
+// Stops a server that serves a client, whose connection waits for its next head then.
+fn stop_behind_an_answer<R: Host>(rt: &R, alloc: Global, server: &Server<R>) -> Stopped {
+    let mut client = ask(rt, server);
+    assert_reads_next(rt, alloc, &mut client, EMPTY);
+    let stopped = server.stop(Duration::from_secs(10));
+    assert_reads(rt, alloc, &mut client, &[]);
+    stopped
+}
+
+// A server that serves by a handler is stopped: `serve` returns.
+fn assert_serving_stops<R: Host>(rt: &R, alloc: Global) {
+    let server = serve_within(rt, alloc, Limits::new());
+    let handler = Arc::new(alloc, Answering).expect(rt, "a handler");
+    let (served, stopped) = thread::join(
+        rt,
+        || server.serve(alloc, &handler).is_ok(),
+        || stop_behind_an_answer(rt, alloc, &server),
+    );
+    assert_holds(rt, "serve ends", served);
+    assert_same(rt, stopped, Stopped::Answered);
+    assert_refuses(rt, &server);
+}
+
 #[test]
 fn a_server_stops(rt: HostRuntime) {
     assert_stops(&rt, rt.alloc());
+    assert_serving_stops(&rt, rt.alloc());
 }

@@ -75,6 +75,13 @@ impl<R: Wait + Clock + Drop> Message<R> {
 /// The queue of a server.
 pub(crate) type Messages<R> = MessagesQueue<Message<R>>;
 
+// Drops what waits in the queue of a closed server. A mark that a stop has put there is put back, so that each call that waits
+// returns.
+fn drop_waiting<R: Wait + Clock + Drop>(rt: &R, messages: &Messages<R>) {
+    messages.clear(rt);
+    let _ = messages.unblock(rt);
+}
+
 // Closes a connection in stages, once all is answered (RFC 9112, section 9.6): sends the end, and then reads away what the
 // client still sends, until it closes, waits for too long or sends too much; under limits for 5 seconds at most. A connection
 // that is closed while bytes are unread is reset, and the client may lose the last answer.
@@ -105,7 +112,7 @@ pub(crate) struct Client<R: Wait + Clock + Drop> {
     close: Arc<AtomicBool>,
     connection: ClientConnection<ServerReader<R>, ServerWriter<R>, R>,
     // What its two halves share.
-    cork: Arc<Cork<PacedWriter<R>>>,
+    cork: Arc<Cork<PacedWriter>>,
     // To close it by.
     socket: Arc<Connection>,
     has_limits: bool,
@@ -133,7 +140,7 @@ impl<R: Wait + Clock + Copy> Client<R> {
             }
             let _ = messages.push(&rt, Message::NewRequest(request));
             if self.close.load(Ordering::SeqCst) {
-                messages.clear(&rt);
+                drop_waiting(&rt, messages);
                 return None;
             }
         }
@@ -182,7 +189,7 @@ impl<R: Wait + Clock + Copy> Arrival<R> {
     fn put(self, rt: &R, messages: &Messages<R>, close: &AtomicBool) {
         let _ = messages.push(rt, Message::NewClient(self));
         if close.load(Ordering::SeqCst) {
-            messages.clear(rt);
+            drop_waiting(rt, messages);
         }
     }
 
@@ -317,7 +324,7 @@ impl<R: Wait + Clock + Threads + Copy + Send + 'static> Accepting<R> {
             return None;
         }
         let secure = reader.secure();
-        let writer = PacedWriter::new(rt, writer, Arc::try_clone(&pace).ok()?);
+        let writer = PacedWriter::new(writer, Arc::try_clone(&pace).ok()?);
         let (reader, writer) = halves(rt, alloc, reader, writer).ok()?;
         let reader = PacedReader::new(
             rt,

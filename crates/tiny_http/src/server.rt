@@ -59,10 +59,10 @@ where
 {}
 
 /// What a server reads a client by.
-pub type ServerReader<R> = PacedReader<CorkedReader<RefinedTcpStream, PacedWriter<R>>, R>;
+pub type ServerReader<R> = PacedReader<CorkedReader<RefinedTcpStream, PacedWriter>, R>;
 
 /// What a server writes to a client by.
-pub type ServerWriter<R> = CorkedWriter<PacedWriter<R>, R>;
+pub type ServerWriter<R> = CorkedWriter<PacedWriter, R>;
 
 /// A request of a server's client.
 pub type ServerRequest<R> = Request<ServerReader<R>, ServerWriter<R>, R>;

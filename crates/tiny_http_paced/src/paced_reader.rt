@@ -80,7 +80,6 @@ impl<R: ReadDevice + Drop, Rt: Clock> PacedReader<R, Rt> {
             let had_open = self.pace.has_open();
             match self.inner.read_in(buf) {
                 Ok(n) if n > 0 => {
-                    self.begun = Some(self.now());
                     self.pace.head_began();
                     return Ok(n);
                 }
@@ -96,7 +95,7 @@ impl<R: ReadDevice + Drop, Rt: Clock> PacedReader<R, Rt> {
         Ok(0)
     }
 
-    // Reads where the rest of a head is waited for.
+    // Reads where the rest of a head is waited for. Its time begins at the first such read: a head that came in one piece needs no clock.
     fn read_head(&mut self, limits: &Limits, buf: &mut [u8]) -> io::Result<usize>
         ensures { IfOk result (λ n. n ≤ length buf.new) }
     {
@@ -129,17 +128,16 @@ impl<R: ReadDevice + Drop, Rt: Clock> PacedReader<R, Rt> {
             return self.body_is_late();
         }
         self.wait_for(Some(limits.body_time));
-        let before = self.now();
+        let begun = self.now();
         let read = self.inner.read_in(buf);
-        let waited = self.now().saturating_sub(before);
-        self.judge_body(limits, waited, read)
+        self.judge_body(limits, begun, read)
     }
 
-    // What a read of a body that took so long is reported as.
+    // What a read of a body that began then is reported as.
     fn judge_body(
         &mut self,
         limits: &Limits,
-        waited: Duration,
+        begun: Duration,
         read: io::Result<usize>,
     ) -> io::Result<usize>
         ensures { IsReportOf read result }
@@ -147,6 +145,7 @@ impl<R: ReadDevice + Drop, Rt: Clock> PacedReader<R, Rt> {
         match read {
             Ok(n) => {
                 if n > 0 {
+                    let waited = self.now().saturating_sub(begun);
                     self.is_late = self.stall.count(waited, n, limits.body_time);
                 }
                 Ok(n)

@@ -8,22 +8,23 @@ use std::io;
 use std::io::ErrorKind;
 use std::net::Shutdown;
 use std::sync::Arc;
-use std::time::{Clock, Duration};
+use std::time::Duration;
 use tiny_http_corked::write_both::WriteBoth;
 use tiny_http_device::device::WriteDevice;
 use tiny_http_limits::counts::Closing;
+use tiny_http_limits::limits::Limits;
 use tiny_http_limits::times::Stall;
 use tiny_http_socket::refined_tcp_stream::RefinedTcpStream;
 
-// So many milliseconds one call of the system waits at most. It reports that it timed out also where there is some room by then,
-// which the next call finds.
+// So many milliseconds one call of the system waits at most, and less where a write may take less. It reports that it timed out also
+// where there is some room by then, which the next call finds.
 const STEP_MILLIS: u64 = 1_000;
 
 /// A writer to the socket of a client, whose writes end in time where its connection has limits, by a fault of kind `TimedOut`. The
-/// connection is shut down then. As a `WriteDevice` it counts its failures and states no bytes.
+/// connection is shut down then. No clock is read: a call of the system that takes less than it is given has waited for a second. As
+/// a `WriteDevice` it counts its failures and states no bytes.
 #[derive(Drop)]
-pub struct PacedWriter<Rt: Clock> {
-    rt: Rt,
+pub struct PacedWriter {
     socket: RefinedTcpStream,
     pace: Arc<Pace>,
     stall: Stall,
@@ -33,16 +34,14 @@ pub struct PacedWriter<Rt: Clock> {
     last: Option<ErrorKind>,
 }
 
-impl<Rt: Clock> PacedWriter<Rt> {
+impl PacedWriter {
     /// A writer to this half of a socket.
-    pub fn new(rt: Rt, socket: RefinedTcpStream, pace: Arc<Pace>) -> PacedWriter<Rt> {
+    pub fn new(socket: RefinedTcpStream, pace: Arc<Pace>) -> PacedWriter {
         if let Some(limits) = pace.limits() {
-            let wait = limits.write_time.min(Duration::from_millis(STEP_MILLIS));
-            let wait = wait.max(Duration::from_millis(1));
+            let wait = step(limits).max(Duration::from_millis(1));
             let _ = socket.connection().set_write_timeout(wait);
         }
         PacedWriter {
-            rt,
             socket,
             pace,
             stall: Stall::new(),
@@ -52,24 +51,13 @@ impl<Rt: Clock> PacedWriter<Rt> {
         }
     }
 
-    // The time of the clock; 0 where it can't be read.
-    fn now(&self) -> Duration {
-        self.rt.monotonic().unwrap_or(Duration::from_secs(0))
-    }
-
-    // When a write begins, where its connection has limits.
-    fn begin(&self) -> Option<Duration> {
-        self.pace.limits()?;
-        Some(self.now())
-    }
-
-    // What a write that began then is reported as, and counted if it is a fault. Under limits its time is counted.
-    fn report(&mut self, begun: Option<Duration>, written: io::Result<usize>) -> io::Result<usize>
+    // What a write of so many bytes is reported as, and counted if it is a fault. Under limits its time is counted.
+    fn report(&mut self, asked: usize, written: io::Result<usize>) -> io::Result<usize>
         ensures taken { IfOk result (λ n. (written ≡ Ok n) × (paced_sink self.new ≡ paced_sink self.old)) }
         ensures fault { IfErr result (λ e. paced_sink self.new ≡ failed_sink self.old (error_kind e)) }
     {
-        let written = match begun {
-            Some(begun) => self.in_time(begun, written),
+        let written = match self.pace.limits().copied() {
+            Some(limits) => self.in_time(&limits, asked, written),
             None => written,
         };
         self.count(&written);
@@ -77,13 +65,18 @@ impl<Rt: Clock> PacedWriter<Rt> {
     }
 
     // The same, where the time of the write counts: a fault of it, `TimedOut`, is reported in the place of the system's.
-    fn in_time(&mut self, begun: Duration, written: io::Result<usize>) -> io::Result<usize>
+    fn in_time(
+        &mut self,
+        limits: &Limits,
+        asked: usize,
+        written: io::Result<usize>,
+    ) -> io::Result<usize>
         ensures report { IsReportOf written result }
         ensures sink { paced_sink self.new ≡ paced_sink self.old }
     {
         match written {
             Ok(n) => {
-                if self.is_over(begun, n) {
+                if self.is_over(limits, asked, n) {
                     self.end_late();
                 }
                 Ok(n)
@@ -92,37 +85,36 @@ impl<Rt: Clock> PacedWriter<Rt> {
         }
     }
 
-    // Counts a call that began then and wrote so many bytes. Whether the time for a write is over.
-    fn is_over(&mut self, begun: Duration, written: usize) -> bool
+    // Counts a call that wrote so many of so many bytes. Whether the time for a write is over.
+    fn is_over(&mut self, limits: &Limits, asked: usize, written: usize) -> bool
         ensures { paced_sink self.new ≡ paced_sink self.old }
     {
-        let waited = self.now().saturating_sub(begun);
-        let time = self.write_time();
-        self.stall.count(waited, written, time)
+        let waited = if written < asked {
+            step(limits)
+        } else {
+            Duration::from_secs(0)
+        };
+        self.stall.count(waited, written, limits.write_time)
     }
 
-    // Whether a write that began then is to be made again: the system timed out, and the time for a write isn't over.
-    fn tries_again(&mut self, begun: Option<Duration>, written: &io::Result<usize>) -> bool
+    // Whether a write of so many bytes is to be made again: the system timed out, and the time for a write isn't over.
+    fn tries_again(&mut self, asked: usize, written: &io::Result<usize>) -> bool
         ensures { paced_sink self.new ≡ paced_sink self.old }
     {
-        let (Some(begun), Err(fault)) = (begun, written) else {
+        let Err(fault) = written else {
+            return false;
+        };
+        let Some(limits) = self.pace.limits().copied() else {
             return false;
         };
         if fault.kind() != ErrorKind::WouldBlock {
             return false;
         }
-        if self.is_over(begun, 0) {
+        if self.is_over(&limits, asked, 0) {
             self.end_late();
             return false;
         }
         true
-    }
-
-    // How long a write may take.
-    fn write_time(&self) -> Duration {
-        self.pace
-            .limits()
-            .map_or(Duration::MAX, |limits| limits.write_time)
     }
 
     // The time for a write is over: the connection is shut down, and each later write fails.
@@ -146,7 +138,12 @@ impl<Rt: Clock> PacedWriter<Rt> {
     }
 }
 
-impl<Rt: Clock> WriteDevice for PacedWriter<Rt> {
+// How long one call of the system waits.
+fn step(limits: &Limits) -> Duration {
+    limits.write_time.min(Duration::from_millis(STEP_MILLIS))
+}
+
+impl WriteDevice for PacedWriter {
     ghost use Rattle.tiny_http_paced.specs.Paced.{paced_sink};
 
     ghost sink = { paced_sink };
@@ -161,17 +158,17 @@ impl<Rt: Clock> WriteDevice for PacedWriter<Rt> {
         if buf.is_empty() {
             return Ok(0);
         }
+        let asked = buf.len();
         if self.is_late {
-            return self.report(None, Err(ErrorKind::TimedOut.into()));
+            return self.report(asked, Err(ErrorKind::TimedOut.into()));
         }
         for _ in 0..u64::MAX {
-            let begun = self.begin();
             let written = self.socket.write_out(buf);
-            if !self.tries_again(begun, &written) {
-                return self.report(begun, written);
+            if !self.tries_again(asked, &written) {
+                return self.report(asked, written);
             }
         }
-        self.report(None, Err(ErrorKind::TimedOut.into()))
+        self.report(asked, Err(ErrorKind::TimedOut.into()))
     }
 
     /// Nothing is held back.
@@ -185,22 +182,22 @@ impl<Rt: Clock> WriteDevice for PacedWriter<Rt> {
     }
 }
 
-impl<Rt: Clock> WriteBoth for PacedWriter<Rt> {
+impl WriteBoth for PacedWriter {
     /// Writes once to the client, by one call of the system, and not at all where both texts are empty. Else as `write_out`.
     fn write_both(&mut self, front: &[u8], back: &[u8]) -> Result<usize, io::Error> {
         if front.is_empty() && back.is_empty() {
             return Ok(0);
         }
+        let asked = front.len().saturating_add(back.len());
         if self.is_late {
-            return self.report(None, Err(ErrorKind::TimedOut.into()));
+            return self.report(asked, Err(ErrorKind::TimedOut.into()));
         }
         for _ in 0..u64::MAX {
-            let begun = self.begin();
             let written = self.socket.write_both(front, back);
-            if !self.tries_again(begun, &written) {
-                return self.report(begun, written);
+            if !self.tries_again(asked, &written) {
+                return self.report(asked, written);
             }
         }
-        self.report(None, Err(ErrorKind::TimedOut.into()))
+        self.report(asked, Err(ErrorKind::TimedOut.into()))
     }
 }
