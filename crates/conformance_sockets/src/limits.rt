@@ -282,10 +282,7 @@ struct Answering;
 
 impl<R: Wait + Clock + Drop> Handler<R, ServerRequest<R>> for Answering {
     fn handle(&self, rt: &R, alloc: Global, request: ServerRequest<R>) -> io::Result<()> {
-        request.respond(
-            Response::empty(alloc, StatusCode(200)),
-            current_date(rt),
-        )
+        request.respond(Response::empty(alloc, StatusCode(200)), current_date(rt))
     }
 }
 

@@ -11,6 +11,9 @@ use std::sync::atomic::{AtomicBool, AtomicU8, AtomicU16, AtomicU64, Ordering};
 use tiny_http_limits::counts::{Closing, Summary};
 use tiny_http_limits::limits::Limits;
 
+// So many requests of a connection may be open at least.
+const LEAST_OPEN: usize = 2;
+
 /// A fault as it is reported under limits: the system's time-out, `WouldBlock`, as `TimedOut`, and each other one as it is.
 pub fn fault_in_time(fault: io::Error) -> io::Error
     ensures { error_kind result ≡ kind_in_time (error_kind fault) }
@@ -121,6 +124,16 @@ impl Pace {
     /// Whether a request or a refused head isn't answered yet.
     pub fn has_open(&self) -> bool {
         self.open.load(Ordering::SeqCst) > 0
+    }
+
+    /// How many requests and refused heads may be open, where that is bounded, and as many are: 2 at least, since an answer that waits to
+    /// leave is sent as the connection is read.
+    pub fn full_at(&self) -> Option<usize> {
+        let most = self.limits.as_ref()?.open_requests.max(LEAST_OPEN);
+        if self.open.load(Ordering::SeqCst) < most as u64 {
+            return None;
+        }
+        Some(most)
     }
 
     /// The limits, if there are some.

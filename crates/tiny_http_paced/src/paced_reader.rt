@@ -9,7 +9,6 @@ use std::sync::Arc;
 use std::time::{Clock, Duration};
 use tiny_http_device::device::ReadDevice;
 use tiny_http_limits::counts::Closing;
-use tiny_http_limits::limits::Limits;
 use tiny_http_limits::times::{Stall, time_left};
 use tiny_http_socket::connection::Connection;
 
@@ -71,11 +70,11 @@ impl<R: ReadDevice + Drop, Rt: Clock> PacedReader<R, Rt> {
     }
 
     // Reads where a head's first byte is waited for. The time begins anew where a request was open as it began.
-    fn read_first(&mut self, limits: &Limits, buf: &mut [u8]) -> io::Result<usize>
+    fn read_first(&mut self, time: Duration, buf: &mut [u8]) -> io::Result<usize>
         ensures { IfOk result (λ n. n ≤ length buf.new) }
     {
         self.begun = None;
-        self.wait_for(Some(limits.idle_time));
+        self.wait_for(Some(time));
         for _ in 0..u64::MAX {
             let had_open = self.pace.has_open();
             match self.inner.read_in(buf) {
@@ -96,13 +95,13 @@ impl<R: ReadDevice + Drop, Rt: Clock> PacedReader<R, Rt> {
     }
 
     // Reads where the rest of a head is waited for. Its time begins at the first such read: a head that came in one piece needs no clock.
-    fn read_head(&mut self, limits: &Limits, buf: &mut [u8]) -> io::Result<usize>
+    fn read_head(&mut self, time: Duration, buf: &mut [u8]) -> io::Result<usize>
         ensures { IfOk result (λ n. n ≤ length buf.new) }
     {
         let now = self.now();
         let begun = self.begun.unwrap_or(now);
         self.begun = Some(begun);
-        let Some(left) = time_left(begun, now, limits.head_time) else {
+        let Some(left) = time_left(begun, now, time) else {
             return self.head_is_late();
         };
         self.wait_for(Some(left));
@@ -121,22 +120,22 @@ impl<R: ReadDevice + Drop, Rt: Clock> PacedReader<R, Rt> {
     }
 
     // Reads where a body is read.
-    fn read_body(&mut self, limits: &Limits, buf: &mut [u8]) -> io::Result<usize>
+    fn read_body(&mut self, time: Duration, buf: &mut [u8]) -> io::Result<usize>
         ensures { IfOk result (λ n. n ≤ length buf.new) }
     {
         if self.is_late {
             return self.body_is_late();
         }
-        self.wait_for(Some(limits.body_time));
+        self.wait_for(Some(time));
         let begun = self.now();
         let read = self.inner.read_in(buf);
-        self.judge_body(limits, begun, read)
+        self.judge_body(time, begun, read)
     }
 
     // What a read of a body that began then is reported as.
     fn judge_body(
         &mut self,
-        limits: &Limits,
+        time: Duration,
         begun: Duration,
         read: io::Result<usize>,
     ) -> io::Result<usize>
@@ -146,7 +145,7 @@ impl<R: ReadDevice + Drop, Rt: Clock> PacedReader<R, Rt> {
             Ok(n) => {
                 if n > 0 {
                     let waited = self.now().saturating_sub(begun);
-                    self.is_late = self.stall.count(waited, n, limits.body_time);
+                    self.is_late = self.stall.count(waited, n, time);
                 }
                 Ok(n)
             }
@@ -185,15 +184,16 @@ impl<R: ReadDevice + Drop, Rt: Clock> ReadDevice for PacedReader<R, Rt> {
         if buf.is_empty() {
             return Ok(0);
         }
-        let Some(limits) = self.pace.limits().copied() else {
+        let Some(limits) = self.pace.limits() else {
             return self.inner.read_in(buf);
         };
+        let (first, head, body) = (limits.idle_time, limits.head_time, limits.body_time);
         let request = self.pace.requests();
         self.go_to(request);
         match self.pace.phase() {
-            Phase::Between => self.read_first(&limits, buf),
-            Phase::Head => self.read_head(&limits, buf),
-            Phase::Body => self.read_body(&limits, buf),
+            Phase::Between => self.read_first(first, buf),
+            Phase::Head => self.read_head(head, buf),
+            Phase::Body => self.read_body(body, buf),
             Phase::Stream => {
                 self.wait_for(None);
                 self.inner.read_in(buf)

@@ -12,7 +12,6 @@ use std::time::Duration;
 use tiny_http_corked::write_both::WriteBoth;
 use tiny_http_device::device::WriteDevice;
 use tiny_http_limits::counts::Closing;
-use tiny_http_limits::limits::Limits;
 use tiny_http_limits::times::Stall;
 use tiny_http_socket::refined_tcp_stream::RefinedTcpStream;
 
@@ -27,6 +26,10 @@ const STEP_MILLIS: u64 = 1_000;
 pub struct PacedWriter {
     socket: RefinedTcpStream,
     pace: Arc<Pace>,
+    // The time for a write, where the connection has limits.
+    time: Option<Duration>,
+    // The client was waited for; before that nothing has to be counted.
+    has_waited: bool,
     stall: Stall,
     // The time for a write is over.
     is_late: bool,
@@ -37,13 +40,16 @@ pub struct PacedWriter {
 impl PacedWriter {
     /// A writer to this half of a socket.
     pub fn new(socket: RefinedTcpStream, pace: Arc<Pace>) -> PacedWriter {
-        if let Some(limits) = pace.limits() {
-            let wait = step(limits).max(Duration::from_millis(1));
+        let time = pace.limits().map(|limits| limits.write_time);
+        if let Some(time) = time {
+            let wait = step(time).max(Duration::from_millis(1));
             let _ = socket.connection().set_write_timeout(wait);
         }
         PacedWriter {
             socket,
             pace,
+            time,
+            has_waited: false,
             stall: Stall::new(),
             is_late: false,
             failures: 0,
@@ -56,8 +62,8 @@ impl PacedWriter {
         ensures taken { IfOk result (λ n. (written ≡ Ok n) × (paced_sink self.new ≡ paced_sink self.old)) }
         ensures fault { IfErr result (λ e. paced_sink self.new ≡ failed_sink self.old (error_kind e)) }
     {
-        let written = match self.pace.limits().copied() {
-            Some(limits) => self.in_time(&limits, asked, written),
+        let written = match self.time {
+            Some(time) => self.in_time(time, asked, written),
             None => written,
         };
         self.count(&written);
@@ -67,7 +73,7 @@ impl PacedWriter {
     // The same, where the time of the write counts: a fault of it, `TimedOut`, is reported in the place of the system's.
     fn in_time(
         &mut self,
-        limits: &Limits,
+        time: Duration,
         asked: usize,
         written: io::Result<usize>,
     ) -> io::Result<usize>
@@ -76,7 +82,7 @@ impl PacedWriter {
     {
         match written {
             Ok(n) => {
-                if self.is_over(limits, asked, n) {
+                if self.is_over(time, asked, n) {
                     self.end_late();
                 }
                 Ok(n)
@@ -86,15 +92,14 @@ impl PacedWriter {
     }
 
     // Counts a call that wrote so many of so many bytes. Whether the time for a write is over.
-    fn is_over(&mut self, limits: &Limits, asked: usize, written: usize) -> bool
+    fn is_over(&mut self, time: Duration, asked: usize, written: usize) -> bool
         ensures { paced_sink self.new ≡ paced_sink self.old }
     {
-        let waited = if written < asked {
-            step(limits)
-        } else {
-            Duration::from_secs(0)
-        };
-        self.stall.count(waited, written, limits.write_time)
+        if written < asked {
+            self.has_waited = true;
+            return self.stall.count(step(time), written, time);
+        }
+        self.has_waited && self.stall.count(Duration::from_secs(0), written, time)
     }
 
     // Whether a write of so many bytes is to be made again: the system timed out, and the time for a write isn't over.
@@ -104,13 +109,13 @@ impl PacedWriter {
         let Err(fault) = written else {
             return false;
         };
-        let Some(limits) = self.pace.limits().copied() else {
+        let Some(time) = self.time else {
             return false;
         };
         if fault.kind() != ErrorKind::WouldBlock {
             return false;
         }
-        if self.is_over(&limits, asked, 0) {
+        if self.is_over(time, asked, 0) {
             self.end_late();
             return false;
         }
@@ -138,9 +143,9 @@ impl PacedWriter {
     }
 }
 
-// How long one call of the system waits.
-fn step(limits: &Limits) -> Duration {
-    limits.write_time.min(Duration::from_millis(STEP_MILLIS))
+// How long one call of the system waits, where a write has this time.
+fn step(time: Duration) -> Duration {
+    time.min(Duration::from_millis(STEP_MILLIS))
 }
 
 impl WriteDevice for PacedWriter {

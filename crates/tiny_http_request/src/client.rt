@@ -199,15 +199,14 @@ impl<R: ReadDevice + Drop, W: WriteDevice + Drop, Rt: Wait + Copy> ClientConnect
         if is_closed(&self.sink) {
             return Ok(None);
         }
-        let most = most_open(&self.pace);
-        wait_if_full(&self.sink, most);
+        wait_if_full(&self.sink, &self.pace);
         let (alloc, profile) = (self.alloc, self.profile);
         let source = hold_reader(&mut reader);
         if is_closed(&self.sink) || !begins_head(&self.pace, source) {
             return Ok(None);
         }
         let sink = &mut self.sink;
-        let mut place = NextWriter { most };
+        let mut place = NextWriter { pace: &self.pace };
         match next_request(alloc, source, profile, &mut place, sink, now) {
             Ok(NextRequest::Request(exchange)) => {
                 let Some(writer) = next_writer(&mut self.sink)? else {
@@ -332,31 +331,26 @@ fn set_policy(
     Ok(Some(Arc::try_clone(flush_policy)?))
 }
 
-// So many requests and refused heads may be open where a head is read, or refused, if that is bounded.
-fn most_open(pace: &Option<Arc<Pace>>) -> Option<usize> {
-    let limits = pace.as_ref()?.limits()?;
-    Some(limits.open_requests)
-}
-
-// Waits until fewer writers than that are given out and not finished. Below 2 it counts as 2: an answer that waits to leave is sent as
-// the connection is read.
+// Where as many requests and refused heads are open as may be, waits until one of them is finished.
 fn wait_if_full<W: WriteDevice + Drop, Rt: Wait + Copy>(
     sink: &SequentialWriterBuilder<Outlet<W>, Rt>,
-    most: Option<usize>,
+    pace: &Option<Arc<Pace>>,
 ) {
-    if let Some(most) = most {
-        wait_for_room(sink, most.max(2));
+    if let Some(pace) = pace
+        && let Some(most) = pace.full_at()
+    {
+        wait_for_room(sink, most);
     }
 }
 
-// Where refused heads are answered: each by the next writer. It waits for others where as many as this are open.
+// Where refused heads are answered: each by the next writer. It waits where as many are open as may be.
 #[derive(Drop)]
-struct NextWriter {
-    most: Option<usize>,
+struct NextWriter<'a> {
+    pace: &'a Option<Arc<Pace>>,
 }
 
 impl<W: WriteDevice + Drop, Rt: Wait + Copy> RefusalPlace<SequentialWriterBuilder<Outlet<W>, Rt>>
-    for NextWriter {
+    for NextWriter<'_> {
     // Nothing is stated of what goes behind a lock.
     ghost refuses = { λ _ _ _ _ _ _. ⊤ };
 
@@ -367,7 +361,7 @@ impl<W: WriteDevice + Drop, Rt: Wait + Copy> RefusalPlace<SequentialWriterBuilde
         sink: &mut SequentialWriterBuilder<Outlet<W>, Rt>,
         text: Vec<u8>,
     ) -> Result<(), AllocError> {
-        wait_if_full(sink, self.most);
+        wait_if_full(sink, self.pace);
         let Some(writer) = next_writer(sink)? else {
             return Err(AllocError);
         };
