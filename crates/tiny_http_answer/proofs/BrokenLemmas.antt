@@ -22,8 +22,9 @@ use Rattle.tiny_http_wire.specs.Text.{Text, Ending, Whole, Broken, prepend_text,
 use Rattle.tiny_http_wire.specs.Answer.{Answer, Printing, listed_with, answer_head_text, status_line, is_withheld, body_unless_withheld, gathered_body, coded_text, text_by_code, with_upgrade, answer_coding, text_of}
 use Rattle.tiny_http_wire.specs.ByStandard.{status_version, listed_headers}
 use Rattle.tiny_http_wire.specs.declared.answer_context.Persistence.{Persistence}
+use Rattle.tiny_http_wire.specs.Readable.{IsReadable}
 use Rattle.tiny_http_answer.specs.ClientAnswer.{AnswerHead, BeginsWithAnswerHead, is_interim, ClientAnswer, ReadsAnswer}
-use Rattle.tiny_http_answer.specs.ClientText.{IsReadable, stated_length, printed_headers, listed_of, alone_by_code, IsReadableAnswer, received_answer}
+use Rattle.tiny_http_answer.specs.ClientText.{stated_length, printed_headers, listed_of, alone_by_code, IsReadableAnswer, received_answer}
 use Rattle.tiny_http_answer.specs.SentTexts.{BreaksOff}
 use Rattle.tiny_http_answer.proofs.TextLaw.{major-fits, minor-fits, read_back}
 use Rattle.tiny_http_answer.proofs.ClientAnswerLemmas.{answer-one}

@@ -15,8 +15,9 @@ use Rattle.tiny_http_wire.specs.Bytes.{is_ascii, is_blank, AreAscii, HasNo, HasN
 use Rattle.tiny_http_wire.specs.Lines.{has_crlf}
 use Rattle.tiny_http_wire.specs.Common.{reason_phrase}
 use Rattle.tiny_http_wire.specs.Answer.{has_header, status_line, field_line, field_line_of, upgrade_lines, server_line, date_line, length_line, framing_line, answer_head_text}
+use Rattle.tiny_http_wire.specs.Readable.{IsReadable}
 use Rattle.tiny_http_answer.specs.ClientAnswer.{is_space, FieldLine, BeginsWithFieldLines, BeginsWithAnswerHead}
-use Rattle.tiny_http_answer.specs.ClientText.{IsReadable, server_header, date_header, framing_header, printed_headers}
+use Rattle.tiny_http_answer.specs.ClientText.{server_header, date_header, framing_header, printed_headers}
 use Rattle.tiny_http_answer.proofs.PlainLemmas.{ArePlain, plain-append, plain-decimal, plain-phrase, plain-ascii, no-cr-front, plain-one_line, no-blank-no_cr, plain-date, date-front}
 
 abbrev line_of : Header → List ℕ

@@ -28,8 +28,9 @@ use Rattle.tiny_http_wire.specs.Answer.{Answer, Printing, listed_with, has_heade
 use Rattle.tiny_http_wire.specs.ByStandard.{status_version, persistence_option, connection_headers, safe_value, safe_headers, listed_headers, framing_of_304, contentless_framing}
 use Rattle.tiny_http_wire.specs.declared.answer_context.Persistence.{Persistence}
 use Rattle.tiny_http_wire.specs.Heads.{length_of}
+use Rattle.tiny_http_wire.specs.Readable.{IsReadable}
 use Rattle.tiny_http_answer.specs.ClientAnswer.{AnswerHead, BeginsWithAnswerHead, is_interim, is_head, NoBody, OfChunks, OfLength, says_chunked, first_value, content_length, has_no_body, extent, BeginsWithBody, ReadsAnswer}
-use Rattle.tiny_http_answer.specs.ClientText.{IsReadable, server_header, date_header, framing_header, printed_headers, stated_length, framing_of, framing_said, sent_body, body_said, listed_of, alone_by_code, received_answer, IsReadableAnswer}
+use Rattle.tiny_http_answer.specs.ClientText.{server_header, date_header, framing_header, printed_headers, stated_length, framing_of, framing_said, sent_body, body_said, listed_of, alone_by_code, received_answer, IsReadableAnswer}
 use Rattle.tiny_http_answer.proofs.PrintedLemmas.{FramingFits, head-stands}
 use Rattle.tiny_http_answer.proofs.SentChunks.{sent-chunks}
 

@@ -1,5 +1,5 @@
 -- What a client is to read of an answer's text: its printed headers and its sent body.
-use Rattle.std.specs.Prelude.{◌≡◌, ℕ, ◌<◌, ◌≤◌, ◌^◌, Bool, false, List, [], ◌∷◌, ◌++◌, length, take, Option, Some, None, codes, decimal, if◌then◌else◌, IsTrue}
+use Rattle.std.specs.Prelude.{◌≡◌, ℕ, ◌<◌, ◌≤◌, ◌^◌, Bool, false, List, [], ◌∷◌, ◌++◌, length, take, Option, Some, None, codes, decimal, if◌then◌else◌}
 use Rattle.std.specs.List.{AllByRecursion}
 use Rattle.httpdate.specs.Date.{date_text}
 use Rattle.httpdate.specs.declared.date.HttpDate.{HttpDate}
@@ -9,23 +9,11 @@ use Rattle.tiny_http_wire.specs.declared.coding.Coding.{Coding}
 use Rattle.tiny_http_wire.specs.declared.coding.Coding.TheVariants.{Identity, Chunked}
 use Rattle.tiny_http_wire.specs.declared.coding.FramingHeader.{FramingHeader}
 use Rattle.tiny_http_wire.specs.declared.coding.FramingHeader.TheVariants.{Neither, TransferEncoding, ContentLength}
-use Rattle.tiny_http_wire.specs.Bytes.{is_blank, AreAscii, HasNo, HasNoBlank, has_bare_front, has_bare_end, colon}
 use Rattle.tiny_http_wire.specs.Device.{Feed}
-use Rattle.tiny_http_wire.specs.Lines.{has_crlf}
 use Rattle.tiny_http_wire.specs.Answer.{Answer, Printing, has_header, is_withheld, answer_coding}
 use Rattle.tiny_http_wire.specs.ByStandard.{status_version, listed_headers, contentless_framing}
+use Rattle.tiny_http_wire.specs.Readable.{IsReadable}
 use Rattle.tiny_http_answer.specs.ClientAnswer.{ClientAnswer, is_head}
-
--- A header that is read back as it is printed: its name has no white space and no colon, its value is trimmed and has no
--- CR LF, and both are ASCII.
-pub record IsReadable (header : Header) : Type 0 where
-  pub ascii_field : AreAscii header.field
-  pub ascii_value : AreAscii header.value
-  pub no_blank : HasNoBlank header.field
-  pub no_colon : HasNo colon header.field
-  pub bare_front : IsTrue (has_bare_front is_blank header.value)
-  pub bare_end : IsTrue (has_bare_end is_blank header.value)
-  pub one_line : has_crlf header.value ≡ false
 
 -- the headers of an answer without upgrade, in their printed order: `listed` are those behind the date
 abbrev pub server_header : List Header → List Header

@@ -16,13 +16,14 @@ use Rattle.tiny_http_wire.specs.ByStandard.{persistence_option, connection_heade
 use Rattle.tiny_http_wire.specs.Device.{IsFront}
 use Rattle.tiny_http_wire.specs.Text.{Ending, Whole, Broken}
 use Rattle.tiny_http_wire.specs.Answer.{Answer, Printing, text_plain}
+use Rattle.tiny_http_wire.specs.Readable.{IsReadable}
 use Rattle.tiny_http_message.specs.declared.framing.Profile.{Profile}
 use Rattle.tiny_http_message.specs.Pipeline.{Item, Asks, Refuses, Refusal, BadRequest, RequestTimeout, ExpectationFailed, HeaderFieldsTooLarge, VersionNotSupported, RequestLineTooLong, CodingNotImplemented, MajorVersionNotSupported, is_head_method}
 use Rattle.tiny_http_message.specs.OwnAnswer.{persistence_of, refusal_response}
 use Rattle.tiny_http_sending.specs.ResponseValue.{ResponseValue, response_of, response_text}
 use Rattle.tiny_http_core.specs.Slots.{Slot, Stage, Unanswered, Answered, ByServer, Raw, Upgraded, drop_response, continue_response, printing_for, server_response, text_if, stage_text, opening, segment, is_broken, is_slot_broken, is_stage_finished, is_finished, joined, is_output_broken}
 use Rattle.tiny_http_answer.specs.ClientAnswer.{ClientAnswer, ReadsAnswer, ReadsAnswers, is_head}
-use Rattle.tiny_http_answer.specs.ClientText.{IsReadable, IsReadableAnswer, received_answer}
+use Rattle.tiny_http_answer.specs.ClientText.{IsReadableAnswer, received_answer}
 use Rattle.tiny_http_answer.specs.SentTexts.{BreaksOff, IsSentText, joined_texts, joined_behind, methods, whole_by, whole_answers, remains_by, remains}
 use Rattle.tiny_http_answer.proofs.TextLaw.{read_back}
 use Rattle.tiny_http_answer.proofs.BrokenLemmas.{broken-off, nothing-off, passed-over, interim-head}

@@ -11,13 +11,14 @@ use Rattle.tiny_http_wire.specs.ByStandard.{upgrade_header, safe_value, safe_hea
 use Rattle.tiny_http_message.specs.declared.framing.Profile.{Profile}
 use Rattle.tiny_http_message.specs.declared.framing.Profile.TheVariants.{Standard}
 use Rattle.tiny_http_wire.specs.Text.{Ending, Whole, Broken}
+use Rattle.tiny_http_wire.specs.Readable.{IsReadable}
 use Rattle.tiny_http_message.specs.Pipeline.{Item, Asks, Refuses}
 use Rattle.tiny_http_sending.specs.ResponseValue.{ResponseValue}
 use Rattle.tiny_http_core.specs.Slots.{Slot, Stage, Unanswered, Answered, ByServer, Raw, Upgraded, printing_for, server_response, stage_text, segment}
 use Rattle.tiny_http_core.specs.Steps.{StepValue, Respond, IntoWriter, Upgrade}
 use Rattle.tiny_http_core.specs.Conversation.{TimedValue}
 use Rattle.tiny_http_answer.specs.ClientAnswer.{ClientAnswer, ReadsAnswers}
-use Rattle.tiny_http_answer.specs.ClientText.{IsReadable, stated_length, received_answer}
+use Rattle.tiny_http_answer.specs.ClientText.{stated_length, received_answer}
 use Rattle.tiny_http_answer.specs.SentTexts.{SentText, methods, StandIn}
 
 -- The method as whose answer a number's text is read: that of the request. A refused head counts as a GET, the 505 of a HEAD as

@@ -8,7 +8,7 @@ ghost use Rattle.tiny_http_message.specs.declared.framing.Profile.{Profile};
 ghost use Rattle.tiny_http_core.specs.Conversation.{TimedValue, IsConversation};
 ghost use Rattle.tiny_http_answer.specs.ClientAnswer.{ClientAnswer, ReadsAnswers};
 ghost use Rattle.tiny_http_answer.specs.SentTexts.{methods, whole_answers, remains};
-ghost use Rattle.tiny_http_answer.specs.ClientText.{IsReadable};
+ghost use Rattle.tiny_http_wire.specs.Readable.{IsReadable};
 ghost use Rattle.tiny_http_client_laws.specs.Closes.{NoneFollowsClose, IsReadAsSaid};
 ghost use Rattle.tiny_http_client_laws.specs.ClientReads.{headers_printed, CanBeRead, AreReadable, CanBeReadAt, IsOutputOf, HaveAnswers, ReadsNumbers, sent_texts};
 

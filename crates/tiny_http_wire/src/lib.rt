@@ -10,6 +10,7 @@ mod by_standard;
 pub mod chunked;
 pub mod laws;
 mod page;
+mod readable;
 pub mod response;
 
 pub use tiny_http_coding::coding;

@@ -1,10 +1,11 @@
 //! Answers to requests, and how they are printed.
-ghost use Rattle.std.specs.Prelude.{◌≡◌, true, Option, Some, None, IfSome, if◌then◌else◌, ◌∷◌, IfOk, IfErr, OnOk, OnErr, IsTrue, vec_len, string_len, string_bytes, [], ◌<◌, ◌^◌, ◌++◌, length};
+ghost use Rattle.std.specs.Prelude.{◌≡◌, true, Option, Some, None, IfSome, if◌then◌else◌, ◌∷◌, IfOk, IfErr, OnOk, OnErr, IsTrue, ◌↔◌, vec_len, string_len, string_bytes, [], ◌<◌, ◌^◌, ◌++◌, length};
 ghost use Rattle.std.specs.Option.{option_copied};
-ghost use Rattle.std.specs.List.{list_all};
+ghost use Rattle.std.specs.List.{list_all, AllByRecursion};
 ghost use Rattle.tiny_http_text.specs.Bytes.{is_ascii};
 ghost use Rattle.tiny_http_wire.specs.AddHeader.{add_header, is_put_last, is_some_put_last, with_headers, first_answer};
 ghost use Rattle.tiny_http_wire.specs.ResponseHeaders.{IsResponseHeaders};
+ghost use Rattle.tiny_http_wire.specs.Readable.{IsReadable};
 ghost use Rattle.tiny_http_wire.specs.Answer.{Answer, ResponseState, is_withheld, PrintsText, PrintsGathered, PrintsUncoded, PrintsAnswer, uncoded_text, body_unless_withheld, text_plain, answer_with};
 ghost use Rattle.tiny_http_encoding.specs.Text.{Prints, prepend_text, whole, identity_body, chunked_body, nothing_sent};
 ghost use Rattle.tiny_http_device.specs.Cursor.{cursor_bytes};
@@ -17,6 +18,7 @@ use crate::add_header::{add, add_all, add_in_place};
 use crate::answer_context::AnswerContext;
 use crate::answer_head::{Top, put_head};
 use crate::by_standard::contentless_framing;
+use crate::readable::are_readable;
 use httpdate::HttpDate;
 use std::alloc::{AllocError, Global};
 use std::fs::OpenFile;
@@ -344,6 +346,17 @@ impl<R> Response<R> {
         ensures law { IsResponseHeaders result.now }
     {
         self.headers.as_slice()
+    }
+
+    /// Whether a client reads each of the headers as it was meant. The name has no white space (bytes 9 to 13 and 32) and no
+    /// colon. The value has no white space at its ends, and no CR LF. Both are ASCII (RFC 9110, section 5.5; RFC 9112, section
+    /// 5). Check it where a header has a client's text in it, such as a `Location` that is made of a decoded path: what stands
+    /// behind a CR LF is read as a header of its own. The client theorem asks this of the headers of an answer that isn't
+    /// printed by the standard.
+    pub fn is_readable(&self) -> bool
+        ensures { IsTrue result ↔ AllByRecursion IsReadable self.now.answer.headers }
+    {
+        are_readable(self.headers.as_slice())
     }
 
     /// The protocols that the answer offers to upgrade to, if it offers any.
