@@ -162,12 +162,14 @@ def main():
                 stop(server)
             if count is None:
                 wrong = ["it doesn't start"]
+            elif passed == 0:
+                wrong = ["nothing was passed on"]
             print("%-12s %-8s %s cases, %d requests passed on, %d differ" % (name, profile, count, passed, len(wrong)), flush=True)
             for fault in wrong:
                 print("    " + fault)
             faults += len(wrong)
     if installed("nginx"):
-        met = two_servers(program)
+        met = two_servers(program) or ["it doesn't start"]
         print("two servers behind nginx: " + ", ".join("%d times %s" % (met.count(s), s) for s in sorted(set(met))))
         faults += len([status for status in met if status != "200"])
     sys.exit(1 if faults else 0)

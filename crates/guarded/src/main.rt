@@ -38,7 +38,7 @@ pub enum GuardedFault {
     #[error("cannot listen: {0}")]
     CannotListen(ServerError),
     /// Serving ended by this fault.
-    #[error("{0}")]
+    #[error("cannot serve: {0}")]
     Serving(io::Error),
     /// Memory was refused.
     #[error("out of memory")]
@@ -188,17 +188,19 @@ fn serve<R: ServerRuntime + Sync + Input, O: Write + Send>(
 ) -> Result<(), GuardedFault> {
     let server = listen(rt, alloc, words)?;
     let listens_at = server.server_addr();
+    let told = Arc::try_clone(&server)?;
+    if thread::spawn(&rt, move || stop_when_told(&rt, alloc, &told)).is_err() {
+        return Err(GuardedFault::OutOfMemory);
+    }
+    let has_ended = Arc::new(alloc, AtomicBool::new(false)).map_err(|_| AllocError)?;
+    let (serves, ends) = (Arc::try_clone(&server)?, Arc::try_clone(&has_ended)?);
+    let Ok(serving) = thread::spawn(&rt, move || answer_all(alloc, &serves, &ends)) else {
+        return Err(GuardedFault::OutOfMemory);
+    };
     let _ = writeln!(out, "listening on {listens_at}");
     let _ = out.flush();
-    let theirs = Arc::try_clone(&server)?;
-    let waits = thread::spawn(&rt, move || stop_when_told(&rt, alloc, &theirs));
-    drop(waits);
-    let has_ended = AtomicBool::new(false);
-    let (served, ()) = thread::join(
-        &rt,
-        || answer_all(alloc, &server, &has_ended),
-        || report_counts(&rt, &server, &has_ended, out),
-    );
+    report_counts(&rt, &server, &has_ended, out);
+    let served = serving.join(&rt);
     print_counts(&server, out);
     served
 }

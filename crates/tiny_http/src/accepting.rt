@@ -3,6 +3,7 @@
 ghost use Rattle.std.specs.Prelude.{◌≡◌};
 ghost use Rattle.tiny_http.specs.Message.{received};
 
+use crate::ending::Ending;
 use crate::faults::passes;
 use crate::lobby::{Link, Lobby, Presence, time_of};
 use crate::server::{ServerReader, ServerRequest, ServerWriter, current_date};
@@ -75,11 +76,12 @@ impl<R: Wait + Clock + Drop> Message<R> {
 /// The queue of a server.
 pub(crate) type Messages<R> = MessagesQueue<Message<R>>;
 
-// Drops what waits in the queue of a closed server. A mark that a stop has put there is put back, so that each call that waits
-// returns.
-fn drop_waiting<R: Wait + Clock + Drop>(rt: &R, messages: &Messages<R>) {
+// Drops what waits in the queue of a closed server. Once that was stopped a mark stays there, so that each call that waits returns.
+fn drop_waiting<R: Wait + Clock + Drop>(rt: &R, messages: &Messages<R>, ending: &Ending) {
     messages.clear(rt);
-    let _ = messages.unblock(rt);
+    if ending.has_stopped() {
+        let _ = messages.unblock(rt);
+    }
 }
 
 // Closes a connection in stages, once all is answered (RFC 9112, section 9.6): sends the end, and then reads away what the
@@ -109,7 +111,7 @@ fn close_in_stages<R: Clock>(rt: &R, socket: &Connection, has_limits: bool) {
 #[derive(Drop)]
 pub(crate) struct Client<R: Wait + Clock + Drop> {
     rt: R,
-    close: Arc<AtomicBool>,
+    ending: Arc<Ending>,
     connection: ClientConnection<ServerReader<R>, ServerWriter<R>, R>,
     // What its two halves share.
     cork: Arc<Cork<PacedWriter>>,
@@ -122,7 +124,7 @@ pub(crate) struct Client<R: Wait + Clock + Drop> {
 
 impl<R: Wait + Clock + Copy> Client<R> {
     // Puts its requests into the queue, until it has no further one, or the server serves: then the request that came is given.
-    // One for which the queue has no room is dropped. Once the server was dropped nobody takes them, so whoever puts one there
+    // One for which the queue has no room is dropped. Once the server was closed nobody takes them, so whoever puts one there
     // then empties the queue.
     fn read_requests(
         &mut self,
@@ -139,15 +141,15 @@ impl<R: Wait + Clock + Copy> Client<R> {
                 return Some(request);
             }
             let _ = messages.push(&rt, Message::NewRequest(request));
-            if self.close.load(Ordering::SeqCst) {
-                drop_waiting(&rt, messages);
+            if self.ending.is_closed() {
+                drop_waiting(&rt, messages, &self.ending);
                 return None;
             }
         }
         None
     }
 
-    // Hands its requests to a handler, until it has no further one. Answers leave together. Once the server was dropped the next
+    // Hands its requests to a handler, until it has no further one. Answers leave together. Once the server was closed the next
     // request is dropped, and is the last.
     fn answer_requests<H: Handler<R, ServerRequest<R>>>(&mut self, alloc: Global, handler: &H) {
         let Ok(flush_policy) = Arc::try_clone(self.cork.flush_policy()) else {
@@ -160,7 +162,7 @@ impl<R: Wait + Clock + Copy> Client<R> {
             let Ok(Some(request)) = self.connection.next(now) else {
                 return;
             };
-            if self.close.load(Ordering::SeqCst) {
+            if self.ending.is_closed() {
                 return;
             }
             self.cork.send_unless_leaving();
@@ -185,19 +187,19 @@ pub(crate) struct Arrival<R: Wait + Clock + Drop> {
 }
 
 impl<R: Wait + Clock + Copy> Arrival<R> {
-    // Puts it into the queue. Once the server was dropped nobody takes it, and the queue is emptied then.
-    fn put(self, rt: &R, messages: &Messages<R>, close: &AtomicBool) {
+    // Puts it into the queue. Once the server was closed nobody takes it, and the queue is emptied then.
+    fn put(self, rt: &R, messages: &Messages<R>, ending: &Ending) {
         let _ = messages.push(rt, Message::NewClient(self));
-        if close.load(Ordering::SeqCst) {
-            drop_waiting(rt, messages);
+        if ending.is_closed() {
+            drop_waiting(rt, messages, ending);
         }
     }
 
-    /// Hands its requests to a handler, waits until all are answered, and closes the connection. Once the server was dropped the
+    /// Hands its requests to a handler, waits until all are answered, and closes the connection. Once the server was closed the
     /// next request is dropped, and is the last.
     pub fn answer_by<H: Handler<R, ServerRequest<R>>>(&mut self, alloc: Global, handler: &H) {
         let next = self.next.take();
-        if self.client.close.load(Ordering::SeqCst) {
+        if self.client.ending.is_closed() {
             // A request that is held would be waited for.
             drop(next);
         } else {
@@ -231,9 +233,9 @@ impl<R: Wait + Clock + Copy> Job for Reading<R> {
             return;
         };
         let rt = client.rt;
-        if let Ok(close) = Arc::try_clone(&client.close) {
+        if let Ok(ending) = Arc::try_clone(&client.ending) {
             let next = Some(request);
-            Arrival { client, next }.put(&rt, &self.messages, &close);
+            Arrival { client, next }.put(&rt, &self.messages, &ending);
         }
     }
 }
@@ -246,7 +248,7 @@ pub(crate) struct Accepting<R: Wait + Clock + Drop> {
     pub profile: Profile,
     pub limits: Option<Limits>,
     pub listener: Listener,
-    pub close: Arc<AtomicBool>,
+    pub ending: Arc<Ending>,
     // Set once the server serves.
     pub serving: Arc<AtomicBool>,
     pub messages: Arc<Messages<R>>,
@@ -255,17 +257,22 @@ pub(crate) struct Accepting<R: Wait + Clock + Drop> {
 }
 
 impl<R: Wait + Clock + Threads + Copy + Send + 'static> Accepting<R> {
-    /// Accepts clients until the server is closed, or there is a fault, which is put into the queue. Under limits it waits while as many
-    /// clients are connected as may be, and after a fault that passes.
+    /// Accepts clients until the server is closed, or there is a fault, which is put into the queue.
     pub fn run(self) {
+        self.accept_all();
+        self.ending.end_accepting();
+    }
+
+    // The same. Under limits it waits while as many clients are connected as may be, and after a fault that passes.
+    fn accept_all(&self) {
         let mut backoff = Backoff::new();
         for _ in self.rt.forever() {
-            self.lobby.wait_for_place(&self.rt, &self.close);
-            if self.close.load(Ordering::SeqCst) {
+            self.lobby.wait_for_place(&self.rt, &self.ending);
+            if self.ending.is_closed() {
                 return;
             }
             let accepted = self.listener.accept();
-            if self.close.load(Ordering::SeqCst) {
+            if self.ending.is_closed() {
                 return;
             }
             match accepted {
@@ -292,7 +299,7 @@ impl<R: Wait + Clock + Threads + Copy + Send + 'static> Accepting<R> {
         };
         if self.serving.load(Ordering::SeqCst) {
             let arrival = Arrival { client, next: None };
-            arrival.put(&self.rt, &self.messages, &self.close);
+            arrival.put(&self.rt, &self.messages, &self.ending);
             return;
         }
         if let (Ok(messages), Ok(serving)) = (
@@ -316,10 +323,10 @@ impl<R: Wait + Clock + Threads + Copy + Send + 'static> Accepting<R> {
         let (rt, alloc) = (self.rt, self.alloc);
         let (reader, writer) = RefinedTcpStream::new(alloc, connection).ok()?;
         let socket = Arc::try_clone(reader.connection()).ok()?;
-        let close = Arc::try_clone(&self.close).ok()?;
+        let ending = Arc::try_clone(&self.ending).ok()?;
         let pace = Pace::new(alloc, self.limits).ok()?;
         let presence = self.enter(remote_addr, &socket, &pace)?;
-        if self.close.load(Ordering::SeqCst) {
+        if self.ending.is_closed() {
             // The server was stopped before the client was there.
             return None;
         }
@@ -347,7 +354,7 @@ impl<R: Wait + Clock + Threads + Copy + Send + 'static> Accepting<R> {
         connection.set_pace(pace).ok()?;
         Some(Client {
             rt,
-            close,
+            ending,
             connection,
             cork,
             socket,

@@ -22,6 +22,7 @@
 #![tactic(auto)]
 
 mod accepting;
+mod ending;
 mod faults;
 pub mod laws;
 mod lobby;

@@ -1,7 +1,7 @@
 //! Who is connected to a server, under one lock, and what the server has counted.
+use crate::ending::Ending;
 use std::alloc::{AllocError, Global};
 use std::net::{Shutdown, SocketAddr};
-use std::sync::atomic::{AtomicBool, Ordering};
 use std::sync::{Arc, Condvar, Mutex, Wait};
 use std::time::{Clock, Duration};
 use tiny_http_limits::census::{Census, Refusal};
@@ -66,16 +66,21 @@ impl Lobby {
         counts
     }
 
+    /// How often accepting failed, and went on.
+    pub fn accept_faults<R: Wait>(&self, rt: &R) -> u64 {
+        self.guests.lock(rt).counts.accept_faults
+    }
+
     /// One more fault of accepting.
     pub fn count_accept_fault<R: Wait>(&self, rt: &R) {
         self.guests.lock(rt).counts.count_accept_fault();
     }
 
     /// Waits while as many clients are connected as may be, and the server isn't closed.
-    pub fn wait_for_place<R: Wait>(&self, rt: &R, close: &AtomicBool) {
+    pub fn wait_for_place<R: Wait>(&self, rt: &R, ending: &Ending) {
         let mut guests = self.guests.lock(rt);
         for _ in rt.forever() {
-            if !guests.census.is_full() || close.load(Ordering::SeqCst) {
+            if !guests.census.is_full() || ending.is_closed() {
                 return;
             }
             guests = self.changed.wait(rt, guests);
@@ -113,8 +118,9 @@ impl Lobby {
             guests.counts.count_end(link.pace.summary());
         }
         drop(guests);
-        self.changed.notify_all();
+        // Its connection ends here, before others hear of it.
         drop(left);
+        self.changed.notify_all();
     }
 
     /// Has no client's next head be read, and ends the connections that wait for one.

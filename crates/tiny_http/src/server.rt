@@ -4,6 +4,7 @@ ghost use Rattle.httpdate.specs.Date.{unix_secs};
 ghost use Rattle.tiny_http.specs.Clock.{seconds_of};
 
 use crate::accepting::{Accepting, Message, Messages};
+use crate::ending::Ending;
 use crate::lobby::{Lobby, time_of};
 use httpdate::HttpDate;
 use std::alloc::{AllocError, Global};
@@ -11,7 +12,7 @@ use std::io::ErrorKind;
 use std::net::{Net, TcpListener, TcpStream, ToSocketAddrs};
 use std::os::unix::net::UnixStream;
 use std::path::{AsPath, Path, PathBuf};
-use std::sync::atomic::{AtomicBool, Ordering};
+use std::sync::atomic::AtomicBool;
 use std::sync::{Arc, Wait};
 use std::thread::Threads;
 use std::time::{Clock, Duration};
@@ -167,12 +168,9 @@ impl SslConfig {
 /// it is older than the request.
 pub struct Server<R: Net + SocketFiles + Wait + Clock + Drop> {
     pub(crate) rt: R,
-    // Set where the server is dropped.
-    close: Arc<AtomicBool>,
+    ending: Arc<Ending>,
     // Set once it serves.
     pub(crate) serving: Arc<AtomicBool>,
-    // Set once a call of `stop` has waited.
-    stopped: AtomicBool,
     pub(crate) messages: Arc<Messages<R>>,
     pub(crate) lobby: Arc<Lobby>,
     listening_addr: ListenAddr,
@@ -296,6 +294,21 @@ impl<R: ServerRuntime> Server<R> {
         Server::over_unless_ssl(rt, alloc, listener, ssl, profile, None)
     }
 
+    /// A server for an open port over this listening socket: the same, with these limits for its clients, as `with`.
+    pub fn from_listener_within(
+        rt: R,
+        alloc: Global,
+        listener: Listener,
+        ssl: Option<SslConfig>,
+        profile: Profile,
+        limits: Limits,
+    ) -> Result<Server<R>, ServerError>
+        ensures ssl { IsSome ssl → result ≡ Err ServerError.Ssl }
+        ensures refused { result ≡ Err ServerError.Ssl → IsSome ssl }
+    {
+        Server::over_unless_ssl(rt, alloc, listener, ssl, profile, Some(limits))
+    }
+
     // The same, with these limits, if there are some.
     fn over_unless_ssl(
         rt: R,
@@ -323,7 +336,7 @@ impl<R: ServerRuntime> Server<R> {
         listener: Listener,
     ) -> io::Result<Server<R>> {
         let listening_addr = listener.local_addr()?;
-        let close = Arc::new(alloc, AtomicBool::new(false))?;
+        let ending = Arc::new(alloc, Ending::new())?;
         let serving = Arc::new(alloc, AtomicBool::new(false))?;
         let messages = MessagesQueue::with_capacity(alloc, QUEUE_ROOM)?;
         let lobby = Lobby::new(alloc, limits.as_ref())?;
@@ -333,7 +346,7 @@ impl<R: ServerRuntime> Server<R> {
             profile,
             limits,
             listener,
-            close: Arc::try_clone(&close)?,
+            ending: Arc::try_clone(&ending)?,
             serving: Arc::try_clone(&serving)?,
             messages: Arc::try_clone(&messages)?,
             lobby: Arc::try_clone(&lobby)?,
@@ -344,9 +357,8 @@ impl<R: ServerRuntime> Server<R> {
         }
         Ok(Server {
             rt,
-            close,
+            ending,
             serving,
-            stopped: AtomicBool::new(false),
             messages,
             lobby,
             listening_addr,
@@ -381,7 +393,7 @@ impl<R: Net + SocketFiles + Wait + Clock + Drop> Server<R> {
 
     /// How often accepting failed, and went on: under limits alone.
     pub fn accept_faults(&self) -> u64 {
-        self.counts().accept_faults
+        self.lobby.accept_faults(&self.rt)
     }
 
     /// Waits for a request. An error is the fault by which accepting ended, which one call reports, or of kind `Other` where
@@ -435,7 +447,11 @@ impl<R: Net<Listener = TcpListener, Stream = TcpStream> + SocketFiles + Wait + C
         self.close_down();
         self.lobby.stop(&self.rt);
         let is_empty = self.lobby.wait_until_empty(&self.rt, begun, time);
-        self.stopped.store(true, Ordering::SeqCst);
+        if !self.ending.has_accepted_all() {
+            // There may have been no descriptor for it before.
+            self.connect_to_itself();
+        }
+        self.ending.stop();
         let _ = self.messages.unblock(&self.rt);
         if is_empty {
             return Stopped::Answered;
@@ -457,29 +473,35 @@ impl<R: Net + SocketFiles + Wait + Clock + Drop> Server<R> {
     // Ends accepting, for which it connects to itself once, drops the requests that wait, and removes the file of a Unix socket. Once
     // that is done it does nothing.
     fn close_down(&self) {
-        if self.close.swap(true, Ordering::SeqCst) {
+        if !self.ending.close() {
             return;
         }
         let rt = &self.rt;
         self.lobby.wake(rt);
+        self.connect_to_itself();
+        if let ListenAddr::Unix(addr) = &self.listening_addr
+            && let Some(path) = addr.as_pathname()
+        {
+            let _ = rt.remove_socket(path);
+        }
+        self.messages.clear(rt);
+    }
+
+    // Connects to itself, so that the accepting thread goes on.
+    fn connect_to_itself(&self) {
+        let rt = &self.rt;
         match &self.listening_addr {
             ListenAddr::IP(addr) => {
                 let most = Duration::from_secs(SELF_CONNECT_SECS);
                 drop(TcpStream::connect_timeout(rt, addr, most));
             }
-            ListenAddr::Unix(addr) => {
-                drop(UnixStream::connect_addr(rt, addr));
-                if let Some(path) = addr.as_pathname() {
-                    let _ = rt.remove_socket(path);
-                }
-            }
+            ListenAddr::Unix(addr) => drop(UnixStream::connect_addr(rt, addr)),
         }
-        self.messages.clear(rt);
     }
 
     // Whether it was stopped, and all was answered or the time was over.
     pub(crate) fn has_stopped(&self) -> bool {
-        self.stopped.load(Ordering::SeqCst)
+        self.ending.has_stopped()
     }
 }
 
@@ -490,9 +512,8 @@ impl<R: Net + SocketFiles + Wait + Clock + Drop> Drop for Server<R> {
         self.close_down();
         let Server {
             rt: _,
-            close: _,
+            ending: _,
             serving: _,
-            stopped: _,
             messages: _,
             lobby: _,
             listening_addr: _,

@@ -57,10 +57,10 @@ impl<H: Handler<R, ServerRequest<R>> + Drop, R: Wait + Clock + Copy> Job for Ser
 }
 
 impl<R: ServerRuntime> Server<R> {
-    /// Serves by this handler, until `unblock` is called, the server was stopped, or accepting ends, whose fault is the error. It is also an error where
-    /// memory or threads for its first workers are refused; a client for which no worker is found later is closed. Each client has a
-    /// worker, which hands its requests to the handler one after another. Requests that came before this call are handed to it by
-    /// further workers.
+    /// Serves by this handler, until `unblock` is called, the server was stopped, or accepting ends, whose fault is the error. It
+    /// is also an error where memory or threads for its first workers are refused; a client for which no worker is found later is
+    /// closed. Each client has a worker, which hands its requests to the handler one after another. Requests that came before this
+    /// call are handed to it by further workers.
     ///
     /// Answers wait for each other in a buffer of the connection, of 16,384 bytes, so a fault of the socket may be reported by a later
     /// answer. What waits is sent before the connection is read, where more comes than there is room for, where a request is to wait

@@ -147,7 +147,7 @@ impl Pace {
     }
 
     /// The next head is to be read; bytes of it, or of what is skipped in front of it, may be there. False where the connection was
-    /// stopped: it isn't to be read then.
+    /// stopped: the caller doesn't read it then.
     pub fn begin_head(&self, has_begun: bool) -> bool {
         let phase = if has_begun {
             Phase::Head

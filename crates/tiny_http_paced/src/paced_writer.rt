@@ -158,7 +158,8 @@ impl WriteDevice for PacedWriter {
         self.failures
     }
 
-    /// Writes once to the client, and not at all from an empty buffer. Under limits no longer than the time for a write.
+    /// Writes once to the client, and not at all from an empty buffer. Under limits it ends in time, which is counted in steps of a
+    /// second.
     fn write_out(&mut self, buf: &[u8]) -> Result<usize, io::Error> {
         if buf.is_empty() {
             return Ok(0);

@@ -238,8 +238,8 @@ impl<R: ReadDevice + Drop, W: WriteDevice + Drop, Rt: Wait + Copy> ClientConnect
         Ok(())
     }
 
-    // Hands out a request that was read by this reader, and answers on this writer. The reader goes with a body that is read from it, and with a request
-    // before whose answer the next head isn't read.
+    // Hands out a request that was read by this reader, and answers on this writer. The reader goes with a body that is read from it,
+    // and with a request before whose answer the next head isn't read.
     fn hand_out(
         &mut self,
         reader: SequentialReader<Source<R>, Rt>,
