@@ -75,6 +75,11 @@ impl From<AllocError> for GuardedFault {
     }
 }
 
+/// What the program needs of the system: what a server needs, also of several threads, and lines of standard input.
+pub trait Machine: ServerRuntime + Sync + Input {}
+
+impl<R: ServerRuntime + Sync + Input> Machine for R {}
+
 // Answers by `hello world`.
 #[derive(Drop)]
 struct Hello;
@@ -124,7 +129,7 @@ fn listen<R: ServerRuntime>(
 }
 
 // Stops the server once a line `stop` comes. Where the input ends before it does nothing more.
-fn stop_when_told<R: ServerRuntime + Input>(rt: &R, alloc: Global, server: &Server<R>) {
+fn stop_when_told<R: Machine>(rt: &R, alloc: Global, server: &Server<R>) {
     for _ in rt.forever() {
         let mut line = String::new(alloc);
         match rt.read_line(&mut line) {
@@ -158,8 +163,9 @@ fn report_counts<R: ServerRuntime, O: Write>(
             return;
         }
         thread::sleep(rt, Duration::from_secs(1));
-        seconds = (seconds + 1) % REPORT_SECS;
-        if seconds == 0 {
+        seconds = seconds.saturating_add(1);
+        if seconds >= REPORT_SECS {
+            seconds = 0;
             print_counts(server, out);
         }
     }
@@ -180,7 +186,7 @@ fn answer_all<R: ServerRuntime>(
 }
 
 // Listens at the address that the words name, and answers all requests.
-fn serve<R: ServerRuntime + Sync + Input, O: Write + Send>(
+fn serve<R: Machine, O: Write>(
     rt: R,
     alloc: Global,
     words: &[String],
@@ -217,7 +223,7 @@ fn report<E: Write>(fault: &GuardedFault, err: &mut E) -> u8 {
 /// Listens at the address that the words name, says so on `out`, and answers every request by `hello world` until there are no
 /// more. Gives the exit status: 0; or 2 where the words aren't `[--lenient|--strict|--standard] ADDRESS`, and 1 where it can't
 /// listen there or serving ends by a fault, which a line on `err` says.
-pub fn guarded_on<R: ServerRuntime + Sync + Input, O: Write + Send, E: Write>(
+pub fn guarded_on<R: Machine, O: Write, E: Write>(
     rt: R,
     alloc: Global,
     words: &[String],
