@@ -144,6 +144,10 @@ pub fn text_in(text: &str) -> Option<ScriptLine<'_>>
     if text == "ask" {
         return Some(ScriptLine::Ask);
     }
+    if let Some(words) = text.strip_prefix("respond ") {
+        let (number, status, content) = answer_in(words)?;
+        return Some(ScriptLine::Respond(number, status, content));
+    }
     if let Some(seconds) = text.strip_prefix("now ") {
         return Some(ScriptLine::Now(date_in(seconds)?));
     }
@@ -170,13 +174,9 @@ pub fn text_in(text: &str) -> Option<ScriptLine<'_>>
         let (number, status, protocol) = numbers_before(words)?;
         return Some(ScriptLine::Upgrade(number, status, protocol));
     }
-    if let Some(words) = text.strip_prefix("read ") {
-        let (number, count) = read_in(words)?;
-        return Some(ScriptLine::Read(number, count));
-    }
-    let words = text.strip_prefix("respond ")?;
-    let (number, status, content) = answer_in(words)?;
-    Some(ScriptLine::Respond(number, status, content))
+    let words = text.strip_prefix("read ")?;
+    let (number, count) = read_in(words)?;
+    Some(ScriptLine::Read(number, count))
 }
 
 /// What a line says; None for a line that says nothing known, or that has a byte from 128 on.

@@ -23,7 +23,7 @@ impl fmt::Display for Length {
     fn fmt<W: fmt::Write>(&self, f: &mut fmt::Formatter<W>) -> fmt::Result {
         match self.0 {
             Some(length) => write!(f, "{length}"),
-            None => write!(f, "-"),
+            None => f.write_str("-"),
         }
     }
 }
@@ -88,15 +88,15 @@ impl fmt::Display for ReplyLine<'_> {
 
     fn fmt<W: fmt::Write>(&self, f: &mut fmt::Formatter<W>) -> fmt::Result {
         match self.0 {
-            Reply::Handed(number, head) => write!(f, "{}", Handed(*number, head)),
+            Reply::Handed(number, head) => Handed(*number, head).fmt(f),
             Reply::Fault(kind) => write!(f, "fault {}", name_of(*kind)),
-            Reply::NotYet => write!(f, "notyet"),
+            Reply::NotYet => f.write_str("notyet"),
             Reply::Given(bytes) => write!(f, "given{}", Bytes(bytes.as_slice())),
-            Reply::Ended => write!(f, "ended"),
-            Reply::Done => write!(f, "done"),
-            Reply::Refused => write!(f, "refused"),
-            Reply::NoSuch => write!(f, "nosuch"),
-            Reply::Memory => write!(f, "memory"),
+            Reply::Ended => f.write_str("ended"),
+            Reply::Done => f.write_str("done"),
+            Reply::Refused => f.write_str("refused"),
+            Reply::NoSuch => f.write_str("nosuch"),
+            Reply::Memory => f.write_str("memory"),
         }
     }
 }
