@@ -7,7 +7,7 @@
 ghost use Rattle.std.specs.Prelude.{◌≡◌};
 
 use std::alloc::{AllocError, Global};
-use std::io::{ErrorKind, Input, Write};
+use std::io::{BufRead, ErrorKind, Input, Write};
 use std::process::ExitCode;
 use std::rt::Env;
 use std::sync::atomic::{AtomicBool, Ordering};
@@ -75,11 +75,6 @@ impl From<AllocError> for GuardedFault {
     }
 }
 
-/// What the program needs of the system: what a server needs, also of several threads, and lines of standard input.
-pub trait Machine: ServerRuntime + Sync + Input {}
-
-impl<R: ServerRuntime + Sync + Input> Machine for R {}
-
 // Answers by `hello world`.
 #[derive(Drop)]
 struct Hello;
@@ -129,10 +124,15 @@ fn listen<R: ServerRuntime>(
 }
 
 // Stops the server once a line `stop` comes. Where the input ends before it does nothing more.
-fn stop_when_told<R: Machine>(rt: &R, alloc: Global, server: &Server<R>) {
+fn stop_when_told<R: ServerRuntime, I: BufRead + Drop>(
+    rt: &R,
+    alloc: Global,
+    server: &Server<R>,
+    mut input: I,
+) {
     for _ in rt.forever() {
         let mut line = String::new(alloc);
-        match rt.read_line(&mut line) {
+        match input.read_line(&mut line) {
             Ok(n) if n > 0 => {}
             _ => return,
         }
@@ -185,17 +185,19 @@ fn answer_all<R: ServerRuntime>(
     served
 }
 
-// Listens at the address that the words name, and answers all requests.
-fn serve<R: Machine, O: Write>(
+// Listens at the address that the words name, and answers all requests. The input is a value of its own: a thread can't be given a bound
+// whose associated type isn't `Send`.
+fn serve<R: ServerRuntime + Sync, I: BufRead + Send + Drop + 'static, O: Write>(
     rt: R,
     alloc: Global,
     words: &[String],
+    input: I,
     out: &mut O,
 ) -> Result<(), GuardedFault> {
     let server = listen(rt, alloc, words)?;
     let listens_at = server.server_addr();
     let told = Arc::try_clone(&server)?;
-    if thread::spawn(&rt, move || stop_when_told(&rt, alloc, &told)).is_err() {
+    if thread::spawn(&rt, move || stop_when_told(&rt, alloc, &told, input)).is_err() {
         return Err(GuardedFault::OutOfMemory);
     }
     let has_ended = Arc::new(alloc, AtomicBool::new(false)).map_err(|_| AllocError)?;
@@ -220,17 +222,18 @@ fn report<E: Write>(fault: &GuardedFault, err: &mut E) -> u8 {
     1
 }
 
-/// Listens at the address that the words name, says so on `out`, and answers every request by `hello world` until there are no
-/// more. Gives the exit status: 0; or 2 where the words aren't `[--lenient|--strict|--standard] ADDRESS`, and 1 where it can't
+/// Listens at the address that the words name, says so on `out`, and answers every request by `hello world` until a line `stop` comes
+/// on `input`, or there are no more. Gives the exit status: 0; or 2 where the words aren't `[--lenient|--strict|--standard] ADDRESS`, and 1 where it can't
 /// listen there or serving ends by a fault, which a line on `err` says.
-pub fn guarded_on<R: Machine, O: Write, E: Write>(
+pub fn guarded_on<R: ServerRuntime + Sync, I: BufRead + Send + Drop + 'static, O: Write, E: Write>(
     rt: R,
     alloc: Global,
     words: &[String],
+    input: I,
     out: &mut O,
     err: &mut E,
 ) -> u8 {
-    match serve(rt, alloc, words, out) {
+    match serve(rt, alloc, words, input, out) {
         Ok(()) => 0,
         Err(fault) => report(&fault, err),
     }
@@ -253,5 +256,5 @@ fn main(rt: HostRuntime) -> ExitCode {
         Err(fault) => return ExitCode::from(report(&fault, &mut err)),
     };
     let words = words.as_slice().get(1..).unwrap_or(&[]);
-    ExitCode::from(guarded_on(rt, rt.alloc(), words, &mut out, &mut err))
+    ExitCode::from(guarded_on(rt, rt.alloc(), words, rt.reader(), &mut out, &mut err))
 }
