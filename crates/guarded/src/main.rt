@@ -222,9 +222,9 @@ fn report<E: Write>(fault: &GuardedFault, err: &mut E) -> u8 {
     1
 }
 
-/// Listens at the address that the words name, says so on `out`, and answers every request by `hello world` until a line `stop` comes
-/// on `input`, or there are no more. Gives the exit status: 0; or 2 where the words aren't `[--lenient|--strict|--standard] ADDRESS`, and 1 where it can't
-/// listen there or serving ends by a fault, which a line on `err` says.
+/// Listens at the address that the words name, says so on `out`, and answers every request by `hello world` until a line `stop`
+/// comes on `input`, or there are no more. Gives the exit status: 0; or 2 where the words aren't `[--lenient|--strict|--standard]
+/// ADDRESS`, and 1 where it can't listen there or serving ends by a fault, which a line on `err` says.
 pub fn guarded_on<R: ServerRuntime + Sync, I: BufRead + Send + Drop + 'static, O: Write, E: Write>(
     rt: R,
     alloc: Global,
