@@ -4,4 +4,3 @@ pub mod HeadReadingLemmas
 pub mod HeadsLengths
 pub mod FmtLemmas
 pub mod CommonLemmas
-pub mod HeaderTextsLemmas
