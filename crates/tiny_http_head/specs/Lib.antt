@@ -2,4 +2,3 @@ pub mod Common
 pub mod Number
 pub mod Heads
 pub mod HeadReading
-pub mod Target

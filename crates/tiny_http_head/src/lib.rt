@@ -5,4 +5,3 @@
 pub mod common;
 pub mod grammar;
 pub mod laws;
-pub mod target;

@@ -1,5 +1,4 @@
 pub mod Request
 pub mod Body
-pub mod WholeBody
 pub mod Client
 pub mod Test
