@@ -23,7 +23,7 @@ use replay_script::reply::ReplyLine;
 use replay_script::script::{ScriptFault, read_script};
 use replay_script::script_data::ScriptData;
 use std::alloc::Global;
-use std::io::{ErrorKind, Write};
+use std::io::{BufWriter, ErrorKind, Write};
 use std::process::ExitCode;
 use std::rt::{Env, Files};
 use std::{env, fs, io};
@@ -210,17 +210,29 @@ fn words<R: Env + AllocGlobal>(rt: &R) -> Result<Vec<String>, ReplayFault<'stati
     }
 }
 
-fn main(rt: HostRuntime) -> ExitCode {
-    let mut out = rt.stdout();
-    let mut err = rt.stderr();
-    let words = match words(&rt) {
+// Runs the steps of the script over the bytes that the command line names, and gives the exit status.
+fn run_call<R: Env + Files + AllocGlobal, O: Write, E: Write>(
+    rt: &R,
+    out: &mut O,
+    err: &mut E,
+) -> u8 {
+    let words = match words(rt) {
         Ok(words) => words,
-        Err(fault) => return ExitCode::from(report(&fault, &mut err)),
+        Err(fault) => return report(&fault, err),
     };
-    let (profile, bytes, script) = match read_call(&rt, words.as_slice()) {
+    let (profile, bytes, script) = match read_call(rt, words.as_slice()) {
         Ok(call) => call,
-        Err(fault) => return ExitCode::from(report(&fault, &mut err)),
+        Err(fault) => return report(&fault, err),
     };
-    let (alloc, script) = (rt.alloc(), script.as_slice());
-    ExitCode::from(replay_on(alloc, profile, bytes, script, &mut out, &mut err))
+    replay_on(rt.alloc(), profile, bytes, script.as_slice(), out, err)
+}
+
+// What goes to standard error is gathered, since it comes in many small pieces.
+fn main(rt: HostRuntime) -> ExitCode {
+    let Ok(mut err) = BufWriter::new(rt.alloc(), rt.stderr()) else {
+        return ExitCode::from(report(&ReplayFault::OutOfMemory, &mut rt.stderr()));
+    };
+    let status = run_call(&rt, &mut rt.stdout(), &mut err);
+    let _ = err.flush();
+    ExitCode::from(status)
 }
