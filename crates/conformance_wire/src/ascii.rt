@@ -55,7 +55,7 @@ fn takes(rt: HostRuntime) -> Result<(), Fail> {
     assert_texts(&rt, &text);
     assert_lengths(&rt, &text);
     assert_equal_without_case(&rt, &text);
-    Ok(())
+    assert_shown(&rt, rt.alloc(), &text, " Ab\t")
 }
 
 #[test]

@@ -190,4 +190,5 @@ fn other_data_of_unknown_length(rt: HostRuntime) -> Result<(), Fail> {
 }
 
 mod file;
+mod making;
 mod readable;

@@ -33,7 +33,7 @@ IsFirstBadLine lines n =
 
 -- an answer without headers, whose data are so many bytes `x` and this stop, of this length, if it is known
 abbrev pub xs_response : ℕ → ℕ → Stop → Option ℕ → ResponseValue
-xs_response status count stop length = record { answer = record { status = status; headers = []; data_length = length; threshold = 32768; closes = false; offered = None }; content = xs count stop }
+xs_response status count stop length = record { answer = record { status = status; headers = []; data_length = length; threshold = 32768; closes = false; offered = None; contentless = false }; content = xs count stop }
 
 -- the answer by a code with this content
 abbrev pub response_with : ℕ → Content → ResponseValue

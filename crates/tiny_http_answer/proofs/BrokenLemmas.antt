@@ -159,7 +159,7 @@ nothing-off m a feed p r = nothing-step m a feed p (text_of a feed p).ending r r
 
 -- a 100 is its head alone
 abbrev pub interim_reply : Answer
-interim_reply = record { status = 100; headers = []; data_length = Some 0; threshold = 32768; closes = false; offered = None }
+interim_reply = record { status = 100; headers = []; data_length = Some 0; threshold = 32768; closes = false; offered = None; contentless = false }
 
 abbrev interim_framing : Option Persistence → FramingHeader
 interim_framing None = ContentLength 0

@@ -25,7 +25,7 @@ use Rattle.tiny_http_wire.specs.ChunkedPrinting.{chunked}
 use Rattle.tiny_http_wire.specs.Common.{same_name}
 use Rattle.tiny_http_wire.specs.Text.{Text, Whole, Broken, whole, prepend_text, identity_body, chunked_until, chunked_body}
 use Rattle.tiny_http_wire.specs.Answer.{Answer, Printing, listed_with, has_header, answer_head_text, is_withheld, body_unless_withheld, gathered_body, coded_text, text_by_code, with_upgrade, answer_coding, text_of}
-use Rattle.tiny_http_wire.specs.ByStandard.{status_version, persistence_option, connection_headers, safe_value, safe_headers, listed_headers, framing_of_304, contentless_framing}
+use Rattle.tiny_http_wire.specs.ByStandard.{status_version, persistence_option, connection_headers, safe_value, safe_headers, listed_headers, framing_of_304, contentless_framing, framing_by_standard, has_no_content}
 use Rattle.tiny_http_wire.specs.declared.answer_context.Persistence.{Persistence}
 use Rattle.tiny_http_wire.specs.Heads.{length_of}
 use Rattle.tiny_http_wire.specs.Readable.{IsReadable}
@@ -225,9 +225,24 @@ module _ (m : Method) (v : HTTPVersion) (status : ℕ) (headers listed : List He
   by-code false false true len feed e f lt = (fits-304 len feed lt, withheld-body (framing_of_304 len) (of-304 f))
   by-code false false false len feed e f lt = tt
 
-  alone-by : (q : Option Persistence) (len : Option ℕ) (feed : Feed) → stated_length len feed < 2 ^ 64 → IsAlone m head_with rest (contentless_framing q status len)
-  alone-by None len feed lt = tt
-  alone-by (Some _) len feed lt = by-code (nat_lt status 200 || status == 204) (status == 205) (status == 304) len feed refl refl lt
+  by-standard : (q : Option Persistence) (len : Option ℕ) (feed : Feed) → stated_length len feed < 2 ^ 64 → IsAlone m head_with rest (framing_by_standard q status len)
+  by-standard None len feed lt = tt
+  by-standard (Some _) len feed lt = by-code (nat_lt status 200 || status == 204) (status == 205) (status == 304) len feed refl refl lt
+
+  -- whatever it is printed by, a code without content withholds the body
+  of-contentless : has_no_content status ≡ true → w ≡ true
+  of-contentless e =
+      let k : (status == 204 || status == 304) ≡ true = ap (λ x. x || (status == 204 || status == 304)) (sym (le-ltb status 200 known.final)) ∙ e in
+      known.same ∙ rw (k, or-true (is_head m)) refl
+
+  -- a head that says no length is alone, and any other is by the standard or not
+  alone-if : (contentless t : Bool) (o : Option FramingHeader) → (contentless && has_no_content status) ≡ t → IsAlone m head_with rest o → IsAlone m head_with rest (if t then Some Neither else o)
+  alone-if true true o e h = (tt, withheld-body Neither (of-contentless e))
+  alone-if false true o e h = cc
+  alone-if contentless false o e h = h
+
+  alone-by : (q : Option Persistence) (contentless : Bool) (len : Option ℕ) (feed : Feed) → stated_length len feed < 2 ^ 64 → IsAlone m head_with rest (contentless_framing q contentless status len)
+  alone-by q contentless len feed lt = alone-if contentless (contentless && has_no_content status) (framing_by_standard q status len) refl (by-standard q len feed lt)
 
   alone-back : (framing : FramingHeader) → FramingFits framing → BeginsWithBody (extent m (head_with framing)) rest [] rest → Back (whole (top framing)) framing []
   alone-back framing f b h =
@@ -319,5 +334,5 @@ pub read_back : (m : Method) (a : Answer) (feed : Feed) (p : Printing) (rest : L
 unfolding text_of
 read_back m a feed p rest r h =
     let P : Option (List ℕ) → Type 0 = λ u. (with_upgrade u a feed p).ending ≡ Whole → ReadsAnswer m ((with_upgrade u a feed p).bytes ++ rest) (received_answer a feed p) rest in
-    let alone = alone-by m (version_of p) a.status a.headers (listed_of a p) p.date (is_withheld p.no_body a.status) (known-of m a feed p r) rest p.persistence a.data_length feed r.length_fits in
+    let alone = alone-by m (version_of p) a.status a.headers (listed_of a p) p.date (is_withheld p.no_body a.status) (known-of m a feed p r) rest p.persistence a.contentless a.data_length feed r.length_fits in
     subst P (sym r.no_upgrade) (content-back m a feed p rest (alone_by_code a p) r alone) h

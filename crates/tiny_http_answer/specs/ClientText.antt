@@ -62,7 +62,7 @@ abbrev pub listed_of : Answer → Printing → List Header
 listed_of a p = listed_headers p.persistence p.version a.status a.offered a.headers
 
 abbrev pub alone_by_code : Answer → Printing → Option FramingHeader
-alone_by_code a p = contentless_framing p.persistence a.status a.data_length
+alone_by_code a p = contentless_framing p.persistence a.contentless a.status a.data_length
 
 -- version, status, printed headers and sent body of an answer
 abbrev pub received_answer : Answer → Feed → Printing → ClientAnswer

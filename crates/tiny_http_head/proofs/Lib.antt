@@ -4,3 +4,4 @@ pub mod HeadReadingLemmas
 pub mod HeadsLengths
 pub mod FmtLemmas
 pub mod CommonLemmas
+pub mod HeaderTextsLemmas

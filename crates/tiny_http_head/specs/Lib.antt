@@ -2,3 +2,4 @@ pub mod Common
 pub mod Number
 pub mod Heads
 pub mod HeadReading
+pub mod HeaderTexts

@@ -1,5 +1,5 @@
 //! Status codes, versions, methods and headers.
-ghost use Rattle.std.specs.Prelude.{◌≡◌, ◌%◌, ◌↔◌, IfOk, IfErr, IsOk, IsErrOf, IsSome, OnErr, IsAscii, Some, nat_eq, List, ℕ};
+ghost use Rattle.std.specs.Prelude.{◌≡◌, ◌%◌, ◌↔◌, IfOk, IfErr, IsOk, IsErrOf, IsSome, IsTrue, OnErr, IsAscii, Some, nat_eq, List, ℕ};
 ghost use Rattle.std.specs.Ordering.{on};
 ghost use Rattle.std.specs.Cmp.Lexicographic.{pointwise};
 ghost use Rattle.std.specs.Cmp.Rules.{comparing};
@@ -8,18 +8,21 @@ ghost use Rattle.tiny_http_text.specs.Bytes.{AreAscii};
 ghost use Rattle.tiny_http_head.specs.Number.{code_of};
 ghost use Rattle.tiny_http_head.specs.Heads.{method_of};
 ghost use Rattle.tiny_http_head.specs.HeadReading.{header_line};
+ghost use Rattle.tiny_http_head.specs.HeaderTexts.{IsFieldValue};
 
+use httparse::{is_header_value, is_token};
 use std::alloc::{AllocError, Global};
 use std::cmp::Ordering;
-use std::fmt;
+use std::io::ErrorKind;
 use std::marker::Model;
+use std::{fmt, io};
 use thiserror::Error;
 use tiny_http_text::ascii::{AsciiStr, AsciiString, FromAsciiError};
-use tiny_http_text::bytes::{are_ascii, cut, has_no_blank, is, trim};
+use tiny_http_text::bytes::{are_ascii, cut, has_no_blank, is, is_trimmed, trim};
 use tiny_http_text::copies::owned;
 use tiny_http_text::number::Numeral;
 
-/// Why a text isn't read.
+/// Why a text isn't read, or no header is made of texts.
 #[derive(Clone, Copy, Debug, PartialEq, Eq, Error)]
 pub enum ParseError {
     /// The text isn't of the grammar.
@@ -37,6 +40,21 @@ impl From<AllocError> for ParseError {
 
     fn from(_error: AllocError) -> ParseError {
         ParseError::Memory
+    }
+}
+
+impl From<ParseError> for io::Error {
+    ghost use Rattle.std.specs.IoError.{error_kind};
+    ghost use Rattle.tiny_http_head.specs.HeaderTexts.{kind_of};
+
+    ghost from_gives = { λ error fault. error_kind fault ≡ kind_of error };
+
+    /// `InvalidInput` of `Refused`, and `OutOfMemory` of `Memory`: `?` gives these in a function that answers an `io::Result`.
+    fn from(error: ParseError) -> io::Error {
+        match error {
+            ParseError::Refused => ErrorKind::InvalidInput.into(),
+            ParseError::Memory => ErrorKind::OutOfMemory.into(),
+        }
     }
 }
 
@@ -455,6 +473,27 @@ pub struct Header {
 
 impl Header {
     ghost use Rattle.tiny_http_head.specs.Heads.{IsHeader};
+    ghost use Rattle.tiny_http_head.specs.HeaderTexts.{AreHeaderTexts, header_of};
+
+    /// Makes a header of a name and a value, both as they are given. The name is a token: one byte or more, each a letter, a
+    /// digit or one of ``!#$%&'*+-.^_`|~`` (RFC 9110, section 5.6.2). The value is of visible ASCII bytes, spaces and tabs, and
+    /// neither a space nor a tab stands at its ends; it may be empty (RFC 9110, section 5.5). `Refused` for any other text, as
+    /// one with CR, LF or NUL, and for no other reason; `Memory` where there is no memory for the copies. A client reads such a
+    /// header as it was meant, also where a client's text stands in the value.
+    #[tactic(auto, using(crate::proofs::HeaderTextsLemmas::token_ascii))]
+    pub fn new(alloc: Global, name: &str, value: &str) -> Result<Header, ParseError>
+        ensures ok { IfOk result (λ h. (h ≡ header_of name.now value.now) × AreHeaderTexts name.now value.now) }
+        ensures refused { IsErrOf result ParseError.Refused ↔ ¬ (AreHeaderTexts name.now value.now) }
+    {
+        let name = name.as_bytes();
+        let value = value.as_bytes();
+        if !is_token(name) || !is_field_value(value) {
+            return Err(ParseError::Refused);
+        }
+        let field = HeaderField::from_text(owned(alloc, name)?);
+        let value = owned(alloc, value)?;
+        Ok(Header { field, value })
+    }
 
     /// Makes a header of any ASCII bytes. An error where either text isn't ASCII.
     pub fn from_bytes(field: Vec<u8>, value: Vec<u8>) -> Result<Header, ()>
@@ -499,6 +538,18 @@ impl Header {
     }
 }
 
+impl From<Header> for io::Error {
+    ghost use Rattle.std.specs.IoError.{error_kind};
+    ghost use Rattle.std.specs.declared.io.ErrorKind.TheVariants.{OutOfMemory};
+
+    ghost from_gives = { λ _ fault. error_kind fault ≡ OutOfMemory };
+
+    /// `OutOfMemory`: a header comes back from a call that found no memory to keep it. The header is let go.
+    fn from(_header: Header) -> io::Error {
+        ErrorKind::OutOfMemory.into()
+    }
+}
+
 impl fmt::Display for Header {
     ghost use Rattle.tiny_http_head.specs.Common.{header_text};
 
@@ -512,6 +563,13 @@ impl fmt::Display for Header {
         f.write_str(": ")?;
         f.write_str(self.value.as_str())
     }
+}
+
+// Whether the text is a value as it is sent: ASCII, with no control byte but the tab, and no white space at its ends.
+fn is_field_value(text: &[u8]) -> bool
+    ensures { IsTrue result ↔ IsFieldValue text.now }
+{
+    are_ascii(text) && is_header_value(text) && is_trimmed(text)
 }
 
 /// The method that an ASCII text names: one of the nine names, exactly, or any other text. An error where there is no memory for

@@ -55,7 +55,7 @@ unfolding text_of
 own-whole status asked v no_body says date =
     let a = answer_with status [] 0 in
     let p = printing_to asked v no_body says date in
-    content-whole (contentless_framing says status (Some 0)) a (whole_feed []) p (λ coding. coded-whole coding (head_text_of a p) (is_withheld no_body status))
+    content-whole (contentless_framing says false status (Some 0)) a (whole_feed []) p (λ coding. coded-whole coding (head_text_of a p) (is_withheld no_body status))
 
 pieces : (x y t l f : List ℕ) → length x ≤ 3 → length y ≤ 3 → length t ≡ 29 → length l ≤ 24 → length f ≤ 28
     → length ((codes "HTTP/" ++ (x ++ codes "." ++ y) ++ codes " " ++ codes "500" ++ codes " " ++ codes "Internal Server Error" ++ codes "\r\n") ++ [] ++ codes "Server: tiny-http (Rust)\r\n" ++ (codes "Date" ++ codes ": " ++ t ++ codes "\r\n") ++ l ++ f ++ codes "\r\n") ≤ 157
@@ -181,7 +181,7 @@ unfolding text_of
 response-whole status headers text m no_body date =
     let a = answer_with status headers (length text) in
     let p = own_printing m no_body date in
-    content-whole (contentless_framing p.persistence status (Some (length text))) a (whole_feed text) p (λ coding. text-whole coding text (head_text_of a p) (is_withheld no_body status))
+    content-whole (contentless_framing p.persistence false status (Some (length text))) a (whole_feed text) p (λ coding. text-whole coding text (head_text_of a p) (is_withheld no_body status))
 
 -- the answer to a refused head is whole
 pub refusal-whole : (refusal : Refusal) (v : Manner) (no_body : Bool) (date : HttpDate) → (response_text (refusal_response refusal) (own_printing v no_body date)).ending ≡ Whole

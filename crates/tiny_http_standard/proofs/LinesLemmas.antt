@@ -1,7 +1,7 @@
 -- What lines are handed out as.
 use Rattle.std.proofs.Common.{◌≡◌, refl, sym, ap, ◌∙◌, subst, ℕ, suc, not, eqb-true, ◌+◌, ◌/◌, ◌%◌, ◌-◌, ◌<◌, ◌≤◌, Bool, true, false, List, [], ◌∷◌, ◌++◌, length, drop, get_or, append-nil, arith}
 use Rattle.std.specs.Prelude.{◌==◌, nat_lt, IsTrue, if◌then◌else◌}
-use Rattle.std.specs.Char.{is_ascii_alphanumeric, is_ascii_digit, is_ascii_graphic}
+use Rattle.std.specs.Char.{is_ascii_digit, is_ascii_graphic}
 use Rattle.httparse.specs.Grammar.{is_token_byte, is_token, is_value_byte, is_ows}
 use Rattle.std.proofs.lemmas.Bool.Decides.{nat_tests}
 use Rattle.std.specs.List.{list_all}
@@ -11,6 +11,7 @@ use Rattle.std.proofs.lemmas.List.Folds.{list_all-append}
 use Rattle.tiny_http_text.specs.Bytes.{is_ascii, AreAscii, HasNo, trimmed}
 use Rattle.tiny_http_text.proofs.BytesLemmas.{trims-one}
 use Rattle.tiny_http_head.specs.declared.common.HTTPVersion.{HTTPVersion}
+use Rattle.tiny_http_head.proofs.HeaderTextsLemmas.{token-bytes}
 use Rattle.tiny_http_standard.specs.Lines.{IsVersion, IsTarget, RequestLine, IsNoRequestLine, must_be_ascii, FieldLine, IsNoFieldLine, uppercase_hexadecimal_digit, percent_encoded_byte, percent_encoded}
 use Rattle.tiny_http_standard.specs.Hosts.{percent}
 use Rattle.tiny_http_standard.proofs.HostsLemmas.{contrary, not-without}
@@ -86,9 +87,6 @@ all-without p c (b ∷ bs) not_c h =
     other true e good = contrary (p c) (subst (λ (x : ℕ). p x ≡ true) (eqb-true b c e) good) not_c
     other false e good = e
 
-pub token-bytes : (text : List ℕ) → is_token text ≡ true → list_all is_token_byte text ≡ true
-token-bytes text h = (and_parts (nat_lt 0 (length text)) (list_all is_token_byte text) h).1
-
 -- what stands before the first such byte, and behind it, is one
 pub one-first : (c : ℕ) (a b x y : List ℕ) → HasNo c a → HasNo c b → a ++ c ∷ x ≡ b ++ c ∷ y → (a ≡ b) × (x ≡ y)
 one-first c [] [] x y ha hb e = (refl, cc)
@@ -145,22 +143,6 @@ field-parts text f padded joins without field value l =
       subst (λ (x : List ℕ). IsTrue (list_all is_value_byte x)) a.1 l.bytes,
       λ judged. subst AreAscii same (l.ascii (subst (λ (x : List ℕ). IsTrue (must_be_ascii x)) (sym a.0) judged)),
     )
-
--- a token is ASCII
-token-below : (b : ℕ) → is_token_byte b ≡ true → is_ascii b ≡ true
-unfolding is_token_byte
-token-below b e = by (is_ascii_alphanumeric b) refl
-  where
-    by : (t : Bool) → is_ascii_alphanumeric b ≡ t → is_ascii b ≡ true
-    by true h = grind (nat_tests, arith, h)
-    by false h = grind (nat_tests, arith, e, h)
-
-tokens-below : (bs : List ℕ) → list_all is_token_byte bs ≡ true → AreAscii bs
-tokens-below [] e = refl
-tokens-below (b ∷ bs) e = let k = and_parts (is_token_byte b) (list_all is_token_byte bs) e in rw (token-below b k.0, tokens-below bs k.1) refl
-
-pub token-ascii : (text : List ℕ) → is_token text ≡ true → AreAscii text
-token-ascii text h = tokens-below text (token-bytes text h)
 
 -- visible bytes are ASCII
 pub visible-ascii : (text : List ℕ) → list_all is_ascii_graphic text ≡ true → AreAscii text

@@ -1,5 +1,5 @@
 //! Texts whose bytes are all below 128.
-ghost use Rattle.std.specs.Prelude.{◌≡◌, ◌==◌, ◌≤◌, ◌<◌, ◌↔◌, ℕ, List, length, map, IsTrue, IsOk, IfOk, IfErr, OnOk, OnErr, IsAscii, nat_eq, take};
+ghost use Rattle.std.specs.Prelude.{◌≡◌, ◌==◌, ◌≤◌, ◌<◌, ◌↔◌, ℕ, List, length, map, Some, IsTrue, IsOk, IfOk, IfErr, OnOk, OnErr, IsAscii, nat_eq, take};
 ghost use Rattle.std.specs.Cmp.Lexicographic.{pointwise};
 ghost use Rattle.std.specs.Cmp.Rules.{comparing, hashing};
 ghost use Rattle.std.specs.Hash as fed;
@@ -257,6 +257,17 @@ impl fmt::Debug for AsciiString {
     /// Writes the text in quotes, as a `&str` does.
     fn fmt<W: fmt::Write>(&self, f: &mut fmt::Formatter<W>) -> fmt::Result {
         fmt::Debug::fmt(self.as_str(), f)
+    }
+}
+
+impl fmt::Display for AsciiString {
+    ghost output = { λ s. Some s };
+
+    ghost styled_output = { λ s _. Some s };
+
+    /// Writes the text. Width and the like change nothing.
+    fn fmt<W: fmt::Write>(&self, f: &mut fmt::Formatter<W>) -> fmt::Result {
+        f.write_str(self.as_str())
     }
 }
 

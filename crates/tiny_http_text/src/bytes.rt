@@ -1,8 +1,8 @@
 //! Bytes of a text, trimmed and cut.
-ghost use Rattle.std.specs.Prelude.{◌≡◌, ℕ, ◌≤◌, ◌<◌, List, ◌∷◌, ◌++◌, length, take, IfSome, IfNone, slice_index, not};
+ghost use Rattle.std.specs.Prelude.{◌≡◌, ◌↔◌, ℕ, ◌≤◌, ◌<◌, List, ◌∷◌, ◌++◌, length, take, IfSome, IfNone, IsTrue, slice_index, not};
 ghost use Rattle.std.specs.List.{list_all};
 ghost use Rattle.std.specs.Str.{bytes_eq};
-ghost use Rattle.tiny_http_text.specs.Bytes.{HasNo, is_ascii, is_blank, parts, skip_while, skip_end_while, trimmed};
+ghost use Rattle.tiny_http_text.specs.Bytes.{HasNo, IsTrimmed, is_ascii, is_blank, parts, skip_while, skip_end_while, trimmed};
 
 // White space: bytes 9 to 13 and 32.
 fn is_blank(b: u8) -> bool
@@ -38,6 +38,13 @@ pub fn trim(text: &[u8]) -> &[u8]
     ensures { result.now ≡ trimmed is_blank text.now }
 {
     trim_end(trim_front(text))
+}
+
+/// Whether no white space stands at the ends of the text.
+pub fn is_trimmed(text: &[u8]) -> bool
+    ensures { IsTrue result ↔ IsTrimmed text.now }
+{
+    trim(text).len() == text.len()
 }
 
 // Where the byte stands first, or the length.

@@ -57,14 +57,14 @@ written_back n new old e = rw (← e) (take-append_seam new (drop (length new) o
 -- ---- headers that are added one after another
 
 -- one more, of those that were left
-pub added-more : (whole : ℕ → ℕ → Bool → Option (List ℕ) → Answer) (hs rest : List Header) (h : Header) (headers more : List Header) (length known : Option ℕ) → hs ≡ h ∷ rest → Adds h headers length more known → ((status threshold : ℕ) (closes : Bool) (offered : Option (List ℕ)) → with_headers hs (answer_of status threshold closes offered headers length) ≡ whole status threshold closes offered) → (status threshold : ℕ) (closes : Bool) (offered : Option (List ℕ)) → with_headers rest (answer_of status threshold closes offered more known) ≡ whole status threshold closes offered
-added-more whole hs rest h headers more length known cut adds inv status threshold closes offered =
-    ap (with_headers rest) (adds status threshold closes offered) ∙ ap (λ (xs : List Header). with_headers xs (answer_of status threshold closes offered headers length)) (sym cut) ∙ inv status threshold closes offered
+pub added-more : (whole : ℕ → ℕ → Bool → Option (List ℕ) → Bool → Answer) (hs rest : List Header) (h : Header) (headers more : List Header) (length known : Option ℕ) → hs ≡ h ∷ rest → Adds h headers length more known → ((status threshold : ℕ) (closes : Bool) (offered : Option (List ℕ)) (contentless : Bool) → with_headers hs (answer_of status threshold closes offered contentless headers length) ≡ whole status threshold closes offered contentless) → (status threshold : ℕ) (closes : Bool) (offered : Option (List ℕ)) (contentless : Bool) → with_headers rest (answer_of status threshold closes offered contentless more known) ≡ whole status threshold closes offered contentless
+added-more whole hs rest h headers more length known cut adds inv status threshold closes offered contentless =
+    ap (with_headers rest) (adds status threshold closes offered contentless) ∙ ap (λ (xs : List Header). with_headers xs (answer_of status threshold closes offered contentless headers length)) (sym cut) ∙ inv status threshold closes offered contentless
 
 -- none is left
-pub added-end : (whole : ℕ → ℕ → Bool → Option (List ℕ) → Answer) (hs headers : List Header) (known : Option ℕ) → length hs ≡ 0 → ((status threshold : ℕ) (closes : Bool) (offered : Option (List ℕ)) → with_headers hs (answer_of status threshold closes offered headers known) ≡ whole status threshold closes offered) → (status threshold : ℕ) (closes : Bool) (offered : Option (List ℕ)) → answer_of status threshold closes offered headers known ≡ whole status threshold closes offered
-added-end whole [] headers known none inv status threshold closes offered = inv status threshold closes offered
-added-end whole (h ∷ hs) headers known none inv status threshold closes offered = absurd (omega (arith, none))
+pub added-end : (whole : ℕ → ℕ → Bool → Option (List ℕ) → Bool → Answer) (hs headers : List Header) (known : Option ℕ) → length hs ≡ 0 → ((status threshold : ℕ) (closes : Bool) (offered : Option (List ℕ)) (contentless : Bool) → with_headers hs (answer_of status threshold closes offered contentless headers known) ≡ whole status threshold closes offered contentless) → (status threshold : ℕ) (closes : Bool) (offered : Option (List ℕ)) (contentless : Bool) → answer_of status threshold closes offered contentless headers known ≡ whole status threshold closes offered contentless
+added-end whole [] headers known none inv status threshold closes offered contentless = inv status threshold closes offered contentless
+added-end whole (h ∷ hs) headers known none inv status threshold closes offered contentless = absurd (omega (arith, none))
 
 or-left : (a b : Bool) → a ≡ true → (a || b) ≡ true
 or-left true b e = refl
@@ -75,14 +75,14 @@ or-right true b e = refl
 or-right false b e = e
 
 -- one of the rest is put last, or the first is
-pub added-some_more : (status threshold : ℕ) (closes : Bool) (offered : Option (List ℕ)) (P : Type 0) (hs rest : List Header) (h : Header) (headers more : List Header) (length known : Option ℕ) → hs ≡ h ∷ rest → Adds h headers length more known → (is_some_put_last hs (answer_of status threshold closes offered headers length) ≡ true → P) → is_some_put_last rest (answer_of status threshold closes offered more known) ≡ true → P
-added-some_more status threshold closes offered P hs rest h headers more length known cut adds inv some =
-    let start : Answer = answer_of status threshold closes offered headers length in
-    inv (ap (λ (xs : List Header). is_some_put_last xs start) cut ∙ or-right (is_put_last h headers) (is_some_put_last rest (add_header h start)) (ap (is_some_put_last rest) (sym (adds status threshold closes offered)) ∙ some))
+pub added-some_more : (status threshold : ℕ) (closes : Bool) (offered : Option (List ℕ)) (contentless : Bool) (P : Type 0) (hs rest : List Header) (h : Header) (headers more : List Header) (length known : Option ℕ) → hs ≡ h ∷ rest → Adds h headers length more known → (is_some_put_last hs (answer_of status threshold closes offered contentless headers length) ≡ true → P) → is_some_put_last rest (answer_of status threshold closes offered contentless more known) ≡ true → P
+added-some_more status threshold closes offered contentless P hs rest h headers more length known cut adds inv some =
+    let start : Answer = answer_of status threshold closes offered contentless headers length in
+    inv (ap (λ (xs : List Header). is_some_put_last xs start) cut ∙ or-right (is_put_last h headers) (is_some_put_last rest (add_header h start)) (ap (is_some_put_last rest) (sym (adds status threshold closes offered contentless)) ∙ some))
 
-pub some-first : (status threshold : ℕ) (closes : Bool) (offered : Option (List ℕ)) (P : Type 0) (hs rest : List Header) (h : Header) (headers : List Header) (length : Option ℕ) → hs ≡ h ∷ rest → is_put_last h headers ≡ true → (is_some_put_last hs (answer_of status threshold closes offered headers length) ≡ true → P) → P
-some-first status threshold closes offered P hs rest h headers length cut last inv =
-    let start : Answer = answer_of status threshold closes offered headers length in
+pub some-first : (status threshold : ℕ) (closes : Bool) (offered : Option (List ℕ)) (contentless : Bool) (P : Type 0) (hs rest : List Header) (h : Header) (headers : List Header) (length : Option ℕ) → hs ≡ h ∷ rest → is_put_last h headers ≡ true → (is_some_put_last hs (answer_of status threshold closes offered contentless headers length) ≡ true → P) → P
+some-first status threshold closes offered contentless P hs rest h headers length cut last inv =
+    let start : Answer = answer_of status threshold closes offered contentless headers length in
     inv (ap (λ (xs : List Header). is_some_put_last xs start) cut ∙ or-left (is_put_last h headers) (is_some_put_last rest (add_header h start)) last)
 
 pub at_err : {T E : Type 0} (r : Result T E) (P : Type 0) → P → OnErr r P

@@ -49,7 +49,7 @@ Answered-upgrade {T = T} (Some f) a b r ans p protocol e h = λ few.
     subst P (sym e) (inl h)
 
 -- an answer that is a head alone by its code
-pub Answered-contentless : {T : Type 0} (o : Option Feed) (a b : Sink) (r : Result T Error) (ans : Answer) (p : Printing) (framing : FramingHeader) → p.upgrade ≡ None → Some framing ≡ contentless_framing p.persistence ans.status ans.data_length → Puts a b r (head_text_of ans p framing) → IfSome o (λ f. length f.bytes < 2 ^ 63 → PrintsAnswer a b r ans f p)
+pub Answered-contentless : {T : Type 0} (o : Option Feed) (a b : Sink) (r : Result T Error) (ans : Answer) (p : Printing) (framing : FramingHeader) → p.upgrade ≡ None → Some framing ≡ contentless_framing p.persistence ans.contentless ans.status ans.data_length → Puts a b r (head_text_of ans p framing) → IfSome o (λ f. length f.bytes < 2 ^ 63 → PrintsAnswer a b r ans f p)
 unfolding text_of answer_coding
 Answered-contentless None a b r ans p framing u e h = tt
 Answered-contentless {T = T} (Some f) a b r ans p framing u e h = λ few.
@@ -68,7 +68,7 @@ coded : {T : Type 0} (f : Feed) (a b : Sink) (r : Result T Error) (coding : Codi
 coded f a b r Identity known top withheld few h some = ⊎_elim (λ x. inl x) (λ x. inr (refl, x.0, x.1)) (h few)
 coded f a b r Chunked known top withheld few h some = inl (h few, λ e. absurd (some TransferEncoding (body_unless_withheld withheld (chunked_body f)).bytes e))
 
-pub Answered-coded : {T : Type 0} (o : Option Feed) (a b : Sink) (r : Result T Error) (ans : Answer) (p : Printing) (coding : Coding) (withheld : Bool) → p.upgrade ≡ None → contentless_framing p.persistence ans.status ans.data_length ≡ None → coding ≡ chosen_coding p.version p.asked_coding ans.status ans.threshold ans.data_length → withheld ≡ is_withheld p.no_body ans.status
+pub Answered-coded : {T : Type 0} (o : Option Feed) (a b : Sink) (r : Result T Error) (ans : Answer) (p : Printing) (coding : Coding) (withheld : Bool) → p.upgrade ≡ None → contentless_framing p.persistence ans.contentless ans.status ans.data_length ≡ None → coding ≡ chosen_coding p.version p.asked_coding ans.status ans.threshold ans.data_length → withheld ≡ is_withheld p.no_body ans.status
     → PrintsIn o a b r coding ans.data_length (λ framing. head_text_of ans p framing) withheld
     → IfSome o (λ f. length f.bytes < 2 ^ 63 → PrintsAnswer a b r ans f p)
 unfolding text_of answer_coding
@@ -143,4 +143,4 @@ unfolding text_of
 text-some a f p e whole none =
     let W : Option (List ℕ) → Type 0 = λ u. (with_upgrade u a f p).ending ≡ Whole in
     let N : Option (List ℕ) → Type 0 = λ u. (with_upgrade u a f p).bytes ≡ [] in
-    content-some a f p (contentless_framing p.persistence a.status a.data_length) (subst W e whole) (subst N e none)
+    content-some a f p (contentless_framing p.persistence a.contentless a.status a.data_length) (subst W e whole) (subst N e none)

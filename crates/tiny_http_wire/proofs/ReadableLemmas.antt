@@ -1,13 +1,13 @@
 -- Headers that are read back: what the tests of them say.
-use Rattle.std.proofs.Common.{◌≡◌, refl, sym, ap, ◌∙◌, subst, ℕ, zero, suc, ◌+◌, ◌-◌, ◌<◌, ◌≤◌, ◌==◌, Bool, true, false, cond, ◌&&◌, List, [], ◌∷◌, ◌++◌, length, drop, get_or, arith, append-nil, length-append}
+use Rattle.std.proofs.Common.{◌≡◌, refl, sym, ap, ◌∙◌, subst, ℕ, zero, suc, ◌+◌, ◌-◌, ◌<◌, ◌≤◌, ◌==◌, Bool, true, false, cond, ◌&&◌, List, [], ◌∷◌, length, drop, get_or, arith}
 use Rattle.std.specs.Prelude.{◌↔◌, IsTrue}
 use Rattle.std.specs.Bool.{MatchBool}
 use Rattle.std.specs.List.{AllByRecursion, AllWithin, HoldsAt}
 use Rattle.std.specs.Str.{IsAscii}
 use Rattle.std.proofs.lemmas.List.Elements.{All-from_recursion, recursion_from_All, All-from_all_within}
-use Rattle.tiny_http_text.specs.Bytes.{is_blank, AreAscii, HasNo, HasNoBlank, IsTrimmed, trimmed, colon}
+use Rattle.tiny_http_text.specs.Bytes.{is_blank, AreAscii, HasNo, HasNoBlank, IsTrimmed, colon}
 use Rattle.tiny_http_text.specs.Lines.{has_crlf}
-use Rattle.tiny_http_text.proofs.BytesLemmas.{trims-is, trims-one, are-ascii}
+use Rattle.tiny_http_text.proofs.BytesLemmas.{are-ascii}
 use Rattle.tiny_http_head.specs.declared.common.Header.{Header}
 use Rattle.tiny_http_wire.specs.Readable.{IsReadable}
 
@@ -35,23 +35,6 @@ crlf-past text (suc n) l h e =
     let e2 : (get_or text n 0 == 13 && get_or text (suc n) 0 == 10) ≡ false = ap (λ (k : ℕ). get_or text k 0 == 13 && get_or text (suc n) 0 == 10) (sym at) ∙ e in
     let step = crlf-step text n (omega arith) in
     ap (λ (k : ℕ). has_crlf (drop k text)) next ∙ sym (step ∙ ap (λ (t : Bool). cond t true (has_crlf (drop (suc n) text))) e2) ∙ ap (λ (k : ℕ). has_crlf (drop k text)) (sym at)
-
--- a core that is as long as the text is the text
-whole-core : (before after core text : List ℕ) → text ≡ before ++ core ++ after → length core ≡ length text → text ≡ core
-whole-core [] [] core text j l = j ∙ append-nil core
-whole-core [] (a ∷ rest) core text j l = absurd (omega (arith, ap length j, length-append core (a ∷ rest)))
-whole-core (b ∷ bs) after core text j l = absurd (omega (arith, ap length j, length-append (bs ++ core) after, length-append bs core))
-
--- a text is trimmed if trimming leaves its length
-pub trimmed-whole : (text core : List ℕ) → core ≡ trimmed is_blank text → length core ≡ length text → IsTrimmed text
-trimmed-whole text core e l =
-    let t = trims-is is_blank text in
-    let long : length (trimmed is_blank text) ≡ length text = ap length (sym e) ∙ l in
-    subst IsTrimmed (sym (whole-core t.before t.after (trimmed is_blank text) text t.joins long)) (t.bare_front, t.bare_end)
-
-pub whole-trimmed : (text core : List ℕ) → core ≡ trimmed is_blank text → IsTrimmed text → length core ≡ length text
-whole-trimmed text core e h =
-    ap length (e ∙ trims-one is_blank text text (record { before = []; after = []; joins = sym (append-nil text); blank_before = refl; blank_after = refl; bare_front = h.0; bare_end = h.1 }))
 
 -- a header whose name is readable is readable if its value is
 pub readable-value : (h : Header) (name value : List ℕ) (v : Bool) → name ≡ h.field → value ≡ h.value → IsAscii name → IsAscii value → HasNoBlank name × HasNo colon name → (IsTrue v ↔ (IsTrimmed value × (has_crlf value ≡ false))) → IsTrue v ↔ IsReadable h

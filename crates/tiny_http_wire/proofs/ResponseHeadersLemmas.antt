@@ -120,8 +120,8 @@ IsResponseHeaders-added (h ∷ hs) a law = IsResponseHeaders-added hs (add_heade
 
 pub IsResponseHeaders-Adds : (h : Header) (headers more : List Header) (length known : Option ℕ) → Adds h headers length more known → IsResponseHeaders headers → IsResponseHeaders more
 IsResponseHeaders-Adds h headers more length known adds law =
-    let start : Answer = answer_of 0 0 false None headers length in
-    subst IsResponseHeaders (sym (ap (λ (a : Answer). a.headers) (adds 0 0 false None))) (IsResponseHeaders-add h start law)
+    let start : Answer = answer_of 0 0 false None false headers length in
+    subst IsResponseHeaders (sym (ap (λ (a : Answer). a.headers) (adds 0 0 false None false))) (IsResponseHeaders-add h start law)
 
 -- a call that adds a header, or leaves the list as it was
 pub IsResponseHeaders-tried : {T : Type 0} (r : Result T Header) (h : Header) (headers more : List Header) (length known : Option ℕ) → OnOk r (Adds h headers length more known) → IfErr r (λ e. (e ≡ h) × (more ≡ headers) × (known ≡ length)) → IsResponseHeaders headers → IsResponseHeaders more
@@ -131,8 +131,8 @@ IsResponseHeaders-tried (Err e) h headers more length known adds same law = subs
 -- headers that were added one after another
 pub IsResponseHeaders-AddsAll : (hs headers more : List Header) (length known : Option ℕ) → AddsAll hs headers length more known → IsResponseHeaders headers → IsResponseHeaders more
 IsResponseHeaders-AddsAll hs headers more length known adds law =
-    let start : Answer = answer_of 0 0 false None headers length in
-    subst IsResponseHeaders (sym (ap (λ (a : Answer). a.headers) (adds 0 0 false None))) (IsResponseHeaders-added hs start law)
+    let start : Answer = answer_of 0 0 false None false headers length in
+    subst IsResponseHeaders (sym (ap (λ (a : Answer). a.headers) (adds 0 0 false None false))) (IsResponseHeaders-added hs start law)
 
 text_plain-law : IsResponseHeaders (text_plain ∷ [])
 unfolding text_plain

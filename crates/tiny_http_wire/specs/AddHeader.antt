@@ -53,7 +53,7 @@ with_headers (h ∷ hs) a = with_headers hs (add_header h a)
 
 -- an answer as it is made: these headers are added to none, and the threshold is the first
 abbrev pub first_answer : ℕ → List Header → Option ℕ → Answer
-first_answer status headers length = with_headers headers (record { status = status; headers = []; data_length = length; threshold = THRESHOLD; closes = false; offered = None })
+first_answer status headers length = with_headers headers (record { status = status; headers = []; data_length = length; threshold = THRESHOLD; closes = false; offered = None; contentless = false })
 
 -- whether one of these headers is put last when they are added one after another
 abbrev pub is_some_put_last : List Header → Answer → Bool

@@ -1,5 +1,5 @@
 -- Answers, and the text that is sent for one (RFC 9112, sections 4, 5 and 6).
-use Rattle.std.specs.Prelude.{◌≡◌, ℕ, Bool, ◌||◌, ◌&&◌, List, [], ◌++◌, length, Option, Some, None, Result, Ok, Err, codes, decimal, nat_lt, nat_le, ◌==◌, if◌then◌else◌, ◌⊎◌, false}
+use Rattle.std.specs.Prelude.{◌≡◌, ℕ, Bool, ◌||◌, ◌&&◌, List, [], ◌++◌, length, Option, Some, None, Result, Ok, Err, codes, decimal, nat_lt, nat_le, ◌==◌, if◌then◌else◌, ◌⊎◌, true, false}
 use Rattle.std.specs.List.{flat_map, list_any, list_all}
 use Rattle.std.specs.IoError.{error_kind}
 use Rattle.std.specs.declared.io.Error.{Error}
@@ -33,10 +33,16 @@ pub record Answer : Type 0 where
   pub closes : Bool
   -- the protocols that it offers to upgrade to, which the standard alone prints
   pub offered : Option (List ℕ)
+  -- it says no length, where its code has no content
+  pub contentless : Bool
 
 -- an answer whose data has so many bytes, with the threshold that holds until another is set
 abbrev pub answer_with : ℕ → List Header → ℕ → Answer
-answer_with status headers length = record { status = status; headers = headers; data_length = Some length; threshold = THRESHOLD; closes = false; offered = None }
+answer_with status headers length = record { status = status; headers = headers; data_length = Some length; threshold = THRESHOLD; closes = false; offered = None; contentless = false }
+
+-- an answer without data that says no length, if its code has no content
+abbrev pub contentless_answer : ℕ → Answer
+contentless_answer status = record (answer_with status [] 0) { contentless = true }
 
 -- the header of a plain text
 unfoldable pub text_plain : Header
@@ -49,6 +55,10 @@ has_header headers name = list_any (λ h. same_name h.field name) headers
 -- HTTP/, the version, the code, its phrase (RFC 9112, section 4)
 unfoldable pub status_line : HTTPVersion → ℕ → List ℕ
 status_line version status = codes "HTTP/" ++ version_text version ++ codes " " ++ decimal status ++ codes " " ++ reason_phrase status ++ codes "\r\n"
+
+-- the text of an answer that is made of a code: the code and its phrase
+unfoldable pub status_text : ℕ → List ℕ
+status_text status = decimal status ++ codes " " ++ reason_phrase status
 
 -- a header's line (RFC 9112, section 5)
 unfoldable pub field_line : List ℕ → List ℕ → List ℕ
@@ -141,7 +151,7 @@ text_by_code None a feed p = coded_text (answer_coding a p) a.data_length (head_
 -- an upgrade is a head alone, and its protocol is ASCII
 abbrev pub with_upgrade : Option (List ℕ) → Answer → Feed → Printing → Text
 with_upgrade (Some protocol) a feed p = if list_all is_ascii protocol then whole (head_text_of a p Neither) else nothing_sent InvalidInput
-with_upgrade None a feed p = text_by_code (contentless_framing p.persistence a.status a.data_length) a feed p
+with_upgrade None a feed p = text_by_code (contentless_framing p.persistence a.contentless a.status a.data_length) a feed p
 
 -- the text of an answer with this data
 unfoldable pub text_of : Answer → Feed → Printing → Text
@@ -162,7 +172,7 @@ PrintsUncoded old new r length text = PrintsText old new r text ⊎ ((length ≡
 
 -- the data of an answer is read whole before its head: it is no upgrade, has content that isn't coded, and its length isn't known
 abbrev pub IsGathered : Answer → Printing → Type 0
-IsGathered a p = (p.upgrade ≡ None) × (contentless_framing p.persistence a.status a.data_length ≡ None) × (answer_coding a p ≡ Identity) × (a.data_length ≡ None)
+IsGathered a p = (p.upgrade ≡ None) × (contentless_framing p.persistence a.contentless a.status a.data_length ≡ None) × (answer_coding a p ≡ Identity) × (a.data_length ≡ None)
 
 -- a call that prints an answer: its text, or it finds no memory to gather the data
 abbrev pub PrintsAnswer : {T : Type 0} → Sink → Sink → Result T Error → Answer → Feed → Printing → Type 0

@@ -98,7 +98,7 @@ pub(crate) fn add_all(
 ) -> Result<(), Header>
     ensures added { OnOk result (AddsAll more.items headers.old.items data_length.old headers.new.items data_length.new) }
     ensures law { OnOk result (IsResponseHeaders headers.old.items → IsResponseHeaders headers.new.items) }
-    ensures memory { OnErr result ((status threshold : ℕ) (closes : Bool) (offered : Option (List ℕ)) → IsTrue (is_some_put_last more.items (answer_of status threshold closes offered headers.old.items data_length.old))) }
+    ensures memory { OnErr result ((status threshold : ℕ) (closes : Bool) (offered : Option (List ℕ)) (contentless : Bool) → IsTrue (is_some_put_last more.items (answer_of status threshold closes offered contentless headers.old.items data_length.old))) }
 {
     for header in more {
         add(headers, data_length, header)?;

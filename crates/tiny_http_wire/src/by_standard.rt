@@ -5,7 +5,7 @@ ghost use Rattle.std.specs.List.{flat_map};
 ghost use Rattle.std.specs.Option.{option_copied};
 ghost use Rattle.tiny_http_device.specs.Device.{Puts};
 ghost use Rattle.tiny_http_wire.specs.Answer.{field_line, field_line_of};
-ghost use Rattle.tiny_http_wire.specs.ByStandard.{persistence_option, connection_header, connection_headers, options_with_upgrade, safe_byte, safe_value, safe_headers, contentless_framing, framing_of_304};
+ghost use Rattle.tiny_http_wire.specs.ByStandard.{persistence_option, connection_header, connection_headers, options_with_upgrade, safe_byte, safe_value, safe_headers, contentless_framing, framing_by_standard, has_no_content, framing_of_304};
 
 use crate::answer_context::Persistence;
 use crate::answer_head::put_field;
@@ -159,14 +159,14 @@ fn framing_of_304(data_length: Option<usize>) -> FramingHeader
     }
 }
 
-/// How an answer is framed that is a head alone by its code, by the standard (RFC 9110, sections 8.6 and 15.3.6; RFC 9112, section
-/// 6.1). A 1xx and a 204 have neither header, a 205 the length 0, and a 304 the length of its data, if that is known and isn't 0.
-pub(crate) fn contentless_framing(
+// How an answer is framed that is a head alone by its code, by the standard (RFC 9110, sections 8.6 and 15.3.6; RFC 9112, section
+// 6.1). A 1xx and a 204 have neither header, a 205 the length 0, and a 304 the length of its data, if that is known and isn't 0.
+fn framing_by_standard(
     persistence: Option<Persistence>,
     status: StatusCode,
     data_length: Option<usize>,
 ) -> Option<FramingHeader>
-    ensures { result ≡ contentless_framing persistence status.0 data_length }
+    ensures { result ≡ framing_by_standard persistence status.0 data_length }
 {
     let _ = persistence?;
     if status.0 < 200 || status.0 == 204 {
@@ -179,4 +179,27 @@ pub(crate) fn contentless_framing(
         return Some(framing_of_304(data_length));
     }
     None
+}
+
+// Whether no answer with this code has content (RFC 9110, section 6.4.1).
+fn has_no_content(status: StatusCode) -> bool
+    ensures { result ≡ has_no_content status.0 }
+{
+    status.0 < 200 || status.0 == 204 || status.0 == 304
+}
+
+/// How an answer is framed that is a head alone by its code: by the standard, and where it was made to say no length and its code has
+/// no content. That one has neither header.
+pub(crate) fn contentless_framing(
+    persistence: Option<Persistence>,
+    contentless: bool,
+    status: StatusCode,
+    data_length: Option<usize>,
+) -> Option<FramingHeader>
+    ensures { result ≡ contentless_framing persistence contentless status.0 data_length }
+{
+    if contentless && has_no_content(status) {
+        return Some(FramingHeader::Neither);
+    }
+    framing_by_standard(persistence, status, data_length)
 }

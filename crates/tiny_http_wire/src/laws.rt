@@ -1,12 +1,15 @@
 //! Laws of the definitions, each the contract of a function that does nothing.
-ghost use Rattle.std.specs.Prelude.{◌≡◌, ◌⊎◌, ℕ, List, []};
+ghost use Rattle.std.specs.Prelude.{◌≡◌, ◌⊎◌, ℕ, List, [], Some};
 ghost use Rattle.std.specs.declared.io.ErrorKind.{ErrorKind};
 ghost use Rattle.tiny_http_device.specs.declared.device.Stop.{Stop};
 ghost use Rattle.tiny_http_head.specs.declared.common.Header.{Header};
+ghost use Rattle.tiny_http_head.specs.HeaderTexts.{AreHeaderTexts, header_of};
 ghost use Rattle.tiny_http_wire.specs.AddHeader.{add_header, with_headers};
 ghost use Rattle.tiny_http_wire.specs.Answer.{Answer as AnyAnswer};
+ghost use Rattle.tiny_http_wire.specs.ByStandard.{safe_header};
 ghost use Rattle.tiny_http_wire.specs.Chunks.{WholeChunksBy, CutChunksBy};
 ghost use Rattle.tiny_http_wire.specs.declared.chunked.ChunkRules.{ChunkRules};
+ghost use Rattle.tiny_http_wire.specs.Readable.{IsReadable};
 ghost use Rattle.tiny_http_wire.specs.ResponseHeaders.{IsResponseHeaders};
 
 use crate::chunked::{LONGEST_LINE, MOST_TRAILERS};
@@ -44,4 +47,11 @@ pub fn response_headers()
     ensures none { IsResponseHeaders [] }
     ensures one_more { (h : Header) (a : AnyAnswer) → IsResponseHeaders a.headers → IsResponseHeaders (add_header h a).headers }
     ensures more { (hs : List Header) (a : AnyAnswer) → IsResponseHeaders a.headers → IsResponseHeaders (with_headers hs a).headers }
+{}
+
+/// A header that is made of a name and a value, as by `Header::new`, is readable, and by the standard it is printed as it is (RFC
+/// 9110, sections 5.5 and 5.6.2).
+pub fn header_of_texts()
+    ensures readable { (name value : List ℕ) → AreHeaderTexts name value → IsReadable (header_of name value) }
+    ensures kept { (name value : List ℕ) → AreHeaderTexts name value → safe_header (header_of name value) ≡ Some (header_of name value) }
 {}

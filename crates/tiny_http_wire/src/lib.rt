@@ -9,6 +9,7 @@ mod answer_head;
 mod by_standard;
 pub mod chunked;
 pub mod laws;
+mod making;
 mod page;
 mod readable;
 pub mod response;

@@ -6,7 +6,7 @@ ghost use Rattle.tiny_http_text.specs.Lines.{has_crlf};
 ghost use Rattle.tiny_http_wire.specs.Readable.{IsReadable};
 
 use tiny_http_head::common::Header;
-use tiny_http_text::bytes::{cut, has_no_blank, trim};
+use tiny_http_text::bytes::{cut, has_no_blank, is_trimmed};
 
 // Whether a CR LF stands in the text.
 fn has_crlf(text: &[u8]) -> bool
@@ -25,13 +25,6 @@ fn is_readable_name(name: &[u8]) -> bool
     ensures { IsTrue result ↔ (HasNoBlank name.now × HasNo colon name.now) }
 {
     has_no_blank(name) && cut(name, b':').is_none()
-}
-
-// Whether no white space stands at the ends of the value.
-fn is_trimmed(value: &[u8]) -> bool
-    ensures { IsTrue result ↔ IsTrimmed value.now }
-{
-    trim(value).len() == value.len()
 }
 
 // Whether the value is trimmed and has no CR LF.

@@ -6,7 +6,7 @@ ghost use Rattle.tiny_http_text.specs.Bytes.{is_ascii};
 ghost use Rattle.tiny_http_wire.specs.AddHeader.{add_header, is_put_last, is_some_put_last, with_headers, first_answer};
 ghost use Rattle.tiny_http_wire.specs.ResponseHeaders.{IsResponseHeaders};
 ghost use Rattle.tiny_http_wire.specs.Readable.{IsReadable};
-ghost use Rattle.tiny_http_wire.specs.Answer.{Answer, ResponseState, is_withheld, PrintsText, PrintsGathered, PrintsUncoded, PrintsAnswer, uncoded_text, body_unless_withheld, text_plain, answer_with};
+ghost use Rattle.tiny_http_wire.specs.Answer.{Answer, ResponseState, is_withheld, PrintsText, PrintsGathered, PrintsUncoded, PrintsAnswer, uncoded_text, body_unless_withheld, text_plain, answer_with, contentless_answer};
 ghost use Rattle.tiny_http_encoding.specs.Text.{Prints, prepend_text, whole, identity_body, chunked_body, nothing_sent};
 ghost use Rattle.tiny_http_device.specs.Cursor.{cursor_bytes};
 ghost use Rattle.tiny_http_device.specs.Metered.{metered_inner};
@@ -46,6 +46,7 @@ pub struct Response<R> {
     threshold: usize,
     closes: bool,
     offered: Option<AsciiString>,
+    contentless: bool,
 }
 
 /// An answer whose data any reader gives (as tiny_http).
@@ -57,12 +58,13 @@ impl<R> Model for Response<R> {
 
     ghost Value = { ResponseState R };
 
-    ghost view = { λ r. record { answer = record { status = r.status.0; headers = r.headers.items; data_length = r.data_length; threshold = r.threshold; closes = r.closes; offered = r.offered }; data_reader = r.reader } };
+    ghost view = { λ r. record { answer = record { status = r.status.0; headers = r.headers.items; data_length = r.data_length; threshold = r.threshold; closes = r.closes; offered = r.offered; contentless = r.contentless }; data_reader = r.reader } };
 
     ghost invariant = { λ r. IsResponseHeaders r.headers.items };
 }
 
-/// The length in bytes from which data is sent in chunks, until another is set (as tiny_http).
+/// The length in bytes from which data is sent in chunks, until another is set (as tiny_http). An answer that is to say its length
+/// however long it is, as that of a file, is given another one: `with_chunked_threshold(usize::MAX)`.
 pub const THRESHOLD: usize = 32768;
 
 // The header of a plain text.
@@ -77,7 +79,8 @@ fn text_plain(alloc: Global) -> Result<Header, AllocError>
 
 impl<F: Read + OpenFile> Response<Metered<F>> {
     /// An answer 200 with an open file as its data, and no headers (as tiny_http). The length is the
-    /// file's, by its metadata, and unknown where that can't be read. It takes no memory.
+    /// file's, by its metadata, and unknown where that can't be read. A file of `THRESHOLD` bytes or more is sent in chunks, and
+    /// its length isn't said; after `with_chunked_threshold(usize::MAX)` it is. It takes no memory.
     pub fn from_file(alloc: Global, file: F) -> Response<Metered<F>>
         ensures status { result.answer.status ≡ 200 }
         ensures headers { result.answer.headers ≡ [] }
@@ -85,7 +88,7 @@ impl<F: Read + OpenFile> Response<Metered<F>> {
         ensures file { metered_inner result.data_reader ≡ file }
     {
         let length = file.metadata().ok().map(|of| of.len() as usize);
-        Response::without_headers(alloc, StatusCode(200), Metered::new(file), length)
+        Response::of(alloc, StatusCode(200), Metered::new(file), length)
     }
 }
 
@@ -108,7 +111,7 @@ impl Response<Cursor<Vec<u8>>> {
         ensures bytes { cursor_bytes result.data_reader ≡ bytes.items }
     {
         let length = bytes.len();
-        Response::without_headers(alloc, StatusCode(200), Cursor::new(bytes), Some(length))
+        Response::of(alloc, StatusCode(200), Cursor::new(bytes), Some(length))
     }
 }
 
@@ -117,7 +120,19 @@ impl Response<io::Empty> {
     pub fn empty(alloc: Global, status: StatusCode) -> Response<io::Empty>
         ensures { result.answer ≡ answer_with status.0 [] 0 }
     {
-        Response::without_headers(alloc, status, io::empty(), Some(0))
+        Response::of(alloc, status, io::empty(), Some(0))
+    }
+
+    /// An answer without data that says no length, for a code whose answers have no content: one below 200, a 204 or a 304 (RFC 9110,
+    /// sections 6.4.1, 8.6, 15.3.5 and 15.4.5). Such an answer has neither `Content-Length` nor `Transfer-Encoding`, under each
+    /// profile and whatever the request asks for. `empty` says the length 0, but by the standard. With another code this answer
+    /// is printed as that of `empty`. It has no headers, and takes no memory.
+    pub fn contentless(alloc: Global, status: StatusCode) -> Response<io::Empty>
+        ensures { result.answer ≡ contentless_answer status.0 }
+    {
+        let mut response = Response::empty(alloc, status);
+        response.contentless = true;
+        response
     }
 
     /// The same as `empty`.
@@ -140,6 +155,7 @@ impl Response<io::Empty> {
             threshold: self.threshold,
             closes: self.closes,
             offered: copy_of(&self.offered)?,
+            contentless: self.contentless,
         })
     }
 }
@@ -183,8 +199,8 @@ pub struct NotAdded<R> {
 }
 
 impl<R> Response<R> {
-    // An answer without headers. It takes no memory.
-    fn without_headers(
+    /// An answer with this code and data, of this length in bytes, if it is known, and no headers. It takes no memory.
+    pub fn of(
         alloc: Global,
         status: StatusCode,
         reader: R,
@@ -192,14 +208,16 @@ impl<R> Response<R> {
     ) -> Response<R>
         ensures { result ≡ record { answer = first_answer status.0 [] data_length; data_reader = reader } }
     {
+        let headers = Vec::new(alloc);
         Response {
             reader,
             status,
-            headers: Vec::new(alloc),
+            headers,
             data_length,
             threshold: THRESHOLD,
             closes: false,
             offered: None,
+            contentless: false,
         }
     }
 
@@ -228,6 +246,7 @@ impl<R> Response<R> {
                 threshold: THRESHOLD,
                 closes: false,
                 offered: None,
+                contentless: false,
             }),
             Err(_) => Err(Refused { reader }),
         }
@@ -256,11 +275,12 @@ impl<R> Response<R> {
             threshold: self.threshold,
             closes: self.closes,
             offered: self.offered,
+            contentless: self.contentless,
         }
     }
 
     /// The same answer with another threshold: the length in bytes from which data is sent in
-    /// chunks.
+    /// chunks. Shorter data say their length, unless the request's `TE` asks for chunks.
     pub fn with_chunked_threshold(self, length: usize) -> Response<R>
         ensures { result ≡ record self { answer = record self.answer { threshold = length } } }
     {
@@ -462,7 +482,12 @@ impl<R> Response<R> {
             return print_upgrade(writer, &top, protocol);
         }
         let (data_length, threshold) = (self.data_length, self.threshold);
-        if let Some(framing) = contentless_framing(context.persistence, self.status, data_length) {
+        if let Some(framing) = contentless_framing(
+            context.persistence,
+            self.contentless,
+            self.status,
+            data_length,
+        ) {
             return put_head(writer, &top, None, framing);
         }
         let coding = choose(

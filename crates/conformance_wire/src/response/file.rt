@@ -67,6 +67,20 @@ fn a_file_by_its_metadata(rt: HostRuntime) -> Result<(), Fail> {
     Ok(())
 }
 
+// From the threshold on it is sent in chunks, and says no length.
+#[test]
+fn a_file_by_the_threshold(rt: HostRuntime) -> Result<(), Fail> {
+    for (threshold, whole) in [(5, HELLO_IN_CHUNKS), (6, HELLO), (usize::MAX, HELLO)] {
+        let file = Stand {
+            bytes: Cursor::new(b"hello".to_vec(rt.alloc())?),
+            length: Some(5),
+        };
+        let answer = Response::from_file(rt.alloc(), file).with_chunked_threshold(threshold);
+        assert_printed(&rt, rt.alloc(), answer, whole)?;
+    }
+    Ok(())
+}
+
 // A file of 4 GiB.
 #[test]
 fn a_long_file(rt: HostRuntime) {

@@ -11,28 +11,28 @@ use Rattle.tiny_http_wire.proofs.add_header.add_all.Goals as goal
 pub loop-header-init : goal.loop-header-init
 loop-header-init c =
     let all = c.into_iter-header-iterator.ensures.into_iter_gives in
-    record { added = λ status threshold closes offered. ap (λ (hs : List Header). with_headers hs (answer_of status threshold closes offered c.args.headers.now.items c.args.data_length.now)) all.0; memory = λ status threshold closes offered some. ap (λ (hs : List Header). is_some_put_last hs (answer_of status threshold closes offered c.args.headers.now.items c.args.data_length.now)) (sym all.0) ∙ some }
+    record { added = λ status threshold closes offered contentless. ap (λ (hs : List Header). with_headers hs (answer_of status threshold closes offered contentless c.args.headers.now.items c.args.data_length.now)) all.0; memory = λ status threshold closes offered contentless some. ap (λ (hs : List Header). is_some_put_last hs (answer_of status threshold closes offered contentless c.args.headers.now.items c.args.data_length.now)) (sym all.0) ∙ some }
 
 pub loop-header-preserved : goal.loop-header-preserved
 loop-header-preserved c =
     let loop = c.loop-header in
-    let whole : ℕ → ℕ → Bool → Option (List ℕ) → Answer = λ status threshold closes offered. with_headers c.args.more.items (answer_of status threshold closes offered c.args.headers.now.items c.args.data_length.now) in
+    let whole : ℕ → ℕ → Bool → Option (List ℕ) → Bool → Answer = λ status threshold closes offered contentless. with_headers c.args.more.items (answer_of status threshold closes offered contentless c.args.headers.now.items c.args.data_length.now) in
     record {
       added = added-more whole (into_iter_items loop.header-iterator) (into_iter_items c.next.new.self) c.in-Some.header loop.headers.items c.add.new.headers.items loop.data_length c.add.new.data_length c.in-Some.ensures.steps.0 c.in_ok-add.ensures.added loop.invariant.added;
-      memory = λ status threshold closes offered. added-some_more status threshold closes offered _ (into_iter_items loop.header-iterator) (into_iter_items c.next.new.self) c.in-Some.header loop.headers.items c.add.new.headers.items loop.data_length c.add.new.data_length c.in-Some.ensures.steps.0 c.in_ok-add.ensures.added (loop.invariant.memory status threshold closes offered);
+      memory = λ status threshold closes offered contentless. added-some_more status threshold closes offered contentless _ (into_iter_items loop.header-iterator) (into_iter_items c.next.new.self) c.in-Some.header loop.headers.items c.add.new.headers.items loop.data_length c.add.new.data_length c.in-Some.ensures.steps.0 c.in_ok-add.ensures.added (loop.invariant.memory status threshold closes offered contentless);
     }
 
 pub returns-in_err-add-clause-memory : goal.returns-in_err-add-clause-memory
 returns-in_err-add-clause-memory c =
     let loop = c.loop-header in
-    let some : (status threshold : ℕ) (closes : Bool) (offered : Option (List ℕ)) → is_some_put_last c.args.more.items (answer_of status threshold closes offered c.args.headers.now.items c.args.data_length.now) ≡ true =
-    λ status threshold closes offered. some-first status threshold closes offered _ (into_iter_items loop.header-iterator) (into_iter_items c.next.new.self) c.in-Some.header loop.headers.items loop.data_length c.in-Some.ensures.steps.0 c.in_err-add.ensures.memory (loop.invariant.memory status threshold closes offered) in
+    let some : (status threshold : ℕ) (closes : Bool) (offered : Option (List ℕ)) (contentless : Bool) → is_some_put_last c.args.more.items (answer_of status threshold closes offered contentless c.args.headers.now.items c.args.data_length.now) ≡ true =
+    λ status threshold closes offered contentless. some-first status threshold closes offered contentless _ (into_iter_items loop.header-iterator) (into_iter_items c.next.new.self) c.in-Some.header loop.headers.items loop.data_length c.in-Some.ensures.steps.0 c.in_err-add.ensures.memory (loop.invariant.memory status threshold closes offered contentless) in
     at_err _ _ some
 
 pub returns-clause-added : goal.returns-clause-added
 returns-clause-added c =
     let loop = c.loop-header in
-    let whole : ℕ → ℕ → Bool → Option (List ℕ) → Answer = λ status threshold closes offered. with_headers c.args.more.items (answer_of status threshold closes offered c.args.headers.now.items c.args.data_length.now) in
+    let whole : ℕ → ℕ → Bool → Option (List ℕ) → Bool → Answer = λ status threshold closes offered contentless. with_headers c.args.more.items (answer_of status threshold closes offered contentless c.args.headers.now.items c.args.data_length.now) in
     added-end whole (into_iter_items loop.header-iterator) loop.headers.items loop.data_length (sym loop.header-iterator.rest.ok.0 ∙ c.in-None.ensures.steps.0) loop.invariant.added
 
 pub returns-clause-law : goal.returns-clause-law

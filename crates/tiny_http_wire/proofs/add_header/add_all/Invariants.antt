@@ -7,6 +7,6 @@ use Rattle.tiny_http_wire.proofs.add_header.add_all.Given as goal
 -- with the headers that are left it comes to the same as with all
 abbrev pub invariant-loop-header : goal.invariant-loop-header
 invariant-loop-header l = record {
-  added : (status threshold : ℕ) (closes : Bool) (offered : Option (List ℕ)) → with_headers (into_iter_items l.header-iterator) (answer_of status threshold closes offered l.headers.items l.data_length) ≡ with_headers l.fn.more.items (answer_of status threshold closes offered l.fn.headers.items l.fn.data_length);
-  memory : (status threshold : ℕ) (closes : Bool) (offered : Option (List ℕ)) → is_some_put_last (into_iter_items l.header-iterator) (answer_of status threshold closes offered l.headers.items l.data_length) ≡ true → is_some_put_last l.fn.more.items (answer_of status threshold closes offered l.fn.headers.items l.fn.data_length) ≡ true;
+  added : (status threshold : ℕ) (closes : Bool) (offered : Option (List ℕ)) (contentless : Bool) → with_headers (into_iter_items l.header-iterator) (answer_of status threshold closes offered contentless l.headers.items l.data_length) ≡ with_headers l.fn.more.items (answer_of status threshold closes offered contentless l.fn.headers.items l.fn.data_length);
+  memory : (status threshold : ℕ) (closes : Bool) (offered : Option (List ℕ)) (contentless : Bool) → is_some_put_last (into_iter_items l.header-iterator) (answer_of status threshold closes offered contentless l.headers.items l.data_length) ≡ true → is_some_put_last l.fn.more.items (answer_of status threshold closes offered contentless l.fn.headers.items l.fn.data_length) ≡ true;
 }

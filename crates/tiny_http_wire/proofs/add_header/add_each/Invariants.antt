@@ -7,5 +7,5 @@ use Rattle.tiny_http_wire.proofs.add_header.add_each.Given as goal
 abbrev pub invariant-loop-at : goal.invariant-loop-at
 invariant-loop-at l = record {
   order : l.kept ≤ l.at;
-  added : (status threshold : ℕ) (closes : Bool) (offered : Option (List ℕ)) → with_headers (drop l.at l.headers) (answer_of status threshold closes offered (take l.kept l.headers) l.data_length) ≡ with_headers l.fn.headers (answer_of status threshold closes offered [] l.fn.data_length);
+  added : (status threshold : ℕ) (closes : Bool) (offered : Option (List ℕ)) (contentless : Bool) → with_headers (drop l.at l.headers) (answer_of status threshold closes offered contentless (take l.kept l.headers) l.data_length) ≡ with_headers l.fn.headers (answer_of status threshold closes offered contentless [] l.fn.data_length);
 }
