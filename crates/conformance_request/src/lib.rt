@@ -12,6 +12,8 @@ mod closing;
 #[cfg(test)]
 mod faults;
 #[cfg(test)]
+mod heads;
+#[cfg(test)]
 mod in_turn;
 #[cfg(test)]
 mod rows;
@@ -19,3 +21,5 @@ mod rows;
 mod storm;
 #[cfg(test)]
 mod test_request;
+#[cfg(test)]
+mod whole_bodies;

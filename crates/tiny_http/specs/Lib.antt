@@ -10,5 +10,6 @@ pub use Rattle.tiny_http_threads.specs.Roster
 pub use Rattle.tiny_http_request.specs.Request
 pub use Rattle.tiny_http_request.specs.Client
 pub use Rattle.tiny_http_request.specs.Body
+pub use Rattle.tiny_http_request.specs.WholeBody
 pub use Rattle.tiny_http_threads.specs.Sequential
 pub use Rattle.tiny_http_request.specs.Test

@@ -43,7 +43,7 @@ pub use tiny_http_corked::{cork, corked, read_ahead, write_both};
 pub use tiny_http_limits::limits::Limits;
 pub use tiny_http_limits::{backoff, census, counts, limits, times};
 pub use tiny_http_paced::{pace, paced_reader, paced_writer};
-pub use tiny_http_request::request::{ReadWrite, Request};
+pub use tiny_http_request::request::{BodyError, ReadWrite, Request};
 pub use tiny_http_request::test::TestRequest;
 pub use tiny_http_request::{client, request, test};
 pub use tiny_http_socket::connection::{ConfigListenAddr, ListenAddr, Listener};
@@ -53,5 +53,5 @@ pub use tiny_http_wire::common::{HTTPVersion, Header, HeaderField, Method, Statu
 pub use tiny_http_wire::response::{Response, ResponseBox};
 pub use tiny_http_wire::{
     answer_context, ascii, chunked, coding, common, device, encoder, grammar, header_value, number,
-    response,
+    response, target,
 };

@@ -30,6 +30,7 @@ pub use Rattle.tiny_http_message.specs.BodyRemains
 pub use Rattle.tiny_http_message.specs.OpenRequest
 pub use Rattle.tiny_http_message.specs.Exchange
 pub use Rattle.tiny_http_message.specs.HeadReads
+pub use Rattle.tiny_http_message.specs.HeadValues
 pub use Rattle.tiny_http_message.specs.NextRequest
 pub use Rattle.tiny_http_turns.specs.Turns
 pub use Rattle.tiny_http_turns.specs.TurnsCalls

@@ -3,3 +3,4 @@ pub mod Number
 pub mod Heads
 pub mod HeadReading
 pub mod HeaderTexts
+pub mod Target

@@ -1,5 +1,5 @@
 //! Laws of the definitions, each the contract of a function that does nothing.
-ghost use Rattle.std.specs.Prelude.{◌≡◌, ◌↔◌, ℕ, List, IsTrue, Some};
+ghost use Rattle.std.specs.Prelude.{◌≡◌, ◌↔◌, ℕ, List, Option, IsTrue, Some};
 ghost use Rattle.std.specs.Ordering.{nat_cmp};
 ghost use Rattle.std.specs.declared.cmp.Ordering.TheVariants.{Less, Equal, Greater};
 ghost use Rattle.tiny_http_head.specs.declared.common.StatusCode.{StatusCode as Code};
@@ -10,6 +10,7 @@ ghost use Rattle.tiny_http_text.specs.Bytes.{AreAscii, HasNo, IsTrimmed, IsWord,
 ghost use Rattle.tiny_http_head.specs.Common.{IsSameButForCase, same_name, is_code, code_order, is_version, version_order, IsBefore, HasItsOwnName, method_text, header_text};
 ghost use Rattle.tiny_http_head.specs.Heads.{IsHeader, method_of, RequestLine, HeaderLine};
 ghost use Rattle.tiny_http_head.specs.HeadReading.{request_line, header_line};
+ghost use Rattle.tiny_http_head.specs.Target.{TargetParts};
 
 use crate::common::{HTTPVersion, HeaderField, Method, StatusCode};
 use std::hash::Hash;
@@ -67,4 +68,10 @@ pub fn header_from_its_text()
 pub fn lines_by_the_grammar()
     ensures request { (text path : List ℕ) (method : AnyMethod) (version : Version) → (request_line text ≡ Some (method, path, version)) ↔ RequestLine text method path version }
     ensures header { (text : List ℕ) (h : Header) → (header_line text ≡ Some h) ↔ HeaderLine text h.field h.value }
+{}
+
+/// A target has one path at most, and one query or none (RFC 9112, section 3.2).
+pub fn one_path_and_query()
+    ensures { (target path other : List ℕ) (query another : Option (List ℕ)) → TargetParts target path query → TargetParts target other another
+        → (path ≡ other) × (query ≡ another) }
 {}

@@ -5,3 +5,4 @@
 pub mod common;
 pub mod grammar;
 pub mod laws;
+pub mod target;

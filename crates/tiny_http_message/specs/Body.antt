@@ -120,6 +120,15 @@ is_whole (Counted n by_standard) = false
 is_whole (Chunked decoding) = false
 is_whole Rest = false
 
+-- how many bytes of it are left, where a length says so
+abbrev pub bytes_left : Body → Option ℕ
+bytes_left (Over End) = Some 0
+bytes_left (Over (Fault kind)) = None
+bytes_left (WithHead bytes) = Some (length (cursor_bytes bytes))
+bytes_left (Counted n by_standard) = Some n
+bytes_left (Chunked decoding) = None
+bytes_left Rest = None
+
 -- what is left of a body whose request is finished
 abbrev pub remainder : Body → Remainder
 remainder (Over End) = left.Skipped

@@ -10,5 +10,6 @@ pub mod BodyRemains
 pub mod OpenRequest
 pub mod Exchange
 pub mod HeadReads
+pub mod HeadValues
 pub mod StandardReads
 pub mod NextRequest

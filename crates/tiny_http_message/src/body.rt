@@ -4,7 +4,7 @@ ghost use Rattle.std.specs.Option.{option_map};
 ghost use Rattle.tiny_http_wire.specs.Device.{AnswersStop, Feed};
 ghost use Rattle.tiny_http_stream.specs.Source.{GoesOn};
 ghost use Rattle.tiny_http_stream.specs.ToCome.{skipped};
-ghost use Rattle.tiny_http_message.specs.Body.{remaining, IsNewChunked, counted_remaining, is_whole, remainder, stream_body, is_streaming, body_standing, ReadsOn, ReadsRemaining, ReadsBody, ReadsHeld, FillsFromBody, GivesUp};
+ghost use Rattle.tiny_http_message.specs.Body.{remaining, IsNewChunked, counted_remaining, is_whole, bytes_left, remainder, stream_body, is_streaming, body_standing, ReadsOn, ReadsRemaining, ReadsBody, ReadsHeld, FillsFromBody, GivesUp};
 
 use std::io;
 use std::io::{Cursor, ErrorKind};
@@ -285,6 +285,22 @@ impl Body {
             Body::Counted { left, .. } if *left > MOST_SKIPPED => Remainder::Long,
             Body::Chunked(_) | Body::Over(Stop::Fault(_)) => Remainder::Endless,
             _ => Remainder::Skipped,
+        }
+    }
+
+    /// How many bytes of it are left to be read, where a length says so: of a body of a known length, and of one that is over by its
+    /// end. If the client's bytes end early fewer come.
+    pub fn left(&self) -> Option<usize>
+        ensures { result ≡ bytes_left self.now }
+    {
+        match self {
+            Body::Over(Stop::End) => Some(0),
+            Body::WithHead(bytes) => {
+                let position = bytes.position() as usize;
+                Some(bytes.get_ref().len().saturating_sub(position))
+            }
+            Body::Counted { left, .. } => Some(*left),
+            Body::Over(Stop::Fault(_)) | Body::Chunked(_) | Body::Rest => None,
         }
     }
 

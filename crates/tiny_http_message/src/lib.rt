@@ -5,6 +5,7 @@
 pub mod body;
 pub mod exchange;
 pub mod framing;
+mod head_values;
 mod heads;
 pub mod laws;
 pub mod next_request;

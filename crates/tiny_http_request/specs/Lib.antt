@@ -1,4 +1,5 @@
 pub mod Request
 pub mod Body
+pub mod WholeBody
 pub mod Client
 pub mod Test

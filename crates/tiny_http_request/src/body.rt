@@ -2,8 +2,8 @@
 ghost use Rattle.std.specs.Prelude.{◌≡◌, ◌⊎◌, ◌≤◌, ◌<◌, ◌==◌, ◌&&◌, ◌||◌, false, length, take, Option, is_some, Ok, Some, None, IfOk, IfErr, IfSome};
 ghost use Rattle.std.specs.IoError.{error_kind};
 ghost use Rattle.tiny_http_device.specs.Device.{AnswersStop, Feed, Reads};
-ghost use Rattle.tiny_http_device.specs.declared.device.Stop.TheVariants.{Fault};
-ghost use Rattle.tiny_http_message.specs.Body.{is_streaming, is_whole, remainder, stream_body, body_stop, ReadsOn, remaining, prepended_body};
+ghost use Rattle.tiny_http_device.specs.declared.device.Stop.TheVariants.{End, Fault};
+ghost use Rattle.tiny_http_message.specs.Body.{is_streaming, is_whole, bytes_left, remainder, stream_body, body_stop, BodyStops, ReadsOn, remaining, prepended_body};
 ghost use Rattle.tiny_http_request.specs.Body.{ReadsUnread, outlasts_body};
 
 use std::io;
@@ -110,6 +110,13 @@ impl<R: ReadDevice + Drop, Rt: Wait + Drop> Body<R, Rt> {
         self.unread.is_whole()
     }
 
+    /// How many bytes of it are left, where a length says so.
+    pub(crate) fn left(&self) -> Option<usize>
+        ensures { result ≡ bytes_left self.now }
+    {
+        self.unread.left()
+    }
+
     /// What is left of it, if its request is finished now.
     pub(crate) fn remainder(&self) -> Remainder
         ensures { result ≡ remainder self.now }
@@ -145,6 +152,7 @@ impl<R: ReadDevice + Drop, Rt: Wait + Drop> Body<R, Rt> {
         ensures bound { IfOk result (λ n. n ≤ length buf.new) }
         ensures held { is_streaming self.old ≡ false → (feed : Option Feed)
             → IfOk result (λ n. remaining self.old feed ≡ prepended_body (take n buf.new) (remaining self.new feed)) }
+        ensures end { is_streaming self.old ≡ false → (feed : Option Feed) → IfOk result (λ n. n ≡ 0 → BodyStops End (remaining self.old feed)) }
         ensures moves { IfOk result (λ n. ReadsOn self.old n (n == 0) self.new) }
         ensures broken { IfErr result (λ e. body_stop self.new ≡ Some (Fault (error_kind e))) }
         ensures reports_stop { IfSome (body_stop self.old) (λ stop. AnswersStop stop result × (body_stop self.new ≡ Some stop)) }

@@ -7,5 +7,6 @@ mod body;
 pub mod client;
 pub mod request;
 pub mod test;
+mod whole_body;
 
 pub use tiny_http_threads::sequential;

@@ -1,16 +1,26 @@
 //! A request that threads may hold: its head, its body on the connection's input, and its turn at the output.
-ghost use Rattle.std.specs.Prelude.{◌≡◌, ◌||◌, true, false, Ok, Err, Some, None, IfOk, IfErr, IfSome, OnOk, is_some};
+ghost use Rattle.std.specs.Prelude.{◌≡◌, ◌<◌, ◌≤◌, ◌||◌, ℕ, length, true, false, Option, Ok, Err, Some, None, IfOk, IfErr, IsErrOf, IfSome, OnOk, is_some};
 ghost use Rattle.std.specs.IoError.{error_kind};
 ghost use Rattle.std.specs.Option.{option_copied};
+ghost use Rattle.std.specs.declared.io.ErrorKind.{ErrorKind};
+ghost use Rattle.tiny_http_device.specs.Device.{Feed};
+ghost use Rattle.tiny_http_device.specs.declared.device.Stop.TheVariants.{Fault};
+ghost use Rattle.tiny_http_wire.specs.Target.{IsPath, IsQuery};
+ghost use Rattle.tiny_http_standard.specs.Lists.{has_element};
 ghost use Rattle.tiny_http_sending.specs.Sending.{is_closed_client};
+ghost use Rattle.tiny_http_message.specs.Framing.{value_of};
+ghost use Rattle.tiny_http_message.specs.HeadValues.{is_upgrade};
 ghost use Rattle.tiny_http_message.specs.FramingReading.{framing};
-ghost use Rattle.tiny_http_message.specs.Body.{is_streaming, is_whole};
+ghost use Rattle.tiny_http_message.specs.Body.{is_streaming, is_whole, bytes_left, body_stop, remaining, prepended_body};
 ghost use Rattle.tiny_http_message.specs.OpenRequest.{request_check, refuses_code};
 ghost use Rattle.tiny_http_message.specs.HeadReads.{head_framing, Begins};
 ghost use Rattle.tiny_http_request.specs.Request.{IsInvalidInput, request_head, request_secure, request_address, request_open, is_expectation_failed, IfCreationIo, cut_kind, IsCutShort, BeginsWith, Says, IsFramed, FailsBy};
+ghost use Rattle.tiny_http_request.specs.WholeBody.{FailsWhole};
 
 pub use crate::body::Body;
 use crate::body::GivesOn;
+pub use crate::whole_body::BodyError;
+use crate::whole_body::read_left;
 use httpdate::HttpDate;
 use std::alloc::{AllocError, Global};
 use std::io::{ErrorKind, Read, Write};
@@ -196,6 +206,50 @@ impl<R: ReadDevice + Drop, W: WriteDevice + Drop, Rt: Wait + Drop> Request<R, W,
         self.head.headers.as_slice()
     }
 
+    /// The value of the first header of this name, which is compared without regard to the case of ASCII letters (RFC 9110, section
+    /// 5.1). `None` where there is no header of that name. Further headers of that name are passed over.
+    pub fn header(&self, name: &str) -> Option<&str>
+        ensures { option_copied result ≡ value_of name.now (request_head self.now).headers.items }
+    {
+        self.head.header(name)
+    }
+
+    /// Whether the headers of this name list this token. All of them are one list (RFC 9110, section 5.3), whose elements stand between
+    /// commas, with spaces and tabs round them left out (RFC 9110, section 5.6.1). Name and token are compared without regard to the
+    /// case of ASCII letters. An element has to be the token alone: `gzip;q=1` isn't `gzip`.
+    pub fn header_lists(&self, name: &str, token: &str) -> bool
+        ensures { result ≡ has_element name.now token.now (request_head self.now).headers.items }
+    {
+        self.head.header_lists(name, token)
+    }
+
+    /// The path of the target, without its query, as it was sent: percent-encoded, and with `.` and `..` among its segments (RFC 9112,
+    /// section 3.2). It is `/a` of `/a?b` and of `http://host/a?b`, and `/` of `http://host`. `*`, and the host and port of a `CONNECT`,
+    /// are their own path. An empty target, which `Standard` refuses, has an empty path.
+    pub fn path(&self) -> &str
+        ensures { IsPath (request_head self.now).path result.now }
+    {
+        self.head.target_path()
+    }
+
+    /// The query of the target: what stands behind its first `?`, as it was sent; it may be empty. `None` where there is no `?` (RFC
+    /// 3986, section 3.4).
+    pub fn query(&self) -> Option<&str>
+        ensures { IsQuery (request_head self.now).path (option_copied result) }
+    {
+        self.head.query()
+    }
+
+    /// Whether the head asks for an upgrade that its profile takes (RFC 9110, section 7.8). Under `Standard` it does by `upgrade` in
+    /// `Connection`, and a protocol in `Upgrade`, in version 1.1, unless the connection ends after the request. Then `upgrade` to a
+    /// protocol that is named isn't `NotAsked`. Under the other profiles it does by a first `Connection` that has `upgrade` in it
+    /// somewhere: then all that follows the head is the body, whatever `Upgrade` names.
+    pub fn is_upgrade(&self) -> bool
+        ensures { result ≡ is_upgrade (request_head self.now) }
+    {
+        self.head.is_upgrade()
+    }
+
     /// The version of the request line; under `Standard` 1.1 for each later one with major version 1.
     pub fn http_version(&self) -> &HTTPVersion
         ensures { result.now ≡ (request_head self.now).version }
@@ -244,6 +298,55 @@ impl<R: ReadDevice + Drop, W: WriteDevice + Drop, Rt: Wait + Drop> Request<R, W,
     {
         self.send_continue(now);
         &mut self.open_request.body
+    }
+
+    /// What the head says, and the body, so that the head can be looked at while the body is read. An owed 100 is sent first, as by
+    /// `as_reader`.
+    pub fn parts(&mut self, now: HttpDate) -> (&Head, &mut Body<R, Rt>)
+        ensures head { result.0.now ≡ request_head self.old }
+        ensures body { result.1.now ≡ (request_open self.old).body }
+    {
+        self.send_continue(now);
+        (&self.head, &mut self.open_request.body)
+    }
+
+    /// Reads the body to its end, of at most `most` bytes. If a 100 is owed it is sent first, dated `now`, in the turn of the request:
+    /// that waits until the requests before are finished. What was read of the body before isn't in the result.
+    ///
+    /// It is `TooLong` where more than `most` bytes are left: at once where the length is known, and then nothing is sent or read; else
+    /// once `most` bytes and one more have been read. It is `Cut` where the client's bytes end within a body of a known length or within
+    /// chunks, `Broken` where chunks break the grammar (RFC 9112, section 7.1), and `Io` for any other fault of the reader, one of kind
+    /// `Interrupted` too. It is `Memory` where memory was refused. Memory is taken as bytes come, and not for a length that is stated.
+    ///
+    /// After `TooLong` at once nothing has changed. After any other error the bytes that were read are lost, and the body goes on where
+    /// it stands. A fault is reported again by a later call. So is `Cut`, but of a body of a known length under `Lenient` and `Strict`:
+    /// it is over then, and a later call answers no byte.
+    ///
+    /// A body that is all that follows the head, as that of an upgrade but under `Standard`, ends with the client's bytes.
+    pub fn read_body(
+        &mut self,
+        alloc: Global,
+        most: usize,
+        now: HttpDate,
+    ) -> Result<Vec<u8>, BodyError>
+        ensures refused { (n : ℕ) → bytes_left (request_open self.old).body ≡ Some n → most < n → IsErrOf result BodyError.TooLong × (self.new ≡ self.old) }
+        ensures bound { IfOk result (λ bytes. length bytes.items ≤ most) }
+        ensures sized { (n : ℕ) → bytes_left (request_open self.old).body ≡ Some n → IfOk result (λ bytes. length bytes.items ≡ n) }
+        // Of a body that isn't read from the connection the bytes are known.
+        ensures held { is_streaming (request_open self.old).body ≡ false → (feed : Option Feed)
+            → IfOk result (λ bytes. remaining (request_open self.old).body feed ≡ prepended_body bytes.items (remaining (request_open self.new).body feed)) }
+        ensures again { (kind : ErrorKind) → body_stop (request_open self.old).body ≡ Some (Fault kind) → OnOk result ⊥ }
+        ensures fails { IfErr result (λ e. FailsWhole (request_head self.old).form most (request_open self.old).body (request_open self.new).body e) }
+        ensures continued { OnOk result ((request_open self.new).owes_continue ≡ false) }
+        ensures head { request_head self.new ≡ request_head self.old }
+    {
+        if let Some(left) = self.open_request.body.left()
+            && left > most
+        {
+            return Err(BodyError::TooLong);
+        }
+        self.send_continue(now);
+        read_left(alloc, &mut self.open_request.body, self.head.form, most)
     }
 
     /// Sends the answer, dated `now`, in the turn of the request, and then gives the body up. It waits until the requests

@@ -82,7 +82,7 @@ fn trim_bytes(text: &[u8]) -> &[u8]
 }
 
 // The text without spaces and tabs at its ends.
-fn trim(text: &str) -> &[u8]
+pub(crate) fn trim(text: &str) -> &[u8]
     ensures { result.now ≡ trimmed is_ows text.now }
 {
     trim_bytes(text.as_bytes())

@@ -7,6 +7,7 @@ pub mod hosts;
 pub mod judging;
 pub mod laws;
 pub mod lines;
+pub mod lists;
 mod numbers;
 pub mod source_heads;
 mod source_lines;

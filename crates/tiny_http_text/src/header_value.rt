@@ -1,25 +1,16 @@
 //! Header values that list names with their qualities (RFC 9110, section 12.4.2).
-ghost use Rattle.std.specs.Prelude.{◌≡◌, ◌-◌, ◌^◌, ◌<◌, ◌≤◌, ◌++◌, ◌∷◌, length, map, IfOk, IfSome, IfNone};
+ghost use Rattle.std.specs.Prelude.{◌≡◌, ◌-◌, ◌^◌, ◌<◌, ◌≤◌, length, map, IfOk, IfSome};
 ghost use Rattle.std.specs.Option.{SomeIff};
 ghost use Rattle.std.specs.Str.Parse.{IsNumeral, digits_value};
-ghost use Rattle.tiny_http_text.specs.Bytes.{HasNo, parts, semicolon};
+ghost use Rattle.tiny_http_text.specs.Bytes.{parts, semicolon};
 ghost use Rattle.tiny_http_text.specs.Qualities.{Element, ListsQualities};
 ghost use Rattle.tiny_http_text.specs.QualityReading.{short_number, thousandths, quality, parameter_quality, first_quality, element};
 
-use crate::text::{trim, trim_front};
+use crate::text::{cut, trim, trim_front};
 use std::alloc::{AllocError, Global};
 
 // The quality of an element that gives none that can be read.
 const DEFAULT_QUALITY: u32 = 1000;
-
-// What stands before the first such character, and after it.
-fn cut(text: &str, c: char) -> Option<(&str, &str)>
-    requires { c < 128 }
-    ensures some { IfSome result (λ r. (text.now ≡ r.0.now ++ c ∷ r.1.now) × HasNo c r.0.now) }
-    ensures none { IfNone result (HasNo c text.now) }
-{
-    text.split_once(c)
-}
 
 // The number below 2^32 that decimal digits write. `parse` takes a plus before them; a quality has none.
 fn number(digits: &str) -> Option<u32>

@@ -1,6 +1,6 @@
-//! Texts trimmed.
-ghost use Rattle.std.specs.Prelude.{◌≡◌};
-ghost use Rattle.tiny_http_text.specs.Bytes.{is_blank, skip_while, trimmed};
+//! Texts trimmed and cut.
+ghost use Rattle.std.specs.Prelude.{◌≡◌, ◌<◌, ◌∷◌, ◌++◌, IfSome, IfNone};
+ghost use Rattle.tiny_http_text.specs.Bytes.{HasNo, is_blank, skip_while, trimmed};
 
 use crate::bytes;
 
@@ -19,4 +19,13 @@ pub fn trim(text: &str) -> &str
     let front = trim_front(text);
     let core = bytes::trim_end(front.as_bytes());
     &front[..core.len()]
+}
+
+/// What stands before the first such character, and after it.
+pub fn cut(text: &str, c: char) -> Option<(&str, &str)>
+    requires { c < 128 }
+    ensures some { IfSome result (λ r. (text.now ≡ r.0.now ++ c ∷ r.1.now) × HasNo c r.0.now) }
+    ensures none { IfNone result (HasNo c text.now) }
+{
+    text.split_once(c)
 }

@@ -18,7 +18,7 @@ pub use tiny_http_coding::laws::one_coding_asked;
 use tiny_http_encoding::chunks::CHUNK;
 pub use tiny_http_head::laws::{
     header_field_equality, header_from_its_text, http_version_order, lines_by_the_grammar,
-    method_from_its_name, method_hash, status_code_order,
+    method_from_its_name, method_hash, one_path_and_query, status_code_order,
 };
 pub use tiny_http_text::laws::one_quality_list;
 

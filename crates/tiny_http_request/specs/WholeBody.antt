@@ -1,0 +1,41 @@
+-- What a clause says of a body that is read whole.
+use Rattle.std.specs.Prelude.{◌≡◌, ◌⊎◌, ◌<◌, ⊤, ℕ, true, Some, None}
+use Rattle.std.specs.IoError.{error_kind}
+use Rattle.std.specs.declared.io.Error.{Error}
+use Rattle.std.specs.declared.io.ErrorKind.{ErrorKind}
+use Rattle.std.specs.declared.io.ErrorKind.TheVariants.{InvalidData, UnexpectedEof}
+use Rattle.tiny_http_device.specs.declared.device.Stop.TheVariants.{Fault}
+use Rattle.tiny_http_message.specs.declared.body.Body.{Body}
+use Rattle.tiny_http_message.specs.declared.framing.Form.{Form}
+use Rattle.tiny_http_message.specs.declared.framing.Form.TheVariants.{Counted, Chunked}
+use Rattle.tiny_http_message.specs.Body.{is_streaming, bytes_left, body_stop, IsBodyOver}
+use Rattle.tiny_http_request.specs.declared.whole_body.BodyError.{BodyError}
+use Rattle.tiny_http_request.specs.declared.whole_body.BodyError.TheVariants.{TooLong, Cut, Broken, Io, Memory}
+
+-- what is reported of a fault of this kind of a body of this form
+abbrev pub error_by : Form → ErrorKind → Error → BodyError
+error_by Chunked InvalidData e = Broken
+error_by Chunked UnexpectedEof e = Cut
+error_by Counted UnexpectedEof e = Cut
+error_by _ _ e = Io e
+
+abbrev pub fault_error : Form → Error → BodyError
+fault_error form e = error_by form (error_kind e) e
+
+-- Why reading on ended, whatever the form: the bytes are more than may be read, where no length is known; or those of a known length
+-- ended early; or a fault was reported.
+abbrev pub FailsReading : Body → Body → BodyError → Type 0
+FailsReading old new TooLong = bytes_left old ≡ None
+FailsReading old new Cut = (is_streaming old ≡ true) × IsBodyOver new
+FailsReading old new Broken = ⊥
+FailsReading old new (Io e) = body_stop new ≡ Some (Fault (error_kind e))
+FailsReading old new Memory = ⊤
+
+-- WHY A BODY OF THIS FORM ISN'T READ WHOLE, where so many bytes may be read: its length is above that, or isn't known; its bytes ended
+-- early; it reported this fault, which each later read reports; or memory was refused, of which nothing is said.
+abbrev pub FailsWhole : Form → ℕ → Body → Body → BodyError → Type 0
+FailsWhole form most old new TooLong = (n : ℕ) → bytes_left old ≡ Some n → most < n
+FailsWhole form most old new Cut = (body_stop new ≡ Some (Fault UnexpectedEof)) ⊎ ((is_streaming old ≡ true) × IsBodyOver new)
+FailsWhole form most old new Broken = (form ≡ Chunked) × (body_stop new ≡ Some (Fault InvalidData))
+FailsWhole form most old new (Io e) = (fault_error form e ≡ Io e) × (body_stop new ≡ Some (Fault (error_kind e)))
+FailsWhole form most old new Memory = ⊤

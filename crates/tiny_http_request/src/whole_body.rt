@@ -1,0 +1,150 @@
+//! The body of a request, read whole.
+ghost use Rattle.std.specs.Prelude.{◌≡◌, ◌≤◌, ℕ, false, length, Option, Some, None, IfOk, IfErr, OnOk};
+ghost use Rattle.std.specs.declared.io.ErrorKind.{ErrorKind};
+ghost use Rattle.tiny_http_device.specs.Device.{Feed};
+ghost use Rattle.tiny_http_device.specs.declared.device.Stop.TheVariants.{Fault};
+ghost use Rattle.tiny_http_message.specs.Body.{is_streaming, bytes_left, body_stop, remaining, prepended_body};
+ghost use Rattle.tiny_http_request.specs.WholeBody.{fault_error, FailsReading, FailsWhole};
+
+use crate::body::Body;
+use std::alloc::{AllocError, Global};
+use std::io;
+use std::io::ErrorKind;
+use std::sync::Wait;
+use thiserror::Error;
+use tiny_http_device::device::ReadDevice;
+use tiny_http_message::framing::Form;
+
+// The most bytes that are read at once.
+const PIECE: usize = 4096;
+
+/// Why a body isn't read whole.
+#[derive(Debug, Drop, Error)]
+pub enum BodyError {
+    /// It has more bytes than may be read: 413 (RFC 9110, section 15.5.14).
+    #[error("the body is too long")]
+    TooLong,
+    /// The client's bytes ended within it (RFC 9112, section 8).
+    #[error("the body is cut")]
+    Cut,
+    /// It comes in chunks, and they break the grammar (RFC 9112, section 7.1).
+    #[error("the chunks of the body are broken")]
+    Broken,
+    /// Another fault of the client's reader.
+    #[error("{0}")]
+    Io(io::Error),
+    /// Memory was refused.
+    #[error("out of memory")]
+    Memory,
+}
+
+impl From<io::Error> for BodyError {
+    ghost use Rattle.tiny_http_request.specs.declared.whole_body.BodyError.TheVariants.{Io};
+
+    ghost from_gives = { λ fault error. error ≡ Io fault };
+
+    /// The reader's fault.
+    fn from(error: io::Error) -> BodyError {
+        BodyError::Io(error)
+    }
+}
+
+impl From<AllocError> for BodyError {
+    ghost use Rattle.tiny_http_request.specs.declared.whole_body.BodyError.TheVariants.{Memory};
+
+    ghost from_gives = { λ _ error. error ≡ Memory };
+
+    /// Memory was refused.
+    fn from(_error: AllocError) -> BodyError {
+        BodyError::Memory
+    }
+}
+
+// What is reported of a fault of a body of this form.
+fn fault_error(form: Form, fault: io::Error) -> BodyError
+    ensures { result ≡ fault_error form fault }
+{
+    match (form, fault.kind()) {
+        (Form::Chunked, ErrorKind::InvalidData) => BodyError::Broken,
+        (Form::Counted | Form::Chunked, ErrorKind::UnexpectedEof) => BodyError::Cut,
+        _ => BodyError::Io(fault),
+    }
+}
+
+// Reads what is left of a body of a known length.
+fn read_exactly<R: ReadDevice + Drop, Rt: Wait + Drop>(
+    alloc: Global,
+    body: &mut Body<R, Rt>,
+    count: usize,
+) -> Result<Vec<u8>, BodyError>
+    requires { bytes_left body.old ≡ Some count }
+    ensures count { IfOk result (λ bytes. length bytes.items ≡ count) }
+    ensures held { is_streaming body.old ≡ false → (feed : Option Feed)
+        → IfOk result (λ bytes. remaining body.old feed ≡ prepended_body bytes.items (remaining body.new feed)) }
+    ensures fails { IfErr result (FailsReading body.old body.new) }
+{
+    let mut bytes = Vec::new(alloc);
+    let mut piece = [0; PIECE];
+    while bytes.len() < count {
+        let room = PIECE.min(count - bytes.len());
+        let n = body.read_in(&mut piece[..room])?;
+        if n == 0 {
+            return Err(BodyError::Cut);
+        }
+        bytes.extend_from_slice(&piece[..n])?;
+    }
+    Ok(bytes)
+}
+
+// Reads to its end a body whose length isn't known, of at most so many bytes. Where it has more, one byte more is read.
+fn read_to_end<R: ReadDevice + Drop, Rt: Wait + Drop>(
+    alloc: Global,
+    body: &mut Body<R, Rt>,
+    most: usize,
+) -> Result<Vec<u8>, BodyError>
+    requires { bytes_left body.old ≡ None }
+    ensures bound { IfOk result (λ bytes. length bytes.items ≤ most) }
+    ensures held { is_streaming body.old ≡ false → (feed : Option Feed)
+        → IfOk result (λ bytes. remaining body.old feed ≡ prepended_body bytes.items (remaining body.new feed)) }
+    ensures again { (kind : ErrorKind) → body_stop body.old ≡ Some (Fault kind) → OnOk result ⊥ }
+    ensures fails { IfErr result (FailsReading body.old body.new) }
+{
+    let mut bytes = Vec::new(alloc);
+    let mut piece = [0; PIECE];
+    loop {
+        let room = most - bytes.len();
+        let n = body.read_in(&mut piece[..PIECE.min(room.saturating_add(1))])?;
+        if n > room {
+            return Err(BodyError::TooLong);
+        }
+        if n == 0 {
+            return Ok(bytes);
+        }
+        bytes.extend_from_slice(&piece[..n])?;
+    }
+}
+
+/// Reads what is left of a body of this form, which is at most so many bytes where its length is known.
+pub(crate) fn read_left<R: ReadDevice + Drop, Rt: Wait + Drop>(
+    alloc: Global,
+    body: &mut Body<R, Rt>,
+    form: Form,
+    most: usize,
+) -> Result<Vec<u8>, BodyError>
+    requires { (n : ℕ) → bytes_left body.old ≡ Some n → n ≤ most }
+    ensures bound { IfOk result (λ bytes. length bytes.items ≤ most) }
+    ensures sized { (n : ℕ) → bytes_left body.old ≡ Some n → IfOk result (λ bytes. length bytes.items ≡ n) }
+    ensures held { is_streaming body.old ≡ false → (feed : Option Feed)
+        → IfOk result (λ bytes. remaining body.old feed ≡ prepended_body bytes.items (remaining body.new feed)) }
+    ensures again { (kind : ErrorKind) → body_stop body.old ≡ Some (Fault kind) → OnOk result ⊥ }
+    ensures fails { IfErr result (λ e. FailsWhole form most body.old body.new e) }
+{
+    let read = match body.left() {
+        Some(left) => read_exactly(alloc, body, left),
+        None => read_to_end(alloc, body, most),
+    };
+    match read {
+        Err(BodyError::Io(fault)) => Err(fault_error(form, fault)),
+        read => read,
+    }
+}
