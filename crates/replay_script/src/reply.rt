@@ -1,5 +1,5 @@
 //! The lines that report what the steps were answered.
-ghost use Rattle.std.specs.Prelude.{◌≡◌, Some};
+ghost use Rattle.std.specs.Prelude.{◌≡◌, Some, ◌++◌, codes};
 ghost use Rattle.replay_script.specs.Reply.{kind_name, length_text, handed_text, bytes_text, reply_text};
 ghost use Rattle.tiny_http_core.specs.HeadReads.{head_message};
 ghost use Rattle.tiny_http_core.specs.Seen.{seen};
@@ -13,17 +13,17 @@ use tiny_http_core::exchange::Head;
 #[derive(Drop)]
 pub struct ReplyLine<'a>(pub &'a Reply);
 
-/// A body's length, printed as a number, or as `-` where the head says none.
+/// A body's length, printed behind a space as a number, or as `-` where the head says none.
 #[derive(Drop)]
 struct Length(Option<usize>);
 
 impl fmt::Display for Length {
-    ghost output = { λ l. Some (length_text l.0) };
+    ghost output = { λ l. Some (codes " " ++ length_text l.0) };
 
     fn fmt<W: fmt::Write>(&self, f: &mut fmt::Formatter<W>) -> fmt::Result {
         match self.0 {
-            Some(length) => write!(f, "{length}"),
-            None => f.write_str("-"),
+            Some(length) => write!(f, " {length}"),
+            None => f.write_str(" -"),
         }
     }
 }
@@ -45,7 +45,7 @@ impl fmt::Display for Handed<'_> {
         let length = Length(head.body_length);
         write!(
             f,
-            "handed {number} {method} {path} {version} {headers} {length}"
+            "handed {number} {method} {path} {version} {headers}{length}"
         )
     }
 }
