@@ -5,3 +5,5 @@ pub mod HeadsLengths
 pub mod FmtLemmas
 pub mod CommonLemmas
 pub mod HeaderTextsLemmas
+pub mod FirstByte
+pub mod TargetLemmas

@@ -6,13 +6,13 @@ use Rattle.std.specs.Str.{bytes_eq}
 use Rattle.std.proofs.lemmas.Bool.{and_parts}
 use Rattle.tiny_http_head.specs.Heads.{length_of}
 use Rattle.tiny_http_head.specs.declared.common.HTTPVersion.{HTTPVersion}
+use Rattle.tiny_http_head.proofs.FirstByte.{contrary}
 use Rattle.tiny_http_standard.specs.declared.judging.Codings.{Codings}
 use Rattle.tiny_http_standard.specs.declared.judging.Codings.TheVariants.{Absent, Others, Chunked, Behind, Bad}
 use Rattle.tiny_http_standard.specs.declared.judging.Refusal.{Refusal}
 use Rattle.tiny_http_standard.specs.declared.judging.Refusal.TheVariants.{InvalidHead, UnknownCoding}
 use Rattle.tiny_http_standard.specs.Judging.{is_number, is_length, is_chunked, is_unknown_coding, is_1_0, IsBodyFraming, HasUnknownCodings}
 use Rattle.tiny_http_standard.specs.JudgingReading.{coding_after, codings_on, same_length, if_length, lengths_on, body_by}
-use Rattle.tiny_http_standard.proofs.HostsLemmas.{contrary}
 
 not-true : (b : Bool) → not b ≡ true → b ≡ false
 not-true true h = contrary false h refl

@@ -12,9 +12,10 @@ use Rattle.tiny_http_text.specs.Bytes.{HasNo, is_ascii, trimmed, colon}
 use Rattle.tiny_http_text.proofs.BytesLemmas.{trims-is}
 use Rattle.tiny_http_head.specs.Heads.{length_of}
 use Rattle.tiny_http_head.specs.declared.common.HTTPVersion.{HTTPVersion}
+use Rattle.tiny_http_head.proofs.FirstByte.{contrary}
 use Rattle.tiny_http_standard.specs.Hosts.{IsBracketedAddress, is_registered_name, is_address_byte, IsHost, IsHostValue, IsAuthority, is_port_number}
 use Rattle.tiny_http_standard.specs.Lines.{IsVersion, IsTarget, is_origin_form, is_asterisk_form, is_absolute_form, RequestLine, IsNoRequestLine, must_be_ascii, FieldLine, IsNoFieldLine}
-use Rattle.tiny_http_standard.proofs.HostsLemmas.{contrary, inside, literal-is, no-port, value-port, authority-port, number-digits}
+use Rattle.tiny_http_standard.proofs.HostsLemmas.{inside, literal-is, no-port, value-port, authority-port, number-digits}
 use Rattle.tiny_http_standard.proofs.LinesLemmas.{version-is, no-space, one-space, line-parts, no-colon, field-parts}
 
 abbrev pub Decided : Type 0 → Type 0

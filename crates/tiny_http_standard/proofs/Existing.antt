@@ -9,6 +9,7 @@ use Rattle.tiny_http_head.specs.declared.common.Method.{Method}
 use Rattle.tiny_http_head.specs.declared.common.HTTPVersion.{HTTPVersion}
 use Rattle.tiny_http_head.specs.declared.common.Header.{Header}
 use Rattle.tiny_http_head.specs.Heads.{Message, method_of}
+use Rattle.tiny_http_head.proofs.FirstByte.{contrary}
 use Rattle.tiny_http_standard.specs.declared.judging.HeadSummary.{HeadSummary}
 use Rattle.tiny_http_standard.specs.declared.judging.Refusal.{Refusal}
 use Rattle.tiny_http_standard.specs.declared.judging.Refusal.TheVariants.{UnsupportedVersion, InvalidHead, UnknownExpectation}
@@ -16,7 +17,6 @@ use Rattle.tiny_http_standard.specs.Lines.{percent_encoded, ReadsFieldLine}
 use Rattle.tiny_http_standard.specs.Lists.{values_of, has_element_that}
 use Rattle.tiny_http_standard.specs.Judging.{is_1_0, HasValidHost, Judges, owes_continue, asks_upgrade, is_last, is_unknown_expectation}
 use Rattle.tiny_http_standard.specs.Heads.{line_feed, is_carriage_return, Line, BeginsWithBareLine, behind_empty_line, BeginsWithRequestLine, BeginsWithFieldLines, BeginsWithHead, ComesToField, HasBadLine, HasOpenRequestLine, HasOpenField, Reading, ReadWhole, ReadBad, ReadOpen, AreReadAs}
-use Rattle.tiny_http_standard.proofs.HostsLemmas.{contrary}
 use Rattle.tiny_http_standard.proofs.HeadsLemmas.{line-shorter}
 use Rattle.tiny_http_standard.proofs.JudgeLemmas.{body_read, judge-served, judge-fails}
 use Rattle.tiny_http_standard.proofs.ReadingLemmas.{Ending, Finished, Bad, Open, EndsAs, AreFields}

@@ -5,21 +5,13 @@ use Rattle.std.specs.List.{list_all}
 use Rattle.std.specs.Char.{is_ascii_digit}
 use Rattle.std.specs.Str.{all_ascii_digits}
 use Rattle.tiny_http_head.specs.Heads.{length_of}
+use Rattle.tiny_http_head.proofs.FirstByte.{contrary, not-without}
 use Rattle.std.proofs.lemmas.Bool.{and_parts}
 use Rattle.tiny_http_text.specs.Bytes.{HasNo, colon}
 use Rattle.std.proofs.lemmas.List.{drop_all}
 use Rattle.std.proofs.Math.Seq.{take-append_seam}
 use Rattle.tiny_http_text.proofs.BytesTrimming.{cut-at}
 use Rattle.tiny_http_standard.specs.Hosts.{is_address_byte, IsBracketedAddress, IsHost, HostAndPort, IsHostValue, IsAuthority, is_port_number}
-
-pub contrary : {G : Type 0} (b : Bool) → b ≡ true → b ≡ false → G
-contrary true t f = cc
-contrary false t f = cc
-
--- a text with such a byte isn't without one
-pub not-without : (c : ℕ) (b y : List ℕ) → HasNo c (b ++ c ∷ y) → ⊥
-not-without c [] y h = grind (arith, h)
-not-without c (x ∷ b) y h = not-without c b y (and_parts (not (x == c)) (list_all (λ z. not (z == c)) (b ++ c ∷ y)) h).1
 
 -- the last such byte stands at one place
 pub one-last : (c : ℕ) (a b x y : List ℕ) → HasNo c x → HasNo c y → a ++ c ∷ x ≡ b ++ c ∷ y → (a ≡ b) × (x ≡ y)

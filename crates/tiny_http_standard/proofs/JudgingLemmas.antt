@@ -12,7 +12,7 @@ use Rattle.tiny_http_standard.specs.Lists.{values_of}
 use Rattle.tiny_http_standard.specs.Hosts.{slash, IsHostValue}
 use Rattle.tiny_http_standard.specs.Judging.{is_one_or_two_tokens, HasValidHost, is_1_0}
 use Rattle.tiny_http_head.proofs.HeaderTextsLemmas.{token-bytes}
-use Rattle.tiny_http_standard.proofs.LinesLemmas.{all-without}
+use Rattle.tiny_http_head.proofs.FirstByte.{all-without}
 
 slash-no_token : is_token_byte 47 ≡ false
 unfolding is_token_byte

@@ -14,9 +14,9 @@ use Rattle.tiny_http_standard.specs.declared.judging.Refusal.TheVariants.{Unsupp
 use Rattle.tiny_http_standard.specs.Lines.{IsVersion, RequestLine, FieldLine}
 use Rattle.tiny_http_standard.specs.Lists.{elements_of, has_element_that}
 use Rattle.tiny_http_standard.specs.Judging.{IsFramedRequest, IsValid, NamesUnknownCodings, Judges, owes_continue, is_unknown_expectation}
-use Rattle.tiny_http_standard.proofs.HostsLemmas.{contrary}
 use Rattle.tiny_http_head.proofs.HeaderTextsLemmas.{token-bytes}
-use Rattle.tiny_http_standard.proofs.LinesLemmas.{all-without, one-first, method-rest, space-no_token, colon-no_token}
+use Rattle.tiny_http_head.proofs.FirstByte.{all-without, contrary, one-first}
+use Rattle.tiny_http_standard.proofs.LinesLemmas.{method-rest, space-no_token, colon-no_token}
 use Rattle.tiny_http_standard.proofs.BodyLemmas.{framed-reads, unknown-reads}
 use Rattle.tiny_http_standard.proofs.JudgeLemmas.{body_read}
 

@@ -12,9 +12,9 @@ use Rattle.tiny_http_text.specs.Bytes.{is_ascii, AreAscii, HasNo, trimmed}
 use Rattle.tiny_http_text.proofs.BytesLemmas.{trims-one}
 use Rattle.tiny_http_head.specs.declared.common.HTTPVersion.{HTTPVersion}
 use Rattle.tiny_http_head.proofs.HeaderTextsLemmas.{token-bytes}
+use Rattle.tiny_http_head.proofs.FirstByte.{all-without, contrary, not-without, one-first}
 use Rattle.tiny_http_standard.specs.Lines.{IsVersion, IsTarget, RequestLine, IsNoRequestLine, must_be_ascii, FieldLine, IsNoFieldLine, uppercase_hexadecimal_digit, percent_encoded_byte, percent_encoded}
 use Rattle.tiny_http_standard.specs.Hosts.{percent}
-use Rattle.tiny_http_standard.proofs.HostsLemmas.{contrary, not-without}
 
 -- a text of ASCII bytes is handed out as it is
 pub encoded-ascii : (value : List ℕ) → list_all is_ascii value ≡ true → percent_encoded value ≡ value
@@ -75,28 +75,6 @@ encoded-is_ascii (b ∷ bs) fits = list_all-append is_ascii (percent_encoded_byt
 
 pub all-encoded : (done value : List ℕ) (n : ℕ) → length value ≤ n → done ++ percent_encoded (drop n value) ≡ percent_encoded value → done ≡ percent_encoded value
 all-encoded done value n le h = sym (append-nil done) ∙ ap (λ (r : List ℕ). done ++ percent_encoded r) (sym (drop_all n value le)) ∙ h
-
--- a byte that isn't of a kind doesn't stand among those that are
-pub all-without : (p : ℕ → Bool) (c : ℕ) (text : List ℕ) → p c ≡ false → list_all p text ≡ true → HasNo c text
-all-without p c [] not_c h = refl
-all-without p c (b ∷ bs) not_c h =
-    let k = and_parts (p b) (list_all p bs) h in
-    rw (other (b == c) refl k.0, all-without p c bs not_c k.1) refl
-  where
-    other : (t : Bool) → (b == c) ≡ t → p b ≡ true → (b == c) ≡ false
-    other true e good = contrary (p c) (subst (λ (x : ℕ). p x ≡ true) (eqb-true b c e) good) not_c
-    other false e good = e
-
--- what stands before the first such byte, and behind it, is one
-pub one-first : (c : ℕ) (a b x y : List ℕ) → HasNo c a → HasNo c b → a ++ c ∷ x ≡ b ++ c ∷ y → (a ≡ b) × (x ≡ y)
-one-first c [] [] x y ha hb e = (refl, cc)
-one-first c [] (v ∷ b) x y ha hb e = let s : v ≡ c = cc in absurd (not-without c [] b (subst (λ (z : ℕ). HasNo c (z ∷ b)) s hb))
-one-first c (u ∷ a) [] x y ha hb e = let s : u ≡ c = cc in absurd (not-without c [] a (subst (λ (z : ℕ). HasNo c (z ∷ a)) s ha))
-one-first c (u ∷ a) (v ∷ b) x y ha hb e =
-    let rest : a ++ c ∷ x ≡ b ++ c ∷ y = cc in
-    let first : u ≡ v = cc in
-    let r = one-first c a b x y (and_parts (not (u == c)) (list_all (λ z. not (z == c)) a) ha).1 (and_parts (not (v == c)) (list_all (λ z. not (z == c)) b) hb).1 rest in
-    (rw (first, r.0) refl, r.1)
 
 pub space-no_token : is_token_byte 32 ≡ false
 unfolding is_token_byte

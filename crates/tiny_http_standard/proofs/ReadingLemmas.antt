@@ -8,6 +8,7 @@ use Rattle.tiny_http_head.specs.declared.common.Method.{Method}
 use Rattle.tiny_http_head.specs.declared.common.HTTPVersion.{HTTPVersion}
 use Rattle.tiny_http_head.specs.declared.common.Header.{Header}
 use Rattle.tiny_http_head.specs.Heads.{Message, method_of}
+use Rattle.tiny_http_head.proofs.FirstByte.{contrary, not-without, one-first}
 use Rattle.tiny_http_standard.specs.declared.judging.HeadSummary.{HeadSummary}
 use Rattle.tiny_http_standard.specs.declared.judging.Refusal.{Refusal}
 use Rattle.tiny_http_standard.specs.declared.heads.HeadFault.TheVariants.{BadLine, RequestLineTooLong, HeaderFieldsTooLarge, Judged}
@@ -16,8 +17,7 @@ use Rattle.tiny_http_standard.specs.declared.heads.HeadRead.TheVariants.{Whole, 
 use Rattle.tiny_http_standard.specs.Lines.{percent_encoded, ReadsFieldLine, ReadsRequestLine, IsNoRequestLine}
 use Rattle.tiny_http_standard.specs.Judging.{Judges}
 use Rattle.tiny_http_standard.specs.Heads.{line_feed, is_carriage_return, Line, BeginsWithBareLine, behind_empty_line, BeginsWithRequestLine, BeginsWithFieldLines, BeginsWithHead, BeginsWithBadLine, IsNoFieldOrEnd, ComesToField, HasOpenRequestLine, HasOpenField, message_of, is_begun, Reads, IsSameRead, Reading, ReadWhole, ReadBad, ReadOpen, AreReadAs}
-use Rattle.tiny_http_standard.proofs.HostsLemmas.{contrary, not-without, one-last}
-use Rattle.tiny_http_standard.proofs.LinesLemmas.{one-first}
+use Rattle.tiny_http_standard.proofs.HostsLemmas.{one-last}
 use Rattle.tiny_http_standard.proofs.LawsLemmas.{request-line-once, field-line-once, judged-once}
 
 -- a line with its CR has no LF

@@ -1,7 +1,8 @@
 use Rattle.std.proofs.Common.{rules, ◌≡◌, true, ap, ◌∙◌}
 use Rattle.tiny_http_head.specs.Heads.{length_of}
+use Rattle.tiny_http_head.proofs.FirstByte.{contrary}
 use Rattle.tiny_http_standard.specs.Hosts.{is_port_number}
-use Rattle.tiny_http_standard.proofs.HostsLemmas.{authority-port, number-digits, contrary}
+use Rattle.tiny_http_standard.proofs.HostsLemmas.{authority-port, number-digits}
 use Rattle.tiny_http_standard.proofs.hosts.is_authority.Goals as goal
 
 pub returns-then-is_port_number : goal.returns-then-is_port_number

@@ -1,6 +1,7 @@
 use Rattle.std.proofs.Common.{rules, inr, sym, ◌∙◌}
-use Rattle.tiny_http_standard.proofs.HostsLemmas.{value-port, contrary}
+use Rattle.tiny_http_standard.proofs.HostsLemmas.{value-port}
 use Rattle.tiny_http_standard.proofs.hosts.is_host_value.Goals as goal
+use Rattle.tiny_http_head.proofs.FirstByte.{contrary}
 
 pub returns-then-is_host-2 : goal.returns-then-is_host-2
 returns-then-is_host-2 c = (

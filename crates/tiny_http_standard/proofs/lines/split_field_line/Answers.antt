@@ -2,10 +2,10 @@ use Rattle.std.proofs.Common.{◌≡◌, sym, ap, subst, ◌∙◌}
 use Rattle.httparse.specs.Grammar.{is_ows}
 use Rattle.tiny_http_text.specs.Bytes.{AreAscii, Trims, trimmed, skip_end_while}
 use Rattle.tiny_http_text.proofs.BytesLemmas.{trims-is}
-use Rattle.tiny_http_standard.proofs.HostsLemmas.{contrary}
 use Rattle.tiny_http_standard.proofs.LinesLemmas.{no-colon, field-parts}
 use Rattle.tiny_http_standard.proofs.lines.split_field_line.Goals.{then-not-is_token-via-then-not-is_token, then-not-is_token-via-else-not-is_token+then-not-is_header_value, else-must_be_ascii-via-then-must_be_ascii+else-not-are_ascii, else-must_be_ascii-via-else-must_be_ascii}
 use Rattle.tiny_http_standard.proofs.lines.split_field_line.Goals as goal
+use Rattle.tiny_http_head.proofs.FirstByte.{contrary}
 
 pub returns-in_default-clause-none : goal.returns-in_default-clause-none
 returns-in_default-clause-none c = no-colon c.args.text.now c.in_default.ensures.none

@@ -1,8 +1,8 @@
 use Rattle.std.proofs.Common.{◌∙◌}
-use Rattle.tiny_http_standard.proofs.HostsLemmas.{contrary}
 use Rattle.tiny_http_standard.proofs.LinesLemmas.{one-space, line-parts}
 use Rattle.tiny_http_standard.proofs.lines.split_request_line.Goals.{then-not-is_token-via-then-not-is_token, then-not-is_token-via-else-not-is_token+then-not-is_target}
 use Rattle.tiny_http_standard.proofs.lines.split_request_line.Goals as goal
+use Rattle.tiny_http_head.proofs.FirstByte.{contrary}
 
 pub returns-in_default-cut-clause-none : goal.returns-in_default-cut-clause-none
 returns-in_default-cut-clause-none c =
