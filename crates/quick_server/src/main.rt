@@ -3,20 +3,19 @@
 
 use std::alloc::Global;
 use std::io::ErrorKind;
-use std::sync::Wait;
-use std::time::Clock;
 use std::{env, io};
-use tiny_http::{Response, Server, ServerRequest, current_date};
+use tiny_http::device::{ReadDevice, WriteDevice};
+use tiny_http::{Handler, Host, Request, Response, Server, current_date};
 
-// Answers a request by its path.
-fn answer<R: Clock + Wait + Drop>(
-    rt: &R,
-    alloc: Global,
-    request: ServerRequest<R>,
-) -> io::Result<()> {
-    let path = String::from_str(alloc, request.url())?;
-    let response = Response::from_string(alloc, path)?;
-    request.respond(response, current_date(rt))
+/// Answers a request by its path. The request may be a server's, or a test's.
+struct ByPath;
+
+impl<R: ReadDevice + Drop, W: WriteDevice + Drop, Rt: Host> Handler<Rt, Request<R, W, Rt>>
+    for ByPath {
+    fn handle(&self, rt: &Rt, alloc: Global, request: Request<R, W, Rt>) -> io::Result<()> {
+        let path = String::from_str(alloc, request.path())?;
+        request.respond(Response::from_string(alloc, path)?, current_date(rt))
+    }
 }
 
 fn main(rt: HostRuntime) -> io::Result<()> {
@@ -24,16 +23,6 @@ fn main(rt: HostRuntime) -> io::Result<()> {
     let [_, address] = words.as_slice() else {
         return Err(ErrorKind::InvalidInput.into());
     };
-    let Ok(server) = Server::http(rt, rt.alloc(), address.as_str()) else {
-        return Err(ErrorKind::AddrNotAvailable.into());
-    };
-    let mut requests = server.incoming_requests();
-    for _ in rt.forever() {
-        let Some(request) = requests.next() else {
-            break;
-        };
-        // A request whose answer finds no memory is dropped, and sent its 500.
-        let _ = answer(&rt, rt.alloc(), request);
-    }
-    Ok(())
+    let server = Server::http(rt, rt.alloc(), address.as_str())?;
+    server.serve_by(rt.alloc(), 4, &ByPath)
 }

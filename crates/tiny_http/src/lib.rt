@@ -30,8 +30,9 @@ pub mod server;
 pub mod serving;
 
 pub use crate::server::{
-    IncomingRequests, Server, ServerConfig, ServerError, ServerReader, ServerRequest,
-    ServerRuntime, ServerWriter, SslConfig, Stopped, current_date,
+    Host, IncomingRequests, Server, ServerBody, ServerConfig, ServerError, ServerOutput,
+    ServerReader, ServerRequest, ServerRuntime, ServerStream, ServerWriter, SslConfig, Stopped,
+    current_date,
 };
 pub use crate::serving::Handler;
 pub use tiny_http_core::framing::Profile;
@@ -43,8 +44,8 @@ pub use tiny_http_corked::{cork, corked, read_ahead, write_both};
 pub use tiny_http_limits::limits::Limits;
 pub use tiny_http_limits::{backoff, census, counts, limits, times};
 pub use tiny_http_paced::{pace, paced_reader, paced_writer};
-pub use tiny_http_request::request::{BodyError, ReadWrite, Request};
-pub use tiny_http_request::test::TestRequest;
+pub use tiny_http_request::request::{BodyError, ReadWrite, RefusedUpgrade, Request};
+pub use tiny_http_request::test::{Recorder, TestRequest};
 pub use tiny_http_request::{client, request, test};
 pub use tiny_http_socket::connection::{ConfigListenAddr, ListenAddr, Listener};
 pub use tiny_http_socket::{connection, refined_tcp_stream};

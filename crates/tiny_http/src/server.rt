@@ -18,16 +18,19 @@ use std::thread::Threads;
 use std::time::{Clock, Duration};
 use std::{io, thread};
 use thiserror::Error;
+use tiny_http_core::custom_stream::CustomStream;
 use tiny_http_core::framing::Profile;
+use tiny_http_core::outlet::Outlet;
 use tiny_http_corked::cork::{CorkedReader, CorkedWriter};
 use tiny_http_limits::counts::Counts;
 use tiny_http_limits::limits::Limits;
 use tiny_http_paced::paced_reader::PacedReader;
 use tiny_http_paced::paced_writer::PacedWriter;
-use tiny_http_request::request::Request;
+use tiny_http_request::request::{Body, Request};
 use tiny_http_socket::connection::{ConfigListenAddr, ListenAddr, Listener, SocketFiles};
 use tiny_http_socket::refined_tcp_stream::RefinedTcpStream;
 use tiny_http_threads::messages_queue::MessagesQueue;
+use tiny_http_threads::sequential::SequentialWriter;
 use tiny_http_threads::task_pool::TaskPool;
 
 // So many messages the queue has room for at first.
@@ -59,6 +62,12 @@ where
         + 'static,
 {}
 
+/// What a program needs of the runtime whose threads share a server: what the server itself needs, and `Sync`. Any runtime with
+/// these has it.
+pub trait Host: ServerRuntime + Sync {}
+
+impl<R: ServerRuntime + Sync> Host for R {}
+
 /// What a server reads a client by.
 pub type ServerReader<R> = PacedReader<CorkedReader<RefinedTcpStream, PacedWriter>, R>;
 
@@ -67,6 +76,15 @@ pub type ServerWriter<R> = CorkedWriter<PacedWriter, R>;
 
 /// A request of a server's client.
 pub type ServerRequest<R> = Request<ServerReader<R>, ServerWriter<R>, R>;
+
+/// The body of such a request.
+pub type ServerBody<R> = Body<ServerReader<R>, R>;
+
+/// What `into_writer` gives of such a request: the connection's output, in its turn.
+pub type ServerOutput<R> = SequentialWriter<Outlet<ServerWriter<R>>, R>;
+
+/// What `upgrade` gives of such a request.
+pub type ServerStream<R> = CustomStream<ServerBody<R>, ServerOutput<R>>;
 
 /// How a call that stops a server ended.
 #[derive(Clone, Copy, Debug, PartialEq, Eq)]
@@ -102,6 +120,21 @@ impl From<io::Error> for ServerError {
             return ServerError::Memory;
         }
         ServerError::Io(fault)
+    }
+}
+
+impl From<ServerError> for io::Error {
+    ghost use Rattle.tiny_http.specs.ServerError.{IsFaultOf};
+
+    ghost from_gives = { IsFaultOf };
+
+    /// The fault itself; of kind `InvalidInput` for `Ssl`, and `OutOfMemory` for `Memory`.
+    fn from(error: ServerError) -> io::Error {
+        match error {
+            ServerError::Io(fault) => fault,
+            ServerError::Ssl => ErrorKind::InvalidInput.into(),
+            ServerError::Memory => ErrorKind::OutOfMemory.into(),
+        }
     }
 }
 

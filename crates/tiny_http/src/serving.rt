@@ -1,12 +1,13 @@
 //! Serving by a handler. The worker of each connection answers that connection's requests itself, one after another: no queue and
 //! no other thread stands between, and answers that follow each other leave together.
 use crate::accepting::{Arrival, Message};
-use crate::server::{Server, ServerRequest, ServerRuntime};
+use crate::server::{Host, Server, ServerRequest, ServerRuntime};
 use std::alloc::Global;
-use std::io;
-use std::sync::atomic::Ordering;
+use std::io::ErrorKind;
+use std::sync::atomic::{AtomicUsize, Ordering};
 use std::sync::{Arc, Wait};
 use std::time::Clock;
+use std::{io, thread};
 use tiny_http_threads::task_pool::{Job, TaskPool};
 
 /// What answers the requests of a server that serves: `Q` is `ServerRequest<R>`. Many threads call it at once. (The request's type is
@@ -98,6 +99,63 @@ impl<R: ServerRuntime> Server<R> {
                 work,
             };
             let _ = pool.spawn(&rt, alloc, service);
+        }
+        Ok(())
+    }
+}
+
+impl<R: Host> Server<R> {
+    /// Answers by this handler on so many threads, which ask for a request each, one after another, until `unblock` is called once,
+    /// the server was stopped, or accepting ends, whose fault is the error. It returns when all of them have ended: each answers its
+    /// last request first. An error too where memory was refused; the threads that were begun have ended by then.
+    ///
+    /// This is the loop over `recv` that a program would write. Each answer is sent as the handler makes it, and a request may be kept
+    /// and answered later. `serve` costs less a request. An error of the handler is passed over. With no thread nothing is answered.
+    pub fn serve_by<H: Handler<R, ServerRequest<R>> + Sync>(
+        &self,
+        alloc: Global,
+        threads: usize,
+        handler: &H,
+    ) -> io::Result<()> {
+        let running = AtomicUsize::new(threads);
+        let ended = thread::map_indices(
+            &self.rt,
+            alloc,
+            threads,
+            &|_| self.answer_on(alloc, handler, &running),
+        )?;
+        for end in ended {
+            end?;
+        }
+        Ok(())
+    }
+
+    // Answers requests, until there is none. Passes the unblock on to a thread that still runs.
+    fn answer_on<H: Handler<R, ServerRequest<R>>>(
+        &self,
+        alloc: Global,
+        handler: &H,
+        running: &AtomicUsize,
+    ) -> io::Result<()> {
+        let ended = self.answer_until_unblocked(alloc, handler);
+        if running.fetch_sub(1, Ordering::SeqCst) > 1 {
+            let _ = self.unblock();
+        }
+        ended
+    }
+
+    // Answers requests, until there is none. An error is the fault by which accepting ended.
+    fn answer_until_unblocked<H: Handler<R, ServerRequest<R>>>(
+        &self,
+        alloc: Global,
+        handler: &H,
+    ) -> io::Result<()> {
+        for _ in self.rt.forever() {
+            match self.recv() {
+                Ok(request) => drop(handler.handle(&self.rt, alloc, request)),
+                Err(fault) if fault.kind() == ErrorKind::Other => break,
+                Err(fault) => return Err(fault),
+            }
         }
         Ok(())
     }

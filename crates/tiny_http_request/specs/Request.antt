@@ -1,5 +1,5 @@
 -- What clauses read of a request, and of why none is made.
-use Rattle.std.specs.Prelude.{◌≡◌, ⊤, ℕ, Bool, true, false, List, Option, None, Some, Result, Ok, Err}
+use Rattle.std.specs.Prelude.{◌≡◌, ⊤, ℕ, Bool, true, false, ◌&&◌, List, Option, None, Some, Result, Ok, Err, codes}
 use Rattle.std.specs.IoError.{error_kind}
 use Rattle.std.specs.declared.io.Error.{Error}
 use Rattle.std.specs.declared.io.ErrorKind.{ErrorKind}
@@ -18,6 +18,8 @@ use Rattle.tiny_http_message.specs.declared.framing.Framing.{Framing}
 use Rattle.tiny_http_message.specs.declared.framing.FramingFault.TheVariants.{Expectation}
 use Rattle.tiny_http_message.specs.declared.framing.Profile.{Profile}
 use Rattle.tiny_http_message.specs.declared.framing.HeadRules.TheVariants.{Lenient}
+use Rattle.tiny_http_standard.specs.Lists.{has_element}
+use Rattle.tiny_http_message.specs.HeadValues.{is_upgrade}
 use Rattle.tiny_http_message.specs.FramingReading.{framing}
 use Rattle.tiny_http_message.specs.HeadReads.{Begins, IsFramedBy}
 use Rattle.tiny_http_message.specs.Pipeline.{IsCutWithHead, body_length_or_0}
@@ -92,3 +94,7 @@ IsFramed r profile date = IsFramedBy profile date (request_head r) (request_open
 abbrev pub FailsBy : RequestCreationError → HTTPVersion → List Header → Option Feed → Type 0
 FailsBy e version headers feed =
     (is_expectation_failed e ≡ true → framing Lenient version headers ≡ Err Expectation) × IfCreationIo e (λ fault. CutsShort version headers feed (error_kind fault))
+
+-- the head asks for an upgrade to this protocol
+abbrev pub asks_for : Head → List ℕ → Bool
+asks_for h protocol = is_upgrade h && has_element (codes "Upgrade") protocol h.headers.items

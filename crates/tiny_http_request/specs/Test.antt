@@ -4,11 +4,23 @@ use Rattle.tiny_http_wire.specs.declared.common.Header.{Header}
 use Rattle.tiny_http_message.specs.Framing.{value_of}
 use Rattle.tiny_http_device.specs.Device.{Sink}
 use Rattle.tiny_http_request.specs.declared.test.Nowhere.{Nowhere}
+use Rattle.tiny_http_request.specs.declared.test.Recorder.{Recorder}
+use Rattle.tiny_http_request.specs.declared.test.TestBody.{TestBody}
+use Rattle.tiny_http_request.specs.declared.test.TestBody.TheVariants.{Text, Bytes}
 use Rattle.tiny_http_request.specs.declared.test.TestRequest.{TestRequest}
 
 -- what a writer states that takes all bytes and keeps none: it never fails
 abbrev pub nowhere_sink : Nowhere → Sink
 nowhere_sink _ = record { taken = None; sent = []; failures = 0; last_kind = None; has_ended = false }
+
+-- what a writer states whose bytes lie behind a lock: its own failures alone
+abbrev pub recorder_sink : {Rt : Type 0} → Recorder Rt → Sink
+recorder_sink w = record { taken = None; sent = []; failures = w.failures; last_kind = None; has_ended = false }
+
+-- the bytes of a body
+abbrev pub body_bytes : TestBody → List ℕ
+body_bytes (Text text) = text.now
+body_bytes (Bytes bytes) = bytes.items
 
 -- the two are the same but for their headers and their bodies
 pub record IsLike (old new : TestRequest) : Type 0 where

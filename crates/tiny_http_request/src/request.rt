@@ -1,6 +1,7 @@
 //! A request that threads may hold: its head, its body on the connection's input, and its turn at the output.
-ghost use Rattle.std.specs.Prelude.{◌≡◌, ◌<◌, ◌≤◌, ◌||◌, ℕ, length, true, false, Option, Ok, Err, Some, None, IfOk, IfErr, IsErrOf, IfSome, OnOk, is_some};
+ghost use Rattle.std.specs.Prelude.{◌≡◌, ◌<◌, ◌≤◌, ◌||◌, ◌⊎◌, ℕ, length, true, false, Option, Ok, Err, Some, None, IfOk, IfErr, IsErrOf, IfSome, OnOk, is_some};
 ghost use Rattle.std.specs.IoError.{error_kind};
+ghost use Rattle.std.specs.List.{list_all};
 ghost use Rattle.std.specs.Option.{option_copied};
 ghost use Rattle.std.specs.declared.io.ErrorKind.{ErrorKind};
 ghost use Rattle.tiny_http_device.specs.Device.{Feed};
@@ -9,12 +10,13 @@ ghost use Rattle.tiny_http_wire.specs.Target.{IsPath, IsQuery};
 ghost use Rattle.tiny_http_standard.specs.Lists.{has_element};
 ghost use Rattle.tiny_http_sending.specs.Sending.{is_closed_client};
 ghost use Rattle.tiny_http_message.specs.Framing.{value_of};
+ghost use Rattle.tiny_http_text.specs.Bytes.{is_ascii};
 ghost use Rattle.tiny_http_message.specs.HeadValues.{is_upgrade};
 ghost use Rattle.tiny_http_message.specs.FramingReading.{framing};
 ghost use Rattle.tiny_http_message.specs.Body.{is_streaming, is_whole, bytes_left, body_stop, remaining, prepended_body};
 ghost use Rattle.tiny_http_message.specs.OpenRequest.{request_check, refuses_code};
 ghost use Rattle.tiny_http_message.specs.HeadReads.{head_framing, Begins};
-ghost use Rattle.tiny_http_request.specs.Request.{IsInvalidInput, request_head, request_secure, request_address, request_open, is_expectation_failed, IfCreationIo, cut_kind, IsCutShort, BeginsWith, Says, IsFramed, FailsBy};
+ghost use Rattle.tiny_http_request.specs.Request.{IsInvalidInput, asks_for, request_head, request_secure, request_address, request_open, is_expectation_failed, IfCreationIo, cut_kind, IsCutShort, BeginsWith, Says, IsFramed, FailsBy};
 ghost use Rattle.tiny_http_request.specs.WholeBody.{FailsWhole};
 
 pub use crate::body::Body;
@@ -90,6 +92,15 @@ impl From<AllocError> for RequestCreationError {
 pub trait ReadWrite: Read + Write {}
 
 impl<R: ReadDevice, W: WriteDevice> ReadWrite for CustomStream<R, W> {}
+
+/// An upgrade that was refused: why, and the request, to which nothing was done.
+#[derive(Drop)]
+pub struct RefusedUpgrade<R: ReadDevice + Drop, W: WriteDevice + Drop, Rt: Wait + Drop> {
+    /// Why it was refused.
+    pub error: UpgradeError,
+    /// The request, which can still be answered.
+    pub request: Request<R, W, Rt>,
+}
 
 /// A request. Any thread may hold it, read its body and answer it, while the connection reads on. Answers are sent in the order
 /// of the requests. If it is dropped it is answered by an empty 500, in its turn.
@@ -431,6 +442,55 @@ impl<R: ReadDevice + Drop, W: WriteDevice + Drop, Rt: Wait + Drop> Request<R, W,
         let status = response.status_code();
         let is_whole = self.open_request.body.is_whole();
         self.open_request.check_upgrade(protocol, status, is_whole)?;
+        Ok(self.begin_stream(protocol, response, is_whole, now))
+    }
+
+    /// Upgrades as `upgrade` does, but only where the head asks for this protocol, under each profile: by `is_upgrade`, and by an
+    /// `Upgrade` header that lists it. Else it is `NotAsked`. Where it is refused nothing was sent, and the request is handed back,
+    /// to be answered. The response is let go.
+    pub fn try_upgrade<D: Drop>(
+        self,
+        protocol: &str,
+        response: Response<D>,
+        now: HttpDate,
+    ) -> Result<
+        CustomStream<Body<R, Rt>, SequentialWriter<Outlet<W>, Rt>>,
+        RefusedUpgrade<R, W, Rt>,
+    >
+        ensures granted { OnOk result ((request_check (request_open self) protocol.now response.answer.status (is_whole (request_open self).body) ≡ Ok tt)
+            × (asks_for (request_head self) protocol.now ≡ true)) }
+        ensures handed_back { IfErr result (λ e. e.request ≡ self) }
+        ensures refused { IfErr result (λ e. (request_check (request_open self) protocol.now response.answer.status (is_whole (request_open self).body) ≡ Err e.error)
+            ⊎ ((asks_for (request_head self) protocol.now ≡ false) × (e.error ≡ UpgradeError.NotAsked))) }
+    {
+        let status = response.status_code();
+        let is_whole = self.open_request.body.is_whole();
+        if let Err(error) = self.open_request.check_upgrade(protocol, status, is_whole) {
+            return Err(RefusedUpgrade {
+                error,
+                request: self,
+            });
+        }
+        if !self.is_upgrade() || !self.header_lists("Upgrade", protocol) {
+            let error = UpgradeError::NotAsked;
+            return Err(RefusedUpgrade {
+                error,
+                request: self,
+            });
+        }
+        Ok(self.begin_stream(protocol, response, is_whole, now))
+    }
+
+    // Sends the answer that upgrades, and gives the stream.
+    fn begin_stream<D: Drop>(
+        self,
+        protocol: &str,
+        response: Response<D>,
+        is_whole: bool,
+        now: HttpDate,
+    ) -> CustomStream<Body<R, Rt>, SequentialWriter<Outlet<W>, Rt>>
+        requires { list_all is_ascii protocol.now ≡ true }
+    {
         self.send_at_flush();
         if let Some(pace) = &self.pace
             && (self.open_request.by_standard || !is_whole)
@@ -447,7 +507,7 @@ impl<R: ReadDevice + Drop, W: WriteDevice + Drop, Rt: Wait + Drop> Request<R, W,
             open_request.body.end_requests();
         }
         open_request.upgrade(alloc, hold_writer(&mut writer), protocol, response, now);
-        Ok(CustomStream::new(open_request.body, writer))
+        CustomStream::new(open_request.body, writer)
     }
 
     /// Drops the request: it is answered by an empty 500, in its turn. That waits for nobody's turn.

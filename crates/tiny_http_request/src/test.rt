@@ -6,15 +6,15 @@ ghost use Rattle.tiny_http_wire.specs.Heads.{version};
 ghost use Rattle.tiny_http_device.specs.Device.{whole_feed};
 ghost use Rattle.tiny_http_message.specs.HeadReads.{head_framing};
 ghost use Rattle.tiny_http_request.specs.Request.{request_head, request_open, BeginsWith, Says, IsFramed, FailsBy};
-ghost use Rattle.tiny_http_request.specs.Test.{IsLike, length_header, with_length};
+ghost use Rattle.tiny_http_request.specs.Test.{IsLike, body_bytes, length_header, with_length};
 
 use crate::request::{Request, RequestCreationError, new_request};
 use httpdate::HttpDate;
 use std::alloc::{AllocError, Global};
 use std::io;
-use std::io::Cursor;
+use std::io::{Cursor, ErrorKind};
 use std::net::{IpAddr, Ipv4Addr, SocketAddr};
-use std::sync::Wait;
+use std::sync::{Arc, Mutex, Wait};
 use tiny_http_device::device::WriteDevice;
 use tiny_http_message::framing::{FramingFault, Profile, value_of};
 use tiny_http_text::ascii::AsciiString;
@@ -46,11 +46,96 @@ impl WriteDevice for Nowhere {
     }
 }
 
+/// A writer that keeps all bytes, so that a test sees what was answered: one copy goes to the request, and the other is asked for
+/// the bytes.
+#[derive(Drop)]
+pub struct Recorder<Rt: Wait + Drop> {
+    rt: Rt,
+    alloc: Global,
+    bytes: Arc<Mutex<Vec<u8>>>,
+    failures: u64,
+}
+
+impl<Rt: Wait + Copy> Recorder<Rt> {
+    /// A recorder without bytes. An error where memory was refused.
+    pub fn new(rt: Rt, alloc: Global) -> Result<Recorder<Rt>, AllocError> {
+        let bytes = Arc::new(alloc, Mutex::new(Vec::new(alloc)))?;
+        Ok(Recorder {
+            rt,
+            alloc,
+            bytes,
+            failures: 0,
+        })
+    }
+
+    /// One more writer of the same bytes. An error where memory was refused.
+    pub fn try_clone(&self) -> Result<Recorder<Rt>, AllocError> {
+        Ok(Recorder {
+            rt: self.rt,
+            alloc: self.alloc,
+            bytes: Arc::try_clone(&self.bytes)?,
+            failures: 0,
+        })
+    }
+
+    /// All bytes that were written by now, by this one and its copies. `answer::read_answer` reads the answers in them. An error
+    /// where memory was refused.
+    pub fn bytes(&self) -> Result<Vec<u8>, AllocError> {
+        self.bytes.lock(&self.rt).as_slice().to_vec(self.alloc)
+    }
+}
+
+impl<Rt: Wait + Drop> WriteDevice for Recorder<Rt> {
+    ghost use Rattle.tiny_http_request.specs.Test.{recorder_sink};
+
+    ghost sink = { recorder_sink };
+
+    /// The count of its own failures.
+    fn failures(&self) -> u64 {
+        self.failures
+    }
+
+    /// Keeps all the bytes. It fails by `OutOfMemory` where memory was refused.
+    fn write_out(&mut self, buf: &[u8]) -> Result<usize, io::Error> {
+        match self.bytes.lock(&self.rt).extend_from_slice(buf) {
+            Ok(()) => Ok(buf.len()),
+            Err(_) => {
+                self.failures = self.failures.saturating_add(1);
+                Err(ErrorKind::OutOfMemory.into())
+            }
+        }
+    }
+
+    /// Nothing is held back.
+    fn flush_out(&mut self) -> Result<(), io::Error> {
+        Ok(())
+    }
+}
+
+/// The body of a test's request.
+#[derive(Drop)]
+enum TestBody {
+    Text(&'static str),
+    Bytes(Vec<u8>),
+}
+
+impl TestBody {
+    // Its bytes. An error where memory was refused.
+    fn into_bytes(self, alloc: Global) -> Result<Vec<u8>, AllocError>
+        ensures { IfOk result (λ v. v.items ≡ body_bytes self) }
+    {
+        match self {
+            TestBody::Text(text) => text.as_bytes().to_vec(alloc),
+            TestBody::Bytes(bytes) => Ok(bytes),
+        }
+    }
+}
+
 /// A request to be made: `GET /` in version 1.1 with no header and no body, from 127.0.0.1:23456, not encrypted, unless a
 /// call below changes it.
 #[derive(Drop)]
 pub struct TestRequest {
-    body: &'static str,
+    body: TestBody,
     remote_addr: SocketAddr,
     secure: bool,
     method: Method,
@@ -91,7 +176,7 @@ impl TestRequest {
     /// refused.
     pub fn new(alloc: Global) -> Result<TestRequest, AllocError>
         ensures head { IfOk result (λ r. (r.method ≡ Method.Get) × (r.path ≡ 47 ∷ []) × (r.version ≡ version 1 1)) }
-        ensures none { IfOk result (λ r. (r.headers.items ≡ []) × (r.body.now ≡ [])) }
+        ensures none { IfOk result (λ r. (r.headers.items ≡ []) × (body_bytes r.body ≡ [])) }
         ensures client { IfOk result (λ r. (r.secure ≡ false) × (socket_port r.remote_addr ≡ 23456)) }
     {
         let path = b"/".to_vec(alloc)?;
@@ -99,7 +184,7 @@ impl TestRequest {
             unreachable!()
         };
         Ok(TestRequest {
-            body: "",
+            body: TestBody::Text(""),
             remote_addr: SocketAddr::new(IpAddr::V4(Ipv4Addr::LOCALHOST), 23456),
             secure: false,
             method: Method::Get,
@@ -111,12 +196,23 @@ impl TestRequest {
 
     /// With this body.
     pub fn with_body(self, body: &'static str) -> TestRequest
-        ensures body { result.body.now ≡ body.now }
+        ensures body { body_bytes result.body ≡ body.now }
         ensures headers { result.headers ≡ self.headers }
         ensures others { IsLike self result }
     {
         let mut request = self;
-        request.body = body;
+        request.body = TestBody::Text(body);
+        request
+    }
+
+    /// With these bytes as its body.
+    pub fn with_body_bytes(self, body: Vec<u8>) -> TestRequest
+        ensures body { body_bytes result.body ≡ body.items }
+        ensures headers { result.headers ≡ self.headers }
+        ensures others { IsLike self result }
+    {
+        let mut request = self;
+        request.body = TestBody::Bytes(body);
         request
     }
 
@@ -175,7 +271,7 @@ impl TestRequest {
     /// With this header behind those that it has. An error where memory was refused.
     pub fn with_header(self, header: Header) -> Result<TestRequest, AllocError>
         ensures headers { IfOk result (λ r. r.headers.items ≡ self.headers.items ++ (header ∷ [])) }
-        ensures body { IfOk result (λ r. r.body.now ≡ self.body.now) }
+        ensures body { IfOk result (λ r. r.body ≡ self.body) }
         ensures others { IfOk result (λ r. IsLike self r) }
     {
         let mut request = self;
@@ -183,9 +279,7 @@ impl TestRequest {
         Ok(request)
     }
 
-    /// The request; its answer is thrown away. It has the header `Content-Length` with the body's length behind its others, if it
-    /// has none of that name. `now` dates the 500 that is sent if it is dropped. It is framed as under
-    /// `Lenient`, also where its handler is a strict server's. Errors are those of `new_request`.
+    /// The request; its answer is thrown away. Else as `into_request_over`.
     pub fn into_request<Rt: Wait + Copy>(
         self,
         rt: Rt,
@@ -193,10 +287,29 @@ impl TestRequest {
         now: HttpDate,
     ) -> Result<Request<Cursor<Vec<u8>>, Nowhere, Rt>, RequestCreationError>
         ensures says { IfOk result (λ r. Says r self.secure (Some self.remote_addr) self.method self.path self.version
-            × ((request_head r).headers.items ≡ with_length (length self.body.now) self.headers.items)) }
+            × ((request_head r).headers.items ≡ with_length (length (body_bytes self.body)) self.headers.items)) }
         ensures framed { IfOk result (λ r. IsFramed r Profile.Lenient now) }
-        ensures body { IfOk result (λ r. BeginsWith (head_framing (request_head r)) (Some (whole_feed self.body.now)) (request_open r).body) }
-        ensures fails { IfErr result (λ e. FailsBy e self.version (with_length (length self.body.now) self.headers.items) (Some (whole_feed self.body.now))) }
+        ensures body { IfOk result (λ r. BeginsWith (head_framing (request_head r)) (Some (whole_feed (body_bytes self.body))) (request_open r).body) }
+        ensures fails { IfErr result (λ e. FailsBy e self.version (with_length (length (body_bytes self.body)) self.headers.items) (Some (whole_feed (body_bytes self.body)))) }
+    {
+        self.into_request_over(rt, alloc, now, Nowhere)
+    }
+
+    /// The request, which is answered on this writer, as a `Recorder`. It has the header `Content-Length` with the body's length
+    /// behind its others, if it has none of that name. `now` dates the 500 that is sent if it is dropped. It is framed as under
+    /// `Lenient`, also where its handler is a strict server's. Errors are those of `new_request`.
+    pub fn into_request_over<W: WriteDevice + Drop, Rt: Wait + Copy>(
+        self,
+        rt: Rt,
+        alloc: Global,
+        now: HttpDate,
+        writer: W,
+    ) -> Result<Request<Cursor<Vec<u8>>, W, Rt>, RequestCreationError>
+        ensures says { IfOk result (λ r. Says r self.secure (Some self.remote_addr) self.method self.path self.version
+            × ((request_head r).headers.items ≡ with_length (length (body_bytes self.body)) self.headers.items)) }
+        ensures framed { IfOk result (λ r. IsFramed r Profile.Lenient now) }
+        ensures body { IfOk result (λ r. BeginsWith (head_framing (request_head r)) (Some (whole_feed (body_bytes self.body))) (request_open r).body) }
+        ensures fails { IfErr result (λ e. FailsBy e self.version (with_length (length (body_bytes self.body)) self.headers.items) (Some (whole_feed (body_bytes self.body)))) }
     {
         let TestRequest {
             body,
@@ -207,8 +320,8 @@ impl TestRequest {
             version,
             headers,
         } = self;
+        let body = body.into_bytes(alloc)?;
         let headers = with_length(alloc, headers, body.len())?;
-        let data = Cursor::new(body.as_bytes().to_vec(alloc)?);
         new_request(
             rt,
             alloc,
@@ -218,8 +331,8 @@ impl TestRequest {
             version,
             headers,
             Some(remote_addr),
-            data,
-            Nowhere,
+            Cursor::new(body),
+            writer,
             now,
         )
     }

@@ -241,6 +241,19 @@ impl<W: Write + Drop, R: Wait + Drop> SequentialWriter<W, R> {
 }
 
 impl<W: Write + WriteDevice + Drop, R: Wait + Drop> SequentialWriter<W, R> {
+    /// Waits for its turn, flushes, and ends the output: behind what was written the writer says that no byte follows, and no further
+    /// writer is given out. So a raw answer ends that states no length (RFC 9112, section 6.3). What those behind it write is lost,
+    /// if some were given out already. The error is the flush's; the output ends as well.
+    pub fn close(self) -> io::Result<()> {
+        let mut writer = self;
+        writer.turn.close_line();
+        let output = writer.turn.hold();
+        let flushed = output.flush();
+        output.end_out();
+        drop(writer);
+        flushed
+    }
+
     /// Ends its turn with a text, which is written once the turn has come. It waits for no turn. Behind the last text of a closed
     /// line the writer says that no byte follows.
     pub(crate) fn leave(self, text: Vec<u8>) {
