@@ -12,6 +12,8 @@ mod closing;
 #[cfg(test)]
 mod faults;
 #[cfg(test)]
+mod handlers;
+#[cfg(test)]
 mod heads;
 #[cfg(test)]
 mod in_turn;

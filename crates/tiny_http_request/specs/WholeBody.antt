@@ -3,7 +3,7 @@ use Rattle.std.specs.Prelude.{◌≡◌, ◌⊎◌, ◌<◌, ⊤, ℕ, true, Som
 use Rattle.std.specs.IoError.{error_kind}
 use Rattle.std.specs.declared.io.Error.{Error}
 use Rattle.std.specs.declared.io.ErrorKind.{ErrorKind}
-use Rattle.std.specs.declared.io.ErrorKind.TheVariants.{InvalidData, UnexpectedEof}
+use Rattle.std.specs.declared.io.ErrorKind.TheVariants.{InvalidData, InvalidInput, OutOfMemory, UnexpectedEof}
 use Rattle.tiny_http_device.specs.declared.device.Stop.TheVariants.{Fault}
 use Rattle.tiny_http_message.specs.declared.body.Body.{Body}
 use Rattle.tiny_http_message.specs.declared.framing.Form.{Form}
@@ -39,3 +39,11 @@ FailsWhole form most old new Cut = (body_stop new ≡ Some (Fault UnexpectedEof)
 FailsWhole form most old new Broken = (form ≡ Chunked) × (body_stop new ≡ Some (Fault InvalidData))
 FailsWhole form most old new (Io e) = (fault_error form e ≡ Io e) × (body_stop new ≡ Some (Fault (error_kind e)))
 FailsWhole form most old new Memory = ⊤
+
+-- which fault an error of a body becomes
+abbrev pub IsFaultOfBody : BodyError → Error → Type 0
+IsFaultOfBody TooLong fault = error_kind fault ≡ InvalidInput
+IsFaultOfBody Cut fault = error_kind fault ≡ UnexpectedEof
+IsFaultOfBody Broken fault = error_kind fault ≡ InvalidData
+IsFaultOfBody (Io same) fault = fault ≡ same
+IsFaultOfBody Memory fault = error_kind fault ≡ OutOfMemory

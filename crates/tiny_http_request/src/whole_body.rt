@@ -60,6 +60,24 @@ impl From<AllocError> for BodyError {
     }
 }
 
+impl From<BodyError> for io::Error {
+    ghost use Rattle.tiny_http_request.specs.WholeBody.{IsFaultOfBody};
+
+    ghost from_gives = { IsFaultOfBody };
+
+    /// The reader's fault itself; of kind `InvalidInput` for `TooLong`, `UnexpectedEof` for `Cut`, `InvalidData` for `Broken` and
+    /// `OutOfMemory` for `Memory`.
+    fn from(error: BodyError) -> io::Error {
+        match error {
+            BodyError::TooLong => ErrorKind::InvalidInput.into(),
+            BodyError::Cut => ErrorKind::UnexpectedEof.into(),
+            BodyError::Broken => ErrorKind::InvalidData.into(),
+            BodyError::Io(fault) => fault,
+            BodyError::Memory => ErrorKind::OutOfMemory.into(),
+        }
+    }
+}
+
 // What is reported of a fault of a body of this form.
 fn fault_error(form: Form, fault: io::Error) -> BodyError
     ensures { result ≡ fault_error form fault }

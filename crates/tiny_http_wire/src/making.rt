@@ -49,10 +49,9 @@ impl<R> Response<R> {
         ensures texts { OnOk result (AreHeaderTexts name.now value.now) }
         ensures refused { IsErrOf result ParseError.Refused ↔ ¬ (AreHeaderTexts name.now value.now) }
     {
-        let header = Header::new(alloc, name, value)?;
-        match self.with_header(header) {
-            Ok(response) => Ok(response),
-            Err(_) => Err(ParseError::Memory),
+        match Header::new(alloc, name, value) {
+            Ok(header) => self.with_header(header).map_err(|_| ParseError::Memory),
+            Err(error) => Err(error),
         }
     }
 }
