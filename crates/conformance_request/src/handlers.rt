@@ -48,7 +48,7 @@ fn a_handler_is_tested(rt: HostRuntime) -> Result<(), Fail> {
     for (body, status, data) in [
         (b"\x00\xFF".as_slice(), 200, b"\x00\xFF".as_slice()),
         (b"", 200, b""),
-        (b"four", 413, b"413 Content Too Large"),
+        (b"four", 413, b"413 Payload Too Large"),
     ] {
         let answer = answer_of(rt, alloc, body)?;
         assert_eq!(rt; answer.status.0, status);

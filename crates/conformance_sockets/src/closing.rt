@@ -182,7 +182,7 @@ const REFUSED_AND_DROPPED: &[&str] = &[
 
 // A client that stays open, of whose requests the first one's answer asks that the connection ends, sees the end behind its last
 // answer, though a thread waits for its next head.
-const ASKED_TO_CLOSE: [&[Step]; 4] = [
+const ASKED_TO_CLOSE: [&[Step]; 6] = [
     &[
         Step::Send(GET),
         Step::Receive("/"),
@@ -215,6 +215,22 @@ const ASKED_TO_CLOSE: [&[Step]; 4] = [
         Step::DropLast,
         Step::RespondToClose(400),
         Step::Rest(REFUSED_AND_DROPPED),
+    ],
+    // It is written on a raw writer, which is closed: it needs no length.
+    &[
+        Step::Send(GET),
+        Step::Receive("/"),
+        Step::RespondRaw("HTTP/1.0 200 OK\r\n\r\nbody"),
+        Step::Rest(&["HTTP/1.0 200 OK\r\n\r\nbody"]),
+    ],
+    // The answers behind it are lost.
+    &[
+        Step::SendOften(GET, 2),
+        Step::Receive("/"),
+        Step::Receive("/"),
+        Step::RespondRaw("HTTP/1.0 200 OK\r\n\r\nbody"),
+        Step::Drop,
+        Step::Rest(&["HTTP/1.0 200 OK\r\n\r\nbody"]),
     ],
 ];
 

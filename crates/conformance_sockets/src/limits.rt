@@ -37,6 +37,15 @@ fn serve_within<R: Host>(rt: &R, alloc: Global, limits: Limits) -> Server<R> {
     made.expect(rt, "a server")
 }
 
+// The same server, over a listener of its own.
+fn listen_within<R: Host>(rt: &R, alloc: Global, limits: Limits) -> Server<R> {
+    let addr = ConfigListenAddr::from_socket_addrs(rt, alloc, "127.0.0.1:0");
+    let listener = addr.expect(rt, "an address").bind(rt);
+    let listener = listener.expect(rt, "a listener");
+    let made = Server::from_listener_within(*rt, alloc, listener, None, Profile::Standard, limits);
+    made.expect(rt, "a server")
+}
+
 // A server of which this time is short, and each other one as it is by default.
 fn serve_in_time<R: Host>(rt: &R, alloc: Global, short: Closing) -> Server<R> {
     let time = Duration::from_millis(100);
@@ -47,7 +56,7 @@ fn serve_in_time<R: Host>(rt: &R, alloc: Global, short: Closing) -> Server<R> {
         Closing::Body => limits.body_time = time,
         Closing::Write => limits.write_time = time,
     }
-    serve_within(rt, alloc, limits)
+    listen_within(rt, alloc, limits)
 }
 
 // A client that sends nothing is closed without a word, but not while its answer isn't sent.
@@ -313,4 +322,28 @@ fn assert_serving_stops<R: Host>(rt: &R, alloc: Global) {
 fn a_server_stops(rt: HostRuntime) {
     assert_stops(&rt, rt.alloc());
     assert_serving_stops(&rt, rt.alloc());
+}
+
+// Asks a server whose threads answer, and unblocks it once.
+fn ask_and_unblock<R: Host>(rt: &R, alloc: Global, server: &Server<R>) {
+    for _ in 0..4u8 {
+        let mut client = ask(rt, server);
+        assert_reads_next(rt, alloc, &mut client, EMPTY);
+    }
+    server.unblock().ok().expect(rt, "memory");
+}
+
+// One unblock ends all threads that answer, and no later call.
+#[test]
+fn threads_answer_until_unblocked(rt: HostRuntime) {
+    let alloc = rt.alloc();
+    let server = serve_within(&rt, alloc, Limits::new());
+    for _ in 0..2u8 {
+        let (served, ()) = thread::join(
+            &rt,
+            || server.serve_by(alloc, 3, &Answering).is_ok(),
+            || ask_and_unblock(&rt, alloc, &server),
+        );
+        assert_holds(&rt, "serve_by ends", served);
+    }
 }

@@ -8,6 +8,7 @@ use crate::by_path::{Serving, serve_by_path};
 use crate::same::{assert_holds, assert_same};
 use std::alloc::Global;
 use std::collections::VecDeque;
+use std::io::Write;
 use std::net::{Net, TcpStream};
 use std::sync::{Arc, Wait};
 use std::time::Clock;
@@ -61,6 +62,8 @@ pub enum Step {
     RespondJson,
     /// The first request is answered by this status and no body, and the connection is to end.
     RespondToClose(u16),
+    /// The first request is answered by this text on its raw writer, which is closed.
+    RespondRaw(&'static str),
     /// The first request is dropped.
     Drop,
     /// The request that was received last is dropped.
@@ -228,6 +231,14 @@ fn respond_to_close<R: Host>(rt: &R, alloc: Global, request: ServerRequest<R>, s
     sent.expect(rt, "it is sent");
 }
 
+// A request is answered by this text on its raw writer, which is closed.
+fn respond_raw<R: Host>(rt: &R, request: ServerRequest<R>, text: &str) {
+    let mut writer = request.into_writer();
+    let written = writer.write_all(text.as_bytes());
+    written.expect(rt, "it is written");
+    writer.close().expect(rt, "it is closed");
+}
+
 // One step of the client that stands first, or of the server.
 fn act<R: Host>(rt: &R, alloc: Global, stage: &mut Stage<R>, step: Step) {
     match step {
@@ -258,6 +269,7 @@ fn act<R: Host>(rt: &R, alloc: Global, stage: &mut Stage<R>, step: Step) {
         Step::RespondToClose(status) => {
             respond_to_close(rt, alloc, take_request(rt, stage), status)
         }
+        Step::RespondRaw(text) => respond_raw(rt, take_request(rt, stage), text),
         Step::Drop => drop(take_request(rt, stage)),
         Step::DropLast => drop(stage.requests.pop_back()),
         Step::NoRequest => assert_no_request(rt, server_of(rt, stage)),
