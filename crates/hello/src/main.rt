@@ -17,52 +17,29 @@ use std::process::ExitCode;
 use std::rt::Env;
 use std::sync::Wait;
 use std::time::Clock;
-use std::{env, thread};
+use std::{env, io};
 use tiny_http::response::Response;
-use tiny_http::server::{Server, ServerRequest, ServerRuntime, current_date};
+use tiny_http::server::{Host, Server, ServerRequest, current_date};
+use tiny_http::serving::Handler;
 
-// Answers a request. One for whose answer there is no memory is dropped. That the client doesn't take its answer is passed over.
-fn answer<R: Clock + Wait + Drop>(rt: &R, alloc: Global, request: ServerRequest<R>) {
-    let Ok(text) = String::from_str(alloc, "hello world") else {
-        return;
-    };
-    if let Ok(response) = Response::from_string(alloc, text) {
-        let _ = request.respond(response, current_date(rt));
+/// Answers each request by the same text.
+struct Hello;
+
+impl<R: Clock + Wait + Drop> Handler<R, ServerRequest<R>> for Hello {
+    /// One for whose answer there is no memory is dropped. That the client doesn't take its answer is passed over.
+    fn handle(&self, rt: &R, alloc: Global, request: ServerRequest<R>) -> io::Result<()> {
+        let text = String::from_str(alloc, "hello world")?;
+        request.respond(Response::from_string(alloc, text)?, current_date(rt))
     }
 }
 
-// Answers requests until the server has no more, and then has another thread, if one waits, end too.
-fn answer_all<R: ServerRuntime>(rt: &R, alloc: Global, server: &Server<R>) {
-    let mut requests = server.incoming_requests();
-    for _ in rt.forever() {
-        let Some(request) = requests.next() else {
-            let _ = server.unblock();
-            return;
-        };
-        answer(rt, alloc, request);
-    }
-}
-
-// Answers all requests of a server, by two threads.
-fn answer_by_two<R: ServerRuntime + Sync>(rt: &R, alloc: Global, server: &Server<R>) {
-    thread::join(
-        rt,
-        || answer_all(rt, alloc, server),
-        || answer_all(rt, alloc, server),
-    );
-}
-
-// Answers all requests of a server, by four threads.
-fn answer_by_four<R: ServerRuntime + Sync>(rt: &R, alloc: Global, server: &Server<R>) {
-    thread::join(
-        rt,
-        || answer_by_two(rt, alloc, server),
-        || answer_by_two(rt, alloc, server),
-    );
+// Answers all requests of a server, on four threads. That accepting ended by a fault is passed over.
+fn answer_all<R: Host>(alloc: Global, server: &Server<R>) {
+    let _ = server.serve_by(alloc, 4, &Hello);
 }
 
 // Listens at the address that the one word names, and answers all requests.
-fn hello<'a, R: ServerRuntime + Sync, O: Write>(
+fn hello<'a, R: Host, O: Write>(
     rt: R,
     alloc: Global,
     words: &'a [String],
@@ -78,7 +55,7 @@ fn hello<'a, R: ServerRuntime + Sync, O: Write>(
     let bound = server.server_addr();
     let _ = writeln!(out, "listening on {bound}");
     let _ = out.flush();
-    answer_by_four(&rt, alloc, &server);
+    answer_all(alloc, &server);
     Ok(())
 }
 
@@ -93,7 +70,7 @@ fn report<E: Write>(fault: &HelloFault<'_>, err: &mut E) -> u8
 /// Listens at the address that the one word names, says so on `out`, and answers every request by `hello world` until there
 /// are no more. Gives the exit status: 0; or 2 where there isn't one word, and 1 where it can't listen there, which a line on
 /// `err` says.
-pub fn hello_on<R: ServerRuntime + Sync, O: Write, E: Write>(
+pub fn hello_on<R: Host, O: Write, E: Write>(
     rt: R,
     alloc: Global,
     words: &[String],

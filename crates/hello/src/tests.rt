@@ -1,6 +1,6 @@
 //! What is written where nothing is served, and the exit status; and what is answered.
 use crate::same::{assert_holds, assert_same};
-use crate::{answer_by_four, hello_on};
+use crate::{answer_all, hello_on};
 use std::alloc::Global;
 use std::io::{Read, Write};
 use std::net::TcpStream;
@@ -32,7 +32,7 @@ fn assert_four_answer<R: Host>(rt: &R, alloc: Global) {
     let (answer, ()) = thread::join(
         rt,
         || ask_and_end(rt, alloc, &server),
-        || answer_by_four(rt, alloc, &server),
+        || answer_all(alloc, &server),
     );
     let answer = answer.as_slice();
     assert_holds(

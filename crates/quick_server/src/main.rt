@@ -1,6 +1,9 @@
 //! Answers each request by the path that it asks for: `quick_server ADDRESS`.
 #![tactic(auto)]
 
+#[cfg(test)]
+mod tests;
+
 use std::alloc::Global;
 use std::io::ErrorKind;
 use std::{env, io};
