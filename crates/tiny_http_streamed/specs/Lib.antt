@@ -1,0 +1,2 @@
+pub mod Streamed
+pub use Rattle.tiny_http_device.specs.Device
