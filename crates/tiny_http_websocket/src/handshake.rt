@@ -1,0 +1,69 @@
+//! The handshake by which a connection becomes a WebSocket (RFC 6455, section 4.2).
+ghost use Rattle.std.specs.Prelude.{◌≡◌, ℕ, List, IfSome, IfNone};
+ghost use Rattle.websocket.specs.Handshake.{accept_key_of};
+ghost use Rattle.tiny_http_request.specs.Request.{request_head};
+ghost use Rattle.tiny_http_websocket.specs.Handshake.{AsksForWebSocket};
+
+use httpdate::HttpDate;
+use std::alloc::Global;
+use std::io;
+use std::io::ErrorKind;
+use std::sync::Wait;
+use tiny_http::custom_stream::CustomStream;
+use tiny_http::device::{ReadDevice, WriteDevice};
+use tiny_http::outlet::Outlet;
+use tiny_http::request::Body;
+use tiny_http::sequential::SequentialWriter;
+use tiny_http::{HTTPVersion, Method, Request, Response, StatusCode};
+use websocket::handshake::server::accept_key;
+
+/// What became of a request.
+#[derive(Drop)]
+pub enum Handshake<R: ReadDevice + Drop, W: WriteDevice + Drop, Rt: Wait + Drop> {
+    /// It is a WebSocket now, whose frames this stream reads and writes.
+    Accepted(CustomStream<Body<R, Rt>, SequentialWriter<Outlet<W>, Rt>>),
+    /// It doesn't ask for a WebSocket, and can be answered otherwise, as by 426 with `Sec-WebSocket-Version: 13`.
+    NotAsked(Request<R, W, Rt>),
+}
+
+/// The key that accepts a request for a WebSocket: the value of `Sec-WebSocket-Accept` (RFC 6455, section 4.2.2). None for any other
+/// request. One that asks is a `GET` in version 1.1 that asks for an upgrade to `websocket` (`Request::is_upgrade`, and the list of
+/// its `Upgrade` headers), whose `Sec-WebSocket-Version` is 13, and whose `Sec-WebSocket-Key` is one (RFC 6455, section 4.2.1).
+pub fn accepting_key<R: ReadDevice + Drop, W: WriteDevice + Drop, Rt: Wait + Drop>(
+    request: &Request<R, W, Rt>,
+) -> Option<[u8; 28]>
+    ensures some { IfSome result (λ accepting. (key : List ℕ) × AsksForWebSocket (request_head request.now) key × (accepting ≡ accept_key_of key)) }
+    ensures none { IfNone result ((key : List ℕ) → AsksForWebSocket (request_head request.now) key → ⊥) }
+{
+    let asks = *request.method() == Method::Get
+        && *request.http_version() == HTTPVersion(1, 1)
+        && request.is_upgrade()
+        && request.header_lists("Upgrade", "websocket")
+        && request.header("Sec-WebSocket-Version") == Some("13");
+    if !asks {
+        return None;
+    }
+    let key = request.header("Sec-WebSocket-Key")?;
+    accept_key(key.as_bytes()).ok()
+}
+
+/// Makes a WebSocket of a request that asks for one: sends the 101, dated `now`, in its turn. Any other request is handed back. An
+/// error where memory was refused; the request is dropped then.
+pub fn accept<R: ReadDevice + Drop, W: WriteDevice + Drop, Rt: Wait + Drop>(
+    alloc: Global,
+    request: Request<R, W, Rt>,
+    now: HttpDate,
+) -> io::Result<Handshake<R, W, Rt>> {
+    let Some(key) = accepting_key(&request) else {
+        return Ok(Handshake::NotAsked(request));
+    };
+    let Ok(key) = str::from_utf8(&key) else {
+        return Err(ErrorKind::InvalidData.into());
+    };
+    let response = Response::empty(alloc, StatusCode(101));
+    let response = response.with(alloc, "Sec-WebSocket-Accept", key)?;
+    match request.try_upgrade("websocket", response, now) {
+        Ok(stream) => Ok(Handshake::Accepted(stream)),
+        Err(refused) => Ok(Handshake::NotAsked(refused.request)),
+    }
+}

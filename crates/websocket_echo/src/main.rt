@@ -1,0 +1,81 @@
+//! Sends each WebSocket message back: `websocket_echo ADDRESS`. Any other request is answered 426.
+//!
+//! The program shows an upgrade by `tiny_http_websocket`, frames by `tungstenite`, and `serve`, by which each connection has a thread:
+//! a WebSocket keeps its thread as long as it is open.
+#![tactic(auto)]
+
+use std::alloc::Global;
+use std::io::{ErrorKind, Read, Write};
+use std::sync::{Arc, Wait};
+use std::time::Clock;
+use std::{env, io};
+use tiny_http::device::{ReadDevice, WriteDevice};
+use tiny_http::{Handler, Host, Request, Response, Server, StatusCode, current_date};
+use tiny_http_websocket::handshake::{Handshake, accept};
+use tungstenite::{Error, NoMask, Role, WebSocket, WebSocketConfig};
+
+#[cfg(test)]
+mod tests;
+
+// So many bytes a message may have.
+const MOST: usize = 1 << 20;
+
+// Sends each message back, until the client closes.
+fn echo<S: Read + Write + Drop>(alloc: Global, stream: S) -> Result<(), Error> {
+    let config = WebSocketConfig::default()
+        .max_message_size(Some(MOST))
+        .max_frame_size(Some(MOST));
+    let mut socket = WebSocket::from_raw_socket(alloc, stream, NoMask, Role::Server, Some(config));
+    for _ in 0..u64::MAX {
+        match socket.read() {
+            Ok(message) if message.is_text() || message.is_binary() => socket.send(message)?,
+            Ok(_) => {}
+            Err(Error::ConnectionClosed) => break,
+            Err(fault) => return Err(fault),
+        }
+    }
+    Ok(())
+}
+
+/// Echoes on each WebSocket.
+#[derive(Drop)]
+struct Echo;
+
+impl<R: ReadDevice + Drop, W: WriteDevice + Drop, Rt: Clock + Wait + Drop> Handler<
+    Rt,
+    Request<R, W, Rt>,
+> for Echo {
+    // That a client breaks its WebSocket is passed over.
+    fn handle(&self, rt: &Rt, alloc: Global, request: Request<R, W, Rt>) -> io::Result<()> {
+        match accept(alloc, request, current_date(rt))? {
+            Handshake::Accepted(stream) => {
+                let _ = echo(alloc, stream);
+                Ok(())
+            }
+            Handshake::NotAsked(request) => {
+                let response = Response::status(alloc, StatusCode(426))?;
+                let response = response.with(alloc, "Sec-WebSocket-Version", "13")?;
+                request.respond(response, current_date(rt))
+            }
+        }
+    }
+}
+
+// Listens at this address, and echoes until the server ends.
+fn serve<Rt: Host, O: Write>(rt: Rt, alloc: Global, address: &str, out: &mut O) -> io::Result<()> {
+    let Ok(handler) = Arc::new(alloc, Echo) else {
+        return Err(ErrorKind::OutOfMemory.into());
+    };
+    let server = Server::http(rt, alloc, address)?;
+    writeln!(out, "listening on {}", server.server_addr())?;
+    out.flush()?;
+    server.serve(alloc, &handler)
+}
+
+fn main(rt: HostRuntime) -> io::Result<()> {
+    let words: Vec<String> = env::args(&rt)?.collect(rt.alloc())?;
+    let [_, address] = words.as_slice() else {
+        return Err(ErrorKind::InvalidInput.into());
+    };
+    serve(rt, rt.alloc(), address.as_str(), &mut rt.stdout())
+}

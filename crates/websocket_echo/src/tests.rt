@@ -1,0 +1,74 @@
+//! What is answered, without a socket.
+use crate::Echo;
+use std::alloc::Global;
+use std::sync::Wait;
+use std::test::Fail;
+use std::time::Clock;
+use tiny_http::{Handler, Header, Recorder, TestRequest, current_date};
+
+// The request and the answer of RFC 6455, section 1.2, and the frames of its section 5.7: a client's masked `Hello`, and the server's
+// own. Then each side closes.
+const ASKED: &[&str] = &[
+    "Host: server.example.com",
+    "Upgrade: websocket",
+    "Connection: Upgrade",
+    "Sec-WebSocket-Key: dGhlIHNhbXBsZSBub25jZQ==",
+    "Sec-WebSocket-Version: 13",
+];
+
+const FRAMES: &[u8] = b"\x81\x85\x37\xfa\x21\x3d\x7f\x9f\x4d\x51\x58\x88\x80\x37\xfa\x21\x3d";
+
+const ECHOED: &[u8] = b"\x81\x05\x48\x65\x6c\x6c\x6f\x88\x00";
+
+// What is written to a client that sends these headers and these bytes.
+fn written<R: Clock + Wait + Copy>(
+    rt: R,
+    alloc: Global,
+    headers: &[&str],
+) -> Result<Vec<u8>, Fail> {
+    let (now, recorder) = (current_date(&rt), Recorder::new(rt, alloc)?);
+    let mut request = TestRequest::new(alloc)?.with_body_bytes(FRAMES.to_vec(alloc)?);
+    for header in headers {
+        request = request.with_header(Header::from_str(alloc, header)?)?;
+    }
+    let request = request.into_request_over(rt, alloc, now, recorder.try_clone()?)?;
+    Echo.handle(&rt, alloc, request)?;
+    Ok(recorder.bytes()?)
+}
+
+#[test]
+fn a_message_comes_back(rt: HostRuntime) -> Result<(), Fail> {
+    let bytes = written(rt, rt.alloc(), ASKED)?;
+    let bytes = bytes.as_slice();
+    assert!(rt; bytes.starts_with(b"HTTP/1.1 101 Switching Protocols\r\n"));
+    let key = b"Sec-WebSocket-Accept: s3pPLMBiTxaQ9kYGzzhZRbK+xOo=\r\n";
+    assert!(rt;
+        bytes
+            .windows(key.len())
+            .any(|piece| piece == key.as_slice())
+    );
+    assert!(rt; bytes.ends_with(ECHOED));
+    Ok(())
+}
+
+// A request without one of these headers is answered otherwise.
+#[test]
+fn each_header_is_needed(rt: HostRuntime) -> Result<(), Fail> {
+    let alloc = rt.alloc();
+    for left_out in 1..5usize {
+        let mut headers = Vec::new(alloc);
+        for (i, header) in ASKED.iter().enumerate() {
+            if i != left_out {
+                headers.push(*header)?;
+            }
+        }
+        let bytes = written(rt, alloc, headers.as_slice())?;
+        assert!(rt;
+            bytes
+                .as_slice()
+                .starts_with(b"HTTP/1.1 426 Upgrade Required\r\n"),
+            "{left_out}"
+        );
+    }
+    Ok(())
+}
