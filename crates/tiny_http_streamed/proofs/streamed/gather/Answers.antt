@@ -24,5 +24,5 @@ returns-in_err-put_piece-2-clause-gathers g c =
     let size : length c.copy_to.new.held ≡ 8192 = omega arith in
     let filled : c.copy_to.new.held ≡ take c.args.len.now c.args.held.now ++ take c.min-count.result c.args.bytes.now = sym (take_all (c.args.len.now + c.min-count.result) c.copy_to.new.held (omega arith)) ∙ c.copy_to.ensures in
     let whole : c.copy_to.new.held ≡ take 8192 (take c.args.len.now c.args.held.now ++ c.args.bytes.now) =
-        filled ∙ sym (take-behind (take c.args.len.now c.args.held.now) c.args.bytes.now c.min-count.result 8192 (simp length-take (omega arith))) in
+    filled ∙ sym (take-behind (take c.args.len.now c.args.held.now) c.args.bytes.now c.min-count.result 8192 (simp length-take (omega arith))) in
     rw (p.1, p.2) (subst (λ (piece : List ℕ). Failed (g.W.WriteDevice.sink c.args.writer.now) (g.W.WriteDevice.sink c.put_piece-2.new.writer) (piece_text c.args.form piece) (error_kind c.in_err-put_piece-2.field-0.0)) whole c.in_err-put_piece-2.ensures)
