@@ -152,7 +152,7 @@ impl<R: ReadDevice + Drop, Rt: Wait + Drop> Body<R, Rt> {
         ensures bound { IfOk result (λ n. n ≤ length buf.new) }
         ensures held { is_streaming self.old ≡ false → (feed : Option Feed)
             → IfOk result (λ n. remaining self.old feed ≡ prepended_body (take n buf.new) (remaining self.new feed)) }
-        ensures end { is_streaming self.old ≡ false → (feed : Option Feed) → IfOk result (λ n. n ≡ 0 → BodyStops End (remaining self.old feed)) }
+        ensures end { is_streaming self.old ≡ false → (feed : Option Feed) → IfOk result (λ n. n ≡ 0 → 0 < length buf.new → BodyStops End (remaining self.old feed)) }
         ensures moves { IfOk result (λ n. ReadsOn self.old n (n == 0) self.new) }
         ensures broken { IfErr result (λ e. body_stop self.new ≡ Some (Fault (error_kind e))) }
         ensures reports_stop { IfSome (body_stop self.old) (λ stop. AnswersStop stop result × (body_stop self.new ≡ Some stop)) }

@@ -318,7 +318,8 @@ impl<R: ReadDevice + Drop, W: WriteDevice + Drop, Rt: Wait + Drop> Request<R, W,
         ensures body { result.1.now ≡ (request_open self.old).body }
     {
         self.send_continue(now);
-        (&self.head, &mut self.open_request.body)
+        let Self { head, open_request, .. } = self;
+        (head, &mut open_request.body)
     }
 
     /// Reads the body to its end, of at most `most` bytes. If a 100 is owed it is sent first, dated `now`, in the turn of the request:
