@@ -1,9 +1,11 @@
 //! The body of a request, read whole.
 ghost use Rattle.std.specs.Prelude.{◌≡◌, ◌≤◌, ℕ, false, length, Option, Some, None, IfOk, IfErr, OnOk};
+ghost use Rattle.std.specs.IoError.{error_kind};
 ghost use Rattle.std.specs.declared.io.ErrorKind.{ErrorKind};
 ghost use Rattle.tiny_http_device.specs.Device.{Feed};
 ghost use Rattle.tiny_http_device.specs.declared.device.Stop.TheVariants.{Fault};
 ghost use Rattle.tiny_http_message.specs.Body.{is_streaming, bytes_left, body_stop, remaining, prepended_body};
+ghost use Rattle.tiny_http_message.specs.declared.body.Body.{Body as Unread};
 ghost use Rattle.tiny_http_request.specs.WholeBody.{fault_error, FailsReading, FailsWhole};
 
 use crate::body::Body;
@@ -80,7 +82,9 @@ impl From<BodyError> for io::Error {
 
 // What is reported of a fault of a body of this form.
 fn fault_error(form: Form, fault: io::Error) -> BodyError
-    ensures { result ≡ fault_error form fault }
+    ensures error { result ≡ fault_error form fault }
+    // It fails the whole body, where each later read reports this fault.
+    ensures fails { (most : ℕ) (old new : Unread) → body_stop new ≡ Some (Fault (error_kind fault)) → FailsWhole form most old new result }
 {
     match (form, fault.kind()) {
         (Form::Chunked, ErrorKind::InvalidData) => BodyError::Broken,

@@ -1,0 +1,17 @@
+use Rattle.std.proofs.Common.{◌≡◌, ◌-◌, ◌≤◌, false, length, Option, Some}
+use Rattle.std.specs.declared.io.ErrorKind.{ErrorKind}
+use Rattle.tiny_http_device.specs.Device.{Feed}
+use Rattle.tiny_http_device.specs.declared.device.Stop.TheVariants.{Fault}
+use Rattle.tiny_http_message.specs.Body.{remaining, prepended_body, is_streaming, body_stop}
+use Rattle.tiny_http_request.proofs.whole_body.read_to_end.Given as goal
+
+abbrev pub invariant-loop-bytes : goal.invariant-loop-bytes
+invariant-loop-bytes g l = record {
+  within : length l.bytes.items ≤ l.most;
+  held : is_streaming l.initial.body ≡ false → (feed : Option Feed) → remaining l.initial.body feed ≡ prepended_body l.bytes.items (remaining l.body feed);
+  settled : is_streaming l.initial.body ≡ false → is_streaming l.body ≡ false;
+  again : (kind : ErrorKind) → body_stop l.initial.body ≡ Some (Fault kind) → body_stop l.body ≡ Some (Fault kind);
+}
+
+abbrev pub decreases-loop-bytes : goal.decreases-loop-bytes
+decreases-loop-bytes g l = l.most - length l.bytes.items
