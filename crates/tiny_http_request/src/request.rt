@@ -318,7 +318,11 @@ impl<R: ReadDevice + Drop, W: WriteDevice + Drop, Rt: Wait + Drop> Request<R, W,
         ensures body { result.1.now ≡ (request_open self.old).body }
     {
         self.send_continue(now);
-        let Self { head, open_request, .. } = self;
+        let Self {
+            head,
+            open_request,
+            ..
+        } = self;
         (head, &mut open_request.body)
     }
 

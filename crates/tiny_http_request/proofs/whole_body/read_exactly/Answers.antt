@@ -53,7 +53,7 @@ must-stream old now items count left held settled end less = by (is_streaming ol
     by false s =
         let none = none-left now (settled s) (end (settled s)) in
         let given : bytes-of (remaining old nothing) ≡ items =
-            joined old now items (settled s) (held s nothing) ∙ ap (λ (rest : List ℕ). items ++ rest) none ∙ append-nil items in
+        joined old now items (settled s) (held s nothing) ∙ ap (λ (rest : List ℕ). items ++ rest) none ∙ append-nil items in
         let all : length items ≡ count = sym (ap length given) ∙ left-bytes old count s left in
         absurd (omega (arith, all, less))
 
