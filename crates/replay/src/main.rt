@@ -23,7 +23,8 @@ use replay_script::reply::ReplyLine;
 use replay_script::script::{ScriptFault, read_script};
 use replay_script::script_data::ScriptData;
 use std::alloc::Global;
-use std::io::{BufWriter, ErrorKind, Write};
+use std::fs::OpenFile;
+use std::io::{BufWriter, ErrorKind, Read, Write};
 use std::process::ExitCode;
 use std::rt::{Env, Files};
 use std::{env, fs, io};
@@ -155,12 +156,22 @@ pub fn replay_on<O: Write, E: Write>(
     }
 }
 
-// All bytes of a file.
+// All bytes of a file. There is room for them at once where the system knows its length, and for one more, so that its end is met
+// without room for others.
+fn read_whole<R: Files + AllocGlobal>(rt: &R, name: &str) -> io::Result<Vec<u8>> {
+    let mut file = fs::open(rt, name)?;
+    let length = file.metadata().map_or(0, |of| of.len());
+    let mut bytes = Vec::with_capacity(rt.alloc(), (length as usize).saturating_add(1))?;
+    file.read_to_end(&mut bytes)?;
+    Ok(bytes)
+}
+
+// The same, with the fault that is reported.
 fn read_file<'a, R: Files + AllocGlobal>(
     rt: &R,
     name: &'a str,
 ) -> Result<Vec<u8>, ReplayFault<'a>> {
-    match fs::read(rt, name) {
+    match read_whole(rt, name) {
         Ok(bytes) => Ok(bytes),
         Err(fault) if fault.kind() == ErrorKind::OutOfMemory => Err(ReplayFault::OutOfMemory),
         Err(_) => Err(ReplayFault::CannotRead(name)),
