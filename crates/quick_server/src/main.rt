@@ -8,13 +8,17 @@ use std::alloc::Global;
 use std::io::ErrorKind;
 use std::{env, io};
 use tiny_http::device::{ReadDevice, WriteDevice};
-use tiny_http::{Handler, Host, Request, Response, Server, current_date};
+use tiny_http::{
+    ConfigListenAddr, Handler, Host, Limits, Profile, Request, Response, Server, ServerConfig,
+    current_date,
+};
 
 /// Answers a request by its path. The request may be a server's, or a test's.
 struct ByPath;
 
 impl<R: ReadDevice + Drop, W: WriteDevice + Drop, Rt: Host> Handler<Rt, Request<R, W, Rt>>
     for ByPath {
+    /// Answers by the path.
     fn handle(&self, rt: &Rt, alloc: Global, request: Request<R, W, Rt>) -> io::Result<()> {
         let path = String::from_str(alloc, request.path())?;
         request.respond(Response::from_string(alloc, path)?, current_date(rt))
@@ -26,6 +30,8 @@ fn main(rt: HostRuntime) -> io::Result<()> {
     let [_, address] = words.as_slice() else {
         return Err(ErrorKind::InvalidInput.into());
     };
-    let server = Server::http(rt, rt.alloc(), address.as_str())?;
+    let addr = ConfigListenAddr::from_socket_addrs(&rt, rt.alloc(), address.as_str())?;
+    let config = ServerConfig { addr, ssl: None };
+    let server = Server::with(rt, rt.alloc(), config, Profile::Standard, Limits::new())?;
     server.serve_by(rt.alloc(), 4, &ByPath)
 }

@@ -2,7 +2,8 @@
 //!
 //! `GET /notes` lists them, `POST /notes` adds one of `{"text": ..}`, and `GET` and `DELETE` of `/notes/{id}` read and remove one. The
 //! program shows routes by `matchit`, JSON by `serde_json`, state that threads share, a body that is read whole (`read_body`), and a
-//! handler of any `Request`, so that a test can call it (`tests.rt`). Each fault is answered by JSON that says what is wrong.
+//! handler of any `Request`, so that a test can call it (`tests.rt`). What is wrong with a request is said by JSON. Where memory is
+//! refused, or the body's reader fails otherwise, the request is dropped, and answered by an empty 500.
 #![tactic(auto)]
 
 use matchit::{InsertError, Router};
@@ -15,7 +16,8 @@ use std::time::Clock;
 use std::{env, io};
 use tiny_http::device::{ReadDevice, WriteDevice};
 use tiny_http::{
-    BodyError, Handler, Host, Method, Request, Response, Server, StatusCode, current_date,
+    BodyError, ConfigListenAddr, Handler, Host, Limits, Method, Profile, Request, Response, Server,
+    ServerConfig, StatusCode, current_date,
 };
 
 #[cfg(test)]
@@ -97,8 +99,10 @@ impl Notebook {
 
     // Adds the note that a body says.
     fn add<Rt: Wait>(&self, rt: &Rt, alloc: Global, body: &[u8]) -> io::Result<Answer> {
-        let Ok(value) = Value::from_slice(alloc, body) else {
-            return fault(alloc, 400, "not JSON");
+        let value = match Value::from_slice(alloc, body) {
+            Ok(value) => value,
+            Err(error) if error.is_memory() => return Err(ErrorKind::OutOfMemory.into()),
+            Err(_) => return fault(alloc, 400, "not JSON"),
         };
         let Some(text) = value.get("text").and_then(Value::as_str) else {
             return fault(alloc, 400, "no text");
@@ -178,6 +182,7 @@ impl<R: ReadDevice + Drop, W: WriteDevice + Drop, Rt: Clock + Wait + Drop> Handl
     Rt,
     Request<R, W, Rt>,
 > for Notebook {
+    /// Answers by the notebook.
     fn handle(&self, rt: &Rt, alloc: Global, request: Request<R, W, Rt>) -> io::Result<()> {
         let mut request = request;
         let answer = self.answer(rt, alloc, &mut request)?;
@@ -190,7 +195,10 @@ fn serve<Rt: Host, O: Write>(rt: Rt, alloc: Global, address: &str, out: &mut O) 
     let Ok(notebook) = Notebook::new(alloc) else {
         return Err(ErrorKind::OutOfMemory.into());
     };
-    let server = Server::http(rt, alloc, address)?;
+    let addr = ConfigListenAddr::from_socket_addrs(&rt, alloc, address)?;
+    let config = ServerConfig { addr, ssl: None };
+    // By the standard a body that is refused unread ends its connection.
+    let server = Server::with(rt, alloc, config, Profile::Standard, Limits::new())?;
     writeln!(out, "listening on {}", server.server_addr())?;
     out.flush()?;
     server.serve_by(alloc, THREADS, &notebook)

@@ -11,7 +11,7 @@ pub use tiny_http_core::laws::{
 };
 pub use tiny_http_threads::laws::numbers_of_pools;
 pub use tiny_http_wire::laws::{
-    header_field_equality, header_from_its_text, http_version_order, lines_by_the_grammar,
-    method_from_its_name, method_hash, one_chunked_body, one_coding_asked, one_path_and_query,
-    one_quality_list, response_headers, sizes_of_bodies, status_code_order,
+    header_field_equality, header_from_its_text, header_of_texts, http_version_order,
+    lines_by_the_grammar, method_from_its_name, method_hash, one_chunked_body, one_coding_asked,
+    one_path_and_query, one_quality_list, response_headers, sizes_of_bodies, status_code_order,
 };

@@ -14,11 +14,12 @@
 //! }
 //! ```
 //!
-//! `Server::serve` hands the requests to a `Handler` instead: the worker of each connection answers that connection's requests
-//! itself.
+//! `Server::serve_by` is this loop on some threads, with a `Handler`. `Server::serve` has the worker of each connection answer that
+//! connection's requests itself.
 //!
 //! Calls are passed the runtime, which locks, waits and opens sockets, and the allocator: none is taken silently. The crate names
-//! the modules of the crates beneath again, so a program lists this crate, and `httpdate` where it makes dates of its own.
+//! the modules of the crates beneath again, so a program lists this crate; `httpdate` where it makes dates of its own; and
+//! `tiny_http_head` where `?` makes an `io::Error` of a `ParseError`, as behind `Response::with`.
 #![tactic(auto)]
 
 mod accepting;

@@ -7,14 +7,15 @@ ghost use Rattle.tiny_http_websocket.specs.Handshake.{AsksForWebSocket};
 use httpdate::HttpDate;
 use std::alloc::Global;
 use std::io;
-use std::io::ErrorKind;
+use std::io::{Cursor, ErrorKind};
 use std::sync::Wait;
+use tiny_http::ascii::AsciiString;
 use tiny_http::custom_stream::CustomStream;
 use tiny_http::device::{ReadDevice, WriteDevice};
 use tiny_http::outlet::Outlet;
-use tiny_http::request::Body;
+use tiny_http::request::{Body, UpgradeError};
 use tiny_http::sequential::SequentialWriter;
-use tiny_http::{HTTPVersion, Method, Request, Response, StatusCode};
+use tiny_http::{HTTPVersion, Method, RefusedUpgrade, Request, Response, StatusCode};
 use websocket::handshake::server::accept_key;
 
 /// What became of a request.
@@ -22,8 +23,8 @@ use websocket::handshake::server::accept_key;
 pub enum Handshake<R: ReadDevice + Drop, W: WriteDevice + Drop, Rt: Wait + Drop> {
     /// It is a WebSocket now, whose frames this stream reads and writes.
     Accepted(CustomStream<Body<R, Rt>, SequentialWriter<Outlet<W>, Rt>>),
-    /// It doesn't ask for a WebSocket, and can be answered otherwise, as by 426 with `Sec-WebSocket-Version: 13`.
-    NotAsked(Request<R, W, Rt>),
+    /// It doesn't ask for a WebSocket, or its body isn't whole; the request can be answered, as by `upgrade_required`.
+    Refused(RefusedUpgrade<R, W, Rt>),
 }
 
 /// The key that accepts a request for a WebSocket: the value of `Sec-WebSocket-Accept` (RFC 6455, section 4.2.2). None for any other
@@ -55,7 +56,8 @@ pub fn accept<R: ReadDevice + Drop, W: WriteDevice + Drop, Rt: Wait + Drop>(
     now: HttpDate,
 ) -> io::Result<Handshake<R, W, Rt>> {
     let Some(key) = accepting_key(&request) else {
-        return Ok(Handshake::NotAsked(request));
+        let error = UpgradeError::NotAsked;
+        return Ok(Handshake::Refused(RefusedUpgrade { error, request }));
     };
     let Ok(key) = str::from_utf8(&key) else {
         return Err(ErrorKind::InvalidData.into());
@@ -64,6 +66,18 @@ pub fn accept<R: ReadDevice + Drop, W: WriteDevice + Drop, Rt: Wait + Drop>(
     let response = response.with(alloc, "Sec-WebSocket-Accept", key)?;
     match request.try_upgrade("websocket", response, now) {
         Ok(stream) => Ok(Handshake::Accepted(stream)),
-        Err(refused) => Ok(Handshake::NotAsked(refused.request)),
+        Err(refused) => Ok(Handshake::Refused(refused)),
     }
+}
+
+/// An answer to a request that isn't for a WebSocket of version 13: 426 with its phrase as its text, that says the version (RFC 6455,
+/// section 4.4), and offers the upgrade (RFC 9110, section 15.5.22), which an answer by the standard alone has. An error where memory
+/// was refused.
+pub fn upgrade_required(alloc: Global) -> io::Result<Response<Cursor<Vec<u8>>>> {
+    let response = Response::status(alloc, StatusCode(426))?;
+    let response = response.with(alloc, "Sec-WebSocket-Version", "13")?;
+    let Ok(websocket) = AsciiString::from_ascii(b"websocket".to_vec(alloc)?) else {
+        return Err(ErrorKind::InvalidData.into());
+    };
+    Ok(response.with_upgrade_offer(websocket))
 }

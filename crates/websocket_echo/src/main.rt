@@ -10,8 +10,10 @@ use std::sync::{Arc, Wait};
 use std::time::Clock;
 use std::{env, io};
 use tiny_http::device::{ReadDevice, WriteDevice};
-use tiny_http::{Handler, Host, Request, Response, Server, StatusCode, current_date};
-use tiny_http_websocket::handshake::{Handshake, accept};
+use tiny_http::{
+    ConfigListenAddr, Handler, Host, Limits, Profile, Request, Server, ServerConfig, current_date,
+};
+use tiny_http_websocket::handshake::{Handshake, accept, upgrade_required};
 use tungstenite::{Error, NoMask, Role, WebSocket, WebSocketConfig};
 
 #[cfg(test)]
@@ -45,17 +47,16 @@ impl<R: ReadDevice + Drop, W: WriteDevice + Drop, Rt: Clock + Wait + Drop> Handl
     Rt,
     Request<R, W, Rt>,
 > for Echo {
-    // That a client breaks its WebSocket is passed over.
+    /// Echoes until the client closes. That it breaks its WebSocket is passed over.
     fn handle(&self, rt: &Rt, alloc: Global, request: Request<R, W, Rt>) -> io::Result<()> {
         match accept(alloc, request, current_date(rt))? {
             Handshake::Accepted(stream) => {
                 let _ = echo(alloc, stream);
                 Ok(())
             }
-            Handshake::NotAsked(request) => {
-                let response = Response::status(alloc, StatusCode(426))?;
-                let response = response.with(alloc, "Sec-WebSocket-Version", "13")?;
-                request.respond(response, current_date(rt))
+            Handshake::Refused(refused) => {
+                let response = upgrade_required(alloc)?;
+                refused.request.respond(response, current_date(rt))
             }
         }
     }
@@ -66,7 +67,9 @@ fn serve<Rt: Host, O: Write>(rt: Rt, alloc: Global, address: &str, out: &mut O) 
     let Ok(handler) = Arc::new(alloc, Echo) else {
         return Err(ErrorKind::OutOfMemory.into());
     };
-    let server = Server::http(rt, alloc, address)?;
+    let addr = ConfigListenAddr::from_socket_addrs(&rt, alloc, address)?;
+    let config = ServerConfig { addr, ssl: None };
+    let server = Server::with(rt, alloc, config, Profile::Standard, Limits::new())?;
     writeln!(out, "listening on {}", server.server_addr())?;
     out.flush()?;
     server.serve(alloc, &handler)
