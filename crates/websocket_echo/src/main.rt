@@ -23,7 +23,7 @@ mod tests;
 const MOST: usize = 1 << 20;
 
 // Sends each message back, until the client closes.
-fn echo<S: Read + Write + Drop>(alloc: Global, stream: S) -> Result<(), Error> {
+fn talk<S: Read + Write + Drop>(alloc: Global, stream: S) -> Result<(), Error> {
     let config = WebSocketConfig::default()
         .max_message_size(Some(MOST))
         .max_frame_size(Some(MOST));
@@ -51,7 +51,7 @@ impl<R: ReadDevice + Drop, W: WriteDevice + Drop, Rt: Clock + Wait + Drop> Handl
     fn handle(&self, rt: &Rt, alloc: Global, request: Request<R, W, Rt>) -> io::Result<()> {
         match accept(alloc, request, current_date(rt))? {
             Handshake::Accepted(stream) => {
-                let _ = echo(alloc, stream);
+                let _ = talk(alloc, stream);
                 Ok(())
             }
             Handshake::Refused(refused) => {
