@@ -23,9 +23,9 @@ use tiny_http::server::{Host, Server, ServerRequest, current_date};
 use tiny_http::serving::Handler;
 
 /// Answers each request by the same text.
-struct Hello;
+struct HelloWorld;
 
-impl<R: Clock + Wait + Drop> Handler<R, ServerRequest<R>> for Hello {
+impl<R: Clock + Wait + Drop> Handler<R, ServerRequest<R>> for HelloWorld {
     /// One for whose answer there is no memory is dropped. That the client doesn't take its answer is passed over.
     fn handle(&self, rt: &R, alloc: Global, request: ServerRequest<R>) -> io::Result<()> {
         let text = String::from_str(alloc, "hello world")?;
@@ -35,7 +35,7 @@ impl<R: Clock + Wait + Drop> Handler<R, ServerRequest<R>> for Hello {
 
 // Answers all requests of a server, on four threads. That accepting ended by a fault is passed over.
 fn answer_all<R: Host>(alloc: Global, server: &Server<R>) {
-    let _ = server.serve_by(alloc, 4, &Hello);
+    let _ = server.serve_by(alloc, 4, &HelloWorld);
 }
 
 // Listens at the address that the one word names, and answers all requests.
