@@ -4,3 +4,4 @@ pub mod DeviceFaults
 pub mod ChunkedPrintingLemmas
 pub mod ChunkedBodies
 pub mod EncoderLemmas
+pub mod StreamedLemmas

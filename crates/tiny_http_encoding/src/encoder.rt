@@ -5,7 +5,8 @@ ghost use Rattle.tiny_http_device.specs.Device.{Sink, Took, Failed, CountsFaults
 ghost use Rattle.tiny_http_encoding.specs.ChunkedPrinting.{full_chunks, chunked};
 ghost use Rattle.tiny_http_encoding.specs.Encoder.{Encodes};
 
-use crate::chunks::{CHUNK, put_chunk, put_last};
+use crate::chunks::{CHUNK, put_last};
+use crate::streamed::{StreamedForm, gather};
 use std::io;
 use std::io::{ErrorKind, Write};
 use std::marker::Model;
@@ -37,8 +38,8 @@ impl<W: WriteDevice> Model for Encoder<W> {
     ghost invariant = { λ e. e.len < CHUNK };
 }
 
-// Copies the first `count` of the bytes to the place `at` of the buffer.
-fn copy_to(held: &mut [u8], at: usize, bytes: &[u8], count: usize)
+/// Copies the first `count` of the bytes to the place `at` of the buffer.
+pub(crate) fn copy_to(held: &mut [u8], at: usize, bytes: &[u8], count: usize)
     requires room { at + count ≤ length held.old }
     requires there { count ≤ length bytes.now }
     ensures { take (at + count) held.new ≡ take at held.old ++ take count bytes.now }
@@ -58,19 +59,7 @@ fn encode<W: WriteDevice>(
     ensures encodes { Encodes (W.sink writer.old) (W.sink writer.new) (take len.old held.old) (take len.new held.new) result bytes.now }
     ensures bound { len.new < CHUNK }
 {
-    if *len == 0 && bytes.len() >= CHUNK {
-        put_chunk(writer, &bytes[..CHUNK])?;
-        return Ok(CHUNK);
-    }
-    let count = bytes.len().min(CHUNK - *len);
-    copy_to(held, *len, bytes, count);
-    if *len + count < CHUNK {
-        *len += count;
-        return Ok(count);
-    }
-    *len = 0;
-    put_chunk(writer, held)?;
-    Ok(count)
+    gather(writer, StreamedForm::Chunks, held, len, bytes)
 }
 
 impl<W: WriteDevice> Encoder<W> {

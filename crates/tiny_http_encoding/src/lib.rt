@@ -6,3 +6,4 @@ pub mod chunks;
 pub mod encoder;
 pub mod gather;
 pub mod identity;
+pub mod streamed;

@@ -1,5 +1,5 @@
 -- Answers, and the text that is sent for one (RFC 9112, sections 4, 5 and 6).
-use Rattle.std.specs.Prelude.{◌≡◌, ℕ, Bool, ◌||◌, ◌&&◌, List, [], ◌++◌, length, Option, Some, None, Result, Ok, Err, codes, decimal, nat_lt, nat_le, ◌==◌, if◌then◌else◌, ◌⊎◌, true, false}
+use Rattle.std.specs.Prelude.{◌≡◌, ℕ, Bool, ◌||◌, ◌&&◌, List, [], ◌++◌, length, Option, Some, None, Result, Ok, Err, codes, decimal, ◌==◌, if◌then◌else◌, ◌⊎◌, true, false}
 use Rattle.std.specs.List.{flat_map, list_any, list_all}
 use Rattle.std.specs.IoError.{error_kind}
 use Rattle.std.specs.declared.io.Error.{Error}
@@ -19,7 +19,7 @@ use Rattle.tiny_http_device.specs.Device.{Feed, Sink}
 use Rattle.tiny_http_device.specs.declared.device.Stop.{Stop}
 use Rattle.tiny_http_device.specs.declared.device.Stop.TheVariants.{End, Fault}
 use Rattle.tiny_http_wire.specs.declared.answer_context.Persistence.{Persistence}
-use Rattle.tiny_http_wire.specs.ByStandard.{status_version, own_headers, listed_headers, contentless_framing}
+use Rattle.tiny_http_wire.specs.ByStandard.{status_version, own_headers, listed_headers, has_no_content, contentless_framing}
 use Rattle.tiny_http_wire.specs.declared.response.TheConstants.{THRESHOLD}
 use Rattle.tiny_http_encoding.specs.Text.{Text, prepend_text, whole, nothing_sent, identity_body, chunked_body, Prints}
 
@@ -100,7 +100,7 @@ answer_head_text version status upgrade headers listed date framing =
 -- whether the body is not sent: where the caller says so, and for the codes 100 to 199, 204 and 304 (RFC 9112, section
 -- 6.3)
 abbrev pub is_withheld : Bool → ℕ → Bool
-is_withheld asked status = asked || ((nat_le 100 status && nat_lt status 200) || ((status == 204) || (status == 304)))
+is_withheld asked status = asked || has_no_content status
 
 -- How an answer is asked for. By the standard: whether its connection persists.
 pub record Printing : Type 0 where

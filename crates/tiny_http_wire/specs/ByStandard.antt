@@ -1,6 +1,6 @@
 -- What an answer says by the standard: of its connection, in its headers, and by its code (RFC 9112, sections 9.3, 9.6 and 11.1; RFC 9110,
 -- sections 5.5, 6.2, 7.8, 8.6 and 15).
-use Rattle.std.specs.Prelude.{ℕ, Bool, ◌||◌, ◌&&◌, ◌==◌, nat_lt, List, [], ◌∷◌, ◌++◌, map, filter_map, Option, Some, None, option_map, codes, if◌then◌else◌}
+use Rattle.std.specs.Prelude.{ℕ, Bool, ◌||◌, ◌&&◌, ◌==◌, nat_lt, nat_le, List, [], ◌∷◌, ◌++◌, map, filter_map, Option, Some, None, option_map, codes, if◌then◌else◌}
 use Rattle.httparse.specs.Grammar.{is_token, is_value_byte}
 use Rattle.tiny_http_head.specs.declared.common.HTTPVersion.{HTTPVersion}
 use Rattle.tiny_http_head.specs.declared.common.Header.{Header}
@@ -80,9 +80,9 @@ abbrev pub framing_by_standard : Option Persistence → ℕ → Option ℕ → O
 framing_by_standard None status length = None
 framing_by_standard (Some _) status length = framing_without_content status length
 
--- whether an answer with this code has no content, whatever it is asked for: a code below 200, a 204 and a 304
+-- whether an answer with this code has no content, whatever it is asked for: a code from 100 to 199, a 204 and a 304
 abbrev pub has_no_content : ℕ → Bool
-has_no_content status = nat_lt status 200 || (status == 204 || status == 304)
+has_no_content status = (nat_le 100 status && nat_lt status 200) || (status == 204 || status == 304)
 
 -- So is an answer with such a code that was made to say no length, whether it is printed by the standard or not. It has no framing.
 abbrev pub contentless_framing : Option Persistence → Bool → ℕ → Option ℕ → Option FramingHeader

@@ -1,6 +1,11 @@
 //! What printing an answer needs of its request.
-use tiny_http_coding::coding::Coding;
-use tiny_http_head::common::HTTPVersion;
+ghost use Rattle.std.specs.Prelude.{◌≡◌};
+ghost use Rattle.tiny_http_wire.specs.Streaming.{streamed_form, streamed_framing};
+
+use crate::by_standard::contentless_framing;
+use tiny_http_coding::coding::{Coding, FramingHeader};
+use tiny_http_encoding::streamed::StreamedForm;
+use tiny_http_head::common::{HTTPVersion, StatusCode};
 
 /// What an answer says of its connection (RFC 9112, section 9.3).
 #[derive(Clone, Copy, Debug, PartialEq, Eq)]
@@ -24,4 +29,34 @@ pub struct AnswerContext {
     /// is printed as by tiny_http: in the version of the request, with its headers as they are, and with a length or a coding
     /// whatever its code is.
     pub persistence: Option<Persistence>,
+}
+
+impl AnswerContext {
+    /// How a body is sent that grows behind the head of an answer with this code: not at all where none is asked for or the code has no
+    /// content; as it is to a version up to 1.0, so that the connection's end ends it (RFC 9112, section 6.3); else in chunks (section
+    /// 7.1).
+    pub fn streamed_form(&self, status: StatusCode) -> StreamedForm
+        ensures { result ≡ streamed_form self.now status.0 }
+    {
+        if self.no_body || contentless_framing(self.persistence, true, status, None).is_some() {
+            return StreamedForm::Absent;
+        }
+        if self.version <= HTTPVersion(1, 0) {
+            return StreamedForm::Plain;
+        }
+        StreamedForm::Chunks
+    }
+
+    // What the head says of such a body.
+    pub(crate) fn streamed_framing(&self, status: StatusCode) -> FramingHeader
+        ensures { result ≡ streamed_framing self.now status.0 }
+    {
+        if let Some(framing) = contentless_framing(self.persistence, true, status, None) {
+            return framing;
+        }
+        if self.version <= HTTPVersion(1, 0) {
+            return FramingHeader::Neither;
+        }
+        FramingHeader::TransferEncoding
+    }
 }

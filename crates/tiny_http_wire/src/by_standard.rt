@@ -181,11 +181,11 @@ fn framing_by_standard(
     None
 }
 
-// Whether no answer with this code has content (RFC 9110, section 6.4.1).
-fn has_no_content(status: StatusCode) -> bool
+/// Whether no answer with this code has content (RFC 9110, section 6.4.1).
+pub(crate) fn has_no_content(status: StatusCode) -> bool
     ensures { result ≡ has_no_content status.0 }
 {
-    status.0 < 200 || status.0 == 204 || status.0 == 304
+    (status.0 >= 100 && status.0 < 200) || status.0 == 204 || status.0 == 304
 }
 
 /// How an answer is framed that is a head alone by its code: by the standard, and where it was made to say no length and its code has

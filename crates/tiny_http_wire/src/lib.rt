@@ -16,6 +16,6 @@ pub mod response;
 
 pub use tiny_http_coding::coding;
 pub use tiny_http_device::device;
-pub use tiny_http_encoding::encoder;
+pub use tiny_http_encoding::{encoder, streamed};
 pub use tiny_http_head::{common, grammar, target};
 pub use tiny_http_text::{ascii, header_value, number};

@@ -7,6 +7,7 @@ ghost use Rattle.tiny_http_wire.specs.AddHeader.{add_header, is_put_last, is_som
 ghost use Rattle.tiny_http_wire.specs.ResponseHeaders.{IsResponseHeaders};
 ghost use Rattle.tiny_http_wire.specs.Readable.{IsReadable};
 ghost use Rattle.tiny_http_wire.specs.Answer.{Answer, ResponseState, is_withheld, PrintsText, PrintsGathered, PrintsUncoded, PrintsAnswer, uncoded_text, body_unless_withheld, text_plain, answer_with, contentless_answer};
+ghost use Rattle.tiny_http_wire.specs.Streaming.{streamed_head};
 ghost use Rattle.tiny_http_encoding.specs.Text.{Prints, prepend_text, whole, identity_body, chunked_body, nothing_sent};
 ghost use Rattle.tiny_http_device.specs.Cursor.{cursor_bytes};
 ghost use Rattle.tiny_http_device.specs.Metered.{metered_inner};
@@ -17,7 +18,7 @@ ghost use Rattle.tiny_http_device.specs.Device.{Puts, CountsFaults};
 use crate::add_header::{add, add_all, add_in_place};
 use crate::answer_context::AnswerContext;
 use crate::answer_head::{Top, put_head};
-use crate::by_standard::contentless_framing;
+use crate::by_standard::{contentless_framing, has_no_content};
 use crate::readable::are_readable;
 use httpdate::HttpDate;
 use std::alloc::{AllocError, Global};
@@ -123,7 +124,7 @@ impl Response<io::Empty> {
         Response::of(alloc, status, io::empty(), Some(0))
     }
 
-    /// An answer without data that says no length, for a code whose answers have no content: one below 200, a 204 or a 304 (RFC 9110,
+    /// An answer without data that says no length, for a code whose answers have no content: one from 100 to 199, a 204 or a 304 (RFC 9110,
     /// sections 6.4.1, 8.6, 15.3.5 and 15.4.5). Such an answer has neither `Content-Length` nor `Transfer-Encoding`, under each
     /// profile and whatever the request asks for. `empty` says the length 0, but by the standard. With another code this answer
     /// is printed as that of `empty`. It has no headers, and takes no memory.
@@ -497,13 +498,37 @@ impl<R> Response<R> {
             data_length,
             threshold,
         );
-        let withheld = is_withheld(context.no_body, self.status.0);
+        let withheld = is_withheld(context.no_body, self.status);
         match coding {
             Coding::Chunked => print_in_chunks(&mut data, writer, &top, withheld),
             Coding::Identity => {
                 print_uncoded(alloc, &mut data, writer, &top, data_length, withheld)
             }
         }
+    }
+
+    /// Prints the head alone of an answer whose body comes later, and grows while it is sent: `AnswerContext::streamed_form` says how
+    /// that is to be sent. The head says chunks to a version from 1.1 on, also where no body is asked for, and neither a length nor a
+    /// coding to an earlier one (RFC 9112, section 6). The answer's data, their length and its threshold are passed over. It is printed
+    /// by the standard where `print` would be. The error is the writer's first fault, after which nothing more is written. It doesn't
+    /// flush.
+    pub fn print_head<W: WriteDevice>(
+        &self,
+        writer: &mut W,
+        context: AnswerContext,
+        now: HttpDate,
+    ) -> Result<(), io::Error>
+        ensures { Puts (W.sink writer.old) (W.sink writer.new) result (streamed_head self.now.answer context now) }
+    {
+        let top = Top {
+            version: context.version,
+            persistence: context.persistence,
+            status: self.status,
+            headers: &self.headers,
+            offered: &self.offered,
+            date: now,
+        };
+        put_head(writer, &top, None, context.streamed_framing(self.status))
     }
 
     /// Gives the reader of the data.
@@ -515,10 +540,10 @@ impl<R> Response<R> {
 }
 
 // Whether the body of an answer with this code is not sent.
-fn is_withheld(no_body: bool, status: u16) -> bool
-    ensures { result ≡ is_withheld no_body status }
+fn is_withheld(no_body: bool, status: StatusCode) -> bool
+    ensures { result ≡ is_withheld no_body status.0 }
 {
-    no_body || (status >= 100 && status < 200) || status == 204 || status == 304
+    no_body || has_no_content(status)
 }
 
 // Prints an answer of known length whose body is sent as it is.

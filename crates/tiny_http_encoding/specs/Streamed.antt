@@ -6,8 +6,8 @@ use Rattle.std.specs.declared.io.ErrorKind.TheVariants.{BrokenPipe}
 use Rattle.tiny_http_device.specs.Device.{Sink, Took, Failed}
 use Rattle.tiny_http_encoding.specs.ChunkedPrinting.{short_chunk}
 use Rattle.tiny_http_encoding.specs.declared.chunks.TheConstants.{CHUNK}
-use Rattle.tiny_http_streamed.specs.declared.streamed.StreamedForm.{StreamedForm}
-use Rattle.tiny_http_streamed.specs.declared.streamed.StreamedForm.TheVariants.{Chunks, Plain, Absent}
+use Rattle.tiny_http_encoding.specs.declared.streamed.StreamedForm.{StreamedForm}
+use Rattle.tiny_http_encoding.specs.declared.streamed.StreamedForm.TheVariants.{Chunks, Plain, Absent}
 
 -- The writer inside, what it states, how the body is sent, the bytes that are held, and whether the writer has failed.
 pub record StreamedState (W : Type 0) : Type 0 where
@@ -43,7 +43,7 @@ Holds form old new held bytes =
 -- within the piece that they fill.
 abbrev pub Gathers : StreamedForm → Sink → Sink → List ℕ → List ℕ → Result ℕ Error → List ℕ → Type 0
 Gathers form old new was held (Ok n) text = (n ≤ length text) × (0 < length text → 0 < n) × Holds form old new held (was ++ take n text)
-Gathers form old new was held (Err e) text = Failed old new (piece_text form (take CHUNK (was ++ text))) (error_kind e)
+Gathers form old new was held (Err e) text = (CHUNK ≤ length (was ++ text)) × Failed old new (piece_text form (take CHUNK (was ++ text))) (error_kind e)
 
 -- the answer after the writer's first fault
 abbrev pub IsBroken : {T : Type 0} → Result T Error → Type 0

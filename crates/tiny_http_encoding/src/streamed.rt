@@ -1,13 +1,14 @@
 //! A body that grows while it is sent.
 ghost use Rattle.std.specs.Prelude.{◌≡◌, ◌+◌, ◌<◌, ◌≤◌, ◌++◌, [], true, false, length, take, IfOk, IfErr, OnOk, OnErr};
 ghost use Rattle.tiny_http_device.specs.Device.{Puts, Took, HoldsNothing};
-ghost use Rattle.tiny_http_streamed.specs.Streamed.{piece_text, end_text, Gathers};
+ghost use Rattle.tiny_http_encoding.specs.Streamed.{piece_text, end_text, Gathers};
 
+use crate::chunks::{CHUNK, put_chunk};
+use crate::encoder::copy_to;
 use std::io;
 use std::io::{ErrorKind, Write};
 use std::marker::Model;
 use tiny_http_device::device::{WriteDevice, put};
-use tiny_http_encoding::chunks::{CHUNK, put_chunk};
 
 /// How a body stands behind the head of its answer.
 #[derive(Clone, Copy, Debug, PartialEq, Eq)]
@@ -20,8 +21,8 @@ pub enum StreamedForm {
     Absent,
 }
 
-/// A writer of a body of which more may come at any time. It holds up to 8191 bytes: these are sent, as one chunk where the body
-/// comes in chunks, as 8192 have come, or by `flush`. `finish` sends what is held, and the end of the body. Where it is dropped
+/// A writer of a body of which more may come at any time. It holds up to 8191 bytes. They are sent by
+/// `flush`, and once they are 8192; where the body comes in chunks, as one chunk. `finish` sends what is held, and the end of the body. Where it is dropped
 /// instead it sends nothing more, so that a body in chunks is visibly cut.
 ///
 /// After the writer's first fault it writes nothing more: each later call is an error of kind `BrokenPipe`.
@@ -36,7 +37,7 @@ pub struct Streamed<W: WriteDevice> {
 
 impl<W: WriteDevice> Model for Streamed<W> {
     ghost use Rattle.std.specs.Prelude.{◌<◌, take};
-    ghost use Rattle.tiny_http_streamed.specs.Streamed.{StreamedState};
+    ghost use Rattle.tiny_http_encoding.specs.Streamed.{StreamedState};
 
     ghost Value = { StreamedState W };
 
@@ -45,15 +46,6 @@ impl<W: WriteDevice> Model for Streamed<W> {
     ghost use Rattle.tiny_http_encoding.specs.declared.chunks.TheConstants.{CHUNK};
 
     ghost invariant = { λ s. s.len < CHUNK };
-}
-
-// Copies the first `count` of the bytes to the place `at` of the buffer.
-fn copy_to(held: &mut [u8], at: usize, bytes: &[u8], count: usize)
-    requires room { at + count ≤ length held.old }
-    requires there { count ≤ length bytes.now }
-    ensures { take (at + count) held.new ≡ take at held.old ++ take count bytes.now }
-{
-    held[at..at + count].copy_from_slice(&bytes[..count]);
 }
 
 // Sends a piece of a body.
@@ -71,9 +63,9 @@ fn put_piece<W: WriteDevice>(
     }
 }
 
-// Takes bytes from the front of a text, at least one if there is one, behind the first `len` of the buffer. Where they fill it they
-// are sent.
-fn gather<W: WriteDevice>(
+/// Takes bytes from the front of a text, at least one if there is one, behind the first `len` of the buffer. Where they fill it they
+/// are sent.
+pub(crate) fn gather<W: WriteDevice>(
     writer: &mut W,
     form: StreamedForm,
     held: &mut [u8; CHUNK],
@@ -100,7 +92,7 @@ fn gather<W: WriteDevice>(
 }
 
 impl<W: WriteDevice> Streamed<W> {
-    ghost use Rattle.tiny_http_streamed.specs.Streamed.{begun, IsBroken};
+    ghost use Rattle.tiny_http_encoding.specs.Streamed.{begun, IsBroken};
 
     /// A body of this form, of which nothing has come yet, on this writer, which has taken the head of its answer.
     pub fn new(inner: W, form: StreamedForm) -> Streamed<W>
@@ -158,7 +150,7 @@ impl<W: WriteDevice> Streamed<W> {
 
 impl<W: WriteDevice> Write for Streamed<W> {
     ghost use Rattle.std.specs.Io.{WritesAtMost};
-    ghost use Rattle.tiny_http_streamed.specs.Streamed.{IsBroken};
+    ghost use Rattle.tiny_http_encoding.specs.Streamed.{IsBroken};
 
     /// Takes some of the bytes, at least one if there is one, and says how many. Where they fill a piece of 8192 bytes it is sent; else
     /// they are held. The error is the writer's first fault, or of kind `BrokenPipe` after it.

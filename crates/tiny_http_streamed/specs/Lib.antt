@@ -1,2 +1,0 @@
-pub mod Streamed
-pub use Rattle.tiny_http_device.specs.Device
