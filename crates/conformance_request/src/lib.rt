@@ -22,6 +22,8 @@ mod rows;
 #[cfg(test)]
 mod storm;
 #[cfg(test)]
+mod streaming;
+#[cfg(test)]
 mod test_request;
 #[cfg(test)]
 mod whole_bodies;

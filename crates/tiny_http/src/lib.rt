@@ -45,7 +45,9 @@ pub use tiny_http_corked::{cork, corked, read_ahead, write_both};
 pub use tiny_http_limits::limits::Limits;
 pub use tiny_http_limits::{backoff, census, counts, limits, times};
 pub use tiny_http_paced::{pace, paced_reader, paced_writer};
-pub use tiny_http_request::request::{BodyError, ReadWrite, RefusedUpgrade, Request};
+pub use tiny_http_request::request::{
+    BodyError, ReadWrite, RefusedUpgrade, Request, StreamedBody, StreamedForm,
+};
 pub use tiny_http_request::test::{Recorder, TestRequest};
 pub use tiny_http_request::{client, request, test};
 pub use tiny_http_socket::connection::{ConfigListenAddr, ListenAddr, Listener};

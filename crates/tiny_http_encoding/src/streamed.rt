@@ -115,6 +115,21 @@ impl<W: WriteDevice> Streamed<W> {
         &self.inner
     }
 
+    /// How the body is sent.
+    pub fn form(&self) -> StreamedForm
+        ensures { result ≡ self.now.form }
+    {
+        self.form
+    }
+
+    /// The writer. What is held is dropped, and the body has no end.
+    pub fn into_inner(self) -> W
+        ensures writer { result ≡ self.writer }
+        ensures sink { W.sink result ≡ self.sink }
+    {
+        self.inner
+    }
+
     /// Sends what is held, and the end of the body, and gives the writer back. It doesn't flush. The error is the writer's fault; or of
     /// kind `BrokenPipe` after an earlier one, and then nothing is written.
     pub fn finish(mut self) -> Result<W, io::Error>

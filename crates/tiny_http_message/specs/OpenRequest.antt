@@ -14,6 +14,9 @@ use Rattle.tiny_http_stream.specs.Outlet.{OutletState, output_of, outlet_held, S
 use Rattle.tiny_http_sending.specs.Sending.{IsFlushed}
 use Rattle.tiny_http_message.specs.declared.exchange.Head.{Head}
 use Rattle.tiny_http_wire.specs.declared.answer_context.AnswerContext.{AnswerContext}
+use Rattle.tiny_http_wire.specs.declared.streamed.StreamedForm.{StreamedForm}
+use Rattle.tiny_http_wire.specs.declared.streamed.StreamedForm.TheVariants.{Plain}
+use Rattle.tiny_http_wire.specs.Streaming.{streamed_form}
 use Rattle.tiny_http_wire.specs.declared.answer_context.Persistence.TheVariants.{Close}
 use Rattle.tiny_http_message.specs.declared.body.Remainder.{Remainder}
 use Rattle.tiny_http_message.specs.declared.body.Body.{Body}
@@ -49,6 +52,16 @@ is_last_with_stream w left = w.holds_next_head || is_last_once_finished w left
 -- asked for that, its 100 is owed, or what is left of its body isn't skipped: it is long, or its end isn't known.
 abbrev pub final_context : {B : Type 0} → OpenRequest B → Remainder → AnswerContext
 final_context w left = if w.by_standard && (w.closes || (w.owes_continue || not (is_skipped left))) then record w.answer_context { persistence = Some Close } else w.answer_context
+
+-- a body that goes on up to the end of the connection
+abbrev pub is_plain : StreamedForm → Bool
+is_plain Plain = true
+is_plain _ = false
+
+-- How the head of an answer is printed to this request whose body grows: by the standard it says that the connection ends where another
+-- answer would, and where the body goes on up to that end.
+abbrev pub streaming_context : {B : Type 0} → OpenRequest B → ℕ → Remainder → AnswerContext
+streaming_context w status left = if w.by_standard && is_plain (streamed_form w.answer_context status) then record (final_context w left) { persistence = Some Close } else final_context w left
 
 -- A connection can be upgraded to this protocol by an answer with this code, or why not. By the standard the request has to ask for
 -- it, and its body has to be whole (RFC 9110, section 7.8).

@@ -5,12 +5,14 @@ ghost use Rattle.std.specs.Prelude.{◌≡◌, ℕ, List, true, false, IfOk};
 ghost use Rattle.tiny_http_standard.specs.Judging.{names_protocol};
 ghost use Rattle.std.specs.List.{list_all};
 ghost use Rattle.tiny_http_wire.specs.Bytes.{is_ascii};
-ghost use Rattle.tiny_http_wire.specs.Device.{Feed};
+ghost use Rattle.tiny_http_wire.specs.Device.{Feed, Puts};
+ghost use Rattle.tiny_http_wire.specs.Streaming.{streamed_form, streamed_head};
+ghost use Rattle.tiny_http_stream.specs.Outlet.{output_of};
 ghost use Rattle.tiny_http_sending.specs.ResponseValue.{printing_in, upgrade_text};
 ghost use Rattle.tiny_http_sending.specs.Sending.{FailsOnce, SendsQuietlyOn, SendsAnswer};
 ghost use Rattle.tiny_http_message.specs.TextState.{drop_text};
 ghost use Rattle.tiny_http_message.specs.OwnAnswer.{own_text_by};
-ghost use Rattle.tiny_http_message.specs.OpenRequest.{coding_for, KeepsHead, closing, OwesNoContinue, HasNoDropText, HasNoBodyLeft, HasSentAll, final_context, is_last_once_finished, is_last_with_stream, refuses_code, request_check};
+ghost use Rattle.tiny_http_message.specs.OpenRequest.{coding_for, KeepsHead, closing, OwesNoContinue, HasNoDropText, HasNoBodyLeft, HasSentAll, final_context, streaming_context, is_last_once_finished, is_last_with_stream, refuses_code, request_check};
 ghost use Rattle.tiny_http_message.specs.Pipeline.{is_head_method};
 ghost use Rattle.tiny_http_message.specs.Body.{ReadsBody, GivesUp};
 
@@ -30,6 +32,7 @@ use tiny_http_wire::coding::{Coding, asked_coding};
 use tiny_http_wire::common::{Header, Method, StatusCode};
 use tiny_http_wire::device::{ReadDevice, WriteDevice};
 use tiny_http_wire::response::Response;
+use tiny_http_wire::streamed::StreamedForm;
 
 /// A request that was handed out and isn't answered yet. Its head isn't part of it.
 #[derive(Drop)]
@@ -178,6 +181,46 @@ impl<B: Drop> OpenRequest<B> {
         let context = self.final_context(left);
         self.owes_continue = false;
         send_unless_ended(alloc, outlet, response, context, now)
+    }
+
+    /// How a body is sent that grows behind the answer to this request with this code, as `AnswerContext::streamed_form` says.
+    pub fn streamed_form(&self, status: StatusCode) -> StreamedForm
+        ensures { result ≡ streamed_form self.now.answer_context status.0 }
+    {
+        self.answer_context.streamed_form(status)
+    }
+
+    // How the head of an answer is printed whose body grows. By the standard it says that the connection ends where it would else, and
+    // where the body goes on up to that end.
+    fn streaming_context(&self, status: StatusCode, left: Remainder) -> AnswerContext
+        ensures { result ≡ streaming_context self.now status.0 left }
+    {
+        let mut context = self.final_context(left);
+        if self.by_standard && self.streamed_form(status) == StreamedForm::Plain {
+            context.persistence = Some(Persistence::Close);
+        }
+        context
+    }
+
+    /// Writes the head of the answer to this request, of whose body this is left, where the answer's own body comes later, and grows
+    /// while it is sent: `streamed_form` says how that is to be sent. The head is dated `now`; the answer's data and their length are
+    /// passed over. By the standard it says that the connection ends where that of `respond` would, and where the body goes on up to
+    /// that end. No 100 is owed any more. It doesn't flush. The caller does so in the turn of the request, and then gives the body up.
+    /// The error is the writer's first fault. On an outlet that has ended nothing is written, and the result is `Ok`.
+    pub fn begin_streaming<W: WriteDevice, D>(
+        &mut self,
+        outlet: &mut Outlet<W>,
+        response: &Response<D>,
+        left: Remainder,
+        now: HttpDate,
+    ) -> Result<(), io::Error>
+        ensures head { Puts (output_of outlet.old) (output_of outlet.new) result
+            (streamed_head response.now.answer (streaming_context self.old response.now.answer.status left) now) }
+        ensures once { OwesNoContinue self.old self.new }
+    {
+        let context = self.streaming_context(response.status_code(), left);
+        self.owes_continue = false;
+        response.print_head(outlet, context, now)
     }
 
     /// Sends the 100 that is owed to this request, and flushes (RFC 9110, section 10.1.1). Where none is owed it changes

@@ -6,6 +6,7 @@
 mod body;
 pub mod client;
 pub mod request;
+mod streamed_body;
 pub mod test;
 mod whole_body;
 

@@ -21,6 +21,7 @@ ghost use Rattle.tiny_http_request.specs.WholeBody.{FailsWhole};
 
 pub use crate::body::Body;
 use crate::body::GivesOn;
+pub use crate::streamed_body::StreamedBody;
 pub use crate::whole_body::BodyError;
 use crate::whole_body::read_left;
 use httpdate::HttpDate;
@@ -51,6 +52,7 @@ use tiny_http_threads::turn::{
 };
 use tiny_http_wire::common::{HTTPVersion, Header, Method};
 use tiny_http_wire::response::Response;
+pub use tiny_http_wire::streamed::StreamedForm;
 
 /// Why no request is made of its parts.
 #[derive(Debug, Drop, Error)]
@@ -410,6 +412,43 @@ impl<R: ReadDevice + Drop, W: WriteDevice + Drop, Rt: Wait + Drop> Request<R, W,
         pass_writer(writer);
         drop(open_request);
         reported(sent)
+    }
+
+    /// Begins an answer whose body grows while it is sent, as that of server-sent events: writes its head, dated `now`, in the turn of
+    /// the request, and gives the request's body up. It waits until the requests before are finished. The response's data are let go,
+    /// and it says no length. The body is sent in chunks (RFC 9112, section 7.1); to a version up to 1.0 as it is, so that the
+    /// connection's end ends it and no request follows (section 6.3); and not at all where none is asked for (`HEAD`) or the code has
+    /// no content. The client sees the head with the first flush, or once 8192 bytes have come.
+    ///
+    /// The code is refused that `respond` refuses: `InvalidInput`, and the request is dropped. Any other error is a fault of the
+    /// client's writer. What is said of the connection's end by `respond`, and of `with_close`, holds here.
+    pub fn respond_streaming<D: Drop>(
+        self,
+        response: Response<D>,
+        now: HttpDate,
+    ) -> Result<StreamedBody<W, Rt>, io::Error>
+        ensures refused { refuses_code (request_open self).by_standard (request_open self).is_connect response.answer.status ≡ true → IsInvalidInput result }
+    {
+        let status = response.status_code();
+        if self.open_request.refuses(status) {
+            return Err(ErrorKind::InvalidInput.into());
+        }
+        self.send_at_flush();
+        let form = self.open_request.streamed_form(status);
+        let (mut open_request, mut writer) = self.into_parts();
+        let left = open_request.body.remainder();
+        if open_request.is_last_once_finished(left) {
+            open_request.body.end_requests();
+        }
+        let _ = hold_writer(&mut writer);
+        if response.closes() || form == StreamedForm::Plain {
+            end_behind_writer(&writer);
+        }
+        if is_last_writer(&writer) {
+            open_request.close();
+        }
+        open_request.begin_streaming(hold_writer(&mut writer), &response, left, now)?;
+        Ok(StreamedBody::new(writer, form))
     }
 
     /// Takes the raw writer in place of an answer, and gives the body up. What is written is all that the client gets for the

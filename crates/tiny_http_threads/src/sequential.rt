@@ -9,6 +9,7 @@ use std::io::{ErrorKind, Read, Write};
 use std::sync::atomic::AtomicU64;
 use std::sync::{Arc, Wait};
 use tiny_http_device::device::WriteDevice;
+use tiny_http_stream::outlet::Outlet;
 use tiny_http_turns::passing::{HeldTurn, pass_on};
 
 /// Gives out readers, each of which reads once those before it are dropped.
@@ -241,19 +242,6 @@ impl<W: Write + Drop, R: Wait + Drop> SequentialWriter<W, R> {
 }
 
 impl<W: Write + WriteDevice + Drop, R: Wait + Drop> SequentialWriter<W, R> {
-    /// Waits for its turn, flushes, and ends the output: behind what was written the writer says that no byte follows, and no further
-    /// writer is given out. So a raw answer ends that states no length (RFC 9112, section 6.3). What those behind it write is lost,
-    /// if some were given out already. The error is the flush's; the output ends as well.
-    pub fn close(self) -> io::Result<()> {
-        let mut writer = self;
-        writer.turn.close_line();
-        let output = writer.turn.hold();
-        let flushed = output.flush();
-        output.end_out();
-        drop(writer);
-        flushed
-    }
-
     /// Ends its turn with a text, which is written once the turn has come. It waits for no turn. Behind the last text of a closed
     /// line the writer says that no byte follows.
     pub(crate) fn leave(self, text: Vec<u8>) {
@@ -276,6 +264,21 @@ impl<W: Write + WriteDevice + Drop, R: Wait + Drop> SequentialWriter<W, R> {
                 pass_on(&mut ending, &mut (), &mut (), text);
             }
         }
+    }
+}
+
+impl<W: WriteDevice + Drop, R: Wait + Drop> SequentialWriter<Outlet<W>, R> {
+    /// Waits for its turn, flushes, and ends the output: behind what was written the writer says that no byte follows, and what a later
+    /// writer of its connection writes is lost. No further request is read from that. So a raw answer ends that states no length (RFC
+    /// 9112, section 6.3). The error is the flush's; the output ends as well.
+    pub fn close(self) -> io::Result<()> {
+        let mut writer = self;
+        writer.turn.close_line();
+        let outlet = writer.turn.hold();
+        let sent = outlet.end();
+        outlet.end_out();
+        drop(writer);
+        sent
     }
 }
 

@@ -1,0 +1,77 @@
+//! The body of an answer, where it grows while it is sent.
+ghost use Rattle.std.specs.Prelude.{◌≡◌};
+
+use std::io;
+use std::io::Write;
+use std::sync::Wait;
+use tiny_http_device::device::WriteDevice;
+use tiny_http_stream::outlet::Outlet;
+use tiny_http_threads::sequential::SequentialWriter;
+use tiny_http_threads::turn::pass_writer;
+use tiny_http_wire::streamed::{Streamed, StreamedForm};
+
+/// The body of an answer that `Request::respond_streaming` began. It is written in the turn of its request, and is sent as `Streamed`
+/// says: what is written is held until it fills a piece of 8192 bytes, and `flush` sends what is there, with the head in front of the
+/// first byte. `finish` ends the body. Where it is dropped instead the connection ends within the body: one in chunks is visibly cut;
+/// that of a version up to 1.0, which goes on up to the connection's end, can't be told from a whole one.
+///
+/// The first fault of the client's writer is the error of the call that met it. Then each later call is an error of kind `BrokenPipe`,
+/// and nothing more is sent on the connection.
+pub struct StreamedBody<W: WriteDevice + Drop, Rt: Wait + Drop> {
+    body: Streamed<SequentialWriter<Outlet<W>, Rt>>,
+}
+
+impl<W: WriteDevice + Drop, Rt: Wait + Drop> StreamedBody<W, Rt> {
+    // A body of which nothing has come yet, behind a head that was written.
+    pub(crate) fn new(
+        writer: SequentialWriter<Outlet<W>, Rt>,
+        form: StreamedForm,
+    ) -> StreamedBody<W, Rt> {
+        StreamedBody {
+            body: Streamed::new(writer, form),
+        }
+    }
+
+    /// How the body is sent: in chunks; up to the connection's end; or not at all, and then what is written is left out.
+    pub fn form(&self) -> StreamedForm {
+        self.body.form()
+    }
+
+    /// Sends what is held, and the end of the body, flushes, and ends the turn of its request. A body that goes on up to the
+    /// connection's end ends the connection. An error as in `write`.
+    pub fn finish(self) -> io::Result<()> {
+        let Self { body } = self;
+        let form = body.form();
+        let mut writer = body.finish()?;
+        if form == StreamedForm::Plain {
+            return writer.close();
+        }
+        writer.flush()?;
+        pass_writer(writer);
+        Ok(())
+    }
+}
+
+impl<W: WriteDevice + Drop, Rt: Wait + Drop> Write for StreamedBody<W, Rt> {
+    ghost use Rattle.std.specs.Io.{WritesAtMost};
+
+    /// Takes some of the bytes, at least one if there is one, and says how many.
+    fn write(&mut self, buf: &[u8]) -> io::Result<usize>
+        ensures bound { WritesAtMost result buf.now }
+    {
+        self.body.write(buf)
+    }
+
+    /// Sends what is held, as one chunk where the body comes in chunks.
+    fn flush(&mut self) -> io::Result<()> {
+        self.body.flush()
+    }
+}
+
+impl<W: WriteDevice + Drop, Rt: Wait + Drop> Drop for StreamedBody<W, Rt> {
+    /// Ends the connection within the body.
+    fn drop(self) {
+        let Self { body } = self;
+        let _ = body.into_inner().close();
+    }
+}
