@@ -62,7 +62,13 @@ fn a_body_grows(rt: HostRuntime) -> Result<(), Fail> {
     for (client, code, line, rest, behind) in [
         (TWO, 200, "HTTP/1.1 200 OK\r\n", chunks, DROPPED),
         (old, 200, "HTTP/1.0 200 OK\r\n", "\r\nhiyou", ""),
-        (head, 200, "HTTP/1.1 200 OK\r\n", "Transfer-Encoding: chunked\r\n\r\n", DROPPED),
+        (
+            head,
+            200,
+            "HTTP/1.1 200 OK\r\n",
+            "Transfer-Encoding: chunked\r\n\r\n",
+            DROPPED,
+        ),
         (TWO, 204, "HTTP/1.1 204 No Content\r\n", "\r\n", DROPPED),
     ] {
         let mut bench = connect(rt, alloc, client)?;
@@ -82,7 +88,12 @@ fn a_body_grows_by_the_standard(rt: HostRuntime) -> Result<(), Fail> {
     for (client, rest) in [(new, chunks), (old, "Connection: close\r\n\r\nhiyou")] {
         let mut bench = connect_standard(rt, alloc, client)?;
         answer(alloc, &mut bench, 200)?;
-        assert_output(&rt, alloc, &bench.output, &["HTTP/1.1 200 OK\r\n", DATED, rest])?;
+        assert_output(
+            &rt,
+            alloc,
+            &bench.output,
+            &["HTTP/1.1 200 OK\r\n", DATED, rest],
+        )?;
     }
     Ok(())
 }
@@ -98,7 +109,11 @@ fn nothing_follows_a_body_that_was_dropped(rt: HostRuntime) -> Result<(), Fail> 
     grow(&mut body)?;
     drop(body);
     second.respond(Response::empty(alloc, StatusCode(200)), now()?)?;
-    let sent = ["HTTP/1.1 200 OK\r\n", DATED, "Transfer-Encoding: chunked\r\n\r\n2\r\nhi\r\n"];
+    let sent = [
+        "HTTP/1.1 200 OK\r\n",
+        DATED,
+        "Transfer-Encoding: chunked\r\n\r\n2\r\nhi\r\n",
+    ];
     assert_output(&rt, alloc, &bench.output, &sent)
 }
 
