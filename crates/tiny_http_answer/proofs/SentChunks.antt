@@ -13,6 +13,8 @@ use Rattle.std.proofs.Math.Seq.{take-add}
 use Rattle.tiny_http_wire.specs.Bytes.{HasNo, has_bare_front, has_bare_end, semicolon}
 use Rattle.tiny_http_wire.specs.Lines.{has_crlf}
 use Rattle.tiny_http_wire.specs.Chunks.{is_bws, is_hex, SizeText, Chunk, chunk_text, IsChunk, data_of, WholeChunks}
+use Rattle.tiny_http_wire.specs.Streamed.{pieces_text, joined, IsPiece}
+use Rattle.tiny_http_wire.specs.declared.streamed.StreamedForm.TheVariants.{Chunks as StreamedChunks}
 use Rattle.tiny_http_wire.specs.ChunkedPrinting.{printed_chunk, first_chunks, full_chunks, left_over, short_chunk, chunked}
 
 -- a hexadecimal digit is not white space and no semicolon
@@ -163,7 +165,20 @@ all-append : (xs ys : List Chunk) → AllByRecursion IsChunk xs → AllByRecursi
 all-append [] ys h k = k
 all-append (x ∷ xs) ys h k = (h.0, all-append xs ys h.1 k)
 
--- chunks of 8192 bytes, the short one and the end are a chunked body
+-- chunks and the end are a chunked body
+whole-of : (all : List Chunk) (text bytes rest : List ℕ) → flat_map chunk_text all ≡ text → data_of all ≡ bytes → AllByRecursion IsChunk all → WholeChunks ((text ++ codes "0\r\n\r\n") ++ rest) bytes rest
+whole-of all text bytes rest sent data stand = record {
+  chunks = all;
+  last = 48 ∷ [];
+  trailers = [];
+  joins = append_assoc text (codes "0\r\n\r\n") rest ∙ ap (λ y. y ++ (codes "0\r\n\r\n" ++ rest)) (sym sent);
+  body_is = sym data;
+  are_chunks = stand;
+  is_last_chunk = ((omega arith, refl), record { part = 48 ∷ []; extension = []; digits = 48 ∷ []; joins = refl; no_semicolon = refl; extends = tt; trims = record { before = []; after = []; joins = refl; blank_before = refl; blank_after = refl; bare_front = refl; bare_end = refl }; some_digit = omega arith; few_digits = omega arith; hexadecimal = refl; value = refl });
+  are_trailers = tt;
+}
+
+-- chunks of 8192 bytes, the short one and the end are such a body
 pub sent-chunks : (bytes rest : List ℕ) → WholeChunks (chunked bytes ++ rest) bytes rest
 unfolding full_chunks left_over
 sent-chunks bytes rest =
@@ -174,14 +189,25 @@ sent-chunks bytes rest =
     let all = pieces n bytes ++ last_piece left in
     let text : flat_map chunk_text all ≡ first_chunks n bytes ++ short_chunk left = chunks-append (pieces n bytes) (last_piece left) ∙ rw (pieces-text n bytes, last-text left) refl in
     let sent : data_of all ≡ bytes = data-append (pieces n bytes) (last_piece left) ∙ (rw (pieces-data n bytes, last-data-step left (length left == 0) refl) (take-append-drop (n * 8192) bytes)) in
-    record {
-      chunks = all;
-      last = 48 ∷ [];
-      trailers = [];
-      joins = append_assoc (first_chunks n bytes ++ short_chunk left) (codes "0\r\n\r\n") rest ∙ ap (λ y. y ++ (codes "0\r\n\r\n" ++ rest)) (sym text);
-      body_is = sym sent;
-      are_chunks = all-append (pieces n bytes) (last_piece left) (pieces-stand n bytes fits) (last-stand-step left (length left == 0) refl few);
-      is_last_chunk = ((omega arith, refl), record { part = 48 ∷ []; extension = []; digits = 48 ∷ []; joins = refl; no_semicolon = refl; extends = tt; trims = record { before = []; after = []; joins = refl; blank_before = refl; blank_after = refl; bare_front = refl; bare_end = refl }; some_digit = omega arith; few_digits = omega arith; hexadecimal = refl; value = refl });
-      are_trailers = tt;
-      few_trailers = omega arith;
-    }
+    whole-of all (first_chunks n bytes ++ short_chunk left) bytes rest text sent (all-append (pieces n bytes) (last_piece left) (pieces-stand n bytes fits) (last-stand-step left (length left == 0) refl few))
+
+-- the chunks of pieces of any size up to 8192 bytes
+abbrev chunks_of : List (List ℕ) → List Chunk
+chunks_of [] = []
+chunks_of (p ∷ ps) = last_piece p ++ chunks_of ps
+
+chunks_of-text : (ps : List (List ℕ)) → flat_map chunk_text (chunks_of ps) ≡ pieces_text StreamedChunks ps
+chunks_of-text [] = refl
+chunks_of-text (p ∷ ps) = chunks-append (last_piece p) (chunks_of ps) ∙ rw (last-text p, chunks_of-text ps) refl
+
+chunks_of-data : (ps : List (List ℕ)) → data_of (chunks_of ps) ≡ joined ps
+chunks_of-data [] = refl
+chunks_of-data (p ∷ ps) = data-append (last_piece p) (chunks_of ps) ∙ rw (last-data-step p (length p == 0) refl, chunks_of-data ps) refl
+
+chunks_of-stand : (ps : List (List ℕ)) → AllByRecursion IsPiece ps → AllByRecursion IsChunk (chunks_of ps)
+chunks_of-stand [] h = tt
+chunks_of-stand (p ∷ ps) h = all-append (last_piece p) (chunks_of ps) (last-stand-step p (length p == 0) refl h.0) (chunks_of-stand ps h.1)
+
+-- these and the end are such a body
+pub sent-pieces : (ps : List (List ℕ)) (rest : List ℕ) → AllByRecursion IsPiece ps → WholeChunks ((pieces_text StreamedChunks ps ++ codes "0\r\n\r\n") ++ rest) (joined ps) rest
+sent-pieces ps rest h = whole-of (chunks_of ps) (pieces_text StreamedChunks ps) (joined ps) rest (chunks_of-text ps) (chunks_of-data ps) (chunks_of-stand ps h)

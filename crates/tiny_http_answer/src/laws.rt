@@ -8,6 +8,8 @@ ghost use Rattle.tiny_http_wire.specs.Answer.{Answer, Printing, text_of};
 ghost use Rattle.tiny_http_wire.specs.Device.{Feed, IsFront};
 ghost use Rattle.tiny_http_answer.specs.SentTexts.{SentText, IsSentText, BreaksOff, StandIn, joined_texts, methods, whole_answers, remains};
 ghost use Rattle.tiny_http_wire.specs.Text.{Whole, Broken};
+ghost use Rattle.tiny_http_wire.specs.Chunks.{WholeChunks};
+ghost use Rattle.tiny_http_wire.specs.Streamed.{pieces_text, end_text, joined, IsPiece};
 ghost use Rattle.std.specs.List.{AllByRecursion};
 ghost use Rattle.std.specs.declared.io.ErrorKind.{ErrorKind};
 
@@ -49,4 +51,10 @@ pub fn fronts_are_unfinished()
 pub fn sent_texts_are_read()
     ensures whole { (texts : List SentText) → AllByRecursion IsSentText texts → ReadsAnswers (methods texts) (joined_texts texts) (whole_answers texts) (remains texts) }
     ensures cut { (texts : List SentText) (out : List ℕ) → AllByRecursion IsSentText texts → IsFront out (joined_texts texts) → (answers : List ClientAnswer) × (rest : List ℕ) × ReadsAnswers (methods texts) out answers rest × StandIn texts out answers rest }
+{}
+
+/// A body that grew while it was sent in chunks is read as its pieces joined, however it was cut into them (RFC 9112, section 7.1).
+pub fn streamed_chunks_are_read()
+    ensures { (pieces : List (List ℕ)) (rest : List ℕ) → AllByRecursion IsPiece pieces
+        → WholeChunks ((pieces_text StreamedForm.Chunks pieces ++ end_text StreamedForm.Chunks) ++ rest) (joined pieces) rest }
 {}

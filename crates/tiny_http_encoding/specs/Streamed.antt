@@ -1,5 +1,6 @@
 -- What a contract sees of a body that grows.
 use Rattle.std.specs.Prelude.{◌≡◌, ◌⊎◌, ℕ, ◌<◌, ◌≤◌, Bool, false, List, [], ◌++◌, length, take, Result, Ok, Err, IfErr, IsErr, codes}
+use Rattle.std.specs.List.{flat_map, AllByRecursion}
 use Rattle.std.specs.IoError.{error_kind}
 use Rattle.std.specs.declared.io.Error.{Error}
 use Rattle.std.specs.declared.io.ErrorKind.TheVariants.{BrokenPipe}
@@ -32,6 +33,37 @@ abbrev pub end_text : StreamedForm → List ℕ
 end_text Chunks = codes "0\r\n\r\n"
 end_text Plain = []
 end_text Absent = []
+
+-- pieces of a body as they are sent, and the bytes that they join to
+abbrev pub pieces_text : StreamedForm → List (List ℕ) → List ℕ
+pieces_text form pieces = flat_map (piece_text form) pieces
+
+abbrev pub joined : List (List ℕ) → List ℕ
+joined pieces = flat_map (λ piece. piece) pieces
+
+-- a piece has no more bytes than a chunk may have
+abbrev pub IsPiece : List ℕ → Type 0
+IsPiece bytes = length bytes ≤ CHUNK
+
+-- From one state of a writer to another a body was given these bytes: all but those that are held, which are less than a chunk, were sent
+-- in pieces.
+pub record SentPieces (form : StreamedForm) (start now : Sink) (given held : List ℕ) : Type 0 where
+  pub pieces : List (List ℕ)
+  pub sent : Took start now (pieces_text form pieces)
+  pub joins : given ≡ joined pieces ++ held
+  pub bounds : AllByRecursion IsPiece pieces
+  pub few : length held < CHUNK
+
+-- From this state of its writer on a body was given these bytes, and did not fail.
+abbrev pub HasStreamed : {W : Type 0} → Sink → List ℕ → StreamedState W → Type 0
+HasStreamed start given s = (s.failed ≡ false) × SentPieces s.form start s.sink given s.held
+
+-- THE WHOLE BODY of these bytes was sent, in pieces, and its end
+pub record EndsStreamed (form : StreamedForm) (start now : Sink) (given : List ℕ) : Type 0 where
+  pub pieces : List (List ℕ)
+  pub sent : Took start now (pieces_text form pieces ++ end_text form)
+  pub joins : given ≡ joined pieces
+  pub bounds : AllByRecursion IsPiece pieces
 
 -- bytes that don't fill a piece are held; those that fill one are sent
 abbrev pub Holds : StreamedForm → Sink → Sink → List ℕ → List ℕ → Type 0

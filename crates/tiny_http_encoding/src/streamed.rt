@@ -1,6 +1,6 @@
 //! A body that grows while it is sent.
-ghost use Rattle.std.specs.Prelude.{◌≡◌, ◌+◌, ◌<◌, ◌≤◌, ◌++◌, [], true, false, length, take, IfOk, IfErr, OnOk, OnErr};
-ghost use Rattle.tiny_http_device.specs.Device.{Puts, Took, HoldsNothing};
+ghost use Rattle.std.specs.Prelude.{◌≡◌, List, ℕ, ◌+◌, ◌<◌, ◌≤◌, ◌++◌, [], true, false, length, take, IfOk, IfErr, OnOk, OnErr};
+ghost use Rattle.tiny_http_device.specs.Device.{Sink, Puts, Took, HoldsNothing};
 ghost use Rattle.tiny_http_encoding.specs.Streamed.{piece_text, end_text, Gathers};
 
 use crate::chunks::{CHUNK, put_chunk};
@@ -63,6 +63,16 @@ fn put_piece<W: WriteDevice>(
     }
 }
 
+// Sends the end of a body.
+fn put_end<W: WriteDevice>(writer: &mut W, form: StreamedForm) -> Result<(), io::Error>
+    ensures { Puts (W.sink writer.old) (W.sink writer.new) result (end_text form) }
+{
+    match form {
+        StreamedForm::Chunks => put(writer, b"0\r\n\r\n"),
+        StreamedForm::Plain | StreamedForm::Absent => put(writer, b""),
+    }
+}
+
 /// Takes bytes from the front of a text, at least one if there is one, behind the first `len` of the buffer. Where they fill it they
 /// are sent.
 pub(crate) fn gather<W: WriteDevice>(
@@ -92,11 +102,12 @@ pub(crate) fn gather<W: WriteDevice>(
 }
 
 impl<W: WriteDevice> Streamed<W> {
-    ghost use Rattle.tiny_http_encoding.specs.Streamed.{begun, IsBroken};
+    ghost use Rattle.tiny_http_encoding.specs.Streamed.{begun, HasStreamed, EndsStreamed, IsBroken};
 
     /// A body of this form, of which nothing has come yet, on this writer, which has taken the head of its answer.
     pub fn new(inner: W, form: StreamedForm) -> Streamed<W>
-        ensures { result ≡ begun inner (W.sink inner) form }
+        ensures begun { result ≡ begun inner (W.sink inner) form }
+        ensures begins { HasStreamed (W.sink inner) [] result }
     {
         Streamed {
             inner,
@@ -135,7 +146,8 @@ impl<W: WriteDevice> Streamed<W> {
     pub fn finish(mut self) -> Result<W, io::Error>
     where
         W: Drop,
-        ensures body { IfOk result (λ w. Took self.sink (W.sink w) (piece_text self.form self.held ++ end_text self.form)) }
+        ensures rest { IfOk result (λ w. Took self.sink (W.sink w) (piece_text self.form self.held ++ end_text self.form)) }
+        ensures body { IfOk result (λ w. (start : Sink) (given : List ℕ) → HasStreamed start given self → EndsStreamed self.form start (W.sink w) given) }
         ensures open { OnOk result (self.failed ≡ false) }
         ensures after { self.failed ≡ true → IsBroken result }
     {
@@ -143,9 +155,7 @@ impl<W: WriteDevice> Streamed<W> {
             return Err(ErrorKind::BrokenPipe.into());
         }
         put_piece(&mut self.inner, self.form, &self.held[..self.len])?;
-        if self.form == StreamedForm::Chunks {
-            put(&mut self.inner, b"0\r\n\r\n")?;
-        }
+        put_end(&mut self.inner, self.form)?;
         Ok(self.inner)
     }
 
@@ -165,7 +175,7 @@ impl<W: WriteDevice> Streamed<W> {
 
 impl<W: WriteDevice> Write for Streamed<W> {
     ghost use Rattle.std.specs.Io.{WritesAtMost};
-    ghost use Rattle.tiny_http_encoding.specs.Streamed.{IsBroken};
+    ghost use Rattle.tiny_http_encoding.specs.Streamed.{HasStreamed, IsBroken};
 
     /// Takes some of the bytes, at least one if there is one, and says how many. Where they fill a piece of 8192 bytes it is sent; else
     /// they are held. The error is the writer's first fault, or of kind `BrokenPipe` after it.
@@ -173,6 +183,7 @@ impl<W: WriteDevice> Write for Streamed<W> {
         ensures bound { WritesAtMost result buf.now }
         ensures gathers { self.old.failed ≡ false → Gathers self.old.form self.old.sink self.new.sink self.old.held self.new.held result buf.now }
         ensures form { self.new.form ≡ self.old.form }
+        ensures body { IfOk result (λ n. (start : Sink) (given : List ℕ) → HasStreamed start given self.old → HasStreamed start (given ++ take n buf.now) self.new) }
         ensures open { OnOk result (self.new.failed ≡ false) }
         ensures ended { OnErr result (self.new.failed ≡ true) }
         ensures after { self.old.failed ≡ true → IsBroken result × (self.new ≡ self.old) }
@@ -180,15 +191,19 @@ impl<W: WriteDevice> Write for Streamed<W> {
         if self.failed {
             return Err(ErrorKind::BrokenPipe.into());
         }
-        let taken = gather(
+        match gather(
             &mut self.inner,
             self.form,
             &mut self.held,
             &mut self.len,
             buf,
-        );
-        self.failed = taken.is_err();
-        taken
+        ) {
+            Ok(count) => Ok(count),
+            Err(fault) => {
+                self.failed = true;
+                Err(fault)
+            }
+        }
     }
 
     /// Sends what is held as one piece, and flushes the writer. Errors as `write`.
@@ -197,6 +212,7 @@ impl<W: WriteDevice> Write for Streamed<W> {
         ensures held { OnOk result (self.new.held ≡ []) }
         ensures sent { OnOk result (self.new.sink.has_ended ≡ false → HoldsNothing self.new.sink) }
         ensures form { self.new.form ≡ self.old.form }
+        ensures body { OnOk result ((start : Sink) (given : List ℕ) → HasStreamed start given self.old → HasStreamed start given self.new) }
         ensures open { OnOk result (self.new.failed ≡ false) }
         ensures ended { OnErr result (self.new.failed ≡ true) }
         ensures after { self.old.failed ≡ true → IsBroken result × (self.new ≡ self.old) }
@@ -204,8 +220,12 @@ impl<W: WriteDevice> Write for Streamed<W> {
         if self.failed {
             return Err(ErrorKind::BrokenPipe.into());
         }
-        let sent = self.send();
-        self.failed = sent.is_err();
-        sent
+        match self.send() {
+            Ok(()) => Ok(()),
+            Err(fault) => {
+                self.failed = true;
+                Err(fault)
+            }
+        }
     }
 }

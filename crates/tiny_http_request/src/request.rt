@@ -13,7 +13,7 @@ ghost use Rattle.tiny_http_message.specs.Framing.{value_of};
 ghost use Rattle.tiny_http_text.specs.Bytes.{is_ascii};
 ghost use Rattle.tiny_http_message.specs.HeadValues.{is_upgrade};
 ghost use Rattle.tiny_http_message.specs.FramingReading.{framing};
-ghost use Rattle.tiny_http_message.specs.Body.{is_streaming, is_whole, bytes_left, body_stop, remaining, prepended_body};
+ghost use Rattle.tiny_http_message.specs.Body.{is_streaming, is_whole, bytes_left, body_stop, IsBodyOver, remaining, prepended_body};
 ghost use Rattle.tiny_http_message.specs.OpenRequest.{request_check, refuses_code};
 ghost use Rattle.tiny_http_message.specs.HeadReads.{head_framing, Begins};
 ghost use Rattle.tiny_http_request.specs.Request.{IsInvalidInput, asks_for, request_head, request_secure, request_address, request_open, is_expectation_failed, IfCreationIo, cut_kind, IsCutShort, BeginsWith, Says, IsFramed, FailsBy};
@@ -337,10 +337,12 @@ impl<R: ReadDevice + Drop, W: WriteDevice + Drop, Rt: Wait + Drop> Request<R, W,
     /// `Interrupted` too. It is `Memory` where memory was refused. Memory is taken as bytes come, and not for a length that is stated.
     ///
     /// After `TooLong` at once nothing has changed. After any other error the bytes that were read are lost, and the body goes on where
-    /// it stands. A fault is reported again by a later call. So is `Cut`, but of a body of a known length under `Lenient` and `Strict`:
-    /// it is over then, and a later call answers no byte.
+    /// it stands. A fault is reported again by a later call. So is `Cut`, except of a body of a known length under `Lenient` and
+    /// `Strict`: it is over then, and a later call answers no byte.
     ///
-    /// A body that is all that follows the head, as that of an upgrade but under `Standard`, ends with the client's bytes.
+    /// The request isn't answered by an error: a handler that passes it on by `?` drops the request, which sends a 500. The code of
+    /// each error stands at `BodyError`. A body that is all that follows the head, as that of an upgrade under each profile except
+    /// `Standard`, ends with the client's bytes.
     pub fn read_body(
         &mut self,
         alloc: Global,
@@ -354,6 +356,8 @@ impl<R: ReadDevice + Drop, W: WriteDevice + Drop, Rt: Wait + Drop> Request<R, W,
         ensures held { is_streaming (request_open self.old).body ≡ false → (feed : Option Feed)
             → IfOk result (λ bytes. remaining (request_open self.old).body feed ≡ prepended_body bytes.items (remaining (request_open self.new).body feed)) }
         ensures again { (kind : ErrorKind) → body_stop (request_open self.old).body ≡ Some (Fault kind) → OnOk result ⊥ }
+        // A body that is read from the connection was read to its end.
+        ensures over { OnOk result (is_streaming (request_open self.old).body ≡ true → (bytes_left (request_open self.old).body ≡ Some 0) ⊎ IsBodyOver (request_open self.new).body) }
         ensures fails { IfErr result (λ e. FailsWhole (request_head self.old).form most (request_open self.old).body (request_open self.new).body e) }
         ensures continued { OnOk result ((request_open self.new).owes_continue ≡ false) }
         ensures head { request_head self.new ≡ request_head self.old }

@@ -1,10 +1,10 @@
 //! The body of a request, read whole.
-ghost use Rattle.std.specs.Prelude.{◌≡◌, ◌≤◌, ℕ, false, length, Option, Some, None, IfOk, IfErr, OnOk};
+ghost use Rattle.std.specs.Prelude.{◌≡◌, ◌⊎◌, ◌≤◌, ℕ, true, false, length, Option, Some, None, IfOk, IfErr, OnOk};
 ghost use Rattle.std.specs.IoError.{error_kind};
 ghost use Rattle.std.specs.declared.io.ErrorKind.{ErrorKind};
 ghost use Rattle.tiny_http_device.specs.Device.{Feed};
 ghost use Rattle.tiny_http_device.specs.declared.device.Stop.TheVariants.{Fault};
-ghost use Rattle.tiny_http_message.specs.Body.{is_streaming, bytes_left, body_stop, remaining, prepended_body};
+ghost use Rattle.tiny_http_message.specs.Body.{is_streaming, bytes_left, body_stop, IsBodyOver, remaining, prepended_body};
 ghost use Rattle.tiny_http_message.specs.declared.body.Body.{Body as Unread};
 ghost use Rattle.tiny_http_request.specs.WholeBody.{fault_error, FailsReading, FailsWhole};
 
@@ -26,16 +26,16 @@ pub enum BodyError {
     /// It has more bytes than may be read: 413 (RFC 9110, section 15.5.14).
     #[error("the body is too long")]
     TooLong,
-    /// The client's bytes ended within it (RFC 9112, section 8).
+    /// The client's bytes ended within it (RFC 9112, section 8): 400, if the client still reads.
     #[error("the body is cut")]
     Cut,
-    /// It comes in chunks, and they break the grammar (RFC 9112, section 7.1).
+    /// It comes in chunks, and they break the grammar (RFC 9112, section 7.1): 400.
     #[error("the chunks of the body are broken")]
     Broken,
-    /// Another fault of the client's reader.
+    /// Another fault of the client's reader: there is mostly nobody to answer.
     #[error("{0}")]
     Io(io::Error),
-    /// Memory was refused.
+    /// Memory was refused: 503.
     #[error("out of memory")]
     Memory,
 }
@@ -103,6 +103,7 @@ fn read_exactly<R: ReadDevice + Drop, Rt: Wait + Drop>(
     ensures count { IfOk result (λ bytes. length bytes.items ≡ count) }
     ensures held { is_streaming body.old ≡ false → (feed : Option Feed)
         → IfOk result (λ bytes. remaining body.old feed ≡ prepended_body bytes.items (remaining body.new feed)) }
+    ensures over { OnOk result (is_streaming body.old ≡ true → (count ≡ 0) ⊎ IsBodyOver body.new) }
     ensures fails { IfErr result (FailsReading body.old body.new) }
 {
     let mut bytes = Vec::new(alloc);
@@ -129,6 +130,7 @@ fn read_to_end<R: ReadDevice + Drop, Rt: Wait + Drop>(
     ensures held { is_streaming body.old ≡ false → (feed : Option Feed)
         → IfOk result (λ bytes. remaining body.old feed ≡ prepended_body bytes.items (remaining body.new feed)) }
     ensures again { (kind : ErrorKind) → body_stop body.old ≡ Some (Fault kind) → OnOk result ⊥ }
+    ensures over { OnOk result (IsBodyOver body.new) }
     ensures fails { IfErr result (FailsReading body.old body.new) }
 {
     let mut bytes = Vec::new(alloc);
@@ -159,6 +161,7 @@ pub(crate) fn read_left<R: ReadDevice + Drop, Rt: Wait + Drop>(
     ensures held { is_streaming body.old ≡ false → (feed : Option Feed)
         → IfOk result (λ bytes. remaining body.old feed ≡ prepended_body bytes.items (remaining body.new feed)) }
     ensures again { (kind : ErrorKind) → body_stop body.old ≡ Some (Fault kind) → OnOk result ⊥ }
+    ensures over { OnOk result (is_streaming body.old ≡ true → (bytes_left body.old ≡ Some 0) ⊎ IsBodyOver body.new) }
     ensures fails { IfErr result (λ e. FailsWhole form most body.old body.new e) }
 {
     let read = match body.left() {

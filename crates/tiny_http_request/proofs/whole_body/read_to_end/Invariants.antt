@@ -1,8 +1,8 @@
-use Rattle.std.proofs.Common.{◌≡◌, ◌-◌, ◌≤◌, false, length, Option, Some}
+use Rattle.std.proofs.Common.{◌≡◌, ◌-◌, ◌≤◌, false, length, Option, Some, None}
 use Rattle.std.specs.declared.io.ErrorKind.{ErrorKind}
 use Rattle.tiny_http_device.specs.Device.{Feed}
 use Rattle.tiny_http_device.specs.declared.device.Stop.TheVariants.{Fault}
-use Rattle.tiny_http_message.specs.Body.{remaining, prepended_body, is_streaming, body_stop}
+use Rattle.tiny_http_message.specs.Body.{remaining, prepended_body, is_streaming, bytes_left, body_stop}
 use Rattle.tiny_http_request.proofs.whole_body.read_to_end.Given as goal
 
 abbrev pub invariant-loop-bytes : goal.invariant-loop-bytes
@@ -10,6 +10,7 @@ invariant-loop-bytes g l = record {
   within : length l.bytes.items ≤ l.most;
   held : is_streaming l.initial.body ≡ false → (feed : Option Feed) → remaining l.initial.body feed ≡ prepended_body l.bytes.items (remaining l.body feed);
   settled : is_streaming l.initial.body ≡ false → is_streaming l.body ≡ false;
+  unknown : bytes_left l.body ≡ None;
   again : (kind : ErrorKind) → body_stop l.initial.body ≡ Some (Fault kind) → body_stop l.body ≡ Some (Fault kind);
 }
 
