@@ -9,6 +9,7 @@ ghost use Rattle.tiny_http_wire.specs.Device.{Feed, IsFront};
 ghost use Rattle.tiny_http_answer.specs.SentTexts.{SentText, IsSentText, BreaksOff, StandIn, joined_texts, methods, whole_answers, remains};
 ghost use Rattle.tiny_http_wire.specs.Text.{Whole, Broken};
 ghost use Rattle.tiny_http_wire.specs.Chunks.{WholeChunks};
+ghost use Rattle.tiny_http_wire.specs.declared.streamed.StreamedForm.TheVariants.{Chunks};
 ghost use Rattle.tiny_http_wire.specs.Streamed.{pieces_text, end_text, joined, IsPiece};
 ghost use Rattle.std.specs.List.{AllByRecursion};
 ghost use Rattle.std.specs.declared.io.ErrorKind.{ErrorKind};
@@ -56,5 +57,5 @@ pub fn sent_texts_are_read()
 /// A body that grew while it was sent in chunks is read as its pieces joined, however it was cut into them (RFC 9112, section 7.1).
 pub fn streamed_chunks_are_read()
     ensures { (pieces : List (List ℕ)) (rest : List ℕ) → AllByRecursion IsPiece pieces
-        → WholeChunks ((pieces_text StreamedForm.Chunks pieces ++ end_text StreamedForm.Chunks) ++ rest) (joined pieces) rest }
+        → WholeChunks ((pieces_text Chunks pieces ++ end_text Chunks) ++ rest) (joined pieces) rest }
 {}
