@@ -1,9 +1,9 @@
 #!/usr/bin/env python3
 """The programs of the repository, tried from outside over loopback: run.py NAME=PROGRAM [NAME=PROGRAM..]
 
-NAME is websocket_echo, and PROGRAM is the built program, which is called as PROGRAM ADDRESS and prints its address.
+NAME is router or websocket_echo, and PROGRAM is the built program, which is called as PROGRAM ADDRESS and prints its address.
 The clients are curl and one of Python's. Each trial prints one line; all together take a few seconds."""
-import base64, hashlib, os, re, socket, subprocess, sys, threading
+import base64, hashlib, http.client, json, os, re, socket, subprocess, sys, threading
 
 failed = []
 
@@ -19,6 +19,30 @@ def curl(port, path, *words):
     call = ['curl', '-sS', '-m', '5', '-w', '\n%{http_code}', *words, f'http://127.0.0.1:{port}{path}']
     body, _, status = subprocess.run(call, capture_output=True, text=True, timeout=10).stdout.rpartition('\n')
     return int(status or 0), body
+
+
+def try_router(port):
+    seen = curl(port, '/notes', '-d', '{"text": "one"}')
+    report('a note is added', seen == (201, '{"id":1,"text":"one"}'), seen)
+    seen = curl(port, '/notes', '-H', 'Transfer-Encoding: chunked', '-d', '{"text": "two"}')
+    report('a note in chunks is added', seen == (201, '{"id":2,"text":"two"}'), seen)
+    # A body that isn't asked for, and a request behind it on the same connection.
+    seen = curl(port, '/notes', '-H', 'Expect: 100-continue', '-d', 'x' * 70_000, '--next', '-sS', '-m', '5', '-w', '\n%{http_code}', f'http://127.0.0.1:{port}/notes/1')
+    report('a long body is refused', seen[0] == 200 and '413' in seen[1], seen)
+    seen = curl(port, '/notes', '-X', 'PUT')
+    report('a method is refused', seen[0] == 405, seen)
+    client = http.client.HTTPConnection('127.0.0.1', port, timeout=5)
+    for path, wanted in [('/notes', [1, 2]), ('/notes?x=1', [1, 2])]:
+        client.request('GET', path)
+        answer = client.getresponse()
+        numbers = [note['id'] for note in json.loads(answer.read())]
+        report('notes are listed', answer.status == 200 and numbers == wanted, numbers)
+    client.request('DELETE', '/notes/1')
+    answer = client.getresponse()
+    report('a note is removed', (answer.status, json.loads(answer.read())['text']) == (200, 'one'), answer.status)
+    client.request('GET', '/notes/1')
+    answer = client.getresponse()
+    report('it is gone', answer.status == 404, answer.read().decode())
 
 
 def frame(opcode, data):
@@ -64,7 +88,7 @@ def try_websocket_echo(port):
     report('and the end comes', stream.read() == b'', 'the end')
 
 
-TRIALS = {'websocket_echo': try_websocket_echo}
+TRIALS = {'router': try_router, 'websocket_echo': try_websocket_echo}
 
 
 def main():
