@@ -77,7 +77,7 @@ Streamed-sent form start a b given was held more h bound took e =
       pieces = h.pieces ++ (piece ∷ []);
       sent = subst (λ (y : List ℕ). Took start b y) (sym (one-more (piece_text form) h.pieces piece)) (Took-append start a b (pieces_text form h.pieces) (piece_text form piece) h.sent took);
       joins = ap (λ (y : List ℕ). y ++ more) h.joins ∙ append_assoc (joined h.pieces) was more ∙ sym (one-more (λ (p : List ℕ). p) h.pieces piece)
-        ∙ sym (append-nil (joined (h.pieces ++ (piece ∷ [])))) ∙ ap (λ (y : List ℕ). joined (h.pieces ++ (piece ∷ [])) ++ y) (sym e);
+          ∙ sym (append-nil (joined (h.pieces ++ (piece ∷ [])))) ∙ ap (λ (y : List ℕ). joined (h.pieces ++ (piece ∷ [])) ++ y) (sym e);
       bounds = bounds-more h.pieces piece h.bounds bound;
       few = subst (λ (y : List ℕ). length y < 8192) (sym e) (omega arith);
     }
@@ -95,16 +95,16 @@ pub Streamed-flushed : (form : StreamedForm) (start a b : Sink) (given was held 
 Streamed-flushed form start a b given was held h took e =
     let all : was ++ [] ≡ was = append-nil was in
     subst (λ (y : List ℕ). SentPieces form start b y held) (append-nil given)
-        (Streamed-sent form start a b given was held [] h (subst (λ (y : List ℕ). length y ≤ 8192) (sym all) (omega (arith, h.few)))
-            (subst (λ (y : List ℕ). Took a b (piece_text form y)) (sym all) took) e)
+    (Streamed-sent form start a b given was held [] h (subst (λ (y : List ℕ). length y ≤ 8192) (sym all) (omega (arith, h.few)))
+    (subst (λ (y : List ℕ). Took a b (piece_text form y)) (sym all) took) e)
 
 -- the body has ended
 pub Streamed-ended : (form : StreamedForm) (start a b : Sink) (given held : List ℕ) → SentPieces form start a given held → Took a b (piece_text form held ++ end_text form) → EndsStreamed form start b given
 Streamed-ended form start a b given held h took = record {
   pieces = h.pieces ++ (held ∷ []);
   sent = subst (λ (y : List ℕ). Took start b y)
-    (sym (append_assoc (pieces_text form h.pieces) (piece_text form held) (end_text form)) ∙ ap (λ (y : List ℕ). y ++ end_text form) (sym (one-more (piece_text form) h.pieces held)))
-    (Took-append start a b (pieces_text form h.pieces) (piece_text form held ++ end_text form) h.sent took);
+      (sym (append_assoc (pieces_text form h.pieces) (piece_text form held) (end_text form)) ∙ ap (λ (y : List ℕ). y ++ end_text form) (sym (one-more (piece_text form) h.pieces held)))
+      (Took-append start a b (pieces_text form h.pieces) (piece_text form held ++ end_text form) h.sent took);
   joins = h.joins ∙ sym (one-more (λ (p : List ℕ). p) h.pieces held);
   bounds = bounds-more h.pieces held h.bounds (omega (arith, h.few));
 }
