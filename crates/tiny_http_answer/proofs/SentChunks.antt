@@ -167,12 +167,12 @@ all-append (x ∷ xs) ys h k = (h.0, all-append xs ys h.1 k)
 
 -- chunks and the end are a chunked body
 whole-of : (all : List Chunk) (text bytes rest : List ℕ) → flat_map chunk_text all ≡ text → data_of all ≡ bytes → AllByRecursion IsChunk all → WholeChunks ((text ++ codes "0\r\n\r\n") ++ rest) bytes rest
-whole-of all text bytes rest sent data stand = record {
+whole-of all text bytes rest sent given stand = record {
   chunks = all;
   last = 48 ∷ [];
   trailers = [];
   joins = append_assoc text (codes "0\r\n\r\n") rest ∙ ap (λ y. y ++ (codes "0\r\n\r\n" ++ rest)) (sym sent);
-  body_is = sym data;
+  body_is = sym given;
   are_chunks = stand;
   is_last_chunk = ((omega arith, refl), record { part = 48 ∷ []; extension = []; digits = 48 ∷ []; joins = refl; no_semicolon = refl; extends = tt; trims = record { before = []; after = []; joins = refl; blank_before = refl; blank_after = refl; bare_front = refl; bare_end = refl }; some_digit = omega arith; few_digits = omega arith; hexadecimal = refl; value = refl });
   are_trailers = tt;

@@ -30,8 +30,8 @@ unknown-stays (Over End) new n some h m = cc
 unknown-stays (Over (Fault kind)) new n some h m = ap bytes_left m.0
 unknown-stays (WithHead bytes) new n some h m = cc
 unknown-stays (Counted k standard) new n some h m = cc
-unknown-stays (Chunked d) new n some h m = chunks-unknown (Chunked d) new _ (rw some at m in m)
-unknown-stays Rest new n some h m = ap bytes_left (rw some at m in m)
+unknown-stays (Chunked d) new n some h m = chunks-unknown (Chunked d) new _ (let k = rw some at m in k)
+unknown-stays Rest new n some h m = ap bytes_left (let k = rw some at m in k)
 
 -- one whose end was reported is over
 pub unknown-ends : (b new : Body) (n : ℕ) → n ≡ 0 → bytes_left b ≡ None → ReadsOn b n (n == 0) new → IsBodyOver new
