@@ -1,0 +1,209 @@
+//! Serves the files of a folder: `files ADDRESS FOLDER`.
+//!
+//! `GET` and `HEAD` alone. A folder is answered by its `index.html`, or else by a list of its files. The program shows a path that stays
+//! within the folder (`leaves_folder`), a file that is sent with its length however long it is (`with_chunked_threshold`), a 304 without
+//! content (`contentless`), and headers that are added by `with`. A file that grows or shrinks while it is sent breaks the answer off:
+//! its length was said. What can't be read is a 404. Where memory is refused the request is dropped, and answered by an empty 500.
+#![tactic(auto)]
+
+use httpdate::HttpDate;
+use percent_encoding::{NON_ALPHANUMERIC, percent_decode_str, utf8_percent_encode};
+use std::alloc::{AllocGlobal, Global};
+use std::fs::OpenFile;
+use std::io::{ErrorKind, Write};
+use std::rt::Files;
+use std::sync::Wait;
+use std::time::Clock;
+use std::{env, fs, io};
+use tiny_http::device::{ReadDevice, WriteDevice};
+use tiny_http::{
+    ConfigListenAddr, Handler, Host, Limits, Method, Profile, Request, Response, Server,
+    ServerConfig, StatusCode, current_date,
+};
+use tiny_http_files::dates::is_not_modified;
+use tiny_http_files::paths::leaves_folder;
+use tiny_http_files::types::type_of;
+
+#[cfg(test)]
+mod tests;
+
+// So many threads answer.
+const THREADS: usize = 4;
+
+/// What reading a folder needs of the machine.
+trait Disk: Files + AllocGlobal + Clock + Wait + Copy {}
+
+impl<Rt: Files + AllocGlobal + Clock + Wait + Copy> Disk for Rt {}
+
+/// The folder whose files are served, by its real path.
+#[derive(Drop)]
+struct Folder {
+    path: String,
+}
+
+// Answers by a code and its phrase.
+fn send_status<R: ReadDevice + Drop, W: WriteDevice + Drop, Rt: Clock + Wait + Drop>(
+    rt: &Rt,
+    alloc: Global,
+    request: Request<R, W, Rt>,
+    code: u16,
+) -> io::Result<()> {
+    request.respond(Response::status(alloc, StatusCode(code))?, current_date(rt))
+}
+
+// Sends a file, unless the client has it already.
+fn send_file<R: ReadDevice + Drop, W: WriteDevice + Drop, Rt: Disk>(
+    rt: &Rt,
+    alloc: Global,
+    request: Request<R, W, Rt>,
+    path: &str,
+) -> io::Result<()> {
+    let Ok(file) = fs::open(rt, path) else {
+        return send_status(rt, alloc, request, 404);
+    };
+    let now = current_date(rt);
+    let modified = HttpDate::try_from(file.metadata()?.modified()?).unwrap_or(now);
+    let date = format!(in alloc; "{modified}")?;
+    if is_not_modified(request.header("If-Modified-Since"), modified) {
+        let answer = Response::contentless(alloc, StatusCode(304));
+        return request.respond(answer.with(alloc, "Last-Modified", date.as_str())?, now);
+    }
+    // By its length, and not in chunks.
+    let answer = Response::from_file(alloc, file)
+        .with_chunked_threshold(usize::MAX)
+        .with(alloc, "Content-Type", type_of(path))?
+        .with(alloc, "Last-Modified", date.as_str())?;
+    request.respond(answer, now)
+}
+
+// Writes a name as it stands in HTML.
+fn push_escaped(html: &mut String, name: &str) -> io::Result<()> {
+    for c in name.chars() {
+        match c {
+            '<' => html.push_str("&lt;")?,
+            '&' => html.push_str("&amp;")?,
+            c => html.push(c)?,
+        }
+    }
+    Ok(())
+}
+
+// A list of names, each a link.
+fn list_of(alloc: Global, names: &[String]) -> io::Result<String> {
+    let mut html = String::from_str(alloc, "<!doctype html>\n<ul>\n")?;
+    for name in names {
+        // With a `.` in front, a name with a colon isn't taken for a scheme.
+        html.push_str("<li><a href=\"./")?;
+        utf8_percent_encode(name.as_str(), NON_ALPHANUMERIC).append_to(&mut html)?;
+        html.push_str("\">")?;
+        push_escaped(&mut html, name.as_str())?;
+        html.push_str("</a>\n")?;
+    }
+    html.push_str("</ul>\n")?;
+    Ok(html)
+}
+
+// Sends the list of a folder.
+fn send_list<R: ReadDevice + Drop, W: WriteDevice + Drop, Rt: Disk>(
+    rt: &Rt,
+    alloc: Global,
+    request: Request<R, W, Rt>,
+    path: &str,
+) -> io::Result<()> {
+    let mut names = Vec::new(alloc);
+    for entry in fs::read_dir(rt, path)? {
+        names.push(String::from_str(alloc, entry?.file_name())?)?;
+    }
+    names.sort()?;
+    let html = list_of(alloc, names.as_slice())?.into_bytes();
+    let answer = Response::from_data(alloc, html);
+    let answer = answer.with(alloc, "Content-Type", "text/html; charset=utf-8")?;
+    request.respond(answer, current_date(rt))
+}
+
+impl Folder {
+    // The real path of what the request's path names, if it is in the folder.
+    fn find<Rt: Disk>(&self, rt: &Rt, alloc: Global, path: &str) -> io::Result<Option<String>> {
+        let Ok(decoded) = percent_decode_str(path).decode_utf8(alloc) else {
+            return Ok(None);
+        };
+        if !path.starts_with('/') || leaves_folder(decoded.as_str()) {
+            return Ok(None);
+        }
+        let joined = format!(in alloc; "{}{}", self.path.as_str(), decoded.as_str())?;
+        let Ok(real) = fs::canonicalize(rt, joined.as_str()) else {
+            return Ok(None);
+        };
+        // A link may lead out of the folder.
+        match real.as_path().to_str() {
+            Some(text) if real.starts_with(self.path.as_str()) => {
+                Ok(Some(String::from_str(alloc, text)?))
+            }
+            _ => Ok(None),
+        }
+    }
+}
+
+impl<R: ReadDevice + Drop, W: WriteDevice + Drop, Rt: Disk> Handler<Rt, Request<R, W, Rt>>
+    for Folder {
+    /// Answers by a file, an index or a list.
+    fn handle(&self, rt: &Rt, alloc: Global, request: Request<R, W, Rt>) -> io::Result<()> {
+        if !matches!(request.method(), Method::Get | Method::Head) {
+            let answer = Response::status(alloc, StatusCode(405))?;
+            return request.respond(answer.with(alloc, "Allow", "GET, HEAD")?, current_date(rt));
+        }
+        let Some(found) = self.find(rt, alloc, request.path())? else {
+            return send_status(rt, alloc, request, 404);
+        };
+        if !fs::metadata(rt, found.as_str())?.is_dir() {
+            return send_file(rt, alloc, request, found.as_str());
+        }
+        if !request.path().ends_with('/') {
+            let location = format!(in alloc; "{}/", request.path())?;
+            let answer = Response::status(alloc, StatusCode(301))?;
+            let answer = answer.with(alloc, "Location", location.as_str())?;
+            return request.respond(answer, current_date(rt));
+        }
+        let index = format!(in alloc; "{}/index.html", found.as_str())?;
+        match fs::metadata(rt, index.as_str()) {
+            Ok(of) if of.is_file() => send_file(rt, alloc, request, index.as_str()),
+            _ => send_list(rt, alloc, request, found.as_str()),
+        }
+    }
+}
+
+// Listens at this address, and answers by the folder.
+fn serve<Rt: Host + Disk, O: Write>(
+    rt: Rt,
+    alloc: Global,
+    address: &str,
+    folder: &Folder,
+    out: &mut O,
+) -> io::Result<()> {
+    let addr = ConfigListenAddr::from_socket_addrs(&rt, alloc, address)?;
+    let config = ServerConfig { addr, ssl: None };
+    let server = Server::with(rt, alloc, config, Profile::Standard, Limits::new())?;
+    writeln!(out, "listening on {}", server.server_addr())?;
+    out.flush()?;
+    server.serve_by(alloc, THREADS, folder)
+}
+
+fn main(rt: HostRuntime) -> io::Result<()> {
+    let alloc = rt.alloc();
+    let words: Vec<String> = env::args(&rt)?.collect(alloc)?;
+    let [_, address, folder] = words.as_slice() else {
+        return Err(ErrorKind::InvalidInput.into());
+    };
+    let real = fs::canonicalize(&rt, folder.as_str())?;
+    let Some(path) = real.as_path().to_str() else {
+        return Err(ErrorKind::InvalidInput.into());
+    };
+    let path = String::from_str(alloc, path)?;
+    serve(
+        rt,
+        alloc,
+        address.as_str(),
+        &Folder { path },
+        &mut rt.stdout(),
+    )
+}
