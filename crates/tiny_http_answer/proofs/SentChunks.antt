@@ -176,6 +176,7 @@ whole-of all text bytes rest sent given stand = record {
   are_chunks = stand;
   is_last_chunk = ((omega arith, refl), record { part = 48 ∷ []; extension = []; digits = 48 ∷ []; joins = refl; no_semicolon = refl; extends = tt; trims = record { before = []; after = []; joins = refl; blank_before = refl; blank_after = refl; bare_front = refl; bare_end = refl }; some_digit = omega arith; few_digits = omega arith; hexadecimal = refl; value = refl });
   are_trailers = tt;
+  few_trailers = omega arith;
 }
 
 -- chunks of 8192 bytes, the short one and the end are such a body

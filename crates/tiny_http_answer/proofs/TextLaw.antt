@@ -231,9 +231,7 @@ module _ (m : Method) (v : HTTPVersion) (status : ℕ) (headers listed : List He
 
   -- whatever it is printed by, a code without content withholds the body
   of-contentless : has_no_content status ≡ true → w ≡ true
-  of-contentless e =
-      let k : (status == 204 || status == 304) ≡ true = ap (λ x. x || (status == 204 || status == 304)) (sym (le-ltb status 200 known.final)) ∙ e in
-      known.same ∙ rw (k, or-true (is_head m)) refl
+  of-contentless e = known.same ∙ sym (withheld-same m status (is_head m) refl known.final) ∙ rw (e, or-true (is_head m)) refl
 
   -- a head that says no length is alone, and any other is by the standard or not
   alone-if : (contentless t : Bool) (o : Option FramingHeader) → (contentless && has_no_content status) ≡ t → IsAlone m head_with rest o → IsAlone m head_with rest (if t then Some Neither else o)
