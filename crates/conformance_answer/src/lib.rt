@@ -2,6 +2,8 @@
 #![tactic(auto)]
 
 #[cfg(test)]
+mod head;
+#[cfg(test)]
 mod same;
 #[cfg(test)]
 mod served;

@@ -16,3 +16,5 @@ mod encoder;
 mod response;
 #[cfg(test)]
 mod same;
+#[cfg(test)]
+mod streamed;
