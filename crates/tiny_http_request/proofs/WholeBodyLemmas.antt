@@ -1,8 +1,7 @@
 -- How a body stands after some of it was read.
-use Rattle.std.proofs.Common.{◌≡◌, refl, sym, ap, subst, ℕ, zero, suc, ◌-◌, ◌<◌, ◌≤◌, ◌==◌, ◌||◌, Bool, true, false, Some, None, ◌⊎◌, inl, inr, arith}
-use Rattle.std.specs.Prelude.{MatchBool}
+use Rattle.std.proofs.Common.{◌≡◌, refl, sym, ap, ◌∙◌, subst, ℕ, zero, suc, ◌-◌, ◌<◌, ◌≤◌, ◌==◌, ◌||◌, Bool, true, false, Some, None, ◌⊎◌, inl, inr, arith}
+use Rattle.std.specs.Prelude.{MatchBool, ⊤}
 use Rattle.std.specs.declared.io.ErrorKind.{ErrorKind}
-use Rattle.std.proofs.lemmas.Bool.{eqb-true}
 use Rattle.tiny_http_device.specs.declared.device.Stop.TheVariants.{End, Fault}
 use Rattle.tiny_http_message.specs.declared.body.Body.{Body}
 use Rattle.tiny_http_message.specs.declared.body.Body.TheVariants.{Over, WithHead, Counted, Chunked, Rest}
@@ -17,26 +16,48 @@ sized-has-no-fault (Counted m standard) n h kind e = cc
 sized-has-no-fault (Chunked d) n h kind e = cc
 sized-has-no-fault Rest n h kind e = cc
 
-chunks-unknown : (b new : Body) (rules : _) → IsChunkedBy rules new → bytes_left new ≡ None
-chunks-unknown b (Over stop) rules h = absurd h
-chunks-unknown b (WithHead bytes) rules h = absurd h
-chunks-unknown b (Counted m standard) rules h = absurd h
-chunks-unknown b (Chunked d) rules h = refl
-chunks-unknown b Rest rules h = absurd h
+-- Of a counted body that is read, so many bytes are left, and so many were taken: none are left alone where it never had one. Or it is
+-- over.
+abbrev pub StandsAt : ℕ → ℕ → Body → Type 0
+StandsAt left taken (Counted n standard) = (n ≡ left) × (left ≡ 0 → taken ≡ 0)
+StandsAt left taken (Over stop) = ⊤
+StandsAt left taken (WithHead bytes) = ⊥
+StandsAt left taken (Chunked d) = ⊥
+StandsAt left taken Rest = ⊥
 
--- a body of an unknown length whose end wasn't reported is still one
-pub unknown-stays : (b new : Body) (n : ℕ) → (n == 0) ≡ false → bytes_left b ≡ None → ReadsOn b n (n == 0) new → bytes_left new ≡ None
-unknown-stays (Over End) new n some h m = cc
-unknown-stays (Over (Fault kind)) new n some h m = ap bytes_left m.0
-unknown-stays (WithHead bytes) new n some h m = cc
-unknown-stays (Counted k standard) new n some h m = cc
-unknown-stays (Chunked d) new n some h m = chunks-unknown (Chunked d) new _ (let k = rw some at m in k)
-unknown-stays Rest new n some h m = ap bytes_left (let k = rw some at m in k)
+some-same : (n m : ℕ) → Some n ≡ Some m → n ≡ m
+some-same n m e = cc
 
--- one whose end was reported is over
-pub unknown-ends : (b new : Body) (n : ℕ) → n ≡ 0 → bytes_left b ≡ None → ReadsOn b n (n == 0) new → IsBodyOver new
-unknown-ends (Over stop) new n e h m = subst IsBodyOver (sym m.0) tt
-unknown-ends (WithHead bytes) new n e h m = cc
-unknown-ends (Counted k standard) new n e h m = cc
-unknown-ends (Chunked d) new n e h m = subst (λ (k : ℕ). MatchBool (k == 0) (IsBodyOver new) (IsChunkedBy _ new)) e m
-unknown-ends Rest new n e h m = subst (λ (k : ℕ). MatchBool (k == 0) (IsBodyOver new) (new ≡ Rest)) e m
+pub stands-begin : (b : Body) (count left : ℕ) → left ≡ count → is_streaming b ≡ true → bytes_left b ≡ Some count → StandsAt left 0 b
+stands-begin (Over stop) count left l s e = tt
+stands-begin (WithHead bytes) count left l s e = cc
+stands-begin (Counted n standard) count left l s e = (some-same n count e ∙ sym l, λ z. refl)
+stands-begin (Chunked d) count left l s e = cc
+stands-begin Rest count left l s e = cc
+
+over-stands : (b : Body) (left taken : ℕ) → IsBodyOver b → StandsAt left taken b
+over-stands (Over stop) left taken h = tt
+over-stands (WithHead bytes) left taken h = absurd h
+over-stands (Counted n standard) left taken h = absurd h
+over-stands (Chunked d) left taken h = absurd h
+over-stands Rest left taken h = absurd h
+
+counted-on : (t : Bool) (new : Body) (m n left taken : ℕ) (standard : Bool) → left ≡ m - n → MatchBool t (IsBodyOver new) ((new ≡ Counted (m - n) standard) × (n < m)) → StandsAt left taken new
+counted-on true new m n left taken standard e h = over-stands new left taken h
+counted-on false new m n left taken standard e h = subst (StandsAt left taken) (sym h.0) (sym e, λ z. absurd (omega (arith, e, z, h.1)))
+
+pub stands-on : (b new : Body) (n left taken left_then taken_then : ℕ) → (n == 0) ≡ false → left_then ≡ left - n → 0 < n → StandsAt left taken b → ReadsOn b n (n == 0) new → StandsAt left_then taken_then new
+stands-on (Over stop) new n left taken left_then taken_then some e p h m = absurd (omega (arith, p, m.1))
+stands-on (WithHead bytes) new n left taken left_then taken_then some e p h m = absurd h
+stands-on (Counted k standard) new n left taken left_then taken_then some e p h m =
+    let k_is : k ≡ left = h.0 in
+    counted-on (n == k) new k n left_then taken_then standard (omega (arith, e, k_is)) (subst (λ (t : Bool). MatchBool (t || n == k) (IsBodyOver new) ((new ≡ Counted (k - n) standard) × (n < k))) some m)
+stands-on (Chunked d) new n left taken left_then taken_then some e p h m = absurd h
+stands-on Rest new n left taken left_then taken_then some e p h m = absurd h
+
+pub stands-end : (b : Body) (left taken count : ℕ) → left ≡ 0 → taken ≡ count → StandsAt left taken b → (count ≡ 0) ⊎ IsBodyOver b
+stands-end (Over stop) left taken count z t h = inr tt
+stands-end (WithHead bytes) left taken count z t h = absurd h
+stands-end (Counted n standard) left taken count z t h = inl (sym t ∙ h.1 z)
+stands-end (Chunked d) left taken count z t h = absurd h
+stands-end Rest left taken count z t h = absurd h

@@ -1,9 +1,10 @@
-use Rattle.std.proofs.Common.{rules, ◌≡◌, refl, sym, ap, ◌∙◌, subst, ℕ, ◌<◌, ◌==◌, Bool, true, false, List, [], ◌++◌, length, Option, Some, None, append-nil, arith}
+use Rattle.std.proofs.Common.{rules, ◌≡◌, refl, sym, ap, ◌∙◌, subst, ℕ, ◌-◌, ◌<◌, ◌==◌, Bool, true, false, List, [], ◌++◌, length, Option, Some, None, append-nil, arith}
 use Rattle.tiny_http_device.specs.Device.{Feed, whole_feed}
 use Rattle.tiny_http_device.specs.declared.device.Stop.TheVariants.{End, Fault}
 use Rattle.tiny_http_message.specs.declared.body.Body.{Body}
 use Rattle.tiny_http_message.specs.declared.body.Body.TheVariants.{Over, WithHead, Counted, Chunked, Rest}
 use Rattle.tiny_http_message.specs.Body.{Remaining, is_streaming, bytes_left, remaining, prepended_body, BodyStops, ReadsOn, IsBodyOver, IsWithHead}
+use Rattle.tiny_http_request.proofs.WholeBodyLemmas.{stands-end}
 use Rattle.tiny_http_request.proofs.whole_body.read_exactly.Goals as goal
 
 abbrev bytes-of : Option Remaining → List ℕ
@@ -78,3 +79,8 @@ returns-then-n-eq0-clause-fails g c =
     let end : is_streaming c.loop-piece.body ≡ false → BodyStops End (remaining c.loop-piece.body nothing) = λ s. h.end s nothing zero some in
     let streams = must-stream c.args.body.now c.loop-piece.body c.loop-piece.bytes.items c.args.count c.requires inv.held inv.settled end less in
     (streams, over c.loop-piece.body c.read_in.new.self c.in_ok-n.n zero (inv.streams streams) (h.moves some))
+
+pub returns-clause-over : goal.returns-clause-over
+returns-clause-over g c = λ streams.
+    let inv = c.loop-piece.invariant in
+    stands-end c.loop-piece.body (c.args.count - length c.loop-piece.bytes.items) (length c.loop-piece.bytes.items) c.args.count (search rules) (search rules) (inv.stands streams)
