@@ -1,5 +1,5 @@
 //! Handlers: they are given a test's request, their answer is read, and they are handed back what they may not upgrade.
-use crate::bench::{assert_output, connect, next, now, text};
+use crate::bench::{assert_output, connect, connect_standard, next, now, text};
 use httpdate::HttpDate;
 use std::alloc::Global;
 use std::io;
@@ -111,4 +111,36 @@ fn an_upgrade_that_was_asked_for_is_a_stream(rt: HostRuntime) -> Result<(), Fail
             "Server: tiny-http (Rust)\r\nDate: Wed, 04 May 1983 11:17:00 GMT\r\n\r\nho",
         ],
     )
+}
+
+// By the standard a body that is left unread refuses it, too; then the request is handed back, and can be read and upgraded.
+#[test]
+fn an_upgrade_by_the_standard_waits_for_the_body(rt: HostRuntime) -> Result<(), Fail> {
+    let alloc = rt.alloc();
+    let client =
+        b"POST / HTTP/1.1\r\nHost: a\r\nConnection: Upgrade\r\nUpgrade: chat\r\nTransfer-Encoding: chunked\r\n\r\n1\r\nx\r\n0\r\n\r\nhi";
+    let mut bench = connect_standard(rt, alloc, client)?;
+    let request = next(&mut bench)?;
+    let switched = Response::empty(alloc, StatusCode(101));
+    let Err(refused) = request.try_upgrade("chat", switched, now()?) else {
+        return Err("an upgrade".into());
+    };
+    assert_eq!(rt; refused.error, UpgradeError::UnfinishedBody);
+    let mut request = refused.request;
+    assert_eq!(rt;
+        request.read_body(alloc, 1, now()?)?.as_slice(),
+        b"x".as_slice()
+    );
+    let switched = Response::empty(alloc, StatusCode(101));
+    let Err(refused) = request.try_upgrade("websocket", switched, now()?) else {
+        return Err("an upgrade".into());
+    };
+    assert_eq!(rt; refused.error, UpgradeError::NotAsked);
+    let switched = Response::empty(alloc, StatusCode(101));
+    let Ok(mut stream) = refused.request.try_upgrade("chat", switched, now()?) else {
+        return Err("refused".into());
+    };
+    let mut read = [0u8; 8];
+    assert_eq!(rt; stream.read(&mut read)?, 2);
+    Ok(())
 }

@@ -158,6 +158,41 @@ fn assert_write_ends<R: Host>(rt: &R, alloc: Global) {
     drop(client);
 }
 
+// A stream behind an upgrade may be silent for longer than each time.
+fn assert_stream_stays<R: Host>(rt: &R, alloc: Global, profile: Profile) {
+    let mut limits = Limits::new();
+    let time = Duration::from_millis(100);
+    (limits.idle_time, limits.head_time, limits.body_time) = (time, time, time);
+    let addr = ConfigListenAddr::from_socket_addrs(rt, alloc, "127.0.0.1:0");
+    let listener = addr.expect(rt, "an address").bind(rt);
+    let listener = listener.expect(rt, "a listener");
+    let made = Server::from_listener_within(*rt, alloc, listener, None, profile, limits);
+    let server = made.expect(rt, "a server");
+    let mut client = connect(rt, &server);
+    let head = "GET / HTTP/1.1\r\nHost: a\r\nConnection: Upgrade\r\nUpgrade: x\r\n\r\n";
+    send(rt, &mut client, head);
+    let switched = Response::empty(alloc, StatusCode(101));
+    let upgraded = receive(rt, &server).try_upgrade("x", switched, current_date(rt));
+    let Ok(mut stream) = upgraded else { rt.abort() };
+    let mut read = [0u8; 8];
+    let count = thread::join(
+        rt,
+        || stream.read(&mut read).ok(),
+        || {
+            turns(rt, 250);
+            send(rt, &mut client, "hi");
+        },
+    );
+    assert_same(rt, count.0, Some(2));
+}
+
+#[test]
+fn streams_stay(rt: HostRuntime) {
+    let alloc = rt.alloc();
+    assert_stream_stays(&rt, alloc, Profile::Lenient);
+    assert_stream_stays(&rt, alloc, Profile::Standard);
+}
+
 #[test]
 fn each_time_ends(rt: HostRuntime) {
     assert_idle_ends(&rt, rt.alloc());

@@ -14,12 +14,15 @@
 //! }
 //! ```
 //!
+//! `Request::respond_streaming` begins an answer whose body grows while it is sent, as that of server-sent events.
+//!
 //! `Server::serve_by` is this loop on some threads, with a `Handler`. `Server::serve` has the worker of each connection answer that
 //! connection's requests itself.
 //!
 //! Calls are passed the runtime, which locks, waits and opens sockets, and the allocator: none is taken silently. The crate names
-//! the modules of the crates beneath again, so a program lists this crate; `httpdate` where it makes dates of its own; and
-//! `tiny_http_head` where `?` makes an `io::Error` of a `ParseError`, as behind `Response::with`.
+//! the modules of the crates beneath again, so a program lists this crate; `httpdate` where it makes dates of its own; and where `?`
+//! makes an `io::Error` the crate of the error: `tiny_http_head` for a `ParseError`, as behind `Response::with`, and
+//! `tiny_http_request` for a `BodyError`.
 #![tactic(auto)]
 
 mod accepting;
