@@ -1,0 +1,275 @@
+//! Hands each request to another HTTP server, and its answer back: `gateway ADDRESS BACKEND`.
+//!
+//! The answer is 502 where the backend isn't reached or answers no HTTP, and 504 where it doesn't answer within ten seconds. The program
+//! shows a head that is looked at while its body is read (`parts`), the head of an answer (`read_answer_head`), a body of known length
+//! that is handed on (`Response::of`), and one that is sent as it comes (`respond_streaming`). Each message is framed anew, so that a
+//! body is never taken for a request behind it. What belongs to one connection isn't handed on (RFC 9110, section 7.6.1).
+#![tactic(auto)]
+
+use std::alloc::Global;
+use std::io::{Cursor, ErrorKind, Read, Write};
+use std::net::{Net, TcpStream};
+use std::sync::Wait;
+use std::time::{Clock, Duration};
+use std::{env, io};
+use tiny_http::chunked::Decoder;
+use tiny_http::device::{Metered, ReadDevice, WriteDevice};
+use tiny_http::encoder::Encoder;
+use tiny_http::framing::value_of;
+use tiny_http::{
+    ConfigListenAddr, Handler, Header, Host, Limits, Method, Profile, Request, Response, Server,
+    ServerConfig, StatusCode, current_date,
+};
+use tiny_http_answer_head::answer_head::{AnswerHead, read_answer_head};
+
+#[cfg(test)]
+mod tests;
+
+// So many threads answer.
+const THREADS: usize = 8;
+
+// So many bytes are handed on at once.
+const PIECE: usize = 8192;
+
+// So many bytes the head of an answer may have.
+const MOST: usize = 1 << 16;
+
+// So many seconds the backend may take.
+const PATIENCE: u64 = 10;
+
+// The headers of one connection alone, and those that are written anew.
+const OWN: [&str; 9] = [
+    "Connection",
+    "Content-Length",
+    "Expect",
+    "Keep-Alive",
+    "Proxy-Connection",
+    "TE",
+    "Trailer",
+    "Transfer-Encoding",
+    "Upgrade",
+];
+
+/// Answers by another server.
+#[derive(Drop)]
+struct Gateway {
+    backend: String,
+}
+
+// Whether a header isn't handed on.
+fn is_own(header: &Header) -> bool {
+    OWN.iter().any(|name| header.field.equiv(name))
+}
+
+// The head that the backend is sent.
+fn head_of<R: ReadDevice + Drop, W: WriteDevice + Drop, Rt: Wait + Drop>(
+    alloc: Global,
+    request: &Request<R, W, Rt>,
+) -> io::Result<String> {
+    let mut head = format!(in alloc; "{} {}", request.method(), request.path())?;
+    if let Some(query) = request.query() {
+        write!(head, "?{query}")?;
+    }
+    head.push_str(" HTTP/1.1\r\n")?;
+    for header in request.headers() {
+        // `Connection` may name further headers that are its own.
+        if !is_own(header) && !request.header_lists("Connection", header.field.as_str().as_str()) {
+            write!(head, "{header}\r\n")?;
+        }
+    }
+    match request.body_length() {
+        Some(length) => write!(head, "Content-Length: {length}\r\n")?,
+        None if request.header("Transfer-Encoding").is_some() => {
+            head.push_str("Transfer-Encoding: chunked\r\n")?;
+        }
+        None => {}
+    }
+    head.push_str("Connection: close\r\n\r\n")?;
+    Ok(head)
+}
+
+// Hands on all that a reader gives, piece by piece.
+fn pipe<F: Read, T: Write>(from: &mut F, to: &mut T) -> io::Result<()> {
+    let mut piece = [0u8; PIECE];
+    for _ in 0..u64::MAX {
+        let n = from.read(&mut piece)?;
+        if n == 0 {
+            break;
+        }
+        to.write_all(&piece[..n])?;
+        to.flush()?;
+    }
+    Ok(())
+}
+
+// Sends the backend a request with its body. By the standard a body that is cut is a fault.
+fn send_request<R: ReadDevice + Drop, W: WriteDevice + Drop, Rt: Clock + Wait + Drop>(
+    rt: &Rt,
+    alloc: Global,
+    mut backend: &TcpStream,
+    request: &mut Request<R, W, Rt>,
+) -> io::Result<()> {
+    backend.write_all(head_of(alloc, request)?.as_bytes())?;
+    let (head, body) = request.parts(current_date(rt));
+    if head.body_length.is_none() && head.header("Transfer-Encoding").is_some() {
+        let mut chunks = Encoder::new(Metered::new(backend));
+        pipe(body, &mut chunks)?;
+        let _ = chunks.finish()?;
+        return Ok(());
+    }
+    pipe(body, &mut backend)
+}
+
+// The head of the backend's answer, and what came behind it. Heads of the status 100 to 199 are passed over.
+fn read_head(alloc: Global, mut backend: &TcpStream) -> io::Result<(AnswerHead, Vec<u8>)> {
+    let mut front = Vec::new(alloc);
+    let mut piece = [0u8; PIECE];
+    while front.len() < MOST {
+        match read_answer_head(alloc, front.as_slice()) {
+            Ok(Some((head, length))) => {
+                front = front.split_off(length)?;
+                if head.status.0 >= 200 {
+                    return Ok((head, front));
+                }
+                continue;
+            }
+            Ok(None) => {}
+            Err(_) => return Err(ErrorKind::InvalidData.into()),
+        }
+        let n = backend.read(&mut piece)?;
+        if n == 0 {
+            return Err(ErrorKind::UnexpectedEof.into());
+        }
+        front.extend_from_slice(&piece[..n])?;
+    }
+    Err(ErrorKind::InvalidData.into())
+}
+
+// The length that the headers say, if no coding hides it.
+fn length_of(headers: &[Header]) -> Option<usize> {
+    if value_of(headers, "Transfer-Encoding").is_some() {
+        return None;
+    }
+    value_of(headers, "Content-Length")?.as_str().parse().ok()
+}
+
+// An answer with the backend's headers, over these data.
+fn answer_with<D: Drop>(
+    head: AnswerHead,
+    data: D,
+    alloc: Global,
+    length: Option<usize>,
+) -> io::Result<Response<D>> {
+    let mut answer = Response::of(alloc, head.status, data, length);
+    for header in head.headers {
+        if !is_own(&header) && answer.add_header(header).is_err() {
+            return Err(ErrorKind::OutOfMemory.into());
+        }
+    }
+    Ok(answer)
+}
+
+// Hands on an answer whose length isn't said, as it comes: in chunks, or up to the backend's end (RFC 9112, section 6.3).
+fn stream<D: Read + Drop, R, W, Rt>(
+    rt: &Rt,
+    alloc: Global,
+    request: Request<R, W, Rt>,
+    head: AnswerHead,
+    data: D,
+) -> io::Result<()>
+where
+    R: ReadDevice + Drop,
+    W: WriteDevice + Drop,
+    Rt: Clock + Wait + Drop,
+{
+    let is_chunked = value_of(head.headers.as_slice(), "Transfer-Encoding").is_some();
+    let answer = answer_with(head, io::empty(), alloc, None)?;
+    let mut body = request.respond_streaming(answer, current_date(rt))?;
+    let mut data = data;
+    if is_chunked {
+        pipe(&mut Decoder::new(Metered::new(data)), &mut body)?;
+    } else {
+        pipe(&mut data, &mut body)?;
+    }
+    body.finish()
+}
+
+impl Gateway {
+    // Asks the backend, and reads the head of its answer.
+    fn ask<R: ReadDevice + Drop, W: WriteDevice + Drop, Rt>(
+        &self,
+        rt: &Rt,
+        alloc: Global,
+        request: &mut Request<R, W, Rt>,
+    ) -> io::Result<(TcpStream, AnswerHead, Vec<u8>)>
+    where
+        Rt: Net<Stream = TcpStream> + Clock + Wait + Drop,
+    {
+        let backend = TcpStream::connect(rt, self.backend.as_str())?;
+        backend.set_read_timeout(Some(Duration::from_secs(PATIENCE)))?;
+        send_request(rt, alloc, &backend, request)?;
+        let (head, front) = read_head(alloc, &backend)?;
+        Ok((backend, head, front))
+    }
+}
+
+impl<R, W, Rt> Handler<Rt, Request<R, W, Rt>> for Gateway
+where
+    R: ReadDevice + Drop,
+    W: WriteDevice + Drop,
+    Rt: Net<Stream = TcpStream> + Clock + Wait + Drop,
+{
+    /// Answers by what the backend answers.
+    fn handle(&self, rt: &Rt, alloc: Global, request: Request<R, W, Rt>) -> io::Result<()> {
+        let mut request = request;
+        let (backend, head, front) = match self.ask(rt, alloc, &mut request) {
+            Ok(asked) => asked,
+            Err(fault) => {
+                let code = match fault.kind() {
+                    ErrorKind::WouldBlock | ErrorKind::TimedOut => 504,
+                    _ => 502,
+                };
+                let answer = Response::status(alloc, StatusCode(code))?;
+                return request.respond(answer, current_date(rt));
+            }
+        };
+        let data = Cursor::new(front).chain(backend);
+        let Some(length) = length_of(head.headers.as_slice()) else {
+            return stream(rt, alloc, request, head, data);
+        };
+        let answer = answer_with(head, Metered::new(data), alloc, Some(length))?;
+        request.respond(answer.with_chunked_threshold(usize::MAX), current_date(rt))
+    }
+}
+
+// Listens at this address, and answers by the backend.
+fn serve<Rt: Host, O: Write>(
+    rt: Rt,
+    alloc: Global,
+    address: &str,
+    gateway: &Gateway,
+    out: &mut O,
+) -> io::Result<()> {
+    let addr = ConfigListenAddr::from_socket_addrs(&rt, alloc, address)?;
+    let config = ServerConfig { addr, ssl: None };
+    let server = Server::with(rt, alloc, config, Profile::Standard, Limits::new())?;
+    writeln!(out, "listening on {}", server.server_addr())?;
+    out.flush()?;
+    server.serve_by(alloc, THREADS, gateway)
+}
+
+fn main(rt: HostRuntime) -> io::Result<()> {
+    let alloc = rt.alloc();
+    let words: Vec<String> = env::args(&rt)?.collect(alloc)?;
+    let [_, address, backend] = words.as_slice() else {
+        return Err(ErrorKind::InvalidInput.into());
+    };
+    let backend = String::from_str(alloc, backend.as_str())?;
+    serve(
+        rt,
+        alloc,
+        address.as_str(),
+        &Gateway { backend },
+        &mut rt.stdout(),
+    )
+}

@@ -1,0 +1,201 @@
+//! Gives recorded answers to recorded requests, for the tests of HTTP clients: `testserver ADDRESS FOLDER`.
+//!
+//! The folder has pairs of files: `NAME.request` with the bytes that a client sends, and `NAME.response` with those that it is to get,
+//! which may be no HTTP at all. A request is a recorded one if its method, its target and its body are. Each answer is given once, in the
+//! order of the names; a request that isn't there is answered 501. `GET /unused` lists the names that are left.
+//!
+//! The program shows requests that are read from bytes (`ClientConnection`), raw answers (`into_writer`), and how one that states no
+//! length ends with its connection (`close`). The connection is closed, too, behind an answer that a client of this library doesn't read
+//! whole. Where memory is refused the request is dropped, and answered by an empty 500.
+#![tactic(auto)]
+
+use std::alloc::{AllocGlobal, Global};
+use std::io::{ErrorKind, Write};
+use std::rt::Files;
+use std::sync::{Mutex, Wait};
+use std::time::Clock;
+use std::{env, fs, io};
+use tiny_http::answer::read_answer;
+use tiny_http::client::ClientConnection;
+use tiny_http::device::{Canned, ReadDevice, WriteDevice};
+use tiny_http::test::Nowhere;
+use tiny_http::{
+    ConfigListenAddr, Handler, Host, Limits, Method, Profile, Request, Response, Server,
+    ServerConfig, StatusCode, current_date,
+};
+
+#[cfg(test)]
+mod tests;
+
+// So many threads answer.
+const THREADS: usize = 4;
+
+// So many bytes a body may have.
+const MOST: usize = 1 << 20;
+
+/// What a request asks for.
+#[derive(Debug, Drop, PartialEq, Eq)]
+struct Asked {
+    method: Method,
+    target: String,
+    body: Vec<u8>,
+}
+
+/// A recorded request and its answer.
+#[derive(Debug, Drop)]
+struct Exchange {
+    name: String,
+    asked: Asked,
+    answer: Vec<u8>,
+    is_used: bool,
+}
+
+/// The exchanges, in the order of their names.
+#[derive(Drop)]
+struct Recorded {
+    exchanges: Mutex<Vec<Exchange>>,
+}
+
+// What a request asks for.
+fn asked_of<R: ReadDevice + Drop, W: WriteDevice + Drop, Rt: Clock + Wait + Drop>(
+    rt: &Rt,
+    alloc: Global,
+    request: &mut Request<R, W, Rt>,
+) -> io::Result<Asked> {
+    let body = request.read_body(alloc, MOST, current_date(rt))?;
+    Ok(Asked {
+        method: request.method().try_clone()?,
+        target: String::from_str(alloc, request.url())?,
+        body,
+    })
+}
+
+// The exchange of a request's and an answer's bytes.
+fn exchange<Rt: Clock + Wait + Copy>(
+    rt: Rt,
+    alloc: Global,
+    name: String,
+    request: Vec<u8>,
+    answer: Vec<u8>,
+) -> io::Result<Exchange> {
+    let client = Canned::new(request, None);
+    let profile = Profile::Lenient;
+    let mut connection = ClientConnection::over_with(
+        rt, alloc, profile, Nowhere, client, None, false,
+    )?;
+    let Some(mut request) = connection.next(current_date(&rt))? else {
+        return Err(ErrorKind::InvalidData.into());
+    };
+    Ok(Exchange {
+        name,
+        asked: asked_of(&rt, alloc, &mut request)?,
+        answer,
+        is_used: false,
+    })
+}
+
+// The exchanges of a folder, in the order of their names.
+fn read_folder<Rt: Files + AllocGlobal + Clock + Wait + Copy>(
+    rt: Rt,
+    alloc: Global,
+    folder: &str,
+) -> io::Result<Recorded> {
+    let mut names = Vec::new(alloc);
+    for entry in fs::read_dir(&rt, folder)? {
+        if let Some(name) = entry?.file_name().strip_suffix(".request") {
+            names.push(String::from_str(alloc, name)?)?;
+        }
+    }
+    names.sort()?;
+    let mut exchanges = Vec::new(alloc);
+    for name in names {
+        let request = format!(in alloc; "{folder}/{name}.request")?;
+        let answer = format!(in alloc; "{folder}/{name}.response")?;
+        let request = fs::read(&rt, request.as_str())?;
+        let answer = fs::read(&rt, answer.as_str())?;
+        exchanges.push(exchange(rt, alloc, name, request, answer)?)?;
+    }
+    Ok(Recorded {
+        exchanges: Mutex::new(exchanges),
+    })
+}
+
+impl Recorded {
+    // The next answer to this request, if one is left.
+    fn take<Rt: Wait>(&self, rt: &Rt, asked: &Asked) -> io::Result<Option<Vec<u8>>> {
+        for exchange in self.exchanges.lock(rt).as_mut_slice() {
+            if !exchange.is_used && exchange.asked == *asked {
+                let answer = exchange.answer.clone()?;
+                exchange.is_used = true;
+                return Ok(Some(answer));
+            }
+        }
+        Ok(None)
+    }
+
+    // The names of the exchanges that weren't asked for.
+    fn unused<Rt: Wait>(&self, rt: &Rt, alloc: Global) -> io::Result<String> {
+        let mut text = String::new(alloc);
+        for exchange in self.exchanges.lock(rt).as_slice() {
+            if !exchange.is_used {
+                text.push_str(exchange.name.as_str())?;
+                text.push('\n')?;
+            }
+        }
+        Ok(text)
+    }
+}
+
+impl<R: ReadDevice + Drop, W: WriteDevice + Drop, Rt: Clock + Wait + Drop> Handler<
+    Rt,
+    Request<R, W, Rt>,
+> for Recorded {
+    /// Gives the recorded answer.
+    fn handle(&self, rt: &Rt, alloc: Global, request: Request<R, W, Rt>) -> io::Result<()> {
+        let mut request = request;
+        let asked = asked_of(rt, alloc, &mut request)?;
+        if let Some(answer) = self.take(rt, &asked)? {
+            let read = read_answer(alloc, &asked.method, answer.as_slice());
+            let is_whole = matches!(read, Ok(Some((_, length))) if length == answer.len());
+            let mut writer = request.into_writer();
+            writer.write_all(answer.as_slice())?;
+            // Without a length the connection's end ends the answer.
+            return if is_whole {
+                writer.flush()
+            } else {
+                writer.close()
+            };
+        }
+        if asked.method == Method::Get && asked.target.as_str() == "/unused" {
+            let text = self.unused(rt, alloc)?;
+            return request.respond(Response::from_string(alloc, text)?, current_date(rt));
+        }
+        request.respond(Response::status(alloc, StatusCode(501))?, current_date(rt))
+    }
+}
+
+// Listens at this address, and gives the recorded answers.
+fn serve<Rt: Host, O: Write>(
+    rt: Rt,
+    alloc: Global,
+    address: &str,
+    recorded: &Recorded,
+    out: &mut O,
+) -> io::Result<()> {
+    let addr = ConfigListenAddr::from_socket_addrs(&rt, alloc, address)?;
+    let config = ServerConfig { addr, ssl: None };
+    let server = Server::with(rt, alloc, config, Profile::Lenient, Limits::new())?;
+    writeln!(out, "listening on {}", server.server_addr())?;
+    out.flush()?;
+    server.serve_by(alloc, THREADS, recorded)
+}
+
+fn main(rt: HostRuntime) -> io::Result<()> {
+    let alloc = rt.alloc();
+    let words: Vec<String> = env::args(&rt)?.collect(alloc)?;
+    let [_, address, folder] = words.as_slice() else {
+        return Err(ErrorKind::InvalidInput.into());
+    };
+    let recorded = read_folder(rt, alloc, folder.as_str())?;
+    serve(rt, alloc, address.as_str(), &recorded, &mut rt.stdout())
+}
