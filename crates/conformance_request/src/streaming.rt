@@ -117,6 +117,64 @@ fn nothing_follows_a_body_that_was_dropped(rt: HostRuntime) -> Result<(), Fail> 
     assert_output(&rt, alloc, &bench.output, &sent)
 }
 
+// Where two requests were handed out, one that is answered up to the connection's end is its last; so is one that is answered by
+// `with_close`, and one whose 100 is owed, by the standard.
+#[test]
+fn nothing_follows_the_last_body(rt: HostRuntime) -> Result<(), Fail> {
+    let alloc = rt.alloc();
+    let old = b"GET / HTTP/1.0\r\nConnection: keep-alive\r\n\r\nGET / HTTP/1.0\r\n\r\n";
+    let mut bench = connect(rt, alloc, old)?;
+    let first = next(&mut bench)?;
+    let second = next(&mut bench)?;
+    begin(alloc, first, 200)?.finish()?;
+    second.respond(Response::empty(alloc, StatusCode(200)), now()?)?;
+    assert_output(
+        &rt,
+        alloc,
+        &bench.output,
+        &["HTTP/1.0 200 OK\r\n", DATED, "\r\n"],
+    )?;
+    let mut bench = connect(rt, alloc, TWO)?;
+    let head = Response::empty(alloc, StatusCode(200)).with_close();
+    next(&mut bench)?.respond_streaming(head, now()?)?.finish()?;
+    assert!(rt; bench.client.next(now()?)?.is_none());
+    let expects =
+        b"POST / HTTP/1.1\r\nHost: a\r\nExpect: 100-continue\r\nContent-Length: 5000\r\n\r\nGET / HTTP/1.1\r\nHost: a\r\n\r\n";
+    let mut bench = connect_standard(rt, alloc, expects)?;
+    let request = next(&mut bench)?;
+    begin(alloc, request, 200)?.finish()?;
+    assert!(rt; bench.client.next(now()?)?.is_none());
+    let rest = "Connection: close\r\nTransfer-Encoding: chunked\r\n\r\n0\r\n\r\n";
+    assert_output(
+        &rt,
+        alloc,
+        &bench.output,
+        &["HTTP/1.1 200 OK\r\n", DATED, rest],
+    )
+}
+
+// What is held is sent by `finish`, whose fault is told; and nothing begins on an output that has ended.
+#[test]
+fn nothing_begins_behind_a_fault(rt: HostRuntime) -> Result<(), Fail> {
+    let alloc = rt.alloc();
+    let client = client(alloc, TWO, None)?;
+    let mut bench = gated(rt, alloc, client, 200, ErrorKind::ConnectionReset, 1)?;
+    let first = next(&mut bench)?;
+    let second = next(&mut bench)?;
+    let mut body = begin(alloc, first, 200)?;
+    body.flush()?;
+    body.write_all(&[b'x'; 8191])?;
+    match body.finish() {
+        Err(fault) => assert_eq!(rt; fault.kind(), ErrorKind::ConnectionReset),
+        Ok(()) => return Err("no fault".into()),
+    }
+    match second.respond_streaming(Response::empty(alloc, StatusCode(200)), now()?) {
+        Err(fault) => assert_eq!(rt; fault.kind(), ErrorKind::BrokenPipe),
+        Ok(_) => return Err("a body".into()),
+    }
+    Ok(())
+}
+
 // The client's fault is told once, and then each call says that the body is broken.
 #[test]
 fn a_body_meets_a_fault(rt: HostRuntime) -> Result<(), Fail> {

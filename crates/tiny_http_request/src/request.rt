@@ -33,7 +33,7 @@ use std::{fmt, io};
 use thiserror::Error;
 use tiny_http_corked::cork::FlushPolicy;
 use tiny_http_device::device::{ReadDevice, Stop, WriteDevice};
-use tiny_http_message::body::Body as Unread;
+use tiny_http_message::body::{Body as Unread, Remainder};
 use tiny_http_message::exchange::{Head, begin_body};
 use tiny_http_message::framing::{Framing, FramingFault, HeadRules, Profile, framing_of};
 use tiny_http_message::open_request::OpenRequest;
@@ -401,17 +401,7 @@ impl<R: ReadDevice + Drop, W: WriteDevice + Drop, Rt: Wait + Drop> Request<R, W,
         }
         let alloc = self.alloc;
         let (mut open_request, mut writer) = self.into_parts();
-        let left = open_request.body.remainder();
-        if open_request.is_last_once_finished(left) {
-            open_request.body.end_requests();
-        }
-        let _ = hold_writer(&mut writer);
-        if response.closes() {
-            end_behind_writer(&writer);
-        }
-        if is_last_writer(&writer) {
-            open_request.close();
-        }
+        let left = begin_answer(&mut open_request, &mut writer, response.closes());
         let sent = open_request.respond(alloc, hold_writer(&mut writer), response, left, now);
         pass_writer(writer);
         drop(open_request);
@@ -421,11 +411,13 @@ impl<R: ReadDevice + Drop, W: WriteDevice + Drop, Rt: Wait + Drop> Request<R, W,
     /// Begins an answer whose body grows while it is sent, as that of server-sent events: writes its head, dated `now`, in the turn of
     /// the request, and gives the request's body up. It waits until the requests before are finished. The response's data are let go,
     /// and it says no length. The body is sent in chunks (RFC 9112, section 7.1); to a version up to 1.0 as it is, so that the
-    /// connection's end ends it and no request follows (section 6.3); and not at all where none is asked for (`HEAD`) or the code has
-    /// no content. The client sees the head with the first flush, or once 8192 bytes have come.
+    /// connection's end ends it (section 6.3): no further request is handed out, and answers to those that were are lost. It isn't sent
+    /// at all where none is asked for (`HEAD`) or the code has no content: where `StreamedBody::form` is `Absent`, `finish` at once,
+    /// since no call would tell that the client has gone. The client sees the head with the first flush, or once 8192 bytes have come.
     ///
     /// The code is refused that `respond` refuses: `InvalidInput`, and the request is dropped. Any other error is a fault of the
-    /// client's writer. What is said of the connection's end by `respond`, and of `with_close`, holds here.
+    /// client's writer, or `BrokenPipe` where one ended the connection's output before. What is said of the connection's end by
+    /// `respond`, and of `with_close`, holds here.
     pub fn respond_streaming<D: Drop>(
         self,
         response: Response<D>,
@@ -439,19 +431,14 @@ impl<R: ReadDevice + Drop, W: WriteDevice + Drop, Rt: Wait + Drop> Request<R, W,
         }
         self.send_at_flush();
         let form = self.open_request.streamed_form(status);
+        let ends = response.closes() || form == StreamedForm::Plain;
         let (mut open_request, mut writer) = self.into_parts();
-        let left = open_request.body.remainder();
-        if open_request.is_last_once_finished(left) {
-            open_request.body.end_requests();
+        let left = begin_answer(&mut open_request, &mut writer, ends);
+        let outlet = hold_writer(&mut writer);
+        if outlet.is_ended() {
+            return Err(ErrorKind::BrokenPipe.into());
         }
-        let _ = hold_writer(&mut writer);
-        if response.closes() || form == StreamedForm::Plain {
-            end_behind_writer(&writer);
-        }
-        if is_last_writer(&writer) {
-            open_request.close();
-        }
-        open_request.begin_streaming(hold_writer(&mut writer), &response, left, now)?;
+        open_request.begin_streaming(outlet, &response, left, now)?;
         Ok(StreamedBody::new(writer, form))
     }
 
@@ -592,6 +579,27 @@ impl<R: ReadDevice + Drop, W: WriteDevice + Drop, Rt: Wait + Drop> fmt::Debug
         let address = self.remote_addr;
         write!(f, "Request({method} {path} from {address:?})")
     }
+}
+
+// Waits for the turn of a request that is to be answered, which may end the connection. No head is read behind it where it is the last
+// so. What is left of its body.
+fn begin_answer<R: ReadDevice + Drop, W: WriteDevice + Drop, Rt: Wait + Drop>(
+    open_request: &mut OpenRequest<Body<R, Rt>>,
+    writer: &mut SequentialWriter<Outlet<W>, Rt>,
+    ends: bool,
+) -> Remainder {
+    let left = open_request.body.remainder();
+    if open_request.is_last_once_finished(left) {
+        open_request.body.end_requests();
+    }
+    let _ = hold_writer(writer);
+    if ends {
+        end_behind_writer(writer);
+    }
+    if is_last_writer(writer) {
+        open_request.close();
+    }
+    left
 }
 
 // The kind of error of a body that ends early because its reader stopped so.

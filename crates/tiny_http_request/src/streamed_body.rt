@@ -1,8 +1,6 @@
 //! The body of an answer, where it grows while it is sent.
-ghost use Rattle.std.specs.Prelude.{◌≡◌};
-
 use std::io;
-use std::io::Write;
+use std::io::{ErrorKind, Write};
 use std::sync::Wait;
 use tiny_http_device::device::WriteDevice;
 use tiny_http_stream::outlet::Outlet;
@@ -16,7 +14,8 @@ use tiny_http_wire::streamed::{Streamed, StreamedForm};
 /// that of a version up to 1.0, which goes on up to the connection's end, can't be told from a whole one.
 ///
 /// The first fault of the client's writer is the error of the call that met it. Then each later call is an error of kind `BrokenPipe`,
-/// and nothing more is sent on the connection.
+/// and nothing more is sent on the connection. Where the body isn't sent at all no call tells a fault: a program whose body has no end
+/// asks `form` first.
 pub struct StreamedBody<W: WriteDevice + Drop, Rt: Wait + Drop> {
     body: Streamed<SequentialWriter<Outlet<W>, Rt>>,
 }
@@ -60,6 +59,19 @@ impl<W: WriteDevice + Drop, Rt: Wait + Drop> Write for StreamedBody<W, Rt> {
         ensures bound { WritesAtMost result buf.now }
     {
         self.body.write(buf)
+    }
+
+    /// Takes all the bytes. It stops at the first fault and reports it, also one of kind `Interrupted`: after it the body is broken.
+    fn write_all(&mut self, buf: &[u8]) -> io::Result<()> {
+        let mut at = 0;
+        while at < buf.len() {
+            let n = self.body.write(&buf[at..])?;
+            if n == 0 {
+                return Err(ErrorKind::WriteZero.into());
+            }
+            at += n;
+        }
+        Ok(())
     }
 
     /// Sends what is held, as one chunk where the body comes in chunks.
