@@ -82,7 +82,7 @@ def try_files(port):
     status, body, headers = ask('HEAD', '/big.bin')
     report('its head, too', (body, headers['Content-Length']) == (b'', '100000'), headers['Content-Length'])
     status, _, headers = ask('GET', '/sub')
-    report('a folder has a slash', (status, headers['Location']) == (301, '/sub/'), headers['Location'])
+    report('a folder has a slash', (status, headers['Location']) == (301, './sub/'), headers['Location'])
     status, body, _ = ask('GET', '/sub/')
     report('a folder has an index', (status, body) == (200, b'<p>hi'), body)
     status, body, _ = ask('GET', '/list/')

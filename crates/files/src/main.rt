@@ -1,9 +1,10 @@
 //! Serves the files of a folder: `files ADDRESS FOLDER`.
 //!
 //! `GET` and `HEAD` alone. A folder is answered by its `index.html`, or else by a list of its files. The program shows a path that stays
-//! within the folder (`leaves_folder`), a file that is sent with its length however long it is (`with_chunked_threshold`), a 304 without
-//! content (`contentless`), and headers that are added by `with`. A file that grows or shrinks while it is sent breaks the answer off:
-//! its length was said. What can't be read is a 404. Where memory is refused the request is dropped, and answered by an empty 500.
+//! within the folder (`below_folder`), a file that is sent with its length however long it is (`with_chunked_threshold`), a 304 without
+//! content (`contentless`), and headers that are added by `with`. A file that shrinks while it is sent breaks the answer off: its length
+//! was said. What can't be read, or is no file or folder, is a 404. Where memory is refused the request is dropped, and answered by an
+//! empty 500.
 #![tactic(auto)]
 
 use httpdate::HttpDate;
@@ -21,7 +22,7 @@ use tiny_http::{
     ServerConfig, StatusCode, current_date,
 };
 use tiny_http_files::dates::is_not_modified;
-use tiny_http_files::paths::leaves_folder;
+use tiny_http_files::paths::below_folder;
 use tiny_http_files::types::type_of;
 
 #[cfg(test)]
@@ -62,9 +63,15 @@ fn send_file<R: ReadDevice + Drop, W: WriteDevice + Drop, Rt: Disk>(
         return send_status(rt, alloc, request, 404);
     };
     let now = current_date(rt);
-    let modified = HttpDate::try_from(file.metadata()?.modified()?).unwrap_or(now);
+    // No date that is said is later than that of the answer (RFC 9110, section 8.8.2.1).
+    let modified = match HttpDate::try_from(file.metadata()?.modified()?) {
+        Ok(modified) if modified <= now => modified,
+        _ => now,
+    };
     let date = format!(in alloc; "{modified}")?;
-    if is_not_modified(request.header("If-Modified-Since"), modified) {
+    // A client that names what it has by tags isn't judged by a date (RFC 9110, section 13.1.3).
+    let has_tags = request.header("If-None-Match").is_some();
+    if !has_tags && is_not_modified(request.header("If-Modified-Since"), modified) {
         let answer = Response::contentless(alloc, StatusCode(304));
         return request.respond(answer.with(alloc, "Last-Modified", date.as_str())?, now);
     }
@@ -110,9 +117,15 @@ fn send_list<R: ReadDevice + Drop, W: WriteDevice + Drop, Rt: Disk>(
     request: Request<R, W, Rt>,
     path: &str,
 ) -> io::Result<()> {
+    let Ok(entries) = fs::read_dir(rt, path) else {
+        return send_status(rt, alloc, request, 404);
+    };
     let mut names = Vec::new(alloc);
-    for entry in fs::read_dir(rt, path)? {
-        names.push(String::from_str(alloc, entry?.file_name())?)?;
+    for entry in entries {
+        // A name that is no text isn't listed.
+        if let Ok(entry) = entry {
+            names.push(String::from_str(alloc, entry.file_name())?)?;
+        }
     }
     names.sort()?;
     let html = list_of(alloc, names.as_slice())?.into_bytes();
@@ -127,10 +140,9 @@ impl Folder {
         let Ok(decoded) = percent_decode_str(path).decode_utf8(alloc) else {
             return Ok(None);
         };
-        if !path.starts_with('/') || leaves_folder(decoded.as_str()) {
+        let Some(joined) = below_folder(alloc, self.path.as_str(), decoded.as_str())? else {
             return Ok(None);
-        }
-        let joined = format!(in alloc; "{}{}", self.path.as_str(), decoded.as_str())?;
+        };
         let Ok(real) = fs::canonicalize(rt, joined.as_str()) else {
             return Ok(None);
         };
@@ -155,11 +167,20 @@ impl<R: ReadDevice + Drop, W: WriteDevice + Drop, Rt: Disk> Handler<Rt, Request<
         let Some(found) = self.find(rt, alloc, request.path())? else {
             return send_status(rt, alloc, request, 404);
         };
-        if !fs::metadata(rt, found.as_str())?.is_dir() {
+        let of = fs::metadata(rt, found.as_str())?;
+        if of.is_file() {
             return send_file(rt, alloc, request, found.as_str());
         }
+        if !of.is_dir() {
+            // To open a pipe may take for ever.
+            return send_status(rt, alloc, request, 404);
+        }
         if !request.path().ends_with('/') {
-            let location = format!(in alloc; "{}/", request.path())?;
+            // By its last part: two slashes in front would name a host.
+            let Some((_, part)) = request.path().rsplit_once('/') else {
+                return send_status(rt, alloc, request, 404);
+            };
+            let location = format!(in alloc; "./{part}/")?;
             let answer = Response::status(alloc, StatusCode(301))?;
             let answer = answer.with(alloc, "Location", location.as_str())?;
             return request.respond(answer, current_date(rt));

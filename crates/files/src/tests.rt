@@ -4,6 +4,7 @@ use std::alloc::Global;
 use std::test::Fail;
 use tiny_http::answer::{Answer, read_answer};
 use tiny_http::{Handler, Method, Recorder, TestRequest, current_date};
+use tiny_http_files::types::type_of;
 
 // The answer to such a request, by a folder that isn't there.
 fn ask<R: Disk>(rt: R, alloc: Global, method: Method, path: &str) -> Result<Answer, Fail> {
@@ -38,6 +39,19 @@ fn no_file_is_named(rt: HostRuntime) -> Result<(), Fail> {
     ] {
         let answer = ask(rt, alloc, Method::from_str(alloc, method)?, path)?;
         assert_eq!(rt; answer.status.0, status, "{path}");
+    }
+    Ok(())
+}
+
+#[test]
+fn a_file_has_a_type(rt: HostRuntime) -> Result<(), Fail> {
+    for (name, wanted) in [
+        ("/a.b/index.html", "text/html; charset=utf-8"),
+        ("a.png", "image/png"),
+        ("a.HTML", "application/octet-stream"),
+        ("png", "application/octet-stream"),
+    ] {
+        assert_eq!(rt; type_of(name), wanted, "{name}");
     }
     Ok(())
 }

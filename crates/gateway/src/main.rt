@@ -1,13 +1,14 @@
 //! Hands each request to another HTTP server, and its answer back: `gateway ADDRESS BACKEND`.
 //!
-//! The answer is 502 where the backend isn't reached or answers no HTTP, and 504 where it doesn't answer within ten seconds. The program
-//! shows a head that is looked at while its body is read (`parts`), the head of an answer (`read_answer_head`), a body of known length
-//! that is handed on (`Response::of`), and one that is sent as it comes (`respond_streaming`). Each message is framed anew, so that a
-//! body is never taken for a request behind it. What belongs to one connection isn't handed on (RFC 9110, section 7.6.1).
+//! The answer is 502 where the request can't be handed on, or the backend's answer isn't one that is understood, and 504 where a read or
+//! a write takes ten seconds. The program shows a head that is looked at while its body is read (`parts`), the head of an answer
+//! (`read_answer_head`), a body of known length that is handed on (`Response::of`), and one that is sent as it comes
+//! (`respond_streaming`). Each message is framed anew, so that a body is never taken for a request behind it. The headers of one
+//! connection, and those that its `Connection` names, aren't handed on (RFC 9110, section 7.6.1).
 #![tactic(auto)]
 
 use std::alloc::Global;
-use std::io::{Cursor, ErrorKind, Read, Write};
+use std::io::{Chain, Cursor, ErrorKind, Read, Write};
 use std::net::{Net, TcpStream};
 use std::sync::Wait;
 use std::time::{Clock, Duration};
@@ -18,9 +19,10 @@ use tiny_http::encoder::Encoder;
 use tiny_http::framing::value_of;
 use tiny_http::{
     ConfigListenAddr, Handler, Header, Host, Limits, Method, Profile, Request, Response, Server,
-    ServerConfig, StatusCode, current_date,
+    ServerConfig, StatusCode, StreamedForm, current_date,
 };
 use tiny_http_answer_head::answer_head::{AnswerHead, read_answer_head};
+use tiny_http_standard::lists::has_element;
 
 #[cfg(test)]
 mod tests;
@@ -34,11 +36,11 @@ const PIECE: usize = 8192;
 // So many bytes the head of an answer may have.
 const MOST: usize = 1 << 16;
 
-// So many seconds the backend may take.
+// So many seconds a read or a write at the backend may take.
 const PATIENCE: u64 = 10;
 
 // The headers of one connection alone, and those that are written anew.
-const OWN: [&str; 9] = [
+const HOP: [&str; 9] = [
     "Connection",
     "Content-Length",
     "Expect",
@@ -56,9 +58,10 @@ struct Gateway {
     backend: String,
 }
 
-// Whether a header isn't handed on.
-fn is_own(header: &Header) -> bool {
-    OWN.iter().any(|name| header.field.equiv(name))
+// Whether a header isn't handed on: it is one of these, or `Connection` names it.
+fn is_hop(header: &Header, headers: &[Header]) -> bool {
+    HOP.iter().any(|name| header.field.equiv(name))
+        || has_element(headers, "Connection", header.field.as_str().as_str())
 }
 
 // The head that the backend is sent.
@@ -72,8 +75,7 @@ fn head_of<R: ReadDevice + Drop, W: WriteDevice + Drop, Rt: Wait + Drop>(
     }
     head.push_str(" HTTP/1.1\r\n")?;
     for header in request.headers() {
-        // `Connection` may name further headers that are its own.
-        if !is_own(header) && !request.header_lists("Connection", header.field.as_str().as_str()) {
+        if !is_hop(header, request.headers()) {
             write!(head, "{header}\r\n")?;
         }
     }
@@ -145,12 +147,38 @@ fn read_head(alloc: Global, mut backend: &TcpStream) -> io::Result<(AnswerHead, 
     Err(ErrorKind::InvalidData.into())
 }
 
-// The length that the headers say, if no coding hides it.
-fn length_of(headers: &[Header]) -> Option<usize> {
-    if value_of(headers, "Transfer-Encoding").is_some() {
-        return None;
+/// How the body of a backend's answer ends (RFC 9112, section 6.3).
+#[derive(Clone, Copy, Debug, PartialEq, Eq)]
+enum Ending {
+    Length(usize),
+    Chunks,
+    Close,
+}
+
+// How the body ends behind these headers; none where they say more than one thing, or what isn't understood.
+fn ending_of(headers: &[Header]) -> Option<Ending> {
+    if let Some(coding) = value_of(headers, "Transfer-Encoding") {
+        return coding
+            .as_str()
+            .eq_ignore_ascii_case("chunked")
+            .then_some(Ending::Chunks);
     }
-    value_of(headers, "Content-Length")?.as_str().parse().ok()
+    let mut ending = Ending::Close;
+    for header in headers
+        .iter()
+        .filter(|header| header.field.equiv("Content-Length"))
+    {
+        let text = header.value.as_str();
+        if !text.bytes().all(|b| b.is_ascii_digit()) {
+            return None;
+        }
+        let length = Ending::Length(text.parse().ok()?);
+        if ending != Ending::Close && ending != length {
+            return None;
+        }
+        ending = length;
+    }
+    Some(ending)
 }
 
 // An answer with the backend's headers, over these data.
@@ -161,35 +189,36 @@ fn answer_with<D: Drop>(
     length: Option<usize>,
 ) -> io::Result<Response<D>> {
     let mut answer = Response::of(alloc, head.status, data, length);
-    for header in head.headers {
-        if !is_own(&header) && answer.add_header(header).is_err() {
-            return Err(ErrorKind::OutOfMemory.into());
+    for header in head.headers.iter() {
+        if !is_hop(header, head.headers.as_slice()) {
+            let Ok(()) = answer.add_header(header.try_clone()?) else {
+                return Err(ErrorKind::OutOfMemory.into());
+            };
         }
     }
     Ok(answer)
 }
 
-// Hands on an answer whose length isn't said, as it comes: in chunks, or up to the backend's end (RFC 9112, section 6.3).
+// Hands on an answer whose length isn't said, as it comes. One without content is finished at once.
 fn stream<D: Read + Drop, R, W, Rt>(
     rt: &Rt,
     alloc: Global,
     request: Request<R, W, Rt>,
-    head: AnswerHead,
-    data: D,
+    (head, ending, data): (AnswerHead, Ending, D),
 ) -> io::Result<()>
 where
     R: ReadDevice + Drop,
     W: WriteDevice + Drop,
     Rt: Clock + Wait + Drop,
 {
-    let is_chunked = value_of(head.headers.as_slice(), "Transfer-Encoding").is_some();
     let answer = answer_with(head, io::empty(), alloc, None)?;
     let mut body = request.respond_streaming(answer, current_date(rt))?;
+    body.flush()?;
     let mut data = data;
-    if is_chunked {
-        pipe(&mut Decoder::new(Metered::new(data)), &mut body)?;
-    } else {
-        pipe(&mut data, &mut body)?;
+    match ending {
+        _ if body.form() == StreamedForm::Absent => {}
+        Ending::Chunks => pipe(&mut Decoder::new(Metered::new(data)), &mut body)?,
+        _ => pipe(&mut data, &mut body)?,
     }
     body.finish()
 }
@@ -201,15 +230,20 @@ impl Gateway {
         rt: &Rt,
         alloc: Global,
         request: &mut Request<R, W, Rt>,
-    ) -> io::Result<(TcpStream, AnswerHead, Vec<u8>)>
+    ) -> io::Result<(AnswerHead, Ending, Chain<Cursor<Vec<u8>>, TcpStream>)>
     where
         Rt: Net<Stream = TcpStream> + Clock + Wait + Drop,
     {
         let backend = TcpStream::connect(rt, self.backend.as_str())?;
-        backend.set_read_timeout(Some(Duration::from_secs(PATIENCE)))?;
+        let patience = Some(Duration::from_secs(PATIENCE));
+        backend.set_read_timeout(patience)?;
+        backend.set_write_timeout(patience)?;
         send_request(rt, alloc, &backend, request)?;
         let (head, front) = read_head(alloc, &backend)?;
-        Ok((backend, head, front))
+        let Some(ending) = ending_of(head.headers.as_slice()) else {
+            return Err(ErrorKind::InvalidData.into());
+        };
+        Ok((head, ending, Cursor::new(front).chain(backend)))
     }
 }
 
@@ -222,7 +256,7 @@ where
     /// Answers by what the backend answers.
     fn handle(&self, rt: &Rt, alloc: Global, request: Request<R, W, Rt>) -> io::Result<()> {
         let mut request = request;
-        let (backend, head, front) = match self.ask(rt, alloc, &mut request) {
+        let (head, ending, data) = match self.ask(rt, alloc, &mut request) {
             Ok(asked) => asked,
             Err(fault) => {
                 let code = match fault.kind() {
@@ -233,9 +267,8 @@ where
                 return request.respond(answer, current_date(rt));
             }
         };
-        let data = Cursor::new(front).chain(backend);
-        let Some(length) = length_of(head.headers.as_slice()) else {
-            return stream(rt, alloc, request, head, data);
+        let Ending::Length(length) = ending else {
+            return stream(rt, alloc, request, (head, ending, data));
         };
         let answer = answer_with(head, Metered::new(data), alloc, Some(length))?;
         request.respond(answer.with_chunked_threshold(usize::MAX), current_date(rt))

@@ -1,5 +1,5 @@
 //! Which head the backend is sent, and what is read of its own.
-use crate::{answer_with, head_of};
+use crate::{Ending, answer_with, ending_of, head_of};
 use std::io;
 use std::test::Fail;
 use tiny_http::{Header, Method, TestRequest, current_date};
@@ -43,5 +43,35 @@ fn a_backends_own_headers_stay(rt: HostRuntime) -> Result<(), Fail> {
         return Err("not one header".into());
     };
     assert!(rt; header.field.equiv("A"));
+    Ok(())
+}
+
+// A body ends in one way alone (RFC 9112, section 6.3).
+#[test]
+fn a_backends_body_ends_in_one_way(rt: HostRuntime) -> Result<(), Fail> {
+    let alloc = rt.alloc();
+    for (headers, wanted) in [
+        ("", Some(Ending::Close)),
+        ("Content-Length: 5\r\n", Some(Ending::Length(5))),
+        (
+            "Content-Length: 5\r\nContent-Length: 5\r\n",
+            Some(Ending::Length(5)),
+        ),
+        (
+            "Content-Length: 5\r\nTransfer-Encoding: Chunked\r\n",
+            Some(Ending::Chunks),
+        ),
+        ("Transfer-Encoding: gzip, chunked\r\n", None),
+        ("Content-Length: 5\r\nContent-Length: 6\r\n", None),
+        ("Content-Length: 5, 5\r\n", None),
+        ("Content-Length: +5\r\n", None),
+        ("Content-Length: \r\n", None),
+    ] {
+        let bytes = format!(in alloc; "HTTP/1.1 200 OK\r\n{headers}\r\n")?;
+        let Some((head, _)) = read_answer_head(alloc, bytes.as_bytes())? else {
+            return Err("unfinished".into());
+        };
+        assert_eq!(rt; ending_of(head.headers.as_slice()), wanted, "{headers}");
+    }
     Ok(())
 }

@@ -30,6 +30,9 @@ const THREADS: usize = 4;
 // So many bytes a body may have.
 const MOST: usize = 1 << 16;
 
+// So many notes are kept.
+const MOST_NOTES: usize = 1000;
+
 // The answers of this program: all have bytes as their data.
 type Answer = Response<Cursor<Vec<u8>>>;
 
@@ -109,6 +112,9 @@ impl Notebook {
             return fault(alloc, 400, "no text");
         };
         let mut notes = self.notes.lock(rt);
+        if notes.by_id.len() >= MOST_NOTES {
+            return fault(alloc, 507, "no room");
+        }
         let id = notes.last.saturating_add(1);
         notes.by_id.insert(id, String::from_str(alloc, text)?)?;
         notes.last = id;
@@ -205,7 +211,8 @@ impl<R: ReadDevice + Drop, W: WriteDevice + Drop, Rt: Clock + Wait + Drop> Handl
     /// Answers by the notebook.
     fn handle(&self, rt: &Rt, alloc: Global, request: Request<R, W, Rt>) -> io::Result<()> {
         let mut request = request;
-        if request.path() == "/events" {
+        let is_read = matches!(request.method(), Method::Get | Method::Head);
+        if is_read && request.path() == "/events" {
             return self.send_events(rt, alloc, request);
         }
         let answer = match request.read_body(alloc, MOST, current_date(rt)) {

@@ -2,11 +2,11 @@
 //!
 //! The folder has pairs of files: `NAME.request` with the bytes that a client sends, and `NAME.response` with those that it is to get,
 //! which may be no HTTP at all. A request is a recorded one if its method, its target and its body are. Each answer is given once, in the
-//! order of the names; a request that isn't there is answered 501. `GET /unused` lists the names that are left.
+//! order of the names; a request that isn't there is answered 501, and one whose body isn't read, or has more than 2^20 bytes, 413.
+//! `GET /unused` lists the names that are left. Requests are read by the standard, recorded ones too.
 //!
 //! The program shows requests that are read from bytes (`ClientConnection`), raw answers (`into_writer`), and how one that states no
-//! length ends with its connection (`close`). The connection is closed, too, behind an answer that a client of this library doesn't read
-//! whole. Where memory is refused the request is dropped, and answered by an empty 500.
+//! length ends with its connection (`close`). The connection is closed, too, behind an answer that `read_answer` doesn't read whole.
 #![tactic(auto)]
 
 use std::alloc::{AllocGlobal, Global};
@@ -79,7 +79,7 @@ fn exchange<Rt: Clock + Wait + Copy>(
     answer: Vec<u8>,
 ) -> io::Result<Exchange> {
     let client = Canned::new(request, None);
-    let profile = Profile::Lenient;
+    let profile = Profile::Standard;
     let mut connection = ClientConnection::over_with(
         rt, alloc, profile, Nowhere, client, None, false,
     )?;
@@ -153,7 +153,13 @@ impl<R: ReadDevice + Drop, W: WriteDevice + Drop, Rt: Clock + Wait + Drop> Handl
     /// Gives the recorded answer.
     fn handle(&self, rt: &Rt, alloc: Global, request: Request<R, W, Rt>) -> io::Result<()> {
         let mut request = request;
-        let asked = asked_of(rt, alloc, &mut request)?;
+        let asked = match asked_of(rt, alloc, &mut request) {
+            Ok(asked) => asked,
+            Err(_) => {
+                let answer = Response::status(alloc, StatusCode(413))?;
+                return request.respond(answer, current_date(rt));
+            }
+        };
         if let Some(answer) = self.take(rt, &asked)? {
             let read = read_answer(alloc, &asked.method, answer.as_slice());
             let is_whole = matches!(read, Ok(Some((_, length))) if length == answer.len());
@@ -184,7 +190,7 @@ fn serve<Rt: Host, O: Write>(
 ) -> io::Result<()> {
     let addr = ConfigListenAddr::from_socket_addrs(&rt, alloc, address)?;
     let config = ServerConfig { addr, ssl: None };
-    let server = Server::with(rt, alloc, config, Profile::Lenient, Limits::new())?;
+    let server = Server::with(rt, alloc, config, Profile::Standard, Limits::new())?;
     writeln!(out, "listening on {}", server.server_addr())?;
     out.flush()?;
     server.serve_by(alloc, THREADS, recorded)

@@ -10,7 +10,7 @@ const RAW: &str = "HTTP/1.1 200 OK\r\n\r\nup to the end";
 
 // One exchange, whose answer states no length.
 fn recorded<R: Clock + Wait + Copy>(rt: R, alloc: Global) -> Result<Recorded, Fail> {
-    let request = b"POST /a HTTP/1.1\r\nContent-Length: 2\r\n\r\nhi".to_vec(alloc)?;
+    let request = b"POST /a HTTP/1.1\r\nHost: a\r\nContent-Length: 2\r\n\r\nhi".to_vec(alloc)?;
     let answer = RAW.as_bytes().to_vec(alloc)?;
     let name = String::from_str(alloc, "one")?;
     let mut exchanges = Vec::new(alloc);

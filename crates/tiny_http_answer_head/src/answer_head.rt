@@ -19,7 +19,7 @@ pub const MOST_HEADERS: usize = 64;
 pub struct AnswerHead {
     /// The version that its status-line names: 1.0 or 1.1.
     pub version: HTTPVersion,
-    /// The status, of three digits. One below 200 is followed by a further head.
+    /// The status, of three digits. One below 200, except 101, is followed by a further head.
     pub status: StatusCode,
     /// The headers in their order, each value without spaces and tabs round it.
     pub headers: Vec<Header>,

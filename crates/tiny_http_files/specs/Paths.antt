@@ -1,7 +1,8 @@
 -- Paths below a folder.
-use Rattle.std.specs.Prelude.{ℕ, Bool, ◌||◌, ◌==◌, List, codes}
+use Rattle.std.specs.Prelude.{ℕ, Bool, not, false, ◌||◌, ◌==◌, List, [], ◌∷◌, ◌++◌, Option, Some, None, codes, if◌then◌else◌}
 use Rattle.std.specs.List.{list_any}
 use Rattle.std.specs.Str.{bytes_eq}
+use Rattle.tiny_http_text.specs.Bytes.{parts}
 
 -- the byte between the parts of a path
 abbrev pub slash : ℕ
@@ -14,3 +15,11 @@ is_unsafe_byte b = b == 0 || b == 92
 -- the folder itself, the one above it, or no name of a file
 abbrev pub is_unsafe_part : List ℕ → Bool
 is_unsafe_part part = bytes_eq part (codes ".") || (bytes_eq part (codes "..") || list_any is_unsafe_byte part)
+
+abbrev pub begins_with_slash : List ℕ → Bool
+begins_with_slash [] = false
+begins_with_slash (b ∷ bs) = b == slash
+
+-- the folder and the path joined, where the path leads to nothing else
+abbrev pub below_folder : List ℕ → List ℕ → Option (List ℕ)
+below_folder folder path = if not (begins_with_slash path) || list_any is_unsafe_part (parts slash path) then None else Some (folder ++ path)

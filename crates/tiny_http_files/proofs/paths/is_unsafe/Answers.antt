@@ -5,7 +5,7 @@ use Rattle.std.proofs.lemmas.List.{length_push}
 use Rattle.tiny_http_text.specs.Bytes.{parts}
 use Rattle.tiny_http_files.specs.Paths.{is_unsafe_part}
 use Rattle.tiny_http_files.proofs.PathsLemmas.{part-passed, part-found, parts-end}
-use Rattle.tiny_http_files.proofs.paths.leaves_folder.Goals as goal
+use Rattle.tiny_http_files.proofs.paths.is_unsafe.Goals as goal
 
 pub loop-part-preserved : goal.loop-part-preserved
 loop-part-preserved c =
