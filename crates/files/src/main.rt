@@ -7,8 +7,13 @@
 //! empty 500.
 #![tactic(auto)]
 
+mod list;
+#[cfg(test)]
+mod tests;
+
+use crate::list::list_of;
 use httpdate::HttpDate;
-use percent_encoding::{NON_ALPHANUMERIC, percent_decode_str, utf8_percent_encode};
+use percent_encoding::percent_decode_str;
 use std::alloc::{AllocGlobal, Global};
 use std::fs::OpenFile;
 use std::io::{ErrorKind, Write};
@@ -24,9 +29,6 @@ use tiny_http::{
 use tiny_http_files::dates::is_not_modified;
 use tiny_http_files::paths::below_folder;
 use tiny_http_files::types::type_of;
-
-#[cfg(test)]
-mod tests;
 
 // So many threads answer.
 const THREADS: usize = 4;
@@ -81,33 +83,6 @@ fn send_file<R: ReadDevice + Drop, W: WriteDevice + Drop, Rt: Disk>(
         .with(alloc, "Content-Type", type_of(path))?
         .with(alloc, "Last-Modified", date.as_str())?;
     request.respond(answer, now)
-}
-
-// Writes a name as it stands in HTML.
-fn push_escaped(html: &mut String, name: &str) -> io::Result<()> {
-    for c in name.chars() {
-        match c {
-            '<' => html.push_str("&lt;")?,
-            '&' => html.push_str("&amp;")?,
-            c => html.push(c)?,
-        }
-    }
-    Ok(())
-}
-
-// A list of names, each a link.
-fn list_of(alloc: Global, names: &[String]) -> io::Result<String> {
-    let mut html = String::from_str(alloc, "<!doctype html>\n<ul>\n")?;
-    for name in names {
-        // With a `.` in front, a name with a colon isn't taken for a scheme.
-        html.push_str("<li><a href=\"./")?;
-        utf8_percent_encode(name.as_str(), NON_ALPHANUMERIC).append_to(&mut html)?;
-        html.push_str("\">")?;
-        push_escaped(&mut html, name.as_str())?;
-        html.push_str("</a>\n")?;
-    }
-    html.push_str("</ul>\n")?;
-    Ok(html)
 }
 
 // Sends the list of a folder.

@@ -1,5 +1,6 @@
 //! What requests are answered that name no file, and how names are linked.
-use crate::{Disk, Folder, list_of};
+use crate::list::list_of;
+use crate::{Disk, Folder};
 use std::alloc::Global;
 use std::test::Fail;
 use tiny_http::answer::{Answer, read_answer};

@@ -7,6 +7,11 @@
 //! connection, and those that its `Connection` names, aren't handed on (RFC 9110, section 7.6.1).
 #![tactic(auto)]
 
+mod heads;
+#[cfg(test)]
+mod tests;
+
+use crate::heads::{Ending, answer_with, ending_of, head_of};
 use std::alloc::Global;
 use std::io::{Chain, Cursor, ErrorKind, Read, Write};
 use std::net::{Net, TcpStream};
@@ -16,16 +21,11 @@ use std::{env, io};
 use tiny_http::chunked::Decoder;
 use tiny_http::device::{Metered, ReadDevice, WriteDevice};
 use tiny_http::encoder::Encoder;
-use tiny_http::framing::value_of;
 use tiny_http::{
-    ConfigListenAddr, Handler, Header, Host, Limits, Method, Profile, Request, Response, Server,
-    ServerConfig, StatusCode, StreamedForm, current_date,
+    ConfigListenAddr, Handler, Host, Limits, Profile, Request, Response, Server, ServerConfig,
+    StatusCode, StreamedForm, current_date,
 };
 use tiny_http_answer_head::answer_head::{AnswerHead, read_answer_head};
-use tiny_http_standard::lists::has_element;
-
-#[cfg(test)]
-mod tests;
 
 // So many threads answer.
 const THREADS: usize = 8;
@@ -39,55 +39,10 @@ const MOST: usize = 1 << 16;
 // So many seconds a read or a write at the backend may take.
 const PATIENCE: u64 = 10;
 
-// The headers of one connection alone, and those that are written anew.
-const HOP: [&str; 9] = [
-    "Connection",
-    "Content-Length",
-    "Expect",
-    "Keep-Alive",
-    "Proxy-Connection",
-    "TE",
-    "Trailer",
-    "Transfer-Encoding",
-    "Upgrade",
-];
-
 /// Answers by another server.
 #[derive(Drop)]
 struct Gateway {
     backend: String,
-}
-
-// Whether a header isn't handed on: it is one of these, or `Connection` names it.
-fn is_hop(header: &Header, headers: &[Header]) -> bool {
-    HOP.iter().any(|name| header.field.equiv(name))
-        || has_element(headers, "Connection", header.field.as_str().as_str())
-}
-
-// The head that the backend is sent.
-fn head_of<R: ReadDevice + Drop, W: WriteDevice + Drop, Rt: Wait + Drop>(
-    alloc: Global,
-    request: &Request<R, W, Rt>,
-) -> io::Result<String> {
-    let mut head = format!(in alloc; "{} {}", request.method(), request.path())?;
-    if let Some(query) = request.query() {
-        write!(head, "?{query}")?;
-    }
-    head.push_str(" HTTP/1.1\r\n")?;
-    for header in request.headers() {
-        if !is_hop(header, request.headers()) {
-            write!(head, "{header}\r\n")?;
-        }
-    }
-    match request.body_length() {
-        Some(length) => write!(head, "Content-Length: {length}\r\n")?,
-        None if request.header("Transfer-Encoding").is_some() => {
-            head.push_str("Transfer-Encoding: chunked\r\n")?;
-        }
-        None => {}
-    }
-    head.push_str("Connection: close\r\n\r\n")?;
-    Ok(head)
 }
 
 // Hands on all that a reader gives, piece by piece.
@@ -145,58 +100,6 @@ fn read_head(alloc: Global, mut backend: &TcpStream) -> io::Result<(AnswerHead, 
         front.extend_from_slice(&piece[..n])?;
     }
     Err(ErrorKind::InvalidData.into())
-}
-
-/// How the body of a backend's answer ends (RFC 9112, section 6.3).
-#[derive(Clone, Copy, Debug, PartialEq, Eq)]
-enum Ending {
-    Length(usize),
-    Chunks,
-    Close,
-}
-
-// How the body ends behind these headers; none where they say more than one thing, or what isn't understood.
-fn ending_of(headers: &[Header]) -> Option<Ending> {
-    if let Some(coding) = value_of(headers, "Transfer-Encoding") {
-        return coding
-            .as_str()
-            .eq_ignore_ascii_case("chunked")
-            .then_some(Ending::Chunks);
-    }
-    let mut ending = Ending::Close;
-    for header in headers
-        .iter()
-        .filter(|header| header.field.equiv("Content-Length"))
-    {
-        let text = header.value.as_str();
-        if !text.bytes().all(|b| b.is_ascii_digit()) {
-            return None;
-        }
-        let length = Ending::Length(text.parse().ok()?);
-        if ending != Ending::Close && ending != length {
-            return None;
-        }
-        ending = length;
-    }
-    Some(ending)
-}
-
-// An answer with the backend's headers, over these data.
-fn answer_with<D: Drop>(
-    head: AnswerHead,
-    data: D,
-    alloc: Global,
-    length: Option<usize>,
-) -> io::Result<Response<D>> {
-    let mut answer = Response::of(alloc, head.status, data, length);
-    for header in head.headers.iter() {
-        if !is_hop(header, head.headers.as_slice()) {
-            let Ok(()) = answer.add_header(header.try_clone()?) else {
-                return Err(ErrorKind::OutOfMemory.into());
-            };
-        }
-    }
-    Ok(answer)
 }
 
 // Hands on an answer whose length isn't said, as it comes. One without content is finished at once.

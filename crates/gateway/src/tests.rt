@@ -1,5 +1,5 @@
 //! Which head the backend is sent, and what is read of its own.
-use crate::{Ending, answer_with, ending_of, head_of};
+use crate::heads::{Ending, answer_with, ending_of, head_of};
 use std::io;
 use std::test::Fail;
 use tiny_http::{Header, Method, TestRequest, current_date};

@@ -1,5 +1,5 @@
 //! What requests are answered, without a socket.
-use crate::Notebook;
+use crate::notes::Notebook;
 use std::alloc::Global;
 use std::sync::Wait;
 use std::test::Fail;

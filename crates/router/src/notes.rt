@@ -1,0 +1,164 @@
+//! The notes, and what is answered of them.
+use matchit::{InsertError, Router};
+use serde_json::{Value, json};
+use std::alloc::Global;
+use std::collections::BTreeMap;
+use std::io;
+use std::io::{Cursor, ErrorKind};
+use std::sync::{Mutex, Wait};
+use tiny_http::{Method, Response, StatusCode};
+
+// So many notes are kept.
+const MOST_NOTES: usize = 1000;
+
+/// The answers of this program: all have bytes as their data.
+pub(crate) type Answer = Response<Cursor<Vec<u8>>>;
+
+/// What a path names.
+#[derive(Clone, Copy, Debug, PartialEq, Eq)]
+enum Route {
+    Notes,
+    Note,
+}
+
+/// The notes, by their numbers.
+#[derive(Drop)]
+struct Notes {
+    last: u64,
+    by_id: BTreeMap<u64, String>,
+}
+
+/// Answers requests for notes.
+#[derive(Drop)]
+pub(crate) struct Notebook {
+    routes: Router<Route>,
+    notes: Mutex<Notes>,
+}
+
+// A JSON answer.
+fn json_answer(alloc: Global, status: u16, value: &Value) -> io::Result<Answer> {
+    let answer = Response::from_data(alloc, value.to_string(alloc)?.into_bytes());
+    let answer = answer.with(alloc, "Content-Type", "application/json")?;
+    Ok(answer.with_status_code(StatusCode(status)))
+}
+
+/// A JSON answer that says what is wrong.
+pub(crate) fn fault(alloc: Global, status: u16, word: &str) -> io::Result<Answer> {
+    json_answer(alloc, status, &json!(in alloc; {"error": word})?)
+}
+
+// The answer for a path that takes these methods alone.
+fn not_allowed(alloc: Global, methods: &str) -> io::Result<Answer> {
+    let answer = fault(alloc, 405, "method not allowed")?;
+    Ok(answer.with(alloc, "Allow", methods)?)
+}
+
+impl Notebook {
+    /// Without a note.
+    pub(crate) fn new(alloc: Global) -> Result<Notebook, InsertError> {
+        let mut routes = Router::new(alloc);
+        routes.insert("/notes", Route::Notes)?;
+        routes.insert("/notes/{id}", Route::Note)?;
+        let notes = Notes {
+            last: 0,
+            by_id: BTreeMap::new(alloc),
+        };
+        Ok(Notebook {
+            routes,
+            notes: Mutex::new(notes),
+        })
+    }
+
+    /// The notes as they are now, each as JSON.
+    pub(crate) fn values<Rt: Wait>(&self, rt: &Rt, alloc: Global) -> io::Result<Vec<Value>> {
+        let mut values = Vec::new(alloc);
+        for (id, text) in self.notes.lock(rt).by_id.iter() {
+            let id = *id;
+            values.push(json!(in alloc; {"id": id, "text": text.as_str()})?)?;
+        }
+        Ok(values)
+    }
+
+    // Adds the note that a body says.
+    fn add<Rt: Wait>(&self, rt: &Rt, alloc: Global, body: &[u8]) -> io::Result<Answer> {
+        let value = match Value::from_slice(alloc, body) {
+            Ok(value) => value,
+            Err(error) if error.is_memory() => return Err(ErrorKind::OutOfMemory.into()),
+            Err(_) => return fault(alloc, 400, "not JSON"),
+        };
+        let Some(text) = value.get("text").and_then(Value::as_str) else {
+            return fault(alloc, 400, "no text");
+        };
+        let mut notes = self.notes.lock(rt);
+        if notes.by_id.len() >= MOST_NOTES {
+            return fault(alloc, 507, "no room");
+        }
+        let id = notes.last.saturating_add(1);
+        notes.by_id.insert(id, String::from_str(alloc, text)?)?;
+        notes.last = id;
+        json_answer(alloc, 201, &json!(in alloc; {"id": id, "text": text})?)
+    }
+
+    // Answers a request for the list.
+    fn answer_notes<Rt: Wait>(
+        &self,
+        rt: &Rt,
+        alloc: Global,
+        method: &Method,
+        body: &[u8],
+    ) -> io::Result<Answer> {
+        match method {
+            Method::Get | Method::Head => {
+                let notes = Value::from(self.values(rt, alloc)?);
+                json_answer(alloc, 200, &notes)
+            }
+            Method::Post => self.add(rt, alloc, body),
+            _ => not_allowed(alloc, "GET, HEAD, POST"),
+        }
+    }
+
+    // Answers a request for one note.
+    fn answer_note<Rt: Wait>(
+        &self,
+        rt: &Rt,
+        alloc: Global,
+        method: &Method,
+        id: u64,
+    ) -> io::Result<Answer> {
+        let mut notes = self.notes.lock(rt);
+        match method {
+            Method::Get | Method::Head => match notes.by_id.get(&id) {
+                Some(text) => {
+                    let note = json!(in alloc; {"id": id, "text": text.as_str()})?;
+                    json_answer(alloc, 200, &note)
+                }
+                None => fault(alloc, 404, "no such note"),
+            },
+            Method::Delete => match notes.by_id.remove(&id) {
+                Some(text) => json_answer(alloc, 200, &json!(in alloc; {"id": id, "text": text})?),
+                None => fault(alloc, 404, "no such note"),
+            },
+            _ => not_allowed(alloc, "GET, HEAD, DELETE"),
+        }
+    }
+
+    /// What a request of this method, path and body is answered.
+    pub(crate) fn answer<Rt: Wait>(
+        &self,
+        rt: &Rt,
+        alloc: Global,
+        method: &Method,
+        path: &str,
+        body: &[u8],
+    ) -> io::Result<Answer> {
+        let Ok(found) = self.routes.at(path) else {
+            return fault(alloc, 404, "no such path");
+        };
+        let id = found.params.get("id").map(|id| id.parse::<u64>());
+        match (*found.value, id) {
+            (Route::Notes, _) => self.answer_notes(rt, alloc, method, body),
+            (Route::Note, Some(Ok(id))) => self.answer_note(rt, alloc, method, id),
+            (Route::Note, _) => fault(alloc, 400, "not a number"),
+        }
+    }
+}
