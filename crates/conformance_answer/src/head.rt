@@ -19,7 +19,8 @@ fn a_head_is_read(rt: HostRuntime) -> Result<(), Fail> {
     let (head, length) = read(alloc, bytes)?;
     assert_eq!(rt; (head.version.0, head.version.1), (1, 0));
     assert_eq!(rt; head.status.0, 404);
-    assert_eq!(rt; &bytes[length..], b"body".as_slice());
+    // The body stands behind it.
+    assert_eq!(rt; length, 32);
     let [a, c] = head.headers.as_slice() else {
         return Err("not two headers".into());
     };
