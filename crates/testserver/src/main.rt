@@ -71,7 +71,7 @@ fn asked_of<R: ReadDevice + Drop, W: WriteDevice + Drop, Rt: Clock + Wait + Drop
 }
 
 // The exchange of a request's and an answer's bytes.
-fn exchange<Rt: Clock + Wait + Copy>(
+fn exchange_of<Rt: Clock + Wait + Copy>(
     rt: Rt,
     alloc: Global,
     name: String,
@@ -113,7 +113,7 @@ fn read_folder<Rt: Files + AllocGlobal + Clock + Wait + Copy>(
         let answer = format!(in alloc; "{folder}/{name}.response")?;
         let request = fs::read(&rt, request.as_str())?;
         let answer = fs::read(&rt, answer.as_str())?;
-        exchanges.push(exchange(rt, alloc, name, request, answer)?)?;
+        exchanges.push(exchange_of(rt, alloc, name, request, answer)?)?;
     }
     Ok(Recorded {
         exchanges: Mutex::new(exchanges),

@@ -1,5 +1,5 @@
 //! What recorded requests are given, without a socket and without a folder.
-use crate::{Recorded, exchange};
+use crate::{Recorded, exchange_of};
 use std::alloc::Global;
 use std::sync::{Mutex, Wait};
 use std::test::Fail;
@@ -9,12 +9,12 @@ use tiny_http::{Handler, Method, Recorder, TestRequest, current_date};
 const RAW: &str = "HTTP/1.1 200 OK\r\n\r\nup to the end";
 
 // One exchange, whose answer states no length.
-fn recorded<R: Clock + Wait + Copy>(rt: R, alloc: Global) -> Result<Recorded, Fail> {
+fn one_exchange<R: Clock + Wait + Copy>(rt: R, alloc: Global) -> Result<Recorded, Fail> {
     let request = b"POST /a HTTP/1.1\r\nHost: a\r\nContent-Length: 2\r\n\r\nhi".to_vec(alloc)?;
     let answer = RAW.as_bytes().to_vec(alloc)?;
     let name = String::from_str(alloc, "one")?;
     let mut exchanges = Vec::new(alloc);
-    exchanges.push(exchange(rt, alloc, name, request, answer)?)?;
+    exchanges.push(exchange_of(rt, alloc, name, request, answer)?)?;
     Ok(Recorded {
         exchanges: Mutex::new(exchanges),
     })
@@ -41,7 +41,7 @@ fn ask<R: Clock + Wait + Copy>(
 #[test]
 fn an_answer_is_given_once(rt: HostRuntime) -> Result<(), Fail> {
     let alloc = rt.alloc();
-    let recorded = recorded(rt, alloc)?;
+    let recorded = one_exchange(rt, alloc)?;
     let listed = ask(rt, alloc, &recorded, (Method::Get, "/unused", ""))?;
     assert!(rt; listed.as_slice().ends_with(b"\r\n\r\none\n"));
     let given = ask(rt, alloc, &recorded, (Method::Post, "/a", "hi"))?;
