@@ -33,8 +33,8 @@ const THREADS: usize = 8;
 // So many bytes are handed on at once.
 const PIECE: usize = 8192;
 
-// So many bytes the head of an answer may have.
-const MOST: usize = 1 << 16;
+// So many reads the head of an answer may take, with the interim heads in front of it.
+const MOST_READS: usize = 64;
 
 // So many seconds a read or a write at the backend may take.
 const PATIENCE: u64 = 10;
@@ -81,7 +81,7 @@ fn send_request<R: ReadDevice + Drop, W: WriteDevice + Drop, Rt: Clock + Wait + 
 fn read_head(alloc: Global, mut backend: &TcpStream) -> io::Result<(AnswerHead, Vec<u8>)> {
     let mut front = Vec::new(alloc);
     let mut piece = [0u8; PIECE];
-    while front.len() < MOST {
+    for _ in 0..MOST_READS {
         match read_answer_head(alloc, front.as_slice()) {
             Ok(Some((head, length))) => {
                 front = front.split_off(length)?;
