@@ -66,10 +66,8 @@ fn send_file<R: ReadDevice + Drop, W: WriteDevice + Drop, Rt: Disk>(
     };
     let now = current_date(rt);
     // No date that is said is later than that of the answer (RFC 9110, section 8.8.2.1).
-    let modified = match HttpDate::try_from(file.metadata()?.modified()?) {
-        Ok(modified) if modified <= now => modified,
-        _ => now,
-    };
+    let modified = HttpDate::try_from(file.metadata()?.modified()?).unwrap_or(now);
+    let modified = if modified > now { now } else { modified };
     let date = format!(in alloc; "{modified}")?;
     // A client that names what it has by tags isn't judged by a date (RFC 9110, section 13.1.3).
     let has_tags = request.header("If-None-Match").is_some();
