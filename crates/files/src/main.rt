@@ -7,20 +7,21 @@
 //! empty 500.
 #![tactic(auto)]
 
+mod disk;
 mod list;
 #[cfg(test)]
 mod tests;
 
+use crate::disk::{Disk, Kind};
 use crate::list::list_of;
 use httpdate::HttpDate;
 use percent_encoding::percent_decode_str;
-use std::alloc::{AllocGlobal, Global};
-use std::fs::OpenFile;
+use std::alloc::Global;
 use std::io::{ErrorKind, Write};
-use std::rt::Files;
+use std::path::Path;
 use std::sync::Wait;
 use std::time::Clock;
-use std::{env, fs, io};
+use std::{env, io};
 use tiny_http::device::{ReadDevice, WriteDevice};
 use tiny_http::{
     ConfigListenAddr, Handler, Host, Limits, Method, Profile, Request, Response, Server,
@@ -32,11 +33,6 @@ use tiny_http_files::types::type_of;
 
 // So many threads answer.
 const THREADS: usize = 4;
-
-/// What reading a folder needs of the machine.
-trait Disk: Files + AllocGlobal + Clock + Wait + Copy {}
-
-impl<Rt: Files + AllocGlobal + Clock + Wait + Copy> Disk for Rt {}
 
 /// The folder whose files are served, by its real path.
 #[derive(Drop)]
@@ -55,18 +51,18 @@ fn send_status<R: ReadDevice + Drop, W: WriteDevice + Drop, Rt: Clock + Wait + D
 }
 
 // Sends a file, unless the client has it already.
-fn send_file<R: ReadDevice + Drop, W: WriteDevice + Drop, Rt: Disk>(
+fn send_file<R: ReadDevice + Drop, W: WriteDevice + Drop, Rt: Disk + Clock + Wait + Drop>(
     rt: &Rt,
     alloc: Global,
     request: Request<R, W, Rt>,
     path: &str,
 ) -> io::Result<()> {
-    let Ok(file) = fs::open(rt, path) else {
+    let Ok((file, modified)) = rt.open_file(path) else {
         return send_status(rt, alloc, request, 404);
     };
     let now = current_date(rt);
     // No date that is said is later than that of the answer (RFC 9110, section 8.8.2.1).
-    let modified = HttpDate::try_from(file.metadata()?.modified()?).unwrap_or(now);
+    let modified = HttpDate::try_from(modified).unwrap_or(now);
     let modified = if modified > now { now } else { modified };
     let date = format!(in alloc; "{modified}")?;
     // A client that names what it has by tags isn't judged by a date (RFC 9110, section 13.1.3).
@@ -84,23 +80,15 @@ fn send_file<R: ReadDevice + Drop, W: WriteDevice + Drop, Rt: Disk>(
 }
 
 // Sends the list of a folder.
-fn send_list<R: ReadDevice + Drop, W: WriteDevice + Drop, Rt: Disk>(
+fn send_list<R: ReadDevice + Drop, W: WriteDevice + Drop, Rt: Disk + Clock + Wait + Drop>(
     rt: &Rt,
     alloc: Global,
     request: Request<R, W, Rt>,
     path: &str,
 ) -> io::Result<()> {
-    let Ok(entries) = fs::read_dir(rt, path) else {
+    let Ok(names) = rt.names_in(alloc, path) else {
         return send_status(rt, alloc, request, 404);
     };
-    let mut names = Vec::new(alloc);
-    for entry in entries {
-        // A name that is no text isn't listed.
-        if let Ok(entry) = entry {
-            names.push(String::from_str(alloc, entry.file_name())?)?;
-        }
-    }
-    names.sort()?;
     let html = list_of(alloc, names.as_slice())?.into_bytes();
     let answer = Response::from_data(alloc, html);
     let answer = answer.with(alloc, "Content-Type", "text/html; charset=utf-8")?;
@@ -116,21 +104,19 @@ impl Folder {
         let Some(joined) = below_folder(alloc, self.path.as_str(), decoded.as_str())? else {
             return Ok(None);
         };
-        let Ok(real) = fs::canonicalize(rt, joined.as_str()) else {
+        let Ok(Some(real)) = rt.real_path(alloc, joined.as_str()) else {
             return Ok(None);
         };
         // A link may lead out of the folder.
-        match real.as_path().to_str() {
-            Some(text) if real.starts_with(self.path.as_str()) => {
-                Ok(Some(String::from_str(alloc, text)?))
-            }
-            _ => Ok(None),
-        }
+        let is_below = Path::new(real.as_str()).starts_with(self.path.as_str());
+        Ok(if is_below { Some(real) } else { None })
     }
 }
 
-impl<R: ReadDevice + Drop, W: WriteDevice + Drop, Rt: Disk> Handler<Rt, Request<R, W, Rt>>
-    for Folder {
+impl<R: ReadDevice + Drop, W: WriteDevice + Drop, Rt: Disk + Clock + Wait + Drop> Handler<
+    Rt,
+    Request<R, W, Rt>,
+> for Folder {
     /// Answers by a file, an index or a list.
     fn handle(&self, rt: &Rt, alloc: Global, request: Request<R, W, Rt>) -> io::Result<()> {
         if !matches!(request.method(), Method::Get | Method::Head) {
@@ -140,13 +126,11 @@ impl<R: ReadDevice + Drop, W: WriteDevice + Drop, Rt: Disk> Handler<Rt, Request<
         let Some(found) = self.find(rt, alloc, request.path())? else {
             return send_status(rt, alloc, request, 404);
         };
-        let of = fs::metadata(rt, found.as_str())?;
-        if of.is_file() {
-            return send_file(rt, alloc, request, found.as_str());
-        }
-        if !of.is_dir() {
+        match rt.kind_of(found.as_str()) {
+            Ok(Kind::Folder) => {}
+            Ok(Kind::File) => return send_file(rt, alloc, request, found.as_str()),
             // To open a pipe may take for ever.
-            return send_status(rt, alloc, request, 404);
+            _ => return send_status(rt, alloc, request, 404),
         }
         if !request.path().ends_with('/') {
             // By its last part: two slashes in front would name a host.
@@ -159,8 +143,8 @@ impl<R: ReadDevice + Drop, W: WriteDevice + Drop, Rt: Disk> Handler<Rt, Request<
             return request.respond(answer, current_date(rt));
         }
         let index = format!(in alloc; "{}/index.html", found.as_str())?;
-        match fs::metadata(rt, index.as_str()) {
-            Ok(of) if of.is_file() => send_file(rt, alloc, request, index.as_str()),
+        match rt.kind_of(index.as_str()) {
+            Ok(Kind::File) => send_file(rt, alloc, request, index.as_str()),
             _ => send_list(rt, alloc, request, found.as_str()),
         }
     }
@@ -188,11 +172,9 @@ fn main(rt: HostRuntime) -> io::Result<()> {
     let [_, address, folder] = words.as_slice() else {
         return Err(ErrorKind::InvalidInput.into());
     };
-    let real = fs::canonicalize(&rt, folder.as_str())?;
-    let Some(path) = real.as_path().to_str() else {
+    let Some(path) = rt.real_path(alloc, folder.as_str())? else {
         return Err(ErrorKind::InvalidInput.into());
     };
-    let path = String::from_str(alloc, path)?;
     serve(
         rt,
         alloc,

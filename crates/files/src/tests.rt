@@ -1,14 +1,22 @@
 //! What requests are answered that name no file, and how names are linked.
+use crate::Folder;
+use crate::disk::Disk;
 use crate::list::list_of;
-use crate::{Disk, Folder};
 use std::alloc::Global;
+use std::sync::Wait;
 use std::test::Fail;
+use std::time::Clock;
 use tiny_http::answer::{Answer, read_answer};
 use tiny_http::{Handler, Method, Recorder, TestRequest, current_date};
 use tiny_http_files::types::type_of;
 
 // The answer to such a request, by a folder that isn't there.
-fn ask<R: Disk>(rt: R, alloc: Global, method: Method, path: &str) -> Result<Answer, Fail> {
+fn ask<R: Disk + Clock + Wait + Copy>(
+    rt: R,
+    alloc: Global,
+    method: Method,
+    path: &str,
+) -> Result<Answer, Fail> {
     let folder = Folder {
         path: String::from_str(alloc, "/nothing here")?,
     };

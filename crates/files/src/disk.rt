@@ -1,0 +1,67 @@
+//! What reading a folder needs of the machine. It is a trait of its own, since code that is generic over `Files` can't be shared among
+//! threads.
+use std::alloc::{AllocGlobal, Global};
+use std::fs::{File, Files, OpenFile};
+use std::time::SystemTime;
+use std::{fs, io};
+
+/// What a path names.
+#[derive(Clone, Copy, Debug, PartialEq, Eq)]
+pub(crate) enum Kind {
+    File,
+    Folder,
+    Other,
+}
+
+pub(crate) trait Disk {
+    /// A file, and when it was modified.
+    fn open_file(&self, path: &str) -> io::Result<(File, SystemTime)>;
+
+    /// What the path names, which there has to be.
+    fn kind_of(&self, path: &str) -> io::Result<Kind>;
+
+    /// The path without links, if it is a text.
+    fn real_path(&self, alloc: Global, path: &str) -> io::Result<Option<String>>;
+
+    /// The names in a folder that are texts.
+    fn names_in(&self, alloc: Global, path: &str) -> io::Result<Vec<String>>;
+}
+
+impl<R: Files<File = File> + AllocGlobal + Copy> Disk for R {
+    fn open_file(&self, path: &str) -> io::Result<(File, SystemTime)> {
+        let file = File::open(self, path)?;
+        let modified = file.metadata()?.modified()?;
+        Ok((file, modified))
+    }
+
+    fn kind_of(&self, path: &str) -> io::Result<Kind> {
+        let of = fs::metadata(self, path)?;
+        if of.is_file() {
+            return Ok(Kind::File);
+        }
+        Ok(if of.is_dir() {
+            Kind::Folder
+        } else {
+            Kind::Other
+        })
+    }
+
+    fn real_path(&self, alloc: Global, path: &str) -> io::Result<Option<String>> {
+        let real = fs::canonicalize(self, path)?;
+        match real.as_path().to_str() {
+            Some(text) => Ok(Some(String::from_str(alloc, text)?)),
+            None => Ok(None),
+        }
+    }
+
+    fn names_in(&self, alloc: Global, path: &str) -> io::Result<Vec<String>> {
+        let mut names = Vec::new(alloc);
+        for entry in fs::read_dir(self, path)? {
+            if let Ok(entry) = entry {
+                names.push(String::from_str(alloc, entry.file_name())?)?;
+            }
+        }
+        names.sort()?;
+        Ok(names)
+    }
+}
