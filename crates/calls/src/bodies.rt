@@ -2,7 +2,7 @@
 use crate::findings::{add, add_kind, add_shown, add_some};
 use crate::row::{Finding, Input};
 use std::alloc::{AllocError, Global};
-use tiny_http_answer::answer::{Answer, AnswerFault, read_answer};
+use tiny_http_client::answer::{Answer, AnswerFault, read_answer};
 use tiny_http_wire::chunked::{ChunkRules, Decoder};
 use tiny_http_wire::common::{Header, Method};
 use tiny_http_wire::device::{ByPieces, Canned, ReadDevice, Stop};

@@ -2,10 +2,10 @@
 use crate::findings::{add, add_shown};
 use crate::row::Finding;
 use std::alloc::{AllocError, Global};
-use tiny_http_standard::heads::{HeadFault, HeadRead, read_head};
-use tiny_http_standard::hosts::{is_authority, is_host, is_host_value};
-use tiny_http_standard::judging::{HeadSummary, judge};
-use tiny_http_standard::lines::{parse_field_line, parse_request_line};
+use tiny_http_standard_head::heads::{HeadFault, HeadRead, read_head};
+use tiny_http_standard_head::hosts::{is_authority, is_host, is_host_value};
+use tiny_http_standard_head::judging::{HeadSummary, judge};
+use tiny_http_standard_head::lines::{parse_field_line, parse_request_line};
 use tiny_http_wire::common::{HTTPVersion, Header, Method};
 
 /// A request line.

@@ -8,7 +8,7 @@ use replay_script::script::first_date;
 use std::alloc::{AllocError, Global};
 use std::io;
 use std::io::{ErrorKind, Write};
-use tiny_http_encoding::chunks::{put_chunk, put_chunked};
+use tiny_http_body::chunks::{put_chunk, put_chunked};
 use tiny_http_wire::common::{HTTPVersion, StatusCode};
 use tiny_http_wire::device::{Canned, Metered, WriteDevice};
 use tiny_http_wire::encoder::Encoder;

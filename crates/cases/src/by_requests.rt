@@ -9,8 +9,8 @@ use case_files::steps::{StepsFault, steps_of};
 use case_files::trial::Trial;
 use std::alloc::{AllocError, Global};
 use std::sync::{Arc, Mutex, Wait};
-use tiny_http_corked::cork::halves;
 use tiny_http_request::client::ClientConnection;
+use tiny_http_socket::cork::halves;
 
 /// When answers leave.
 #[derive(Clone, Copy, Debug, PartialEq, Eq)]

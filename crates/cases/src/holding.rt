@@ -7,10 +7,10 @@ use std::io::Write;
 use std::sync::{Arc, Wait};
 use tiny_http_core::custom_stream::CustomStream;
 use tiny_http_core::outlet::Outlet;
-use tiny_http_corked::cork::{Cork, CorkedReader, CorkedWriter};
 use tiny_http_request::client::ClientConnection;
 use tiny_http_request::request::{Body, Request};
 use tiny_http_request::sequential::SequentialWriter;
+use tiny_http_socket::cork::{Cork, CorkedReader, CorkedWriter};
 
 /// The writer below a connection's outlet.
 pub(crate) type Below<R> = CorkedWriter<TrialSocket<R>, R>;

@@ -3,7 +3,7 @@ use case_files::devices::Trier;
 use std::io;
 use std::io::Write;
 use std::sync::{Arc, Mutex, Wait};
-use tiny_http_corked::write_both::WriteBoth;
+use tiny_http_socket::write_both::WriteBoth;
 use tiny_http_wire::device::{Metered, WriteDevice};
 
 /// Writes to the writer behind a lock.
@@ -43,7 +43,7 @@ impl<R> TrialSocket<R> {
 }
 
 impl<R: Wait> WriteDevice for TrialSocket<R> {
-    ghost use Rattle.tiny_http_device.specs.Metered.{metered_sink};
+    ghost use Rattle.tiny_http_io.specs.Metered.{metered_sink};
 
     ghost sink = { λ c. metered_sink c.writer };
 

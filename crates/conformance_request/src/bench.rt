@@ -8,7 +8,7 @@ use std::sync::{Arc, Mutex, Wait};
 use std::test::Fail;
 use std::time::{Clock, Duration};
 use std::{io, thread};
-use tiny_http_message::framing::Profile;
+use tiny_http_body::framing::Profile;
 use tiny_http_request::client::ClientConnection;
 use tiny_http_request::request::Request;
 use tiny_http_wire::device::{Canned, Metered};

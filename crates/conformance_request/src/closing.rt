@@ -13,7 +13,7 @@ use std::test::Fail;
 use std::thread::Threads;
 use std::time::Clock;
 use std::{io, thread};
-use tiny_http_message::framing::Profile;
+use tiny_http_body::framing::Profile;
 use tiny_http_request::client::ClientConnection;
 use tiny_http_wire::device::Metered;
 

@@ -6,7 +6,7 @@ use std::io;
 use std::io::{Read, Write};
 use std::sync::Wait;
 use std::test::Fail;
-use tiny_http_answer::answer::{Answer, read_answer};
+use tiny_http_client::answer::{Answer, read_answer};
 use tiny_http_request::request::{BodyError, Request, UpgradeError};
 use tiny_http_request::test::{Recorder, TestRequest};
 use tiny_http_wire::common::{Method, StatusCode};

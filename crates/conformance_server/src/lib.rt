@@ -1,11 +1,35 @@
-//! Tests of `tiny_http`: what its public calls do, over threads. Those that need private state stand beside its code.
+//! Tests of `tiny_http` over sockets: servers and their clients in one process.
 #![tactic(auto)]
 
 #[cfg(test)]
-mod messages_queue;
+mod asking;
+#[cfg(test)]
+mod bench;
+#[cfg(test)]
+mod bodies;
+#[cfg(test)]
+mod by_path;
+#[cfg(test)]
+mod closing;
+#[cfg(test)]
+mod corked;
+#[cfg(test)]
+mod leaving;
+#[cfg(test)]
+mod limits;
+#[cfg(test)]
+mod network;
+#[cfg(test)]
+mod pipelines;
 #[cfg(test)]
 mod roster;
 #[cfg(test)]
 mod same;
 #[cfg(test)]
-mod task_pool;
+mod script;
+#[cfg(test)]
+mod server;
+#[cfg(test)]
+mod serving;
+#[cfg(test)]
+mod sockets;

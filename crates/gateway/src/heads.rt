@@ -6,8 +6,8 @@ use std::sync::Wait;
 use tiny_http::device::{ReadDevice, WriteDevice};
 use tiny_http::framing::value_of;
 use tiny_http::{Header, Request, Response};
-use tiny_http_answer_head::answer_head::AnswerHead;
-use tiny_http_standard::lists::has_element;
+use tiny_http_client::answer_head::AnswerHead;
+use tiny_http_standard_head::lists::has_element;
 
 // The headers of one connection alone, and those that are written anew.
 const HOP: [&str; 9] = [

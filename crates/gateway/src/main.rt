@@ -25,7 +25,7 @@ use tiny_http::{
     ConfigListenAddr, Handler, Host, Limits, Profile, Request, Response, Server, ServerConfig,
     StatusCode, StreamedForm, current_date,
 };
-use tiny_http_answer_head::answer_head::{AnswerHead, read_answer_head};
+use tiny_http_client::answer_head::{AnswerHead, read_answer_head};
 
 // So many threads answer.
 const THREADS: usize = 8;

@@ -3,7 +3,7 @@ use crate::heads::{Ending, answer_with, ending_of, head_of};
 use std::io;
 use std::test::Fail;
 use tiny_http::{Header, Method, TestRequest, current_date};
-use tiny_http_answer_head::answer_head::read_answer_head;
+use tiny_http_client::answer_head::read_answer_head;
 
 #[test]
 fn a_connections_own_headers_stay(rt: HostRuntime) -> Result<(), Fail> {

@@ -2,10 +2,10 @@
 use Rattle.std.specs.Prelude.{Option, Some, None, Result, Ok, Err}
 use Rattle.std.specs.declared.io.Error.{Error as IoError}
 use Rattle.tiny_http_socket.specs.declared.refined_tcp_stream.RefinedTcpStream.{RefinedTcpStream}
-use Rattle.tiny_http_corked.specs.declared.cork.CorkedReader.{CorkedReader}
-use Rattle.tiny_http_corked.specs.declared.cork.CorkedWriter.{CorkedWriter}
-use Rattle.tiny_http_paced.specs.declared.paced_reader.PacedReader.{PacedReader}
-use Rattle.tiny_http_paced.specs.declared.paced_writer.PacedWriter.{PacedWriter}
+use Rattle.tiny_http_socket.specs.declared.cork.CorkedReader.{CorkedReader}
+use Rattle.tiny_http_socket.specs.declared.cork.CorkedWriter.{CorkedWriter}
+use Rattle.tiny_http_socket.specs.declared.paced_reader.PacedReader.{PacedReader}
+use Rattle.tiny_http_socket.specs.declared.paced_writer.PacedWriter.{PacedWriter}
 use Rattle.tiny_http_request.specs.declared.request.Request.{Request}
 use Rattle.tiny_http.specs.declared.accepting.Message.{Message}
 use Rattle.tiny_http.specs.declared.accepting.Message.TheVariants.{Error, NewRequest, NewClient}

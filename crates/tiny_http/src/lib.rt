@@ -44,17 +44,18 @@ pub use tiny_http_core::{
     answer, custom_stream, driver, equal_reader, exchange, framing, fused_reader, outlet, source,
     turns, upgrading,
 };
-pub use tiny_http_corked::{cork, corked, read_ahead, write_both};
 pub use tiny_http_limits::limits::Limits;
 pub use tiny_http_limits::{backoff, census, counts, limits, times};
-pub use tiny_http_paced::{pace, paced_reader, paced_writer};
 pub use tiny_http_request::request::{
     BodyError, ReadWrite, RefusedUpgrade, Request, StreamedBody, StreamedForm,
 };
 pub use tiny_http_request::test::{Recorder, TestRequest};
 pub use tiny_http_request::{client, request, test};
 pub use tiny_http_socket::connection::{ConfigListenAddr, ListenAddr, Listener};
-pub use tiny_http_socket::{connection, refined_tcp_stream};
+pub use tiny_http_socket::{
+    connection, cork, corked, pace, paced_reader, paced_writer, read_ahead, refined_tcp_stream,
+    write_both,
+};
 pub use tiny_http_threads::{messages_queue, roster, sequential, task_pool};
 pub use tiny_http_wire::common::{HTTPVersion, Header, HeaderField, Method, StatusCode};
 pub use tiny_http_wire::response::{Response, ResponseBox};

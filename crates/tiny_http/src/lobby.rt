@@ -8,8 +8,8 @@ use tiny_http_limits::census::{Census, Refusal};
 use tiny_http_limits::counts::Counts;
 use tiny_http_limits::limits::Limits;
 use tiny_http_limits::times::time_left;
-use tiny_http_paced::pace::Pace;
 use tiny_http_socket::connection::Connection;
+use tiny_http_socket::pace::Pace;
 
 /// What a server knows of a client that is connected.
 #[derive(Drop)]

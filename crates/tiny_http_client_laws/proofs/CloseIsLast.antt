@@ -5,15 +5,15 @@ use Rattle.std.specs.Prelude.{if◌then◌else◌, slice_get, slice_set, nat_lt,
 use Rattle.std.specs.List.{AllByRecursion}
 use Rattle.std.proofs.lemmas.Bool.{and_parts}
 use Rattle.std.proofs.Math.Bool.{and-false, or-true}
-use Rattle.tiny_http_message.specs.declared.framing.Form.{Form}
-use Rattle.tiny_http_message.specs.declared.framing.Form.TheVariants as form
-use Rattle.tiny_http_message.specs.declared.body.TheConstants.{MOST_SKIPPED}
-use Rattle.tiny_http_message.specs.declared.body.Remainder.{Remainder}
-use Rattle.tiny_http_message.specs.declared.body.Remainder.TheVariants as left
-use Rattle.tiny_http_message.specs.Body.{body_finished, is_long, is_skipped}
-use Rattle.tiny_http_message.specs.Pipeline.{Item, Asks, Refuses, Request, body_length_or_0}
-use Rattle.tiny_http_core.specs.Slots.{Slot, Stage, Unanswered, Answered, ByServer, Raw, Upgraded, is_unanswered, is_end, is_chunked, is_counted, body_is_open, body_was_abandoned, remainder_of, is_last_once_finished, closes_now, last_closing, last_slot}
-use Rattle.tiny_http_core.specs.Steps.{Outcome, Reached, finished_as}
+use Rattle.tiny_http_body.specs.declared.framing.Form.{Form}
+use Rattle.tiny_http_body.specs.declared.framing.Form.TheVariants as form
+use Rattle.tiny_http_body.specs.declared.body.TheConstants.{MOST_SKIPPED}
+use Rattle.tiny_http_body.specs.declared.body.Remainder.{Remainder}
+use Rattle.tiny_http_body.specs.declared.body.Remainder.TheVariants as left
+use Rattle.tiny_http_body.specs.Body.{body_finished, is_long, is_skipped}
+use Rattle.tiny_http_open_request.specs.Pipeline.{Item, Asks, Refuses, Request, body_length_or_0}
+use Rattle.tiny_http_connection.specs.Slots.{Slot, Stage, Unanswered, Answered, ByServer, Raw, Upgraded, is_unanswered, is_end, is_chunked, is_counted, body_is_open, body_was_abandoned, remainder_of, is_last_once_finished, closes_now, last_closing, last_slot}
+use Rattle.tiny_http_connection.specs.Steps.{Outcome, Reached, finished_as}
 use Rattle.tiny_http_client_laws.specs.Closes.{is_close_printed, says_close_by, NoneFollowsClose}
 use Rattle.tiny_http_client_laws.proofs.PipelineEnds.{lasts, AllEnd, Owes}
 

@@ -5,28 +5,28 @@ use Rattle.std.specs.List.{AllByRecursion, list_any, cons_option}
 use Rattle.std.proofs.Math.Bool.{or-false}
 use Rattle.std.proofs.lemmas.Bool.{ltb-true}
 use Rattle.httpdate.specs.declared.date.HttpDate.{HttpDate}
-use Rattle.tiny_http_wire.specs.declared.common.HTTPVersion.{HTTPVersion}
-use Rattle.tiny_http_wire.specs.declared.common.Header.{Header}
-use Rattle.tiny_http_wire.specs.declared.coding.FramingHeader.{FramingHeader}
-use Rattle.tiny_http_wire.specs.declared.coding.FramingHeader.TheVariants.{Neither, TransferEncoding, ContentLength}
-use Rattle.tiny_http_wire.specs.declared.answer_context.Persistence.{Persistence}
-use Rattle.tiny_http_wire.specs.declared.answer_context.Persistence.TheVariants.{Persistent, Close}
-use Rattle.tiny_http_wire.specs.Coding.{is_up_to_1_0}
-use Rattle.tiny_http_wire.specs.Common.{same_name}
-use Rattle.tiny_http_wire.specs.Device.{Feed}
-use Rattle.tiny_http_wire.specs.Answer.{Answer, Printing, has_header}
-use Rattle.tiny_http_wire.specs.ByStandard.{persistence_option, connection_headers, safe_value, safe_headers, listed_headers}
-use Rattle.tiny_http_standard.specs.Lists.{between_commas, elements_of, has_element}
-use Rattle.tiny_http_answer.specs.ClientText.{server_header, date_header, framing_header, printed_headers, listed_of, received_answer}
+use Rattle.tiny_http_head.specs.declared.common.HTTPVersion.{HTTPVersion}
+use Rattle.tiny_http_head.specs.declared.common.Header.{Header}
+use Rattle.tiny_http_response.specs.declared.coding.FramingHeader.{FramingHeader}
+use Rattle.tiny_http_response.specs.declared.coding.FramingHeader.TheVariants.{Neither, TransferEncoding, ContentLength}
+use Rattle.tiny_http_response.specs.declared.answer_context.Persistence.{Persistence}
+use Rattle.tiny_http_response.specs.declared.answer_context.Persistence.TheVariants.{Persistent, Close}
+use Rattle.tiny_http_response.specs.Coding.{is_up_to_1_0}
+use Rattle.tiny_http_head.specs.Common.{same_name}
+use Rattle.tiny_http_io.specs.Device.{Feed}
+use Rattle.tiny_http_response.specs.Answer.{Answer, Printing, has_header}
+use Rattle.tiny_http_response.specs.ByStandard.{persistence_option, connection_headers, safe_value, safe_headers, listed_headers}
+use Rattle.tiny_http_standard_head.specs.Lists.{between_commas, elements_of, has_element}
+use Rattle.tiny_http_client.specs.ClientText.{server_header, date_header, framing_header, printed_headers, listed_of, received_answer}
 use Rattle.httpdate.specs.Date.{date_text}
-use Rattle.tiny_http_encoding.specs.Text.{Ending, Whole, Broken}
-use Rattle.tiny_http_wire.specs.Answer.{text_plain}
-use Rattle.tiny_http_message.specs.declared.framing.Profile.TheVariants.{Standard}
-use Rattle.tiny_http_message.specs.OwnAnswer.{persistence_of, refusal_response}
-use Rattle.tiny_http_message.specs.Pipeline.{Item, Asks, Refuses, Refusal, BadRequest, RequestTimeout, ExpectationFailed, HeaderFieldsTooLarge, VersionNotSupported, RequestLineTooLong, CodingNotImplemented, MajorVersionNotSupported}
-use Rattle.tiny_http_sending.specs.ResponseValue.{ResponseValue}
-use Rattle.tiny_http_core.specs.Slots.{Slot, Stage, Unanswered, Answered, ByServer, Raw, Upgraded, printing_for, server_response, stage_text}
-use Rattle.tiny_http_answer.specs.ClientAnswer.{ClientAnswer}
+use Rattle.tiny_http_body.specs.Text.{Ending, Whole, Broken}
+use Rattle.tiny_http_response.specs.Answer.{text_plain}
+use Rattle.tiny_http_body.specs.declared.framing.Profile.TheVariants.{Standard}
+use Rattle.tiny_http_open_request.specs.OwnAnswer.{persistence_of, refusal_response}
+use Rattle.tiny_http_open_request.specs.Pipeline.{Item, Asks, Refuses, Refusal, BadRequest, RequestTimeout, ExpectationFailed, HeaderFieldsTooLarge, VersionNotSupported, RequestLineTooLong, CodingNotImplemented, MajorVersionNotSupported}
+use Rattle.tiny_http_response.specs.ResponseValue.{ResponseValue}
+use Rattle.tiny_http_connection.specs.Slots.{Slot, Stage, Unanswered, Answered, ByServer, Raw, Upgraded, printing_for, server_response, stage_text}
+use Rattle.tiny_http_client.specs.ClientAnswer.{ClientAnswer}
 use Rattle.tiny_http_client_laws.specs.ClientReads.{IsReadableStage, CanBeReadAt, answer_if_whole, stage_answer}
 use Rattle.tiny_http_client_laws.specs.Closes.{is_close_printed, says_close_by, says_close, reads_close, OwnsNoConnection, IsReadAsSaid}
 use Rattle.tiny_http_client_laws.proofs.StepsAdd.{AllSound, is_standard_item}

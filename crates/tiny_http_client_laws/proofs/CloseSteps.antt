@@ -5,20 +5,20 @@ use Rattle.std.specs.List.{AllByRecursion, list_all}
 use Rattle.std.proofs.Math.Bool.{or-false}
 use Rattle.std.proofs.lemmas.Bool.{and_parts, eqb-true}
 use Rattle.httpdate.specs.declared.date.HttpDate.{HttpDate}
-use Rattle.tiny_http_wire.specs.Bytes.{is_ascii}
-use Rattle.tiny_http_wire.specs.Device.{Feed, Sink}
-use Rattle.tiny_http_message.specs.declared.framing.Form.{Form}
-use Rattle.tiny_http_message.specs.declared.framing.Form.TheVariants as form
-use Rattle.tiny_http_message.specs.declared.framing.Profile.TheVariants.{Standard}
-use Rattle.tiny_http_message.specs.declared.upgrading.UpgradeError.{UpgradeError}
-use Rattle.tiny_http_message.specs.declared.upgrading.UpgradeError.TheVariants.{Protocol, NotAsked, Status, UnfinishedBody}
-use Rattle.tiny_http_message.specs.Body.{body_finished}
-use Rattle.tiny_http_message.specs.Pipeline.{Item, Asks, Refuses, Request, body_length_or_0}
-use Rattle.tiny_http_sending.specs.ResponseValue.{ResponseValue}
-use Rattle.tiny_http_core.specs.Slots.{Slot, Stage, Unanswered, Answered, ByServer, Raw, Upgraded, is_unanswered, is_end, is_form_streamed, is_chunked, is_counted, body_is_open, body_was_abandoned, is_last_once_finished, closes_now, holds_next_head, asks_protocol, is_body_whole, refuses_response, refuses_upgrade, as_stream, upgraded_slot, rest_of, new_slot, last_slot, is_last_item, is_holding, last_holds_reader, last_was_abandoned, turn_has_come}
-use Rattle.tiny_http_core.specs.Steps.{StepValue, Ask, AsReader, Read, Respond, IntoWriter, Write, Flush, Upgrade, Finish, Drop, ReplyValue, Given, Done, NoSuch, NotYet, Ended, Refused, WriterUse, Unused, Unreported, Outcome, Reached, unchanged, changes, ends_asking, is_last_with_stream, finished_as, written_to, stage_closed, accepts_step, needs_turn, use_in_turn, asked_to_close, answers, answers_slot, asks_from, ask, effect, at_item, at_slot, at_number, outcome}
-use Rattle.tiny_http_core.specs.Conversation.{State, FindsNoMemory, IsPassedOver, StepsTo, TimedValue, Run, start_state, IsConversation}
-use Rattle.tiny_http_core.proofs.ConnectionReader.{last-snoc}
+use Rattle.tiny_http_text.specs.Bytes.{is_ascii}
+use Rattle.tiny_http_io.specs.Device.{Feed, Sink}
+use Rattle.tiny_http_body.specs.declared.framing.Form.{Form}
+use Rattle.tiny_http_body.specs.declared.framing.Form.TheVariants as form
+use Rattle.tiny_http_body.specs.declared.framing.Profile.TheVariants.{Standard}
+use Rattle.tiny_http_open_request.specs.declared.upgrading.UpgradeError.{UpgradeError}
+use Rattle.tiny_http_open_request.specs.declared.upgrading.UpgradeError.TheVariants.{Protocol, NotAsked, Status, UnfinishedBody}
+use Rattle.tiny_http_body.specs.Body.{body_finished}
+use Rattle.tiny_http_open_request.specs.Pipeline.{Item, Asks, Refuses, Request, body_length_or_0}
+use Rattle.tiny_http_response.specs.ResponseValue.{ResponseValue}
+use Rattle.tiny_http_connection.specs.Slots.{Slot, Stage, Unanswered, Answered, ByServer, Raw, Upgraded, is_unanswered, is_end, is_form_streamed, is_chunked, is_counted, body_is_open, body_was_abandoned, is_last_once_finished, closes_now, holds_next_head, asks_protocol, is_body_whole, refuses_response, refuses_upgrade, as_stream, upgraded_slot, rest_of, new_slot, last_slot, is_last_item, is_holding, last_holds_reader, last_was_abandoned, turn_has_come}
+use Rattle.tiny_http_connection.specs.Steps.{StepValue, Ask, AsReader, Read, Respond, IntoWriter, Write, Flush, Upgrade, Finish, Drop, ReplyValue, Given, Done, NoSuch, NotYet, Ended, Refused, WriterUse, Unused, Unreported, Outcome, Reached, unchanged, changes, ends_asking, is_last_with_stream, finished_as, written_to, stage_closed, accepts_step, needs_turn, use_in_turn, asked_to_close, answers, answers_slot, asks_from, ask, effect, at_item, at_slot, at_number, outcome}
+use Rattle.tiny_http_connection.specs.Conversation.{State, FindsNoMemory, IsPassedOver, StepsTo, TimedValue, Run, start_state, IsConversation}
+use Rattle.tiny_http_connection.proofs.ConnectionReader.{last-snoc}
 use Rattle.tiny_http_client_laws.specs.Closes.{says_close_by, NoneFollowsClose}
 use Rattle.tiny_http_client_laws.proofs.StepsAdd.{number_of, told, by-respond, by-upgrade, by-drop}
 use Rattle.tiny_http_client_laws.proofs.PipelineEnds.{lasts, AllEnd, Owes, pipeline-ends, pipeline-owes}

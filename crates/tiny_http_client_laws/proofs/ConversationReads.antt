@@ -2,20 +2,20 @@
 use Rattle.std.proofs.Common.{◌≡◌, ℕ, Bool, false, List, [], Option, Some, None, subst}
 use Rattle.std.specs.Prelude.{IsTrue}
 use Rattle.std.specs.List.{list_all}
-use Rattle.tiny_http_wire.specs.Device.{Feed, Sink}
-use Rattle.tiny_http_message.specs.declared.framing.Profile.{Profile}
-use Rattle.tiny_http_core.specs.Slots.{is_finished}
-use Rattle.tiny_http_core.specs.Steps.{ReplyValue}
-use Rattle.tiny_http_core.specs.Conversation.{TimedValue, start_state, IsConversation}
-use Rattle.tiny_http_answer.specs.ClientAnswer.{ClientAnswer, ReadsAnswers}
-use Rattle.tiny_http_answer.specs.SentTexts.{methods, whole_answers, remains}
+use Rattle.tiny_http_io.specs.Device.{Feed, Sink}
+use Rattle.tiny_http_body.specs.declared.framing.Profile.{Profile}
+use Rattle.tiny_http_connection.specs.Slots.{is_finished}
+use Rattle.tiny_http_connection.specs.Steps.{ReplyValue}
+use Rattle.tiny_http_connection.specs.Conversation.{TimedValue, start_state, IsConversation}
+use Rattle.tiny_http_client.specs.ClientAnswer.{ClientAnswer, ReadsAnswers}
+use Rattle.tiny_http_client.specs.SentTexts.{methods, whole_answers, remains}
 use Rattle.tiny_http_client_laws.specs.ClientReads.{goes_by_standard, IsOutputOf, HaveAnswers, ReadsNumbers, sent_texts}
 use Rattle.tiny_http_client_laws.proofs.ItemsFit.{items-fit}
 use Rattle.tiny_http_client_laws.proofs.RunFronts.{IsSoundState, run-sound, start-sound, output-front, output-all, output-unended}
 use Rattle.tiny_http_client_laws.proofs.ReadableSteps.{CanAllBeRead}
 use Rattle.tiny_http_client_laws.proofs.SlotsAreRead.{slots-are-read, slots-are-read-all, all-answered}
 use Rattle.std.specs.List.{AllByRecursion}
-use Rattle.tiny_http_message.specs.declared.framing.Profile.TheVariants.{Standard}
+use Rattle.tiny_http_body.specs.declared.framing.Profile.TheVariants.{Standard}
 use Rattle.tiny_http_client_laws.specs.Closes.{IsReadAsSaid}
 use Rattle.tiny_http_client_laws.proofs.CloseIsRead.{all-read}
 

@@ -2,20 +2,21 @@
 use Rattle.std.proofs.Common.{◌≡◌, refl, sym, subst, ℕ, ◌≤◌, Bool, true, false, List, [], ◌∷◌, ◌++◌, length, drop, Option, Some, None, Ok, Err, inl, inr, arith}
 use Rattle.std.specs.Prelude.{if◌then◌else◌, nat_lt, ◌&&◌, codes, take, unwrap_or}
 use Rattle.std.specs.Str.{bytes_eq}
-use Rattle.tiny_http_wire.specs.declared.common.HTTPVersion.{HTTPVersion}
-use Rattle.tiny_http_wire.specs.declared.device.Stop.{Stop}
-use Rattle.tiny_http_wire.specs.Device.{Feed}
-use Rattle.tiny_http_wire.specs.Heads.{version, version_of, is_too_new, Message, BeginsWithRequestHead, FaultyHead, GrammarFault, Cut, Malformed}
-use Rattle.tiny_http_core.specs.Source.{seen_within}
-use Rattle.tiny_http_message.specs.declared.framing.Framing.{Framing}
-use Rattle.tiny_http_message.specs.declared.framing.TheConstants.{STANDARD_HEAD}
-use Rattle.tiny_http_message.specs.declared.framing.Profile.{Profile}
-use Rattle.tiny_http_message.specs.declared.framing.Profile.TheVariants as under
-use Rattle.tiny_http_message.specs.declared.framing.HeadRules.{HeadRules}
-use Rattle.tiny_http_message.specs.declared.framing.HeadRules.TheVariants as rule
-use Rattle.tiny_http_standard.specs.Judging.{is_1_0}
-use Rattle.tiny_http_standard.specs.Heads.{is_begun, Reading, ReadWhole, ReadBad, ReadOpen}
-use Rattle.tiny_http_message.specs.Pipeline.{place_feed, Item, Asks, Refuses, Manner, plainly, by_the_standard, Refusal, BadRequest, RequestTimeout, ExpectationFailed, HeaderFieldsTooLarge, VersionNotSupported, RequestLineTooLong, CodingNotImplemented, MajorVersionNotSupported, Place, is_timed_out, is_cut_with_head, body_length_or_0, served_version, served_message, standard_framing, standard_cut, standard_heading, long_refusal, RulesHeadAt, is_head_method, head_limit, BeginsWithin, IsTooLarge, IsRefused, Heading, Silence, Refused, Heads, HeadAt, FoundAt, ends_too_new, Pipeline}
+use Rattle.tiny_http_head.specs.declared.common.HTTPVersion.{HTTPVersion}
+use Rattle.tiny_http_io.specs.declared.device.Stop.{Stop}
+use Rattle.tiny_http_io.specs.Device.{Feed}
+use Rattle.tiny_http_head.specs.Heads.{version, version_of, is_too_new, Message, BeginsWithRequestHead, FaultyHead, GrammarFault, Cut, Malformed}
+use Rattle.tiny_http_io.specs.Source.{seen_within}
+use Rattle.tiny_http_body.specs.declared.framing.Framing.{Framing}
+use Rattle.tiny_http_body.specs.declared.framing.TheConstants.{STANDARD_HEAD}
+use Rattle.tiny_http_body.specs.declared.framing.Profile.{Profile}
+use Rattle.tiny_http_body.specs.declared.framing.Profile.TheVariants as under
+use Rattle.tiny_http_body.specs.declared.framing.HeadRules.{HeadRules}
+use Rattle.tiny_http_body.specs.declared.framing.HeadRules.TheVariants as rule
+use Rattle.tiny_http_standard_head.specs.Judging.{is_1_0}
+use Rattle.tiny_http_standard_head.specs.Heads.{is_begun, Reading, ReadWhole, ReadBad, ReadOpen}
+use Rattle.tiny_http_body.specs.Framing.{head_limit}
+use Rattle.tiny_http_open_request.specs.Pipeline.{place_feed, Item, Asks, Refuses, Manner, plainly, by_the_standard, Refusal, BadRequest, RequestTimeout, ExpectationFailed, HeaderFieldsTooLarge, VersionNotSupported, RequestLineTooLong, CodingNotImplemented, MajorVersionNotSupported, Place, is_timed_out, is_cut_with_head, body_length_or_0, served_version, served_message, standard_framing, standard_cut, standard_heading, long_refusal, RulesHeadAt, is_head_method, BeginsWithin, IsTooLarge, IsRefused, Heading, Silence, Refused, Heads, HeadAt, FoundAt, ends_too_new, Pipeline}
 use Rattle.tiny_http_client_laws.specs.ClientReads.{goes_by_standard}
 use Rattle.tiny_http_client_laws.proofs.StepsAdd.{VersionFits, ItemFits, AllFit}
 

@@ -5,21 +5,21 @@ use Rattle.std.specs.Prelude.{codes, ◌==◌, if◌then◌else◌, nat_lt, nat_
 use Rattle.std.specs.List.{AllByRecursion}
 use Rattle.std.proofs.Math.Bool.{or-false, and-false}
 use Rattle.std.proofs.lemmas.Bool.{and_parts, ne_eqb}
-use Rattle.tiny_http_wire.specs.Device.{Feed}
-use Rattle.tiny_http_wire.specs.declared.device.Stop.{Stop}
-use Rattle.tiny_http_wire.specs.Heads.{Message, is_too_new, version}
-use Rattle.tiny_http_standard.specs.Heads.{is_begun, Reading, ReadWhole, ReadBad, ReadOpen, AreReadAs}
-use Rattle.tiny_http_standard.specs.Judging.{has_body, is_1_0}
-use Rattle.tiny_http_standard.specs.Lists.{has_element}
-use Rattle.tiny_http_message.specs.declared.framing.TheConstants.{LONGEST_WITH_HEAD, STANDARD_HEAD}
-use Rattle.tiny_http_message.specs.declared.framing.Profile.{Profile}
-use Rattle.tiny_http_message.specs.declared.framing.Profile.TheVariants.{Standard}
-use Rattle.tiny_http_message.specs.declared.framing.Framing.{Framing}
-use Rattle.tiny_http_message.specs.declared.framing.Form.{Form}
-use Rattle.tiny_http_message.specs.declared.framing.Form.TheVariants as form
-use Rattle.tiny_http_message.specs.Pipeline.{Item, Asks, Refuses, Refusal, Manner, RequestTimeout, VersionNotSupported, plainly, by_the_standard, long_refusal, standard_front, Heading, Silence, Refused, Heads, Place, place_feed, place_after, item_of, ends_too_new, is_head_method, is_timed_out, body_length_or_0, BodyAt, FoundAt, StandardHeadAt, standard_heading, standard_cut, standard_form, standard_framing, served_message, is_cut_with_head, Pipeline}
-use Rattle.tiny_http_message.specs.Body.{body_finished}
-use Rattle.tiny_http_core.specs.Slots.{is_end, is_form_streamed}
+use Rattle.tiny_http_io.specs.Device.{Feed}
+use Rattle.tiny_http_io.specs.declared.device.Stop.{Stop}
+use Rattle.tiny_http_head.specs.Heads.{Message, is_too_new, version}
+use Rattle.tiny_http_standard_head.specs.Heads.{is_begun, Reading, ReadWhole, ReadBad, ReadOpen, AreReadAs}
+use Rattle.tiny_http_standard_head.specs.Judging.{has_body, is_1_0}
+use Rattle.tiny_http_standard_head.specs.Lists.{has_element}
+use Rattle.tiny_http_body.specs.declared.framing.TheConstants.{LONGEST_WITH_HEAD, STANDARD_HEAD}
+use Rattle.tiny_http_body.specs.declared.framing.Profile.{Profile}
+use Rattle.tiny_http_body.specs.declared.framing.Profile.TheVariants.{Standard}
+use Rattle.tiny_http_body.specs.declared.framing.Framing.{Framing}
+use Rattle.tiny_http_body.specs.declared.framing.Form.{Form}
+use Rattle.tiny_http_body.specs.declared.framing.Form.TheVariants as form
+use Rattle.tiny_http_open_request.specs.Pipeline.{Item, Asks, Refuses, Refusal, Manner, RequestTimeout, VersionNotSupported, plainly, by_the_standard, long_refusal, standard_front, Heading, Silence, Refused, Heads, Place, place_feed, place_after, item_of, ends_too_new, is_head_method, is_timed_out, body_length_or_0, BodyAt, FoundAt, StandardHeadAt, standard_heading, standard_cut, standard_form, standard_framing, served_message, is_cut_with_head, Pipeline}
+use Rattle.tiny_http_body.specs.Body.{body_finished}
+use Rattle.tiny_http_connection.specs.Slots.{is_end, is_form_streamed}
 
 -- nothing follows this item in its pipeline
 abbrev pub lasts : Item → Bool

@@ -2,13 +2,13 @@
 use Rattle.std.proofs.Common.{◌≡◌, refl, sym, ap, ◌∙◌, subst, ℕ, Bool, true, false, not, ◌&&◌, List, [], ◌∷◌, ◌++◌, map, length, Option, Some, None, append-nil, ⊎_elim}
 use Rattle.std.specs.Prelude.{if◌then◌else◌, slice_get, is_some, MatchBool}
 use Rattle.httpdate.specs.declared.date.HttpDate.{HttpDate}
-use Rattle.tiny_http_wire.specs.Device.{Sink, IsFront}
-use Rattle.tiny_http_message.specs.Pipeline.{Item, Asks, Refuses}
-use Rattle.tiny_http_device.proofs.DeviceLemmas.{IsFront-append}
-use Rattle.tiny_http_sending.proofs.SendingLemmas.{or-parts}
-use Rattle.tiny_http_core.specs.Slots.{Slot, turn_has_come, joined, is_output_broken, new_slot, last_slot, last_holds_reader, last_was_abandoned}
-use Rattle.tiny_http_core.specs.Steps.{StepValue, Ask, AsReader, Read, Respond, IntoWriter, Write, Flush, Upgrade, Finish, Drop, ReplyValue, Ended, NotYet, NoSuch, Memory, WriterUse, Unused, Unreported, Reported, Outcome, Reached, unchanged, asks_from, ask, accepts_step, needs_turn, effect, at_item, at_slot, at_number, outcome}
-use Rattle.tiny_http_core.specs.Conversation.{Failure, State, Fares, Well, FailsWithin, FailsAfter, MayFare, failure_in, is_silent, reply_in, HasOutcome, FindsNoMemory, answers_to, StepsTo, TimedValue, Run, start_state, IsOutput}
+use Rattle.tiny_http_io.specs.Device.{Sink, IsFront}
+use Rattle.tiny_http_open_request.specs.Pipeline.{Item, Asks, Refuses}
+use Rattle.tiny_http_io.proofs.DeviceLemmas.{IsFront-append}
+use Rattle.tiny_http_response.proofs.SendingLemmas.{or-parts}
+use Rattle.tiny_http_connection.specs.Slots.{Slot, turn_has_come, joined, is_output_broken, new_slot, last_slot, last_holds_reader, last_was_abandoned}
+use Rattle.tiny_http_connection.specs.Steps.{StepValue, Ask, AsReader, Read, Respond, IntoWriter, Write, Flush, Upgrade, Finish, Drop, ReplyValue, Ended, NotYet, NoSuch, Memory, WriterUse, Unused, Unreported, Reported, Outcome, Reached, unchanged, asks_from, ask, accepts_step, needs_turn, effect, at_item, at_slot, at_number, outcome}
+use Rattle.tiny_http_connection.specs.Conversation.{Failure, State, Fares, Well, FailsWithin, FailsAfter, MayFare, failure_in, is_silent, reply_in, HasOutcome, FindsNoMemory, answers_to, StepsTo, TimedValue, Run, start_state, IsOutput}
 use Rattle.tiny_http_client_laws.proofs.JoinedGrows.{joined-grows, AddsOwn, in-turn-ownless}
 use Rattle.tiny_http_client_laws.proofs.StepsAdd.{ItemFits, IsSound, AllSound, AllFit, all-append, all-parts, Keeps, Holds, keeps-if, number_of, effect-keeps}
 

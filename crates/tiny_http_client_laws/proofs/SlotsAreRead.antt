@@ -2,32 +2,32 @@
 use Rattle.std.proofs.Common.{◌≡◌, refl, sym, ap, ◌∙◌, subst, ℕ, ◌≤◌, Bool, true, false, not, ◌&&◌, List, [], ◌∷◌, ◌++◌, map, Option, Some, None, append_assoc, append-nil, arith}
 use Rattle.std.specs.Prelude.{if◌then◌else◌, MatchOption, codes, option_map}
 use Rattle.std.proofs.lemmas.Bool.{and_parts, le-ltb}
-use Rattle.tiny_http_sending.proofs.SendingLemmas.{or-parts}
+use Rattle.tiny_http_response.proofs.SendingLemmas.{or-parts}
 use Rattle.std.specs.List.{AllByRecursion, list_all, cons_option}
 use Rattle.httpdate.specs.declared.date.HttpDate.{HttpDate}
-use Rattle.tiny_http_wire.specs.declared.common.Method.{Method}
-use Rattle.tiny_http_wire.specs.declared.common.Method.TheVariants.{Get, Head}
-use Rattle.tiny_http_wire.specs.declared.common.Header.{Header}
-use Rattle.tiny_http_wire.specs.declared.common.HTTPVersion.{HTTPVersion}
-use Rattle.tiny_http_wire.specs.declared.answer_context.Persistence.{Persistence}
-use Rattle.tiny_http_wire.specs.declared.answer_context.Persistence.TheVariants.{Persistent, Close}
-use Rattle.tiny_http_wire.specs.Coding.{is_up_to_1_0}
-use Rattle.tiny_http_wire.specs.ByStandard.{persistence_option, connection_header, options_with_upgrade, connection_headers, safe_value, safe_headers, listed_headers}
-use Rattle.tiny_http_wire.specs.Device.{IsFront}
-use Rattle.tiny_http_wire.specs.Text.{Ending, Whole, Broken}
-use Rattle.tiny_http_wire.specs.Answer.{Answer, Printing, text_plain}
-use Rattle.tiny_http_wire.specs.Readable.{IsReadable}
-use Rattle.tiny_http_message.specs.declared.framing.Profile.{Profile}
-use Rattle.tiny_http_message.specs.Pipeline.{Item, Asks, Refuses, Refusal, BadRequest, RequestTimeout, ExpectationFailed, HeaderFieldsTooLarge, VersionNotSupported, RequestLineTooLong, CodingNotImplemented, MajorVersionNotSupported, is_head_method}
-use Rattle.tiny_http_message.specs.OwnAnswer.{persistence_of, refusal_response}
-use Rattle.tiny_http_sending.specs.ResponseValue.{ResponseValue, response_of, response_text}
-use Rattle.tiny_http_core.specs.Slots.{Slot, Stage, Unanswered, Answered, ByServer, Raw, Upgraded, drop_response, continue_response, printing_for, server_response, text_if, stage_text, opening, segment, is_broken, is_slot_broken, is_stage_finished, is_finished, joined, is_output_broken}
-use Rattle.tiny_http_answer.specs.ClientAnswer.{ClientAnswer, ReadsAnswer, ReadsAnswers, is_head}
-use Rattle.tiny_http_answer.specs.ClientText.{IsReadableAnswer, received_answer}
-use Rattle.tiny_http_answer.specs.SentTexts.{BreaksOff, IsSentText, joined_texts, joined_behind, methods, whole_by, whole_answers, remains_by, remains}
-use Rattle.tiny_http_answer.proofs.TextLaw.{read_back}
-use Rattle.tiny_http_answer.proofs.BrokenLemmas.{broken-off, nothing-off, passed-over, interim-head}
-use Rattle.tiny_http_answer.proofs.SentTextsLemmas.{reads, reads-all, Reads}
+use Rattle.tiny_http_head.specs.declared.common.Method.{Method}
+use Rattle.tiny_http_head.specs.declared.common.Method.TheVariants.{Get, Head}
+use Rattle.tiny_http_head.specs.declared.common.Header.{Header}
+use Rattle.tiny_http_head.specs.declared.common.HTTPVersion.{HTTPVersion}
+use Rattle.tiny_http_response.specs.declared.answer_context.Persistence.{Persistence}
+use Rattle.tiny_http_response.specs.declared.answer_context.Persistence.TheVariants.{Persistent, Close}
+use Rattle.tiny_http_response.specs.Coding.{is_up_to_1_0}
+use Rattle.tiny_http_response.specs.ByStandard.{persistence_option, connection_header, options_with_upgrade, connection_headers, safe_value, safe_headers, listed_headers}
+use Rattle.tiny_http_io.specs.Device.{IsFront}
+use Rattle.tiny_http_body.specs.Text.{Ending, Whole, Broken}
+use Rattle.tiny_http_response.specs.Answer.{Answer, Printing, text_plain}
+use Rattle.tiny_http_response.specs.Readable.{IsReadable}
+use Rattle.tiny_http_body.specs.declared.framing.Profile.{Profile}
+use Rattle.tiny_http_open_request.specs.Pipeline.{Item, Asks, Refuses, Refusal, BadRequest, RequestTimeout, ExpectationFailed, HeaderFieldsTooLarge, VersionNotSupported, RequestLineTooLong, CodingNotImplemented, MajorVersionNotSupported, is_head_method}
+use Rattle.tiny_http_open_request.specs.OwnAnswer.{persistence_of, refusal_response}
+use Rattle.tiny_http_response.specs.ResponseValue.{ResponseValue, response_of, response_text}
+use Rattle.tiny_http_connection.specs.Slots.{Slot, Stage, Unanswered, Answered, ByServer, Raw, Upgraded, drop_response, continue_response, printing_for, server_response, text_if, stage_text, opening, segment, is_broken, is_slot_broken, is_stage_finished, is_finished, joined, is_output_broken}
+use Rattle.tiny_http_client.specs.ClientAnswer.{ClientAnswer, ReadsAnswer, ReadsAnswers, is_head}
+use Rattle.tiny_http_client.specs.ClientText.{IsReadableAnswer, received_answer}
+use Rattle.tiny_http_client.specs.SentTexts.{BreaksOff, IsSentText, joined_texts, joined_behind, methods, whole_by, whole_answers, remains_by, remains}
+use Rattle.tiny_http_client.proofs.TextLaw.{read_back}
+use Rattle.tiny_http_client.proofs.BrokenLemmas.{broken-off, nothing-off, passed-over, interim-head}
+use Rattle.tiny_http_client.proofs.SentTextsLemmas.{reads, reads-all, Reads}
 use Rattle.tiny_http_client_laws.specs.ClientReads.{counts_as, goes_by_standard, offer_headers, headers_printed, CanBeRead, IsReadableStage, CanBeReadAt, answer_if_whole, stage_answer, sent_text, sent_texts, HaveAnswers}
 use Rattle.tiny_http_client_laws.proofs.StepsAdd.{ItemFits, AllSound}
 

@@ -1,25 +1,25 @@
 -- What a client reads of a connection's output.
 use Rattle.std.specs.Prelude.{◌≡◌, ℕ, ◌<◌, ◌≤◌, ◌^◌, Bool, true, false, List, [], ◌∷◌, ◌++◌, map, Option, Some, None, option_map, if◌then◌else◌, codes, ⊤}
 use Rattle.std.specs.List.{AllByRecursion, list_all}
-use Rattle.tiny_http_wire.specs.declared.common.Method.{Method}
-use Rattle.tiny_http_wire.specs.declared.common.Method.TheVariants.{Get, Head}
-use Rattle.tiny_http_wire.specs.Bytes.{is_ascii}
-use Rattle.tiny_http_wire.specs.Device.{Sink}
-use Rattle.tiny_http_wire.specs.declared.common.Header.{Header}
-use Rattle.tiny_http_wire.specs.Answer.{Answer, Printing, has_header}
-use Rattle.tiny_http_wire.specs.ByStandard.{upgrade_header, safe_value, safe_headers}
-use Rattle.tiny_http_message.specs.declared.framing.Profile.{Profile}
-use Rattle.tiny_http_message.specs.declared.framing.Profile.TheVariants.{Standard}
-use Rattle.tiny_http_wire.specs.Text.{Ending, Whole, Broken}
-use Rattle.tiny_http_wire.specs.Readable.{IsReadable}
-use Rattle.tiny_http_message.specs.Pipeline.{Item, Asks, Refuses}
-use Rattle.tiny_http_sending.specs.ResponseValue.{ResponseValue}
-use Rattle.tiny_http_core.specs.Slots.{Slot, Stage, Unanswered, Answered, ByServer, Raw, Upgraded, printing_for, server_response, stage_text, segment}
-use Rattle.tiny_http_core.specs.Steps.{StepValue, Respond, IntoWriter, Upgrade}
-use Rattle.tiny_http_core.specs.Conversation.{TimedValue}
-use Rattle.tiny_http_answer.specs.ClientAnswer.{ClientAnswer, ReadsAnswers}
-use Rattle.tiny_http_answer.specs.ClientText.{stated_length, received_answer}
-use Rattle.tiny_http_answer.specs.SentTexts.{SentText, methods, StandIn}
+use Rattle.tiny_http_head.specs.declared.common.Method.{Method}
+use Rattle.tiny_http_head.specs.declared.common.Method.TheVariants.{Get, Head}
+use Rattle.tiny_http_text.specs.Bytes.{is_ascii}
+use Rattle.tiny_http_io.specs.Device.{Sink}
+use Rattle.tiny_http_head.specs.declared.common.Header.{Header}
+use Rattle.tiny_http_response.specs.Answer.{Answer, Printing, has_header}
+use Rattle.tiny_http_response.specs.ByStandard.{upgrade_header, safe_value, safe_headers}
+use Rattle.tiny_http_body.specs.declared.framing.Profile.{Profile}
+use Rattle.tiny_http_body.specs.declared.framing.Profile.TheVariants.{Standard}
+use Rattle.tiny_http_body.specs.Text.{Ending, Whole, Broken}
+use Rattle.tiny_http_response.specs.Readable.{IsReadable}
+use Rattle.tiny_http_open_request.specs.Pipeline.{Item, Asks, Refuses}
+use Rattle.tiny_http_response.specs.ResponseValue.{ResponseValue}
+use Rattle.tiny_http_connection.specs.Slots.{Slot, Stage, Unanswered, Answered, ByServer, Raw, Upgraded, printing_for, server_response, stage_text, segment}
+use Rattle.tiny_http_connection.specs.Steps.{StepValue, Respond, IntoWriter, Upgrade}
+use Rattle.tiny_http_connection.specs.Conversation.{TimedValue}
+use Rattle.tiny_http_client.specs.ClientAnswer.{ClientAnswer, ReadsAnswers}
+use Rattle.tiny_http_client.specs.ClientText.{stated_length, received_answer}
+use Rattle.tiny_http_client.specs.SentTexts.{SentText, methods, StandIn}
 
 -- The method as whose answer a number's text is read: that of the request. A refused head counts as a GET, the 505 of a HEAD as
 -- a HEAD.

@@ -1,12 +1,12 @@
 -- What an answer tells of its connection, and that it is so.
 use Rattle.std.specs.Prelude.{◌≡◌, Bool, false, ◌&&◌, List, [], ◌∷◌, ⊤, Some, codes}
-use Rattle.tiny_http_message.specs.Pipeline.{Item, Asks, Refuses}
-use Rattle.tiny_http_wire.specs.Answer.{has_header}
-use Rattle.tiny_http_standard.specs.Lists.{has_element}
-use Rattle.tiny_http_answer.specs.ClientAnswer.{ClientAnswer}
-use Rattle.tiny_http_message.specs.declared.framing.Profile.TheVariants.{Standard}
+use Rattle.tiny_http_open_request.specs.Pipeline.{Item, Asks, Refuses}
+use Rattle.tiny_http_response.specs.Answer.{has_header}
+use Rattle.tiny_http_standard_head.specs.Lists.{has_element}
+use Rattle.tiny_http_client.specs.ClientAnswer.{ClientAnswer}
+use Rattle.tiny_http_body.specs.declared.framing.Profile.TheVariants.{Standard}
 use Rattle.tiny_http_client_laws.specs.ClientReads.{CanBeReadAt, stage_answer}
-use Rattle.tiny_http_core.specs.Slots.{Slot, Stage, Unanswered, Answered, ByServer, Raw, Upgraded}
+use Rattle.tiny_http_connection.specs.Slots.{Slot, Stage, Unanswered, Answered, ByServer, Raw, Upgraded}
 
 -- `printing_for` prints a close: by the standard in a refusal, and in another answer where that was decided
 abbrev pub is_close_printed : Bool → Item → Bool

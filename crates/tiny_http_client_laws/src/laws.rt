@@ -1,20 +1,20 @@
 //! The client theorem.
 ghost use Rattle.std.specs.Prelude.{◌≡◌, ◌<◌, ◌≤◌, ◌^◌, length, ℕ, Bool, false, List, [], Option, None, IsTrue};
 ghost use Rattle.std.specs.List.{AllByRecursion, list_all};
-ghost use Rattle.tiny_http_wire.specs.Device.{Feed, Sink};
-ghost use Rattle.tiny_http_core.specs.Slots.{is_finished};
-ghost use Rattle.tiny_http_core.specs.Steps.{ReplyValue};
-ghost use Rattle.tiny_http_message.specs.declared.framing.Profile.{Profile};
-ghost use Rattle.tiny_http_core.specs.Conversation.{TimedValue, IsConversation};
-ghost use Rattle.tiny_http_answer.specs.ClientAnswer.{ClientAnswer, ReadsAnswers};
-ghost use Rattle.tiny_http_answer.specs.SentTexts.{methods, whole_answers, remains};
-ghost use Rattle.tiny_http_wire.specs.Readable.{IsReadable};
+ghost use Rattle.tiny_http_io.specs.Device.{Feed, Sink};
+ghost use Rattle.tiny_http_connection.specs.Slots.{is_finished};
+ghost use Rattle.tiny_http_connection.specs.Steps.{ReplyValue};
+ghost use Rattle.tiny_http_body.specs.declared.framing.Profile.{Profile};
+ghost use Rattle.tiny_http_connection.specs.Conversation.{TimedValue, IsConversation};
+ghost use Rattle.tiny_http_client.specs.ClientAnswer.{ClientAnswer, ReadsAnswers};
+ghost use Rattle.tiny_http_client.specs.SentTexts.{methods, whole_answers, remains};
+ghost use Rattle.tiny_http_response.specs.Readable.{IsReadable};
 ghost use Rattle.tiny_http_client_laws.specs.Closes.{NoneFollowsClose, IsReadAsSaid};
 ghost use Rattle.tiny_http_client_laws.specs.ClientReads.{headers_printed, CanBeRead, AreReadable, CanBeReadAt, IsOutputOf, HaveAnswers, ReadsNumbers, sent_texts};
 
-use tiny_http_wire::response::Response;
+use tiny_http_response::response::Response;
 
-/// THE CLIENT THEOREM, of the contract of `tiny_http_core::driver::run` alone: a client that knows only the methods reads the
+/// THE CLIENT THEOREM, of the contract of `tiny_http_connection::driver::run` alone: a client that knows only the methods reads the
 /// output as one answer after another, in the order of the numbers.
 ///
 /// The premise is on the steps. Each `Respond` has a status of 200 or more and readable headers. Each `Upgrade` names a

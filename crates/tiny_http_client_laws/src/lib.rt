@@ -1,4 +1,5 @@
-//! What the client of a connection reads, as laws of the definitions. It stands on `tiny_http_core` and `tiny_http_answer`.
+//! What the client of a connection reads, as laws of the definitions. It stands on `tiny_http_connection` and
+//! `tiny_http_client`.
 #![tactic(auto)]
 
 pub mod laws;

@@ -2,10 +2,10 @@
 use Rattle.std.proofs.Common.{◌≡◌, refl, sym, ap, ◌∙◌, subst, ℕ, zero, suc, ◌-◌, ◌<◌, ◌≤◌, ◌==◌, ◌||◌, Bool, true, false, Some, None, ◌⊎◌, inl, inr, arith}
 use Rattle.std.specs.Prelude.{MatchBool, ⊤}
 use Rattle.std.specs.declared.io.ErrorKind.{ErrorKind}
-use Rattle.tiny_http_device.specs.declared.device.Stop.TheVariants.{End, Fault}
-use Rattle.tiny_http_message.specs.declared.body.Body.{Body}
-use Rattle.tiny_http_message.specs.declared.body.Body.TheVariants.{Over, WithHead, Counted, Chunked, Rest}
-use Rattle.tiny_http_message.specs.Body.{is_streaming, bytes_left, body_stop, ReadsOn, IsBodyOver, IsChunkedBy}
+use Rattle.tiny_http_io.specs.declared.device.Stop.TheVariants.{End, Fault}
+use Rattle.tiny_http_body.specs.declared.body.Body.{Body}
+use Rattle.tiny_http_body.specs.declared.body.Body.TheVariants.{Over, WithHead, Counted, Chunked, Rest}
+use Rattle.tiny_http_body.specs.Body.{is_streaming, bytes_left, body_stop, ReadsOn, IsBodyOver, IsChunkedBy}
 
 -- no fault was reported of a body of a known length
 pub sized-has-no-fault : (b : Body) (n : ℕ) → bytes_left b ≡ Some n → (kind : ErrorKind) → body_stop b ≡ Some (Fault kind) → ⊥

@@ -2,12 +2,12 @@
 use Rattle.std.specs.Prelude.{◌≡◌, ◌<◌, ◌==◌, ℕ, Bool, true, false, List, length, take, Option, Some, Result, Ok, IfOk, IfErr, IfSome}
 use Rattle.std.specs.IoError.{error_kind}
 use Rattle.std.specs.declared.io.Error.{Error}
-use Rattle.tiny_http_device.specs.Device.{AnswersStop, Feed}
-use Rattle.tiny_http_device.specs.declared.device.Stop.TheVariants.{End, Fault}
-use Rattle.tiny_http_message.specs.declared.body.Body.{Body}
+use Rattle.tiny_http_io.specs.Device.{AnswersStop, Feed}
+use Rattle.tiny_http_io.specs.declared.device.Stop.TheVariants.{End, Fault}
+use Rattle.tiny_http_body.specs.declared.body.Body.{Body}
 use Rattle.tiny_http_request.specs.declared.body.GivesOn.{GivesOn}
 use Rattle.tiny_http_request.specs.declared.body.GivesOn.TheVariants.{AfterBody, AfterAnswer, Never}
-use Rattle.tiny_http_message.specs.Body.{is_streaming, body_stop, BodyStops, ReadsOn, remaining, prepended_body}
+use Rattle.tiny_http_body.specs.Body.{is_streaming, body_stop, BodyStops, ReadsOn, remaining, prepended_body}
 
 -- the input isn't given on as the body ends
 abbrev pub outlasts_body : GivesOn → Bool

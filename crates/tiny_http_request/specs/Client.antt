@@ -1,7 +1,7 @@
 -- What clauses read of a connection.
 use Rattle.std.specs.Prelude.{◌≡◌, Bool, true, false, Option, None}
 use Rattle.std.specs.declared.net.socket_addr.SocketAddr.{SocketAddr}
-use Rattle.tiny_http_message.specs.declared.framing.Profile.{Profile}
+use Rattle.tiny_http_body.specs.declared.framing.Profile.{Profile}
 use Rattle.httpdate.specs.declared.date.HttpDate.{HttpDate}
 use Rattle.tiny_http_request.specs.declared.client.ClientConnection.{ClientConnection}
 use Rattle.tiny_http_request.specs.declared.request.Request.{Request}

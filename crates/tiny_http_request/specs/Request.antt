@@ -5,25 +5,25 @@ use Rattle.std.specs.declared.io.Error.{Error}
 use Rattle.std.specs.declared.io.ErrorKind.{ErrorKind}
 use Rattle.std.specs.declared.io.ErrorKind.TheVariants.{ConnectionAborted, InvalidInput}
 use Rattle.std.specs.declared.net.socket_addr.SocketAddr.{SocketAddr}
-use Rattle.tiny_http_device.specs.Device.{Feed}
-use Rattle.tiny_http_device.specs.declared.device.Stop.{Stop}
-use Rattle.tiny_http_device.specs.declared.device.Stop.TheVariants.{End, Fault}
-use Rattle.tiny_http_wire.specs.declared.common.Header.{Header}
-use Rattle.tiny_http_wire.specs.declared.common.HTTPVersion.{HTTPVersion}
-use Rattle.tiny_http_wire.specs.declared.common.Method.{Method}
+use Rattle.tiny_http_io.specs.Device.{Feed}
+use Rattle.tiny_http_io.specs.declared.device.Stop.{Stop}
+use Rattle.tiny_http_io.specs.declared.device.Stop.TheVariants.{End, Fault}
+use Rattle.tiny_http_head.specs.declared.common.Header.{Header}
+use Rattle.tiny_http_head.specs.declared.common.HTTPVersion.{HTTPVersion}
+use Rattle.tiny_http_head.specs.declared.common.Method.{Method}
 use Rattle.httpdate.specs.declared.date.HttpDate.{HttpDate}
-use Rattle.tiny_http_message.specs.declared.body.Body.{Body}
-use Rattle.tiny_http_message.specs.declared.exchange.Head.{Head}
-use Rattle.tiny_http_message.specs.declared.framing.Framing.{Framing}
-use Rattle.tiny_http_message.specs.declared.framing.FramingFault.TheVariants.{Expectation}
-use Rattle.tiny_http_message.specs.declared.framing.Profile.{Profile}
-use Rattle.tiny_http_message.specs.declared.framing.HeadRules.TheVariants.{Lenient}
-use Rattle.tiny_http_standard.specs.Lists.{has_element}
-use Rattle.tiny_http_message.specs.HeadValues.{is_upgrade}
-use Rattle.tiny_http_message.specs.FramingReading.{framing}
-use Rattle.tiny_http_message.specs.HeadReads.{Begins, IsFramedBy}
-use Rattle.tiny_http_message.specs.Pipeline.{IsCutWithHead, body_length_or_0}
-use Rattle.tiny_http_message.specs.declared.open_request.OpenRequest.{OpenRequest}
+use Rattle.tiny_http_body.specs.declared.body.Body.{Body}
+use Rattle.tiny_http_open_request.specs.declared.exchange.Head.{Head}
+use Rattle.tiny_http_body.specs.declared.framing.Framing.{Framing}
+use Rattle.tiny_http_body.specs.declared.framing.FramingFault.TheVariants.{Expectation}
+use Rattle.tiny_http_body.specs.declared.framing.Profile.{Profile}
+use Rattle.tiny_http_body.specs.declared.framing.HeadRules.TheVariants.{Lenient}
+use Rattle.tiny_http_standard_head.specs.Lists.{has_element}
+use Rattle.tiny_http_open_request.specs.HeadValues.{is_upgrade}
+use Rattle.tiny_http_body.specs.FramingReading.{framing}
+use Rattle.tiny_http_open_request.specs.HeadReads.{Begins, IsFramedBy}
+use Rattle.tiny_http_open_request.specs.Pipeline.{IsCutWithHead, body_length_or_0}
+use Rattle.tiny_http_open_request.specs.declared.open_request.OpenRequest.{OpenRequest}
 use Rattle.tiny_http_request.specs.declared.request.Request.{Request}
 use Rattle.tiny_http_request.specs.declared.request.RequestCreationError.{RequestCreationError}
 use Rattle.tiny_http_request.specs.declared.request.RequestCreationError.TheVariants.{ExpectationFailed, CreationIoError, Memory}

@@ -1,8 +1,8 @@
 -- What clauses read of a test's request.
 use Rattle.std.specs.Prelude.{◌≡◌, ℕ, List, ◌∷◌, ◌++◌, [], None, false, is_some, codes, decimal, if◌then◌else◌}
-use Rattle.tiny_http_wire.specs.declared.common.Header.{Header}
-use Rattle.tiny_http_message.specs.Framing.{value_of}
-use Rattle.tiny_http_device.specs.Device.{Sink}
+use Rattle.tiny_http_head.specs.declared.common.Header.{Header}
+use Rattle.tiny_http_body.specs.Framing.{value_of}
+use Rattle.tiny_http_io.specs.Device.{Sink}
 use Rattle.tiny_http_request.specs.declared.test.Nowhere.{Nowhere}
 use Rattle.tiny_http_request.specs.declared.test.Recorder.{Recorder}
 use Rattle.tiny_http_request.specs.declared.test.TestBody.{TestBody}

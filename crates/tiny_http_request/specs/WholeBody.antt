@@ -4,11 +4,11 @@ use Rattle.std.specs.IoError.{error_kind}
 use Rattle.std.specs.declared.io.Error.{Error}
 use Rattle.std.specs.declared.io.ErrorKind.{ErrorKind}
 use Rattle.std.specs.declared.io.ErrorKind.TheVariants.{InvalidData, InvalidInput, OutOfMemory, UnexpectedEof}
-use Rattle.tiny_http_device.specs.declared.device.Stop.TheVariants.{Fault}
-use Rattle.tiny_http_message.specs.declared.body.Body.{Body}
-use Rattle.tiny_http_message.specs.declared.framing.Form.{Form}
-use Rattle.tiny_http_message.specs.declared.framing.Form.TheVariants.{Counted, Chunked}
-use Rattle.tiny_http_message.specs.Body.{is_streaming, bytes_left, body_stop, IsBodyOver}
+use Rattle.tiny_http_io.specs.declared.device.Stop.TheVariants.{Fault}
+use Rattle.tiny_http_body.specs.declared.body.Body.{Body}
+use Rattle.tiny_http_body.specs.declared.framing.Form.{Form}
+use Rattle.tiny_http_body.specs.declared.framing.Form.TheVariants.{Counted, Chunked}
+use Rattle.tiny_http_body.specs.Body.{is_streaming, bytes_left, body_stop, IsBodyOver}
 use Rattle.tiny_http_request.specs.declared.whole_body.BodyError.{BodyError}
 use Rattle.tiny_http_request.specs.declared.whole_body.BodyError.TheVariants.{TooLong, Cut, Broken, Io, Memory}
 

@@ -1,18 +1,18 @@
 //! The body of a request that a thread may read, while the connection reads on.
 ghost use Rattle.std.specs.Prelude.{◌≡◌, ◌⊎◌, ◌≤◌, ◌<◌, ◌==◌, ◌&&◌, ◌||◌, false, length, take, Option, is_some, Ok, Some, None, IfOk, IfErr, IfSome};
 ghost use Rattle.std.specs.IoError.{error_kind};
-ghost use Rattle.tiny_http_device.specs.Device.{AnswersStop, Feed, Reads};
-ghost use Rattle.tiny_http_device.specs.declared.device.Stop.TheVariants.{End, Fault};
-ghost use Rattle.tiny_http_message.specs.Body.{is_streaming, is_whole, bytes_left, remainder, stream_body, body_stop, BodyStops, ReadsOn, remaining, prepended_body};
+ghost use Rattle.tiny_http_io.specs.Device.{AnswersStop, Feed, Reads};
+ghost use Rattle.tiny_http_io.specs.declared.device.Stop.TheVariants.{End, Fault};
+ghost use Rattle.tiny_http_body.specs.Body.{is_streaming, is_whole, bytes_left, remainder, stream_body, body_stop, BodyStops, ReadsOn, remaining, prepended_body};
 ghost use Rattle.tiny_http_request.specs.Body.{ReadsUnread, outlasts_body};
 
 use std::io;
 use std::io::{ErrorKind, Read};
 use std::marker::Model;
 use std::sync::Wait;
-use tiny_http_device::device::ReadDevice;
-use tiny_http_message::body::{Body as Unread, Remainder};
-use tiny_http_stream::source::{Source, Standing};
+use tiny_http_body::body::{Body as Unread, Remainder};
+use tiny_http_io::device::ReadDevice;
+use tiny_http_io::source::{Source, Standing};
 use tiny_http_threads::sequential::SequentialReader;
 use tiny_http_threads::turn::{held_reader, hold_reader};
 
@@ -74,8 +74,8 @@ fn give_on<R: ReadDevice + Drop, Rt: Wait + Drop>(
 
 impl<R: ReadDevice + Drop, Rt: Wait + Drop> Model for Body<R, Rt> {
     ghost use Rattle.std.specs.Prelude.{◌≡◌, ◌||◌, is_some};
-    ghost use Rattle.tiny_http_message.specs.declared.body.Body.{Body as Unread};
-    ghost use Rattle.tiny_http_message.specs.Body.{is_streaming};
+    ghost use Rattle.tiny_http_body.specs.declared.body.Body.{Body as Unread};
+    ghost use Rattle.tiny_http_body.specs.Body.{is_streaming};
     ghost use Rattle.tiny_http_request.specs.Body.{outlasts_body};
 
     ghost Value = { Unread };

@@ -1,6 +1,6 @@
 //! A connection whose requests threads may hold.
 ghost use Rattle.std.specs.Prelude.{◌≡◌, ◌↔◌, ⊤, true, false, Ok, None, Some, IfOk, OnErr, IfSome, IfNone};
-ghost use Rattle.tiny_http_message.specs.Exchange.{exchange_of};
+ghost use Rattle.tiny_http_open_request.specs.Exchange.{exchange_of};
 ghost use Rattle.tiny_http_socket.specs.Stream.{MayHavePeer};
 ghost use Rattle.tiny_http_request.specs.Request.{request_head, request_secure, request_address, request_open};
 
@@ -9,15 +9,15 @@ use httpdate::HttpDate;
 use std::alloc::{AllocError, Global};
 use std::net::SocketAddr;
 use std::sync::{Arc, Wait};
-use tiny_http_corked::cork::FlushPolicy;
-use tiny_http_device::device::{ReadDevice, WriteDevice};
-use tiny_http_message::exchange::{EndOfRequests, Exchange};
-use tiny_http_message::framing::Profile;
-use tiny_http_message::next_request::{NextRequest, RefusalPlace, next_request};
-use tiny_http_paced::pace::Pace;
+use tiny_http_body::framing::Profile;
+use tiny_http_io::device::{ReadDevice, WriteDevice};
+use tiny_http_io::outlet::Outlet;
+use tiny_http_io::source::Source;
+use tiny_http_open_request::exchange::{EndOfRequests, Exchange};
+use tiny_http_open_request::next_request::{NextRequest, RefusalPlace, next_request};
+use tiny_http_socket::cork::FlushPolicy;
+use tiny_http_socket::pace::Pace;
 use tiny_http_socket::refined_tcp_stream::RefinedTcpStream;
-use tiny_http_stream::outlet::Outlet;
-use tiny_http_stream::source::Source;
 use tiny_http_threads::sequential::{
     SequentialReader, SequentialReaderBuilder, SequentialWriter, SequentialWriterBuilder,
 };

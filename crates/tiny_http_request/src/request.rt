@@ -4,18 +4,18 @@ ghost use Rattle.std.specs.IoError.{error_kind};
 ghost use Rattle.std.specs.List.{list_all};
 ghost use Rattle.std.specs.Option.{option_copied};
 ghost use Rattle.std.specs.declared.io.ErrorKind.{ErrorKind};
-ghost use Rattle.tiny_http_device.specs.Device.{Feed};
-ghost use Rattle.tiny_http_device.specs.declared.device.Stop.TheVariants.{Fault};
-ghost use Rattle.tiny_http_wire.specs.Target.{IsPath, IsQuery};
-ghost use Rattle.tiny_http_standard.specs.Lists.{has_element};
-ghost use Rattle.tiny_http_sending.specs.Sending.{is_closed_client};
-ghost use Rattle.tiny_http_message.specs.Framing.{value_of};
+ghost use Rattle.tiny_http_io.specs.Device.{Feed};
+ghost use Rattle.tiny_http_io.specs.declared.device.Stop.TheVariants.{Fault};
+ghost use Rattle.tiny_http_head.specs.Target.{IsPath, IsQuery};
+ghost use Rattle.tiny_http_standard_head.specs.Lists.{has_element};
+ghost use Rattle.tiny_http_response.specs.Sending.{is_closed_client};
+ghost use Rattle.tiny_http_body.specs.Framing.{value_of};
 ghost use Rattle.tiny_http_text.specs.Bytes.{is_ascii};
-ghost use Rattle.tiny_http_message.specs.HeadValues.{is_upgrade};
-ghost use Rattle.tiny_http_message.specs.FramingReading.{framing};
-ghost use Rattle.tiny_http_message.specs.Body.{is_streaming, is_whole, bytes_left, body_stop, IsBodyOver, remaining, prepended_body};
-ghost use Rattle.tiny_http_message.specs.OpenRequest.{request_check, refuses_code};
-ghost use Rattle.tiny_http_message.specs.HeadReads.{head_framing, Begins};
+ghost use Rattle.tiny_http_open_request.specs.HeadValues.{is_upgrade};
+ghost use Rattle.tiny_http_body.specs.FramingReading.{framing};
+ghost use Rattle.tiny_http_body.specs.Body.{is_streaming, is_whole, bytes_left, body_stop, IsBodyOver, remaining, prepended_body};
+ghost use Rattle.tiny_http_open_request.specs.OpenRequest.{request_check, refuses_code};
+ghost use Rattle.tiny_http_open_request.specs.HeadReads.{head_framing, Begins};
 ghost use Rattle.tiny_http_request.specs.Request.{IsInvalidInput, asks_for, request_head, request_secure, request_address, request_open, is_expectation_failed, IfCreationIo, cut_kind, IsCutShort, BeginsWith, Says, IsFramed, FailsBy};
 ghost use Rattle.tiny_http_request.specs.WholeBody.{FailsWhole};
 
@@ -31,18 +31,21 @@ use std::net::SocketAddr;
 use std::sync::{Arc, Wait};
 use std::{fmt, io};
 use thiserror::Error;
-use tiny_http_corked::cork::FlushPolicy;
-use tiny_http_device::device::{ReadDevice, Stop, WriteDevice};
-use tiny_http_message::body::{Body as Unread, Remainder};
-use tiny_http_message::exchange::{Head, begin_body};
-use tiny_http_message::framing::{Framing, FramingFault, HeadRules, Profile, framing_of};
-use tiny_http_message::open_request::OpenRequest;
-pub use tiny_http_message::upgrading::UpgradeError;
-use tiny_http_paced::pace::Pace;
-use tiny_http_sending::sending::reported;
-use tiny_http_stream::custom_stream::CustomStream;
-use tiny_http_stream::outlet::Outlet;
-use tiny_http_stream::source::Source;
+use tiny_http_body::body::{Body as Unread, Remainder};
+use tiny_http_body::framing::{Framing, FramingFault, HeadRules, Profile, framing_of};
+pub use tiny_http_body::streamed::StreamedForm;
+use tiny_http_head::common::{HTTPVersion, Header, Method};
+use tiny_http_io::custom_stream::CustomStream;
+use tiny_http_io::device::{ReadDevice, Stop, WriteDevice};
+use tiny_http_io::outlet::Outlet;
+use tiny_http_io::source::Source;
+use tiny_http_open_request::exchange::{Head, begin_body};
+use tiny_http_open_request::open_request::OpenRequest;
+pub use tiny_http_open_request::upgrading::UpgradeError;
+use tiny_http_response::response::Response;
+use tiny_http_response::sending::reported;
+use tiny_http_socket::cork::FlushPolicy;
+use tiny_http_socket::pace::Pace;
 use tiny_http_text::ascii::AsciiString;
 use tiny_http_threads::sequential::{
     SequentialReader, SequentialReaderBuilder, SequentialWriter, SequentialWriterBuilder,
@@ -50,9 +53,6 @@ use tiny_http_threads::sequential::{
 use tiny_http_threads::turn::{
     end_behind_writer, hold_reader, hold_writer, is_last_writer, leave_writer, pass_writer,
 };
-use tiny_http_wire::common::{HTTPVersion, Header, Method};
-use tiny_http_wire::response::Response;
-pub use tiny_http_wire::streamed::StreamedForm;
 
 /// Why no request is made of its parts.
 #[derive(Debug, Drop, Error)]

@@ -2,11 +2,11 @@
 use std::io;
 use std::io::{ErrorKind, Write};
 use std::sync::Wait;
-use tiny_http_device::device::WriteDevice;
-use tiny_http_stream::outlet::Outlet;
+use tiny_http_body::streamed::{Streamed, StreamedForm};
+use tiny_http_io::device::WriteDevice;
+use tiny_http_io::outlet::Outlet;
 use tiny_http_threads::sequential::SequentialWriter;
 use tiny_http_threads::turn::pass_writer;
-use tiny_http_wire::streamed::{Streamed, StreamedForm};
 
 /// The body of an answer that `Request::respond_streaming` began. It is written in the turn of its request, and is sent as `Streamed`
 /// says: what is written is held until it fills a piece of 8192 bytes, and `flush` sends what is there, with the head in front of the

@@ -2,9 +2,9 @@
 ghost use Rattle.std.specs.Prelude.{◌≡◌, ◌++◌, ◌∷◌, [], length, true, false, Some, Ok, Err, IfOk, IfErr, IsErrOf, ◌↔◌};
 ghost use Rattle.std.specs.Str.{IsAscii};
 ghost use Rattle.std.specs.Net.Socket.{socket_port};
-ghost use Rattle.tiny_http_wire.specs.Heads.{version};
-ghost use Rattle.tiny_http_device.specs.Device.{whole_feed};
-ghost use Rattle.tiny_http_message.specs.HeadReads.{head_framing};
+ghost use Rattle.tiny_http_head.specs.Heads.{version};
+ghost use Rattle.tiny_http_io.specs.Device.{whole_feed};
+ghost use Rattle.tiny_http_open_request.specs.HeadReads.{head_framing};
 ghost use Rattle.tiny_http_request.specs.Request.{request_head, request_open, BeginsWith, Says, IsFramed, FailsBy};
 ghost use Rattle.tiny_http_request.specs.Test.{IsLike, body_bytes, length_header, with_length};
 
@@ -15,11 +15,11 @@ use std::io;
 use std::io::{Cursor, ErrorKind};
 use std::net::{IpAddr, Ipv4Addr, SocketAddr};
 use std::sync::{Arc, Mutex, Wait};
-use tiny_http_device::device::WriteDevice;
-use tiny_http_message::framing::{FramingFault, Profile, value_of};
+use tiny_http_body::framing::{FramingFault, Profile, value_of};
+use tiny_http_head::common::{HTTPVersion, Header, Method, ParseError};
+use tiny_http_io::device::WriteDevice;
 use tiny_http_text::ascii::AsciiString;
 use tiny_http_text::number::Numeral;
-use tiny_http_wire::common::{HTTPVersion, Header, Method, ParseError};
 
 /// A writer that takes all bytes, and keeps none.
 #[derive(Clone, Copy, Debug)]

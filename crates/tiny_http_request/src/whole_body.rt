@@ -2,10 +2,10 @@
 ghost use Rattle.std.specs.Prelude.{◌≡◌, ◌⊎◌, ◌≤◌, ℕ, true, false, length, Option, Some, None, IfOk, IfErr, OnOk};
 ghost use Rattle.std.specs.IoError.{error_kind};
 ghost use Rattle.std.specs.declared.io.ErrorKind.{ErrorKind};
-ghost use Rattle.tiny_http_device.specs.Device.{Feed};
-ghost use Rattle.tiny_http_device.specs.declared.device.Stop.TheVariants.{Fault};
-ghost use Rattle.tiny_http_message.specs.Body.{is_streaming, bytes_left, body_stop, IsBodyOver, remaining, prepended_body};
-ghost use Rattle.tiny_http_message.specs.declared.body.Body.{Body as Unread};
+ghost use Rattle.tiny_http_io.specs.Device.{Feed};
+ghost use Rattle.tiny_http_io.specs.declared.device.Stop.TheVariants.{Fault};
+ghost use Rattle.tiny_http_body.specs.Body.{is_streaming, bytes_left, body_stop, IsBodyOver, remaining, prepended_body};
+ghost use Rattle.tiny_http_body.specs.declared.body.Body.{Body as Unread};
 ghost use Rattle.tiny_http_request.specs.WholeBody.{fault_error, FailsReading, FailsWhole};
 
 use crate::body::Body;
@@ -14,8 +14,8 @@ use std::io;
 use std::io::ErrorKind;
 use std::sync::Wait;
 use thiserror::Error;
-use tiny_http_device::device::ReadDevice;
-use tiny_http_message::framing::Form;
+use tiny_http_body::framing::Form;
+use tiny_http_io::device::ReadDevice;
 
 // The most bytes that are read at once.
 const PIECE: usize = 4096;

@@ -1,0 +1,2 @@
+pub mod CorkedLemmas
+pub mod ReadAheadLemmas

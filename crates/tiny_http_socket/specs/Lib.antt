@@ -1,2 +1,6 @@
 pub mod Connection
 pub mod Stream
+pub mod Corked
+pub mod ReadAhead
+pub mod Cork
+pub mod Paced

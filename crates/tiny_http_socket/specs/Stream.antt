@@ -3,7 +3,7 @@ use Rattle.std.specs.Prelude.{◌≡◌, [], Some, None, ⊤, false, Option}
 use Rattle.std.specs.declared.net.Shutdown.{Shutdown}
 use Rattle.std.specs.declared.net.Shutdown.TheVariants.{Read, Write}
 use Rattle.std.specs.declared.net.socket_addr.SocketAddr.{SocketAddr}
-use Rattle.tiny_http_device.specs.Device.{Sink}
+use Rattle.tiny_http_io.specs.Device.{Sink}
 use Rattle.tiny_http_socket.specs.Connection.{HasPeerOf}
 use Rattle.tiny_http_socket.specs.declared.connection.Connection.{Connection}
 use Rattle.tiny_http_socket.specs.declared.connection.Connection.TheVariants as C

@@ -1,7 +1,7 @@
 //! The two halves of a client's connection. A half that is dropped shuts its direction down.
 ghost use Rattle.std.specs.Prelude.{◌≡◌, ◌<◌, ◌≤◌, ◌++◌, [], length, Ok, None, Some, OnOk, IfOk, IfErr, false, IsOk};
 ghost use Rattle.std.specs.IoError.{error_kind};
-ghost use Rattle.tiny_http_device.specs.Device.{next_count};
+ghost use Rattle.tiny_http_io.specs.Device.{next_count};
 ghost use Rattle.tiny_http_socket.specs.Stream.{shutdown_of};
 
 use crate::connection::Connection;
@@ -10,7 +10,7 @@ use std::io;
 use std::io::{ErrorKind, Read, Write};
 use std::net::{Shutdown, SocketAddr};
 use std::sync::Arc;
-use tiny_http_device::device::{ReadDevice, WriteDevice};
+use tiny_http_io::device::{ReadDevice, WriteDevice};
 
 /// A direction of a connection.
 #[derive(Clone, Copy, Debug, PartialEq, Eq)]
@@ -172,7 +172,7 @@ fn write_both_once(connection: &Connection, front: &[u8], back: &[u8]) -> io::Re
 }
 
 impl RefinedTcpStream {
-    ghost use Rattle.tiny_http_device.specs.Device.{PutsFront};
+    ghost use Rattle.tiny_http_io.specs.Device.{PutsFront};
     ghost use Rattle.tiny_http_socket.specs.Stream.{stream_sink};
 
     /// Writes once to the client from the front of two texts, one behind the other, and not at all where both are empty. Else as
@@ -219,7 +219,7 @@ impl ReadDevice for RefinedTcpStream {
 }
 
 impl WriteDevice for RefinedTcpStream {
-    ghost use Rattle.tiny_http_device.specs.Device.{Puts, PutsFront, HoldsNothing};
+    ghost use Rattle.tiny_http_io.specs.Device.{Puts, PutsFront, HoldsNothing};
     ghost use Rattle.tiny_http_socket.specs.Stream.{stream_sink};
 
     ghost sink = { stream_sink };

@@ -1,6 +1,6 @@
 -- What clauses read of a sequential writer.
 use Rattle.std.specs.Prelude.{[], None, false}
-use Rattle.tiny_http_device.specs.Device.{Sink}
+use Rattle.tiny_http_io.specs.Device.{Sink}
 use Rattle.tiny_http_threads.specs.declared.sequential.SequentialWriter.{SequentialWriter}
 
 -- what it states as a writer: its failures, and no bytes

@@ -1,6 +1,6 @@
 //! What the threads of a small HTTP server share: a queue, a pool of workers, a count, and the line of those who use one reader or
 //! one writer after another. Locks stand elsewhere in two places: over who is connected, in `tiny_http`, and over the bytes that
-//! wait in `tiny_http_corked`. `tiny_http` names the modules again.
+//! wait in `tiny_http_socket`. `tiny_http` names the modules again.
 //!
 //! Who may touch what:
 //!

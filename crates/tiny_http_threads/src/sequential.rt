@@ -1,6 +1,6 @@
 //! A reader or a writer that its holders use one after another, in the order in which they were made.
 ghost use Rattle.std.specs.Prelude.{◌≡◌, ⊤, [], length, Ok, None, OnOk, false};
-ghost use Rattle.tiny_http_device.specs.Device.{Reads, Puts, PutsFront, HoldsNothing, next_count};
+ghost use Rattle.tiny_http_io.specs.Device.{Reads, Puts, PutsFront, HoldsNothing, next_count};
 
 use crate::line::{Held, Line, Turn};
 use std::alloc::{AllocError, Global};
@@ -8,8 +8,8 @@ use std::io;
 use std::io::{ErrorKind, Read, Write};
 use std::sync::atomic::AtomicU64;
 use std::sync::{Arc, Wait};
-use tiny_http_device::device::WriteDevice;
-use tiny_http_stream::outlet::Outlet;
+use tiny_http_io::device::WriteDevice;
+use tiny_http_io::outlet::Outlet;
 use tiny_http_turns::passing::{HeldTurn, pass_on};
 
 /// Gives out readers, each of which reads once those before it are dropped.

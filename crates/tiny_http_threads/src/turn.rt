@@ -4,7 +4,7 @@ use std::alloc::AllocError;
 use std::io::{Read, Write};
 use std::sync::atomic::AtomicU64;
 use std::sync::{Arc, Wait};
-use tiny_http_device::device::WriteDevice;
+use tiny_http_io::device::WriteDevice;
 
 /// Waits for the turn of this reader, and lends what it reads from.
 pub fn hold_reader<I: Read + Drop, R: Wait + Drop>(reader: &mut SequentialReader<I, R>) -> &mut I {

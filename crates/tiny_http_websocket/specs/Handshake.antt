@@ -3,8 +3,8 @@ use Rattle.std.specs.Prelude.{◌≡◌, ℕ, List, Some, true, codes}
 use Rattle.websocket.specs.Handshake.{IsValidKey}
 use Rattle.tiny_http_wire.specs.declared.common.Method.TheVariants.{Get}
 use Rattle.tiny_http_wire.specs.Heads.{version}
-use Rattle.tiny_http_message.specs.declared.exchange.Head.{Head}
-use Rattle.tiny_http_message.specs.Framing.{value_of}
+use Rattle.tiny_http_open_request.specs.declared.exchange.Head.{Head}
+use Rattle.tiny_http_body.specs.Framing.{value_of}
 use Rattle.tiny_http_request.specs.Request.{asks_for}
 
 -- the head asks for a WebSocket by this key

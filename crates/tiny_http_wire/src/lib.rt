@@ -1,21 +1,12 @@
-//! The wire layer of a small HTTP server (HTTP/1.x, RFC 9110 and RFC 9112): chunked bodies, and how answers are printed.
-//! It stands on `tiny_http_device`, `tiny_http_text`, `tiny_http_head`, `tiny_http_encoding` and `tiny_http_coding`, and names
-//! their modules again.
+//! The wire layer of a small HTTP server (HTTP/1.x, RFC 9110 and RFC 9112): what is read and written, the texts of a head,
+//! chunked bodies, and how answers are printed. It has no code of its own: it names the modules of `tiny_http_text`,
+//! `tiny_http_io`, `tiny_http_head`, `tiny_http_body` and `tiny_http_response` again.
 #![tactic(auto)]
 
-mod add_header;
-pub mod answer_context;
-mod answer_head;
-mod by_standard;
-pub mod chunked;
 pub mod laws;
-mod making;
-mod page;
-mod readable;
-pub mod response;
 
-pub use tiny_http_coding::coding;
-pub use tiny_http_device::device;
-pub use tiny_http_encoding::{encoder, streamed};
+pub use tiny_http_body::{chunked, encoder, streamed};
 pub use tiny_http_head::{common, grammar, target};
+pub use tiny_http_io::device;
+pub use tiny_http_response::{answer_context, coding, response};
 pub use tiny_http_text::{ascii, header_value, number};

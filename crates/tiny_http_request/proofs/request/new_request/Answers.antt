@@ -1,12 +1,12 @@
 use Rattle.std.proofs.Common.{rules, ◌≡◌, sym, ap, ◌∙◌, subst, false, not, ◌&&◌, Option, Some, Ok, Err}
-use Rattle.tiny_http_device.specs.Device.{Feed}
-use Rattle.tiny_http_message.specs.declared.body.Body.{Body}
-use Rattle.tiny_http_message.specs.declared.framing.HeadRules.TheVariants.{Lenient}
-use Rattle.tiny_http_message.specs.declared.framing.Framing.{Framing}
-use Rattle.tiny_http_message.specs.FramingReading.{framing}
-use Rattle.tiny_http_message.proofs.FramingLemmas.{lenient-fault, asks-none}
-use Rattle.tiny_http_message.specs.Body.{is_streaming}
-use Rattle.tiny_http_message.specs.HeadReads.{Begins, head_framing}
+use Rattle.tiny_http_io.specs.Device.{Feed}
+use Rattle.tiny_http_body.specs.declared.body.Body.{Body}
+use Rattle.tiny_http_body.specs.declared.framing.HeadRules.TheVariants.{Lenient}
+use Rattle.tiny_http_body.specs.declared.framing.Framing.{Framing}
+use Rattle.tiny_http_body.specs.FramingReading.{framing}
+use Rattle.tiny_http_body.proofs.FramingLemmas.{lenient-fault, asks-none}
+use Rattle.tiny_http_body.specs.Body.{is_streaming}
+use Rattle.tiny_http_open_request.specs.HeadReads.{Begins, head_framing}
 use Rattle.std.proofs.Math.Bool.{or-false}
 use Rattle.tiny_http_request.specs.Request.{request_head}
 use Rattle.tiny_http_request.proofs.request.new_request.Goals as goal

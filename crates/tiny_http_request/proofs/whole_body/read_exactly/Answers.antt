@@ -1,9 +1,9 @@
 use Rattle.std.proofs.Common.{rules, ◌≡◌, refl, sym, ap, ◌∙◌, subst, ℕ, ◌-◌, ◌<◌, ◌==◌, Bool, true, false, List, [], ◌++◌, length, Option, Some, None, append-nil, arith}
-use Rattle.tiny_http_device.specs.Device.{Feed, whole_feed}
-use Rattle.tiny_http_device.specs.declared.device.Stop.TheVariants.{End, Fault}
-use Rattle.tiny_http_message.specs.declared.body.Body.{Body}
-use Rattle.tiny_http_message.specs.declared.body.Body.TheVariants.{Over, WithHead, Counted, Chunked, Rest}
-use Rattle.tiny_http_message.specs.Body.{Remaining, is_streaming, bytes_left, remaining, prepended_body, BodyStops, ReadsOn, IsBodyOver, IsWithHead}
+use Rattle.tiny_http_io.specs.Device.{Feed, whole_feed}
+use Rattle.tiny_http_io.specs.declared.device.Stop.TheVariants.{End, Fault}
+use Rattle.tiny_http_body.specs.declared.body.Body.{Body}
+use Rattle.tiny_http_body.specs.declared.body.Body.TheVariants.{Over, WithHead, Counted, Chunked, Rest}
+use Rattle.tiny_http_body.specs.Body.{Remaining, is_streaming, bytes_left, remaining, prepended_body, BodyStops, ReadsOn, IsBodyOver, IsWithHead}
 use Rattle.tiny_http_request.proofs.WholeBodyLemmas.{stands-end}
 use Rattle.tiny_http_request.proofs.whole_body.read_exactly.Goals as goal
 

@@ -1,6 +1,6 @@
 use Rattle.std.proofs.Common.{◌≡◌, ◌-◌, ◌≤◌, true, false, length, Option}
-use Rattle.tiny_http_device.specs.Device.{Feed}
-use Rattle.tiny_http_message.specs.Body.{remaining, prepended_body, is_streaming, IsWithHead}
+use Rattle.tiny_http_io.specs.Device.{Feed}
+use Rattle.tiny_http_body.specs.Body.{remaining, prepended_body, is_streaming, IsWithHead}
 use Rattle.tiny_http_request.proofs.WholeBodyLemmas.{StandsAt}
 use Rattle.tiny_http_request.proofs.whole_body.read_exactly.Given as goal
 

@@ -1,7 +1,7 @@
 use Rattle.std.proofs.Common.{rules, ◌≡◌, Some}
 use Rattle.std.specs.IoError.{error_kind}
-use Rattle.tiny_http_device.specs.declared.device.Stop.TheVariants.{Fault}
-use Rattle.tiny_http_message.specs.Body.{body_stop}
+use Rattle.tiny_http_io.specs.declared.device.Stop.TheVariants.{Fault}
+use Rattle.tiny_http_body.specs.Body.{body_stop}
 use Rattle.tiny_http_request.proofs.whole_body.read_left.Goals.{in-Some, in-None}
 use Rattle.tiny_http_request.proofs.whole_body.read_left.Goals as goal
 

@@ -1,8 +1,8 @@
 use Rattle.std.proofs.Common.{◌≡◌, ◌-◌, ◌≤◌, false, length, Option, Some, None}
 use Rattle.std.specs.declared.io.ErrorKind.{ErrorKind}
-use Rattle.tiny_http_device.specs.Device.{Feed}
-use Rattle.tiny_http_device.specs.declared.device.Stop.TheVariants.{Fault}
-use Rattle.tiny_http_message.specs.Body.{remaining, prepended_body, is_streaming, bytes_left, body_stop}
+use Rattle.tiny_http_io.specs.Device.{Feed}
+use Rattle.tiny_http_io.specs.declared.device.Stop.TheVariants.{Fault}
+use Rattle.tiny_http_body.specs.Body.{remaining, prepended_body, is_streaming, bytes_left, body_stop}
 use Rattle.tiny_http_request.proofs.whole_body.read_to_end.Given as goal
 
 abbrev pub invariant-loop-bytes : goal.invariant-loop-bytes

@@ -1,15 +1,15 @@
 use Rattle.std.proofs.Common.{◌≡◌, subst, ap, ◌∙◌, Result, Ok}
 use Rattle.std.specs.declared.alloc.AllocError.{AllocError}
 use Rattle.httpdate.specs.declared.date.HttpDate.{HttpDate}
-use Rattle.tiny_http_message.specs.declared.exchange.Exchange.{Exchange}
-use Rattle.tiny_http_message.specs.declared.exchange.HeadRead.TheVariants as read
-use Rattle.tiny_http_message.specs.declared.framing.Profile.{Profile}
-use Rattle.tiny_http_message.specs.declared.next_request.NextRequest.{NextRequest}
-use Rattle.tiny_http_message.specs.declared.next_request.NextRequest.TheVariants as next
-use Rattle.tiny_http_message.specs.Exchange.{exchange_of}
-use Rattle.tiny_http_message.specs.HeadReads.{IsFramedRequest}
-use Rattle.tiny_http_message.specs.NextRequest.{At, Refuses, FindsNext}
-use Rattle.tiny_http_message.proofs.NextRequestLemmas.{next-framed}
+use Rattle.tiny_http_open_request.specs.declared.exchange.Exchange.{Exchange}
+use Rattle.tiny_http_open_request.specs.declared.exchange.HeadRead.TheVariants as read
+use Rattle.tiny_http_body.specs.declared.framing.Profile.{Profile}
+use Rattle.tiny_http_open_request.specs.declared.next_request.NextRequest.{NextRequest}
+use Rattle.tiny_http_open_request.specs.declared.next_request.NextRequest.TheVariants as next
+use Rattle.tiny_http_open_request.specs.Exchange.{exchange_of}
+use Rattle.tiny_http_open_request.specs.HeadReads.{IsFramedRequest}
+use Rattle.tiny_http_open_request.specs.NextRequest.{At, Refuses, FindsNext}
+use Rattle.tiny_http_open_request.proofs.NextRequestLemmas.{next-framed}
 use Rattle.tiny_http_request.specs.Request.{request_head, request_open}
 use Rattle.tiny_http_request.proofs.client.ClientConnection.next.Goals as goal
 

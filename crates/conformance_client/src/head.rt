@@ -1,0 +1,57 @@
+//! The head of an answer, read alone (RFC 9112, sections 2.2, 4 and 5).
+use std::alloc::Global;
+use std::test::Fail;
+use tiny_http_client::answer_head::{AnswerHead, HeadFault, read_answer_head};
+
+// The head that these bytes begin with, and its length.
+fn read(alloc: Global, bytes: &[u8]) -> Result<(AnswerHead, usize), Fail> {
+    match read_answer_head(alloc, bytes)? {
+        Some(read) => Ok(read),
+        None => Err("unfinished".into()),
+    }
+}
+
+// White space is optional round a value, and the phrase may be missing.
+#[test]
+fn a_head_is_read(rt: HostRuntime) -> Result<(), Fail> {
+    let alloc = rt.alloc();
+    let bytes = b"HTTP/1.0 404\r\nA:b\r\nC: \t d e \r\n\r\nbody".as_slice();
+    let (head, length) = read(alloc, bytes)?;
+    assert_eq!(rt; (head.version.0, head.version.1), (1, 0));
+    assert_eq!(rt; head.status.0, 404);
+    // The body stands behind it.
+    assert_eq!(rt; length, 32);
+    let [a, c] = head.headers.as_slice() else {
+        return Err("not two headers".into());
+    };
+    assert!(rt; a.field.equiv("a") && c.field.equiv("c"));
+    assert_eq!(rt; a.value.as_str(), "b");
+    assert_eq!(rt; c.value.as_str(), "d e");
+    Ok(())
+}
+
+#[test]
+fn a_head_is_unfinished_or_malformed(rt: HostRuntime) -> Result<(), Fail> {
+    let alloc = rt.alloc();
+    for (bytes, wanted) in [
+        (b"".as_slice(), None),
+        (b"HTTP/1.1 200 OK\r\nA: b\r\n", None),
+        (b"HTTP/2.0 200 OK\r\n\r\n", Some(HeadFault::Malformed)),
+        (b"HTTP/1.1 2000 OK\r\n\r\n", Some(HeadFault::Malformed)),
+        (
+            b"HTTP/1.1 200 OK\r\nA b: c\r\n\r\n",
+            Some(HeadFault::Malformed),
+        ),
+        (
+            b"HTTP/1.1 200 OK\r\nA: \x80\r\n\r\n",
+            Some(HeadFault::Malformed),
+        ),
+    ] {
+        match read_answer_head(alloc, bytes) {
+            Ok(Some(_)) => return Err("a head".into()),
+            Ok(None) => assert_eq!(rt; None, wanted),
+            Err(fault) => assert_eq!(rt; Some(fault), wanted),
+        }
+    }
+    Ok(())
+}

@@ -1,0 +1,13 @@
+//! Assertions as calls: a function that calls them is cheaper to prove than one that asserts in place.
+use std::fmt::Debug;
+use std::process::Abort;
+
+/// The two are equal.
+pub fn assert_same<T: PartialEq + Debug + Drop>(rt: &impl Abort, found: T, wanted: T) {
+    assert_eq!(rt; found, wanted);
+}
+
+/// It holds that, in these words.
+pub fn assert_holds(rt: &impl Abort, words: &str, holds: bool) {
+    assert!(rt; holds, "not so: {words}");
+}

@@ -1,6 +1,0 @@
-use Rattle.std.proofs.Common.{◌≡◌, drop}
-use Rattle.tiny_http_answer.specs.ClientAnswer.{first_value}
-use Rattle.tiny_http_answer.proofs.body.first_value.Given as goal
-
-abbrev pub invariant-loop-header : goal.invariant-loop-header
-invariant-loop-header l = first_value l.name (drop l.header-index l.headers) ≡ first_value l.name l.headers

@@ -1,9 +1,0 @@
-use Rattle.std.proofs.Common.{rules}
-use Rattle.tiny_http_answer.proofs.PartsLemmas.{field-line-read, no-field-line}
-use Rattle.tiny_http_answer.proofs.head.read_field_line.Goals as goal
-
-pub returns-in-Some-2 : goal.returns-in-Some-2
-returns-in-Some-2 c = (c.in-Some.text.now, c.in-Some.ensures.some, (search rules), field-line-read c.in-Some.text.now c.in-Some-2.header (search rules))
-
-pub returns-in-None : goal.returns-in-None
-returns-in-None c = (c.in-Some.text.now, c.take_line.new.self, c.in-Some.ensures.some, λ a. no-field-line c.in-Some.text.now (search rules) (search rules))

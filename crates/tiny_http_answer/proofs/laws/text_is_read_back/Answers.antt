@@ -1,5 +1,0 @@
-use Rattle.tiny_http_answer.proofs.TextLaw.{read_back}
-use Rattle.tiny_http_answer.proofs.laws.text_is_read_back.Goals as goal
-
-pub returns : goal.returns
-returns c = read_back

@@ -1,5 +1,0 @@
-pub mod ClientAnswer
-pub mod ClientReading
-pub mod AnswerParts
-pub mod ClientText
-pub mod SentTexts

@@ -1,0 +1,5 @@
+use Rattle.tiny_http_body.proofs.ChunkLineLemmas.{LineSoFar}
+use Rattle.tiny_http_body.proofs.chunked.line.next_line.Given as goal
+
+abbrev pub invariant-loop-taken : goal.invariant-loop-taken
+invariant-loop-taken g l = LineSoFar l.fn.rules (g.R.ReadDevice.feed l.fn.reader) (g.R.ReadDevice.feed l.reader) l.scan l.taken

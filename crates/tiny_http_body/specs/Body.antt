@@ -1,0 +1,273 @@
+-- What is still to come of a request's body, and where the input stands after it.
+use Rattle.std.specs.Prelude.{◌≡◌, ℕ, ◌+◌, ◌-◌, ◌^◌, ◌<◌, ◌≤◌, Bool, true, false, ◌||◌, ◌==◌, nat_lt, List, [], length, take, Option, Some, None, Result, Ok, Err, IfOk, IfErr, OnErr, IfSome, MatchBool, ⊤, if◌then◌else◌}
+use Rattle.std.specs.Option.{option_map}
+use Rattle.std.specs.IoError.{error_kind}
+use Rattle.std.specs.declared.io.Error.{Error}
+use Rattle.std.specs.declared.io.ErrorKind.{ErrorKind}
+use Rattle.tiny_http_io.specs.declared.device.Stop.{Stop}
+use Rattle.tiny_http_io.specs.declared.device.Stop.TheVariants.{End, Fault}
+use Rattle.tiny_http_io.specs.Cursor.{cursor_bytes}
+use Rattle.tiny_http_io.specs.Device.{AnswersStop, Feed, whole_feed, prepend, fault_of}
+use Rattle.tiny_http_body.specs.Decoding.{Coming, decoding_coming, decoding_rules}
+use Rattle.tiny_http_body.specs.Chunks.{WholeChunksBy, CutChunksBy}
+use Rattle.tiny_http_body.specs.declared.chunked.Decoding.{Decoding}
+use Rattle.tiny_http_body.specs.declared.chunked.ChunkRules.{ChunkRules}
+use Rattle.tiny_http_body.specs.declared.chunked.ChunkRules.TheVariants as chunks
+use Rattle.tiny_http_body.specs.declared.body.TheConstants.{MOST_SKIPPED}
+use Rattle.tiny_http_body.specs.declared.body.Remainder.{Remainder}
+use Rattle.tiny_http_body.specs.declared.body.Remainder.TheVariants as left
+use Rattle.tiny_http_body.specs.declared.body.Body.{Body}
+use Rattle.tiny_http_body.specs.declared.body.Body.TheVariants.{Over, WithHead, Counted, Chunked, Rest}
+use Rattle.tiny_http_body.specs.declared.framing.Form.{Form}
+use Rattle.tiny_http_body.specs.declared.framing.Form.TheVariants as form
+use Rattle.tiny_http_io.specs.ToCome.{skipped, stopped}
+use Rattle.tiny_http_io.specs.FeedParts.{feed_front}
+use Rattle.tiny_http_io.specs.Source.{SourceState, GoesOn, IsAtEnd}
+use Rattle.tiny_http_io.specs.declared.source.Standing.{Standing}
+use Rattle.tiny_http_io.specs.Standing.{after_body, after_fault, after_abandoned}
+
+-- What is still to come of a body, and the feed after it; a feed without a byte, where no head follows.
+pub record Remaining : Type 0 where
+  pub body : Feed
+  pub behind : Feed
+
+-- a chunked body that is whole ends, and the input goes on after it; one that is cut or broken stops by its fault, and
+-- no head follows
+abbrev pub chunks_remaining : List ℕ → Result Feed ErrorKind → Remaining
+chunks_remaining bytes (Ok feed) = record { body = whole_feed bytes; behind = feed }
+chunks_remaining bytes (Err kind) = record { body = record { bytes = bytes; stop = Fault kind }; behind = stopped End }
+
+abbrev pub coming_remaining : Coming → Remaining
+coming_remaining c = chunks_remaining c.bytes c.behind
+
+-- by which rules the lines of a chunked body are read
+abbrev pub chunk_rules : Bool → ChunkRules
+chunk_rules true = chunks.Standard
+chunk_rules false = chunks.Lenient
+
+-- how a body stops that the input's stop cuts: as the input does; by the standard its end is a fault, too (RFC 9112, section 8)
+abbrev pub cut_stop : Bool → Stop → Stop
+cut_stop false stop = stop
+cut_stop true stop = Fault (fault_of stop)
+
+-- the input, as a body meets its stop
+abbrev pub cut_feed : Bool → Feed → Feed
+cut_feed by_standard feed = record { bytes = feed.bytes; stop = cut_stop by_standard feed.stop }
+
+-- so many bytes of the input; where there are fewer no head follows
+abbrev pub counted_remaining : Bool → ℕ → Feed → Remaining
+counted_remaining by_standard n feed = record { body = feed_front n (cut_feed by_standard feed); behind = skipped n feed }
+
+-- the input stands after the body already
+abbrev pub taken_remaining : Feed → Feed → Remaining
+taken_remaining body feed = record { body = body; behind = feed }
+
+-- all that comes of the input; no head follows
+abbrev pub rest_remaining : Feed → Remaining
+rest_remaining feed = record { body = feed; behind = stopped End }
+
+-- what is still to come of the body, where the input still gives this
+abbrev pub remaining : Body → Option Feed → Option Remaining
+remaining (Over stop) feed = option_map (taken_remaining (stopped stop)) feed
+remaining (WithHead bytes) feed = option_map (taken_remaining (whole_feed (cursor_bytes bytes))) feed
+remaining (Counted n by_standard) feed = option_map (counted_remaining by_standard n) feed
+remaining (Chunked decoding) feed = option_map coming_remaining (decoding_coming decoding feed)
+remaining Rest feed = option_map rest_remaining feed
+
+-- A body in chunks of which nothing was read: one that is whole gives its data, and leaves the rest; another one gives the data that
+-- stand, and then the fault.
+pub record IsNewDecoding (by_standard : Bool) (d : Decoding) : Type 0 where
+  pub rules : decoding_rules d ≡ chunk_rules by_standard
+  pub whole : (bytes body rest : List ℕ) (stop : Stop) → WholeChunksBy (chunk_rules by_standard) bytes body rest
+      → decoding_coming d (Some (record { bytes = bytes; stop = stop })) ≡ Some (record { bytes = body; behind = Ok (record { bytes = rest; stop = stop }) })
+  pub front : (bytes body : List ℕ) (stop : Stop) (kind : ErrorKind) → CutChunksBy (chunk_rules by_standard) bytes stop body kind
+      → decoding_coming d (Some (record { bytes = bytes; stop = stop })) ≡ Some (record { bytes = body; behind = Err kind })
+
+abbrev pub IsNewChunked : Bool → Body → Type 0
+IsNewChunked by_standard b = (d : Decoding) × (b ≡ Chunked d) × IsNewDecoding by_standard d
+
+-- these bytes of the body, and then what remains
+abbrev pub prepend_body : List ℕ → Remaining → Remaining
+prepend_body bs r = record { body = prepend bs r.body; behind = r.behind }
+
+abbrev pub prepended_body : List ℕ → Option Remaining → Option Remaining
+prepended_body bs r = option_map (prepend_body bs) r
+
+-- no byte of the body is left, and this is how it stops
+abbrev pub BodyStops : Stop → Option Remaining → Type 0
+BodyStops stop None = ⊤
+BodyStops stop (Some r) = r.body ≡ stopped stop
+
+-- no byte of the body is left
+abbrev pub NoneRemains : Option Remaining → Type 0
+NoneRemains None = ⊤
+NoneRemains (Some r) = r.body.bytes ≡ []
+
+-- the body is read from the input
+abbrev pub is_streaming : Body → Bool
+is_streaming (Over stop) = false
+is_streaming (WithHead bytes) = false
+is_streaming (Counted n by_standard) = true
+is_streaming (Chunked decoding) = true
+is_streaming Rest = true
+
+-- the body has come whole, and none of it is read from the input any more
+abbrev pub is_whole : Body → Bool
+is_whole (Over End) = true
+is_whole (Over (Fault kind)) = false
+is_whole (WithHead bytes) = true
+is_whole (Counted n by_standard) = false
+is_whole (Chunked decoding) = false
+is_whole Rest = false
+
+-- how many bytes of it are left, where a length says so
+abbrev pub bytes_left : Body → Option ℕ
+bytes_left (Over End) = Some 0
+bytes_left (Over (Fault kind)) = None
+bytes_left (WithHead bytes) = Some (length (cursor_bytes bytes))
+bytes_left (Counted n by_standard) = Some n
+bytes_left (Chunked decoding) = None
+bytes_left Rest = None
+
+-- what is left of a body whose request is finished
+abbrev pub remainder : Body → Remainder
+remainder (Over End) = left.Skipped
+remainder (Over (Fault kind)) = left.Endless
+remainder (WithHead bytes) = left.Skipped
+remainder (Counted n by_standard) = if nat_lt MOST_SKIPPED n then left.Long else left.Skipped
+remainder (Chunked decoding) = left.Endless
+remainder Rest = left.Skipped
+
+abbrev pub is_long : Remainder → Bool
+is_long left.Long = true
+is_long _ = false
+
+abbrev pub is_skipped : Remainder → Bool
+is_skipped left.Skipped = true
+is_skipped _ = false
+
+-- what a connection reads that was upgraded: by the standard all that comes, else the body of its request
+abbrev pub stream_body : Bool → Body → Body
+stream_body true b = Rest
+stream_body false b = b
+
+-- what is reported from now on, where that is kept
+abbrev pub body_stop : Body → Option Stop
+body_stop (Over stop) = Some stop
+body_stop (WithHead bytes) = None
+body_stop (Counted n by_standard) = None
+body_stop (Chunked decoding) = None
+body_stop Rest = None
+
+abbrev pub IsBodyOver : Body → Type 0
+IsBodyOver (Over stop) = ⊤
+IsBodyOver _ = ⊥
+
+abbrev pub IsWithHead : Body → Type 0
+IsWithHead (WithHead bytes) = ⊤
+IsWithHead _ = ⊥
+
+abbrev pub IsChunkedBy : ChunkRules → Body → Type 0
+IsChunkedBy rules (Chunked decoding) = decoding_rules decoding ≡ rules
+IsChunkedBy rules _ = ⊥
+
+-- So many bytes were read, and the end or the fault was reported or not. A counted body is over with its last byte, another
+-- one that is read from the input once its end or fault was reported.
+abbrev pub ReadsOn : Body → ℕ → Bool → Body → Type 0
+ReadsOn (Over stop) n end_reported new = (new ≡ Over stop) × (n ≡ 0)
+ReadsOn (WithHead bytes) n end_reported new = IsWithHead new
+ReadsOn (Counted left by_standard) n end_reported new = MatchBool (end_reported || n == left) (IsBodyOver new) ((new ≡ Counted (left - n) by_standard) × (n < left))
+ReadsOn (Chunked decoding) n end_reported new = MatchBool end_reported (IsBodyOver new) (IsChunkedBy (decoding_rules decoding) new)
+ReadsOn Rest n end_reported new = MatchBool end_reported (IsBodyOver new) (new ≡ Rest)
+
+-- the body is finished: it is nothing or held, or all its bytes were given out, or its end or fault was reported
+abbrev pub body_finished : Form → ℕ → ℕ → Bool → Bool
+body_finished form.Nothing n given end_reported = true
+body_finished form.WithHead n given end_reported = true
+body_finished form.Counted n given end_reported = given == n || end_reported
+body_finished form.Chunked n given end_reported = end_reported
+body_finished form.Rest n given end_reported = end_reported
+
+-- what was read of the body fits its profile, form and length
+abbrev pub Fits : Bool → Body → Form → ℕ → ℕ → Bool → Type 0
+Fits standard (Over stop) shape n given end_reported = body_finished shape n given end_reported ≡ true
+Fits standard (WithHead bytes) shape n given end_reported = shape ≡ form.WithHead
+Fits standard (Counted left by_standard) shape n given end_reported =
+    (shape ≡ form.Counted) × (given + left ≡ n) × (0 < left) × (end_reported ≡ false) × (by_standard ≡ standard)
+Fits standard (Chunked decoding) shape n given end_reported = (shape ≡ form.Chunked) × (end_reported ≡ false) × (decoding_rules decoding ≡ chunk_rules standard)
+Fits standard Rest shape n given end_reported = (shape ≡ form.Rest) × (end_reported ≡ false)
+
+-- A buffer was filled from the body: with all its bytes; or with fewer, and none is left; or a fault came before any byte.
+abbrev pub FillsFromBody : Body → Option Feed → Body → Option Feed → Result ℕ ErrorKind → List ℕ → Type 0
+FillsFromBody old from new to (Ok n) buf =
+    (remaining old from ≡ prepended_body (take n buf) (remaining new to)) × (0 < length buf → ReadsOn old n (nat_lt n (length buf)) new)
+    × (n < length buf → NoneRemains (remaining new to)) × (n ≡ 0 → 0 < length buf → BodyStops End (remaining old from))
+FillsFromBody old from new to (Err kind) buf =
+    (remaining new to ≡ remaining old from) × ReadsOn old 0 true new × BodyStops (Fault kind) (remaining old from)
+
+-- Where a source stands after a read that left this of the body.
+abbrev pub body_standing : Body → Standing → Standing
+body_standing (Over End) standing = after_body standing
+body_standing (Over (Fault kind)) standing = after_fault kind standing
+body_standing (WithHead bytes) standing = after_body standing
+body_standing (Counted n by_standard) standing = standing
+body_standing (Chunked decoding) standing = standing
+body_standing Rest standing = standing
+
+-- WHAT A READ GIVES of a body, and what it leaves: the bytes that came are the next of the body, no more than the buffer has
+-- room for; no byte into a buffer with room is the end of the body, and a fault is its own. A counted body is over with its last
+-- byte, another one that is read from the input once its end or fault was reported. After the first fault the source has ended. The
+-- input goes on, or stays.
+pub record ReadsRemaining {R : Type 0} (old new : Body) (from to : SourceState R) (r : Result ℕ Error) (buf : List ℕ) : Type 0 where
+  pub bound : IfOk r (λ n. n ≤ length buf)
+  pub bytes : IfOk r (λ n. remaining old from.feed ≡ prepended_body (take n buf) (remaining new to.feed))
+  pub end : IfOk r (λ n. n ≡ 0 → 0 < length buf → BodyStops End (remaining old from.feed))
+  pub fault : IfErr r (λ e. BodyStops (Fault (error_kind e)) (remaining old from.feed))
+  pub again : OnErr r (remaining new to.feed ≡ remaining old from.feed)
+  pub moves : IfOk r (λ n. 0 < length buf → ReadsOn old n (n == 0) new)
+  pub over : IfErr r (λ e. new ≡ Over (Fault (error_kind e)))
+  pub at_end : OnErr r (body_stop old ≡ None → IsAtEnd to)
+  pub goes_on : GoesOn from.feed to.feed
+
+-- ONE READ of a body. Into an empty buffer it changes nothing. A body that isn't read from the source leaves it alone, and one
+-- that is over reports its end or fault again. Else the source stands by what is left of the body: at the next head once that is
+-- over.
+pub record ReadsBody {R : Type 0} (old new : Body) (from to : SourceState R) (r : Result ℕ Error) (buf : List ℕ) : Type 0 where
+  pub reads : ReadsRemaining old new from to r buf
+  pub empty : length buf ≡ 0 → (r ≡ Ok 0) × (new ≡ old) × (to ≡ from)
+  pub broken : OnErr r (ReadsOn old 0 true new)
+  pub settled : is_streaming old ≡ false → to ≡ from
+  pub reports_stop : IfSome (body_stop old) (λ stop. 0 < length buf → AnswersStop stop r × (new ≡ old))
+  pub standing : is_streaming old ≡ true → to.standing ≡ body_standing new from.standing
+
+-- One read, into a buffer with room, of a body that isn't read from the input. What is left isn't either.
+pub record ReadsHeld (old new : Body) (r : Result ℕ Error) (buf : List ℕ) : Type 0 where
+  pub bound : IfOk r (λ n. n ≤ length buf)
+  pub bytes : (feed : Option Feed) → IfOk r (λ n. remaining old feed ≡ prepended_body (take n buf) (remaining new feed))
+  pub end : (feed : Option Feed) → IfOk r (λ n. n ≡ 0 → 0 < length buf → BodyStops End (remaining old feed))
+  pub fault : (feed : Option Feed) → IfErr r (λ e. BodyStops (Fault (error_kind e)) (remaining old feed))
+  pub moves : IfOk r (λ n. ReadsOn old n (n == 0) new)
+  pub broken : IfErr r (λ e. (new ≡ old) × (new ≡ Over (Fault (error_kind e))))
+  pub reports_stop : IfSome (body_stop old) (λ stop. AnswersStop stop r × (new ≡ old))
+  pub stays_held : is_streaming new ≡ false
+
+-- A body of which nothing was read is passed over: the bytes of a counted one are skipped before the next head. Else nothing
+-- changes: they were read with the head, or there are none.
+abbrev pub PassesOver : {R : Type 0} → Body → SourceState R → SourceState R → Type 0
+PassesOver (Counted left by_standard) old new = (new.feed ≡ option_map (skipped left) old.feed) × (new.standing ≡ old.standing) × (old.skip + left < 2 ^ 64 → (new.reader ≡ old.reader) × (new.stop ≡ old.stop))
+PassesOver (Over stop) old new = new ≡ old
+PassesOver (WithHead bytes) old new = new ≡ old
+PassesOver (Chunked decoding) old new = new ≡ old
+PassesOver Rest old new = new ≡ old
+
+-- A body is given up: the rest of a counted one is skipped, and the reader isn't called for it; after a chunked one no head
+-- follows; else nothing changes, and the rest of the input is left to the source.
+abbrev pub GivesUp : {R : Type 0} → Body → SourceState R → SourceState R → Type 0
+GivesUp (Over stop) old new = new ≡ old
+GivesUp (WithHead bytes) old new = new ≡ old
+GivesUp Rest old new = new ≡ old
+GivesUp (Counted left by_standard) old new =
+    (new.feed ≡ option_map (skipped left) old.feed) × (new.standing ≡ after_body old.standing)
+    × (old.skip + left < 2 ^ 64 → (new.reader ≡ old.reader) × (new.stop ≡ old.stop))
+GivesUp (Chunked decoding) old new =
+    (new.feed ≡ option_map (λ _. stopped End) old.feed) × IsAtEnd new × (new.standing ≡ after_abandoned old.standing) × (new.reader ≡ old.reader)

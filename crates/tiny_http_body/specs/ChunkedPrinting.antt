@@ -1,0 +1,29 @@
+-- Bytes in chunks (RFC 9112, section 7.1), of `CHUNK` bytes each.
+use Rattle.std.specs.Prelude.{ℕ, zero, suc, ◌*◌, ◌/◌, false, List, [], ◌++◌, length, take, drop, codes, ◌==◌, if◌then◌else◌}
+use Rattle.std.specs.Fmt.{digits}
+use Rattle.tiny_http_body.specs.declared.chunks.TheConstants.{CHUNK}
+
+-- a size in lower-case hexadecimal, CR LF, so many bytes, CR LF
+abbrev pub printed_chunk : List ℕ → List ℕ
+printed_chunk bytes = digits 16 false (length bytes) ++ codes "\r\n" ++ bytes ++ codes "\r\n"
+
+-- the first `count` pieces of that size, each as a chunk
+abbrev pub first_chunks : ℕ → List ℕ → List ℕ
+first_chunks zero bytes = []
+first_chunks (suc count) bytes = printed_chunk (take CHUNK bytes) ++ first_chunks count (drop CHUNK bytes)
+
+-- as many full chunks as the bytes make
+unfoldable pub full_chunks : List ℕ → List ℕ
+full_chunks bytes = first_chunks (length bytes / CHUNK) bytes
+
+-- the bytes after them, less than a full chunk
+unfoldable pub left_over : List ℕ → List ℕ
+left_over bytes = drop (length bytes / CHUNK * CHUNK) bytes
+
+-- the last chunk of bytes, if there are any
+abbrev pub short_chunk : List ℕ → List ℕ
+short_chunk bytes = if length bytes == 0 then [] else printed_chunk bytes
+
+-- all the bytes in chunks, the last of them of 1 byte to a full chunk, and the end
+abbrev pub chunked : List ℕ → List ℕ
+chunked bytes = full_chunks bytes ++ short_chunk (left_over bytes) ++ codes "0\r\n\r\n"

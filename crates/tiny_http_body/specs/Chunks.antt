@@ -1,0 +1,211 @@
+-- A chunked body (RFC 9112, section 7.1), and what stands of one that is cut or broken, by each of the two rules.
+use Rattle.std.specs.Prelude.{◌≡◌, ℕ, ◌+◌, ◌<◌, ◌≤◌, ◌⊎◌, Bool, false, ◌||◌, ◌==◌, nat_lt, List, [], ◌∷◌, ◌++◌, length, take, flat_map, IsTrue}
+use Rattle.std.specs.List.{AllByRecursion, list_all}
+use Rattle.std.specs.Char.{digit_value}
+use Rattle.std.specs.Str.Parse.{digits_value}
+use Rattle.std.specs.declared.io.ErrorKind.{ErrorKind}
+use Rattle.std.specs.declared.io.ErrorKind.TheVariants.{InvalidData}
+use Rattle.tiny_http_io.specs.declared.device.Stop.{Stop}
+use Rattle.tiny_http_io.specs.Device.{fault_of}
+use Rattle.httparse.specs.Grammar.{is_token, is_value_byte}
+use Rattle.tiny_http_text.specs.Bytes.{crlf, HasNo, Trims, IsEmptyOrBegins, has_bare_front, colon, semicolon}
+use Rattle.tiny_http_text.specs.Lines.{has_crlf}
+use Rattle.tiny_http_body.specs.declared.chunked.TheConstants.{LONGEST_LINE, MOST_TRAILERS}
+use Rattle.tiny_http_body.specs.declared.chunked.ChunkRules.{ChunkRules}
+use Rattle.tiny_http_body.specs.declared.chunked.ChunkRules.TheVariants.{Lenient, Standard}
+
+-- the most bytes of a size line or a trailer line, without its CR LF: 8192
+abbrev pub longest_line : ℕ
+longest_line = LONGEST_LINE
+
+-- the most lines of a trailer section: 128
+abbrev pub most_trailers : ℕ
+most_trailers = MOST_TRAILERS
+
+-- space or tab
+abbrev pub is_bws : ℕ → Bool
+is_bws b = b == 9 || b == 32
+
+-- a hexadecimal digit of either case
+abbrev pub is_hex : ℕ → Bool
+is_hex b = nat_lt (digit_value b) 16
+
+-- chunk-size [ chunk-ext ]: what stands before the first `;`, without blanks round it, is 1 to 16 hexadecimal digits
+pub record SizeText (text : List ℕ) (size : ℕ) : Type 0 where
+  pub part : List ℕ
+  pub extension : List ℕ
+  pub digits : List ℕ
+  pub joins : text ≡ part ++ extension
+  pub no_semicolon : HasNo semicolon part
+  pub extends : IsEmptyOrBegins semicolon extension
+  pub trims : Trims is_bws part digits
+  pub some_digit : 0 < length digits
+  pub few_digits : length digits ≤ 16
+  pub hexadecimal : IsTrue (list_all is_hex digits)
+  pub value : size ≡ digits_value 16 digits
+
+-- By the standard the text begins with its digits, and no byte of it is a control byte but the tab.
+abbrev pub SizeTextBy : ChunkRules → List ℕ → ℕ → Type 0
+SizeTextBy Lenient text size = SizeText text size
+SizeTextBy Standard text size = SizeText text size × IsTrue (has_bare_front is_bws text) × IsTrue (list_all is_value_byte text)
+
+abbrev pub line_feed : ℕ
+line_feed = 10
+
+-- a line that isn't too long
+abbrev pub IsShortLine : List ℕ → Type 0
+IsShortLine text = (length text ≤ longest_line) × (has_crlf text ≡ false)
+
+-- By the standard it ends at its first LF.
+abbrev pub IsShortLineBy : ChunkRules → List ℕ → Type 0
+IsShortLineBy Lenient text = IsShortLine text
+IsShortLineBy Standard text = IsShortLine text × HasNo line_feed text
+
+-- chunk = chunk-size [ chunk-ext ] CRLF chunk-data CRLF
+pub record Chunk : Type 0 where
+  pub size_line : List ℕ
+  pub bytes : List ℕ
+
+abbrev pub chunk_text : Chunk → List ℕ
+chunk_text c = c.size_line ++ crlf ++ c.bytes ++ crlf
+
+pub record IsChunkBy (rules : ChunkRules) (c : Chunk) : Type 0 where
+  pub short : IsShortLineBy rules c.size_line
+  pub sized : SizeTextBy rules c.size_line (length c.bytes)
+  pub not_last : 0 < length c.bytes
+
+-- last-chunk = "0" [ chunk-ext ] CRLF, without the CRLF
+abbrev pub IsLastLineBy : ChunkRules → List ℕ → Type 0
+IsLastLineBy rules text = IsShortLineBy rules text × SizeTextBy rules text 0
+
+-- field-line = field-name ":" OWS field-value OWS, where no byte of the value is a control byte but the tab
+pub record FieldText (text : List ℕ) : Type 0 where
+  pub name : List ℕ
+  pub value : List ℕ
+  pub joins : text ≡ name ++ colon ∷ value
+  pub name_is : IsTrue (is_token name)
+  pub value_is : IsTrue (list_all is_value_byte value)
+
+-- what a trailer line says: by the standard it is a field line
+abbrev pub TrailerTextBy : ChunkRules → List ℕ → Type 0
+TrailerTextBy Lenient text = 0 < length text
+TrailerTextBy Standard text = FieldText text
+
+-- a line of the trailer part, which is passed over
+abbrev pub IsTrailerLineBy : ChunkRules → List ℕ → Type 0
+IsTrailerLineBy rules text = IsShortLineBy rules text × TrailerTextBy rules text
+
+abbrev pub lines_text : List (List ℕ) → List ℕ
+lines_text lines = flat_map (λ text. text ++ crlf) lines
+
+abbrev pub data_of : List Chunk → List ℕ
+data_of chunks = flat_map (λ c. c.bytes) chunks
+
+-- the bytes are chunks, a last chunk, a trailer part and the rest; the body is the chunks' data
+pub record WholeChunksBy (rules : ChunkRules) (bytes body rest : List ℕ) : Type 0 where
+  pub chunks : List Chunk
+  pub last : List ℕ
+  pub trailers : List (List ℕ)
+  pub joins : bytes ≡ flat_map chunk_text chunks ++ (lines_text (last ∷ trailers) ++ (crlf ++ rest))
+  pub body_is : body ≡ data_of chunks
+  pub are_chunks : AllByRecursion (IsChunkBy rules) chunks
+  pub is_last_chunk : IsLastLineBy rules last
+  pub are_trailers : AllByRecursion (IsTrailerLineBy rules) trailers
+  pub few_trailers : length trailers ≤ most_trailers
+
+-- no CR LF begins at a place up to the greatest length of a line
+abbrev pub HasNoShortLine : List ℕ → Type 0
+HasNoShortLine bytes = has_crlf (take (longest_line + 2) bytes) ≡ false
+
+-- where a line has to stand, none does: there is room for the longest one, or the bytes end
+abbrev pub ChunkLineFault : List ℕ → Stop → ErrorKind → Type 0
+ChunkLineFault bytes stop kind =
+    HasNoShortLine bytes × (((longest_line + 2 ≤ length bytes) × (kind ≡ InvalidData)) ⊎ ((length bytes < longest_line + 2) × (kind ≡ fault_of stop)))
+
+-- An LF stands before the first CR LF, behind at most so many bytes that a line could still end there.
+pub record LoneFeed (bytes : List ℕ) : Type 0 where
+  pub text : List ℕ
+  pub rest : List ℕ
+  pub joins : bytes ≡ text ++ line_feed ∷ rest
+  pub lone : has_crlf (text ++ line_feed ∷ []) ≡ false
+  pub near : length text < longest_line + 2
+
+-- By the standard an LF alone breaks the line, whatever follows it.
+abbrev pub ChunkLineFaultBy : ChunkRules → List ℕ → Stop → ErrorKind → Type 0
+ChunkLineFaultBy Lenient bytes stop kind = ChunkLineFault bytes stop kind
+ChunkLineFaultBy Standard bytes stop kind =
+    (LoneFeed bytes × (kind ≡ InvalidData)) ⊎ (HasNo line_feed (take (longest_line + 2) bytes) × ChunkLineFault bytes stop kind)
+
+-- a line of one byte or more that is no field line
+pub record NoField (bytes : List ℕ) : Type 0 where
+  pub text : List ℕ
+  pub rest : List ℕ
+  pub joins : bytes ≡ text ++ crlf ++ rest
+  pub short : IsShortLineBy Standard text
+  pub not_empty : 0 < length text
+  pub no_field : FieldText text → ⊥
+
+-- where a trailer line has to stand, none does
+abbrev pub TrailerFaultBy : ChunkRules → List ℕ → Stop → ErrorKind → Type 0
+TrailerFaultBy Lenient bytes stop kind = ChunkLineFault bytes stop kind
+TrailerFaultBy Standard bytes stop kind = ChunkLineFaultBy Standard bytes stop kind ⊎ (NoField bytes × (kind ≡ InvalidData))
+
+-- what stands where the CR LF after a chunk's data has to
+abbrev pub CloseFault : List ℕ → Stop → ErrorKind → Type 0
+CloseFault [] stop kind = kind ≡ fault_of stop
+CloseFault (a ∷ []) stop kind = ((a ≡ 13) × (kind ≡ fault_of stop)) ⊎ ((a ≡ 13 → ⊥) × (kind ≡ InvalidData))
+CloseFault (a ∷ b ∷ bs) stop kind = ((a ∷ b ∷ [] ≡ crlf) → ⊥) × (kind ≡ InvalidData)
+
+-- The remainder of a body whose whole chunks were taken off: what stands of the next chunk's data, and the fault.
+pub data Remainder : Type 0 where
+  NoSizeLine : Remainder
+  BadSize : (text rest : List ℕ) → Remainder
+  CutData : (text : List ℕ) (size : ℕ) → Remainder
+  NoClose : (text close : List ℕ) → Remainder
+  CutTrailer : (last : List ℕ) (trailers : List (List ℕ)) (next : List ℕ) → Remainder
+  LongTrailer : (last : List ℕ) (trailers : List (List ℕ)) (next : List ℕ) → Remainder
+
+abbrev pub RemainderBreaksBy : ChunkRules → Remainder → List ℕ → Stop → List ℕ → ErrorKind → Type 0
+-- no size line
+RemainderBreaksBy rules NoSizeLine bytes stop part kind = (part ≡ []) × ChunkLineFaultBy rules bytes stop kind
+-- a size line whose text is no size
+RemainderBreaksBy rules (BadSize text rest) bytes stop part kind =
+    (bytes ≡ text ++ crlf ++ rest) × IsShortLineBy rules text × ((size : ℕ) → SizeTextBy rules text size → ⊥) × (part ≡ []) × (kind ≡ InvalidData)
+-- the bytes end within the data
+RemainderBreaksBy rules (CutData text size) bytes stop part kind =
+    (bytes ≡ text ++ crlf ++ part) × IsShortLineBy rules text × SizeTextBy rules text size × (length part < size) × (kind ≡ fault_of stop)
+-- all the data stand, and no CR LF after them
+RemainderBreaksBy rules (NoClose text close) bytes stop part kind =
+    (bytes ≡ text ++ crlf ++ part ++ close) × IsShortLineBy rules text × SizeTextBy rules text (length part) × (0 < length part) × CloseFault close stop kind
+-- a last chunk, and the trailer part breaks off
+RemainderBreaksBy rules (CutTrailer last trailers next) bytes stop part kind =
+    (bytes ≡ lines_text (last ∷ trailers) ++ next) × IsLastLineBy rules last × AllByRecursion (IsTrailerLineBy rules) trailers × (length trailers ≤ most_trailers)
+    × TrailerFaultBy rules next stop kind × (part ≡ [])
+-- a last chunk, and a trailer line too many
+RemainderBreaksBy rules (LongTrailer last trailers next) bytes stop part kind =
+    (bytes ≡ lines_text (last ∷ trailers) ++ next) × IsLastLineBy rules last × AllByRecursion (IsTrailerLineBy rules) trailers × (length trailers ≡ most_trailers + 1)
+    × (part ≡ []) × (kind ≡ InvalidData)
+
+-- the bytes are whole chunks and a remainder; the data are the whole chunks' and what stands of the next
+pub record CutChunksBy (rules : ChunkRules) (bytes : List ℕ) (stop : Stop) (body : List ℕ) (kind : ErrorKind) : Type 0 where
+  pub chunks : List Chunk
+  pub rest : List ℕ
+  pub part : List ℕ
+  pub way : Remainder
+  pub joins : bytes ≡ flat_map chunk_text chunks ++ rest
+  pub body_is : body ≡ data_of chunks ++ part
+  pub are_chunks : AllByRecursion (IsChunkBy rules) chunks
+  pub breaks : RemainderBreaksBy rules way rest stop part kind
+
+-- the same by the lenient rules
+abbrev pub IsChunk : Chunk → Type 0
+IsChunk c = IsChunkBy Lenient c
+
+abbrev pub WholeChunks : List ℕ → List ℕ → List ℕ → Type 0
+WholeChunks bytes body rest = WholeChunksBy Lenient bytes body rest
+
+abbrev pub RemainderBreaks : Remainder → List ℕ → Stop → List ℕ → ErrorKind → Type 0
+RemainderBreaks way bytes stop part kind = RemainderBreaksBy Lenient way bytes stop part kind
+
+abbrev pub CutChunks : List ℕ → Stop → List ℕ → ErrorKind → Type 0
+CutChunks bytes stop body kind = CutChunksBy Lenient bytes stop body kind

@@ -1,0 +1,88 @@
+-- How a head frames its message, computed: one plain reading, by which the law of framing is proved.
+use Rattle.std.specs.Prelude.{ℕ, Bool, true, false, not, ◌&&◌, ◌==◌, nat_le, List, [], ◌∷◌, Option, Some, None, Result, Ok, Err, codes, if◌then◌else◌}
+use Rattle.std.specs.List.{list_all}
+use Rattle.tiny_http_head.specs.declared.common.Header.{Header}
+use Rattle.tiny_http_head.specs.declared.common.HTTPVersion.{HTTPVersion}
+use Rattle.tiny_http_head.specs.Common.{same_name}
+use Rattle.tiny_http_head.specs.Heads.{length_of}
+use Rattle.tiny_http_body.specs.declared.framing.TheConstants.{LONGEST_WITH_HEAD}
+use Rattle.tiny_http_body.specs.declared.framing.HeadRules.{HeadRules}
+use Rattle.tiny_http_body.specs.declared.framing.HeadRules.TheVariants.{Lenient, Strict}
+use Rattle.tiny_http_body.specs.declared.framing.FramingFault.{FramingFault}
+use Rattle.tiny_http_body.specs.declared.framing.FramingFault.TheVariants.{Invalid, Expectation}
+use Rattle.tiny_http_body.specs.declared.framing.Form.{Form}
+use Rattle.tiny_http_body.specs.declared.framing.Form.TheVariants.{Rest, Nothing, WithHead, Counted, Chunked}
+use Rattle.tiny_http_body.specs.declared.framing.Framing.{Framing}
+use Rattle.tiny_http_body.specs.Framing.{value_of, elements_of, lenient_length, expectation, names_upgrade, names_coding, is_last}
+
+-- the value that was found before, or else that of the first header of that name
+abbrev pub first_value : Option (List ℕ) → List ℕ → List Header → Option (List ℕ)
+first_value None name headers = value_of name headers
+first_value (Some value) name headers = Some value
+
+abbrev pub sized_form : Bool → Option ℕ → Form
+sized_form owed None = Nothing
+sized_form owed (Some n) = if n == 0 then Nothing else if (nat_le n LONGEST_WITH_HEAD && not owed) then WithHead else Counted
+
+abbrev pub form_by : Bool → Bool → Bool → Option ℕ → Form
+form_by true coded owed n = Rest
+form_by false true owed n = Chunked
+form_by false false owed n = sized_form owed n
+
+abbrev pub is_number : ℕ → Option ℕ → Bool
+is_number n None = false
+is_number n (Some m) = m == n
+
+abbrev pub is_length : ℕ → List ℕ → Bool
+is_length n text = is_number n (length_of text)
+
+-- the one length that these are
+abbrev pub one_length : Option ℕ → List (List ℕ) → Result (Option ℕ) FramingFault
+one_length None lengths = Err Invalid
+one_length (Some n) lengths = if list_all (is_length n) lengths then Ok (Some n) else Err Invalid
+
+abbrev pub ends_with_chunked : List ℕ → List (List ℕ) → Bool
+ends_with_chunked last [] = same_name last (codes "chunked")
+ends_with_chunked coding (last ∷ codings) = ends_with_chunked last codings
+
+abbrev pub strict_length : List (List ℕ) → List (List ℕ) → Result (Option ℕ) FramingFault
+strict_length [] [] = Ok None
+strict_length (length ∷ lengths) [] = one_length (length_of length) lengths
+strict_length [] (coding ∷ codings) = if ends_with_chunked coding codings then Ok None else Err Invalid
+strict_length (length ∷ lengths) (coding ∷ codings) = Err Invalid
+
+-- the same, from one element to the next: the length that they are, if it is the one that was found before
+abbrev pub same_length : Option ℕ → Option ℕ → Option ℕ
+same_length None found = None
+same_length (Some m) None = Some m
+same_length (Some m) (Some n) = if m == n then Some m else None
+
+abbrev pub if_length : Option ℕ → (ℕ → Result (Option ℕ) FramingFault) → Result (Option ℕ) FramingFault
+if_length None more = Err Invalid
+if_length (Some n) more = more n
+
+abbrev pub lengths_on : Option ℕ → List (List ℕ) → Result (Option ℕ) FramingFault
+lengths_on found [] = Ok found
+lengths_on found (length ∷ lengths) = if_length (same_length (length_of length) found) (λ n. lengths_on (Some n) lengths)
+
+abbrev pub chunked_on : Bool → List (List ℕ) → Bool
+chunked_on was [] = was
+chunked_on was (coding ∷ codings) = chunked_on (same_name coding (codes "chunked")) codings
+
+-- the length of the body by its headers
+abbrev pub body_length : HeadRules → List Header → Result (Option ℕ) FramingFault
+body_length Lenient headers = Ok (lenient_length headers)
+body_length Strict headers = strict_length (elements_of (codes "Content-Length") headers) (elements_of (codes "Transfer-Encoding") headers)
+
+abbrev pub framed_by : HTTPVersion → List Header → Option ℕ → Option Bool → Result Framing FramingFault
+framed_by v headers n None = Err Expectation
+framed_by v headers n (Some owed) =
+    Ok (record { form = form_by (names_upgrade headers) (names_coding headers) owed n; owes_continue = owed; body_length = n; asks_upgrade = false; by_standard = false; is_last = is_last v (value_of (codes "Connection") headers) })
+
+abbrev pub framed_if : HTTPVersion → List Header → Result (Option ℕ) FramingFault → Result Framing FramingFault
+framed_if v headers (Err fault) = Err fault
+framed_if v headers (Ok n) = framed_by v headers n (expectation (value_of (codes "Expect") headers))
+
+-- the framing that version and headers give, or why the head is refused
+unfoldable pub framing : HeadRules → HTTPVersion → List Header → Result Framing FramingFault
+framing p v headers = framed_if v headers (body_length p headers)

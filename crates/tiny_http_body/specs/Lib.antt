@@ -1,0 +1,13 @@
+pub mod Text
+pub mod ChunkedPrinting
+pub mod Encoder
+pub mod Streamed
+pub mod Chunks
+pub mod ChunkReading
+pub mod ChunkSize
+pub mod ChunkField
+pub mod ChunkLine
+pub mod Decoding
+pub mod Framing
+pub mod FramingReading
+pub mod Body

@@ -1,0 +1,82 @@
+-- What a contract sees of a body that grows.
+use Rattle.std.specs.Prelude.{◌≡◌, ◌⊎◌, ℕ, ◌<◌, ◌≤◌, Bool, false, List, [], ◌++◌, length, take, Result, Ok, Err, IfErr, IsErr, codes}
+use Rattle.std.specs.List.{flat_map, AllByRecursion}
+use Rattle.std.specs.IoError.{error_kind}
+use Rattle.std.specs.declared.io.Error.{Error}
+use Rattle.std.specs.declared.io.ErrorKind.TheVariants.{BrokenPipe}
+use Rattle.tiny_http_io.specs.Device.{Sink, Took, Failed}
+use Rattle.tiny_http_body.specs.ChunkedPrinting.{short_chunk}
+use Rattle.tiny_http_body.specs.declared.chunks.TheConstants.{CHUNK}
+use Rattle.tiny_http_body.specs.declared.streamed.StreamedForm.{StreamedForm}
+use Rattle.tiny_http_body.specs.declared.streamed.StreamedForm.TheVariants.{Chunks, Plain, Absent}
+
+-- The writer inside, what it states, how the body is sent, the bytes that are held, and whether the writer has failed.
+pub record StreamedState (W : Type 0) : Type 0 where
+  pub writer : W
+  pub sink : Sink
+  pub form : StreamedForm
+  pub held : List ℕ
+  pub failed : Bool
+
+-- a body of which nothing has come yet
+abbrev pub begun : {W : Type 0} → W → Sink → StreamedForm → StreamedState W
+begun writer sink form = record { writer = writer; sink = sink; form = form; held = []; failed = false }
+
+-- a piece of a body as it is sent: a chunk, if there is a byte; the bytes; or nothing
+abbrev pub piece_text : StreamedForm → List ℕ → List ℕ
+piece_text Chunks bytes = short_chunk bytes
+piece_text Plain bytes = bytes
+piece_text Absent bytes = []
+
+-- the end of a body as it is sent
+abbrev pub end_text : StreamedForm → List ℕ
+end_text Chunks = codes "0\r\n\r\n"
+end_text Plain = []
+end_text Absent = []
+
+-- pieces of a body as they are sent, and the bytes that they join to
+abbrev pub pieces_text : StreamedForm → List (List ℕ) → List ℕ
+pieces_text form pieces = flat_map (piece_text form) pieces
+
+abbrev pub joined : List (List ℕ) → List ℕ
+joined pieces = flat_map (λ piece. piece) pieces
+
+-- a piece has no more bytes than a chunk may have
+abbrev pub IsPiece : List ℕ → Type 0
+IsPiece bytes = length bytes ≤ CHUNK
+
+-- From one state of a writer to another a body was given these bytes: all but those that are held, which are less than a chunk, were sent
+-- in pieces.
+pub record SentPieces (form : StreamedForm) (start now : Sink) (given held : List ℕ) : Type 0 where
+  pub pieces : List (List ℕ)
+  pub sent : Took start now (pieces_text form pieces)
+  pub joins : given ≡ joined pieces ++ held
+  pub bounds : AllByRecursion IsPiece pieces
+  pub few : length held < CHUNK
+
+-- From this state of its writer on a body was given these bytes, and did not fail.
+abbrev pub HasStreamed : {W : Type 0} → Sink → List ℕ → StreamedState W → Type 0
+HasStreamed start given s = (s.failed ≡ false) × SentPieces s.form start s.sink given s.held
+
+-- THE WHOLE BODY of these bytes was sent, in pieces, and its end
+pub record EndsStreamed (form : StreamedForm) (start now : Sink) (given : List ℕ) : Type 0 where
+  pub pieces : List (List ℕ)
+  pub sent : Took start now (pieces_text form pieces ++ end_text form)
+  pub joins : given ≡ joined pieces
+  pub bounds : AllByRecursion IsPiece pieces
+
+-- bytes that don't fill a piece are held; those that fill one are sent
+abbrev pub Holds : StreamedForm → Sink → Sink → List ℕ → List ℕ → Type 0
+Holds form old new held bytes =
+    ((length bytes < CHUNK) × (new ≡ old) × (held ≡ bytes))
+    ⊎ ((length bytes ≡ CHUNK) × Took old new (piece_text form bytes) × (held ≡ []))
+
+-- ONE WRITE takes bytes from the front of a text, at least one if there is one, behind those that are held. Or the writer failed
+-- within the piece that they fill.
+abbrev pub Gathers : StreamedForm → Sink → Sink → List ℕ → List ℕ → Result ℕ Error → List ℕ → Type 0
+Gathers form old new was held (Ok n) text = (n ≤ length text) × (0 < length text → 0 < n) × Holds form old new held (was ++ take n text)
+Gathers form old new was held (Err e) text = (CHUNK ≤ length (was ++ text)) × Failed old new (piece_text form (take CHUNK (was ++ text))) (error_kind e)
+
+-- the answer after the writer's first fault
+abbrev pub IsBroken : {T : Type 0} → Result T Error → Type 0
+IsBroken r = IsErr r × IfErr r (λ e. error_kind e ≡ BrokenPipe)

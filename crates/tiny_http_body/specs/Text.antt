@@ -1,0 +1,48 @@
+-- A text to send and how it ends, and the bodies that data become (RFC 9112, sections 6 and 7).
+use Rattle.std.specs.Prelude.{◌≡◌, ℕ, List, [], ◌++◌, length, take, Result, Ok, Err, nat_le, if◌then◌else◌, ◌⊎◌}
+use Rattle.std.specs.IoError.{error_kind}
+use Rattle.std.specs.declared.io.Error.{Error}
+use Rattle.std.specs.declared.io.ErrorKind.{ErrorKind}
+use Rattle.tiny_http_io.specs.Device.{Feed, fault_of, Sink, Took, Failed}
+use Rattle.tiny_http_io.specs.declared.device.Stop.{Stop}
+use Rattle.tiny_http_io.specs.declared.device.Stop.TheVariants.{End, Fault}
+use Rattle.tiny_http_body.specs.ChunkedPrinting.{full_chunks, chunked}
+
+-- how a text ends: whole, or broken off by a fault
+pub data Ending : Type 0 where
+  Whole : Ending
+  Broken : ErrorKind → Ending
+
+-- bytes to send, and how they end
+pub record Text : Type 0 where
+  pub bytes : List ℕ
+  pub ending : Ending
+
+-- a text after another
+abbrev pub prepend_text : List ℕ → Text → Text
+prepend_text front text = record { bytes = front ++ text.bytes; ending = text.ending }
+
+abbrev pub whole : List ℕ → Text
+whole bytes = record { bytes = bytes; ending = Whole }
+
+-- no byte is sent, and this fault reported
+abbrev pub nothing_sent : ErrorKind → Text
+nothing_sent kind = record { bytes = []; ending = Broken kind }
+
+-- a body that is sent as it is, cut at its length (RFC 9112, section 6.2): whole if there are so many bytes
+abbrev pub identity_body : ℕ → Feed → Text
+identity_body n feed = record { bytes = take n feed.bytes; ending = if nat_le n (length feed.bytes) then Whole else Broken (fault_of feed.stop) }
+
+-- a body that is sent in chunks, up to its last full one where its data fails
+abbrev pub chunked_until : Stop → List ℕ → Text
+chunked_until End bytes = whole (chunked bytes)
+chunked_until (Fault kind) bytes = record { bytes = full_chunks bytes; ending = Broken kind }
+
+abbrev pub chunked_body : Feed → Text
+chunked_body feed = chunked_until feed.stop feed.bytes
+
+-- What a call that prints a text comes to: all of it is written, or all up to where it breaks off, with
+-- its fault as the answer, or the writer failed within it.
+abbrev pub Prints : {T : Type 0} → Sink → Sink → Result T Error → Text → Type 0
+Prints old new (Ok x) text = (text.ending ≡ Whole) × Took old new text.bytes
+Prints old new (Err e) text = ((text.ending ≡ Broken (error_kind e)) × Took old new text.bytes) ⊎ Failed old new text.bytes (error_kind e)

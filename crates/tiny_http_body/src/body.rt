@@ -1,0 +1,345 @@
+//! The body of a request, read from the connection's input.
+ghost use Rattle.std.specs.Prelude.{◌≡◌, ◌<◌, ◌≤◌, ◌+◌, ◌==◌, true, false, length, take, drop, Option, Ok, IfOk};
+ghost use Rattle.std.specs.Option.{option_map};
+ghost use Rattle.tiny_http_io.specs.Device.{AnswersStop, Feed};
+ghost use Rattle.tiny_http_io.specs.Source.{GoesOn};
+ghost use Rattle.tiny_http_io.specs.ToCome.{skipped};
+ghost use Rattle.tiny_http_body.specs.Body.{remaining, IsNewChunked, counted_remaining, is_whole, bytes_left, remainder, stream_body, is_streaming, body_standing, ReadsOn, ReadsRemaining, ReadsBody, ReadsHeld, FillsFromBody, GivesUp};
+
+use crate::chunked::{ChunkRules, Decoding};
+use std::io;
+use std::io::{Cursor, ErrorKind};
+use tiny_http_io::device::{ReadDevice, Stop, read_front};
+use tiny_http_io::source::{Source, Standing};
+
+/// The most bytes of a body of known length that are skipped before the next head, by the standard.
+pub const MOST_SKIPPED: usize = 65_536;
+
+/// What is left of a body whose request is finished.
+#[derive(Clone, Copy, Debug, PartialEq, Eq)]
+pub enum Remainder {
+    /// So little that it is skipped, and the next head can follow.
+    Skipped,
+    /// More bytes of a known length than `MOST_SKIPPED`.
+    Long,
+    /// Its end isn't known: chunks are unread, or it is cut or broken.
+    Endless,
+}
+
+/// How far a request's body was read.
+#[derive(Drop)]
+pub enum Body {
+    /// No byte follows, and this is reported.
+    Over(Stop),
+    /// The bytes were read with the head.
+    WithHead(Cursor<Vec<u8>>),
+    /// So many bytes of the input.
+    Counted {
+        /// How many are left.
+        left: usize,
+        /// Whether an end of the input among them is a fault, and not the body's end.
+        by_standard: bool,
+    },
+    /// Chunks of the input.
+    Chunked(Decoding),
+    /// All that comes of the input.
+    Rest,
+}
+
+// What is reported after the last byte of a body.
+fn report(stop: Stop) -> Result<usize, io::Error>
+    ensures { AnswersStop stop result }
+{
+    match stop {
+        Stop::End => Ok(0),
+        Stop::Fault(kind) => Err(kind.into()),
+    }
+}
+
+/// The body of which so many bytes of the input are left. By the standard an end of the input among them is a fault.
+pub fn counted(left: usize, by_standard: bool) -> Body
+    ensures remaining { (feed : Option Feed) → remaining result feed ≡ option_map (counted_remaining by_standard left) feed }
+    ensures moves { ReadsOn (Body.Counted left by_standard) 0 false result }
+{
+    if left == 0 {
+        Body::Over(Stop::End)
+    } else {
+        Body::Counted { left, by_standard }
+    }
+}
+
+/// The body whose chunks are the next bytes of the input. Their lines are read by the rules of the profile.
+pub fn chunked(by_standard: bool) -> Body
+    ensures { IsNewChunked by_standard result }
+{
+    if by_standard {
+        Body::Chunked(Decoding::new_with(ChunkRules::Standard))
+    } else {
+        Body::Chunked(Decoding::new_with(ChunkRules::Lenient))
+    }
+}
+
+impl Body {
+    // Reads some of the bytes that are left of a body of a known length. After one that is cut no head follows.
+    fn read_counted<R: ReadDevice>(
+        &mut self,
+        source: &mut Source<R>,
+        left: usize,
+        by_standard: bool,
+        buf: &mut [u8],
+    ) -> Result<usize, io::Error>
+        requires counted { self.old ≡ Body.Counted left by_standard }
+        requires room { 0 < length buf.old }
+        ensures { ReadsRemaining self.old self.new source.old source.new result buf.new }
+    {
+        if left == 0 {
+            *self = Body::Over(Stop::End);
+            return Ok(0);
+        }
+        match read_front(source, left, buf) {
+            Ok(0) => {
+                source.end();
+                if by_standard {
+                    *self = Body::Over(Stop::Fault(ErrorKind::UnexpectedEof));
+                    return Err(ErrorKind::UnexpectedEof.into());
+                }
+                *self = Body::Over(Stop::End);
+                Ok(0)
+            }
+            Ok(n) => {
+                *self = counted(left - n, by_standard);
+                Ok(n)
+            }
+            Err(e) => {
+                source.end();
+                *self = Body::Over(Stop::Fault(e.kind()));
+                Err(e)
+            }
+        }
+    }
+
+    // Reads some of the data of a chunked body. After one that is cut or broken no head follows.
+    fn read_chunked<R: ReadDevice>(
+        &mut self,
+        source: &mut Source<R>,
+        decoding: Decoding,
+        buf: &mut [u8],
+    ) -> Result<usize, io::Error>
+        requires chunked { self.old ≡ Body.Chunked decoding }
+        requires room { 0 < length buf.old }
+        ensures { ReadsRemaining self.old self.new source.old source.new result buf.new }
+    {
+        let mut decoding = decoding;
+        match decoding.read(source, buf) {
+            Ok(0) => {
+                *self = Body::Over(Stop::End);
+                Ok(0)
+            }
+            Ok(n) => {
+                *self = Body::Chunked(decoding);
+                Ok(n)
+            }
+            Err(e) => {
+                source.end();
+                *self = Body::Over(Stop::Fault(e.kind()));
+                Err(e)
+            }
+        }
+    }
+
+    // Reads some of the bytes that come.
+    fn read_rest<R: ReadDevice>(
+        &mut self,
+        source: &mut Source<R>,
+        buf: &mut [u8],
+    ) -> Result<usize, io::Error>
+        requires rest { self.old ≡ Body.Rest }
+        requires room { 0 < length buf.old }
+        ensures { ReadsRemaining self.old self.new source.old source.new result buf.new }
+    {
+        match source.read_in(buf) {
+            Ok(0) => {
+                source.end();
+                *self = Body::Over(Stop::End);
+                Ok(0)
+            }
+            Ok(n) => Ok(n),
+            Err(e) => {
+                source.end();
+                *self = Body::Over(Stop::Fault(e.kind()));
+                Err(e)
+            }
+        }
+    }
+
+    /// Reads some bytes of the body into the front of `buf`, and says how many. After the last byte each call answers the
+    /// end, or the fault by which the body is cut or broken; after a fault no head follows on the source.
+    pub fn read<R: ReadDevice>(
+        &mut self,
+        source: &mut Source<R>,
+        buf: &mut [u8],
+    ) -> Result<usize, io::Error>
+        ensures { ReadsBody self.old self.new source.old source.new result buf.new }
+    {
+        if buf.is_empty() {
+            return Ok(0);
+        }
+        let standing = source.standing();
+        let read = match self {
+            Body::Over(_) | Body::WithHead(_) => return self.read_held(buf),
+            Body::Counted { left, by_standard } => {
+                let (left, by_standard) = (*left, *by_standard);
+                self.read_counted(source, left, by_standard, buf)
+            }
+            Body::Chunked(decoding) => {
+                let decoding = *decoding;
+                self.read_chunked(source, decoding, buf)
+            }
+            Body::Rest => self.read_rest(source, buf),
+        };
+        source.stand_at(self.standing_after(standing));
+        read
+    }
+
+    /// Reads some bytes of a body that isn't read from the input, into a buffer with room: as `read`, without a source.
+    pub fn read_held(&mut self, buf: &mut [u8]) -> Result<usize, io::Error>
+        requires held { is_streaming self.old ≡ false }
+        requires room { 0 < length buf.old }
+        ensures { ReadsHeld self.old self.new result buf.new }
+    {
+        match self {
+            Body::Over(stop) => report(*stop),
+            Body::WithHead(bytes) => bytes.read_in(buf),
+            Body::Counted { .. } | Body::Chunked(_) | Body::Rest => unreachable!(),
+        }
+    }
+
+    // Where a source stands after a read that left this of the body.
+    fn standing_after(&self, standing: Standing) -> Standing
+        ensures { result ≡ body_standing self.now standing }
+    {
+        match self {
+            Body::Over(Stop::End) | Body::WithHead(_) => standing.after_body(),
+            Body::Over(Stop::Fault(kind)) => standing.after_fault(*kind),
+            Body::Counted { .. } | Body::Chunked(_) | Body::Rest => standing,
+        }
+    }
+
+    // Reads into the buffer from `at` on.
+    fn read_behind<R: ReadDevice>(
+        &mut self,
+        source: &mut Source<R>,
+        buf: &mut [u8],
+        at: usize,
+    ) -> Result<usize, io::Error>
+        requires { at < length buf.old }
+        ensures bound { IfOk result (λ n. at + n ≤ length buf.new) }
+        ensures room { at < length buf.new }
+        ensures front { take at buf.new ≡ take at buf.old }
+        ensures reads { ReadsBody self.old self.new source.old source.new result (drop at buf.new) }
+    {
+        self.read(source, &mut buf[at..])
+    }
+
+    /// Reads until `buf` is full or no byte is left, and says how many bytes there are. A fault is reported where it comes
+    /// before any byte, else by the next read.
+    pub fn fill<R: ReadDevice>(
+        &mut self,
+        source: &mut Source<R>,
+        buf: &mut [u8],
+    ) -> Result<usize, ErrorKind>
+        ensures bound { IfOk result (λ n. n ≤ length buf.new) }
+        ensures fills { FillsFromBody self.old source.old.feed self.new source.new.feed result buf.new }
+        ensures settled { is_streaming self.old ≡ false → source.new ≡ source.old }
+        ensures goes_on { GoesOn source.old.feed source.new.feed }
+        ensures standing { is_streaming self.old ≡ true → source.new.standing ≡ body_standing self.new source.old.standing }
+    {
+        let mut at = 0;
+        while at < buf.len() {
+            match self.read_behind(source, buf, at) {
+                Ok(0) => break,
+                Ok(n) => at += n,
+                Err(e) => {
+                    if at == 0 {
+                        return Err(e.kind());
+                    }
+                    break;
+                }
+            }
+        }
+        Ok(at)
+    }
+
+    /// Whether the next head stands after bytes of this body that were not read.
+    pub fn holds_reader(&self) -> bool
+        ensures { result ≡ is_streaming self.now }
+    {
+        matches!(self, Body::Counted { .. } | Body::Chunked(_) | Body::Rest)
+    }
+
+    /// What is left of it, if its request is finished now.
+    pub fn remainder(&self) -> Remainder
+        ensures { result ≡ remainder self.now }
+    {
+        match self {
+            Body::Counted { left, .. } if *left > MOST_SKIPPED => Remainder::Long,
+            Body::Chunked(_) | Body::Over(Stop::Fault(_)) => Remainder::Endless,
+            _ => Remainder::Skipped,
+        }
+    }
+
+    /// How many bytes of it are left to be read, where a length says so: of a body of a known length, and of one that is over by its
+    /// end. If the client's bytes end early fewer come.
+    pub fn left(&self) -> Option<usize>
+        ensures { result ≡ bytes_left self.now }
+    {
+        match self {
+            Body::Over(Stop::End) => Some(0),
+            Body::WithHead(bytes) => {
+                let position = bytes.position() as usize;
+                Some(bytes.get_ref().len().saturating_sub(position))
+            }
+            Body::Counted { left, .. } => Some(*left),
+            Body::Over(Stop::Fault(_)) | Body::Chunked(_) | Body::Rest => None,
+        }
+    }
+
+    /// Whether the body has come whole, and none of it is read from the input any more.
+    pub fn is_whole(&self) -> bool
+        ensures { result ≡ is_whole self.now }
+    {
+        matches!(self, Body::Over(Stop::End) | Body::WithHead(_))
+    }
+
+    /// The connection was upgraded: by the standard all that comes is read from now on, else still the body of the request.
+    pub fn become_stream(&mut self, by_standard: bool)
+        ensures { self.new ≡ stream_body by_standard self.old }
+    {
+        if by_standard {
+            *self = Body::Rest;
+        }
+    }
+
+    /// Gives the body up: what is left of a counted one is skipped by the next head; after a chunked one of which the end
+    /// wasn't reported no head follows; one that is all the rest of the input is left to the source.
+    pub fn give_up<R: ReadDevice>(&mut self, source: &mut Source<R>)
+        ensures over { self.new ≡ Body.Over Stop.End }
+        ensures gives_up { GivesUp self.old source.old source.new }
+    {
+        let standing = source.standing();
+        match self {
+            Body::Counted { left, .. } => {
+                source.skip(*left);
+                source.stand_at(standing.after_body());
+            }
+            Body::Chunked(_) => {
+                source.end();
+                source.stand_at(standing.after_abandoned());
+            }
+            Body::Over(_) => {}
+            Body::WithHead(_) => {}
+            Body::Rest => {}
+        }
+        *self = Body::Over(Stop::End);
+    }
+}

@@ -1,0 +1,153 @@
+//! A size line or a trailer line, taken from a reader byte by byte (RFC 9112, section 7.1).
+ghost use Rattle.std.specs.Prelude.{◌≡◌, [], ◌∷◌, IfOk, IfErr, OnErr};
+ghost use Rattle.tiny_http_io.specs.Device.{prepended};
+ghost use Rattle.tiny_http_body.specs.ChunkSize.{SizeFits};
+ghost use Rattle.tiny_http_body.specs.ChunkLine.{said_step, is_trailer_said, scan_step, breaks_line, OneLine, NoLine, CutBy};
+
+use crate::chunked::field::Field;
+use crate::chunked::size::Size;
+use crate::chunked::{ChunkRules, LONGEST_LINE};
+use std::io::ErrorKind;
+use tiny_http_io::device::ReadDevice;
+
+/// What the bytes of a line say of a size, and by the standard of a field line.
+#[derive(Clone, Copy, Drop)]
+pub(crate) struct Said {
+    pub(crate) size: Size,
+    pub(crate) field: Field,
+}
+
+impl Said {
+    // One byte more.
+    fn then(self, rules: ChunkRules, b: u8) -> Said
+        requires { SizeFits self.size }
+        ensures is { result ≡ said_step rules self b }
+        ensures fits { SizeFits result.size }
+    {
+        match rules {
+            ChunkRules::Lenient => Said {
+                size: self.size.then(b),
+                field: self.field,
+            },
+            ChunkRules::Standard => Said {
+                size: self.size.then_by_standard(b),
+                field: self.field.then(b),
+            },
+        }
+    }
+
+    /// Whether a line of one byte or more is a trailer line.
+    pub(crate) fn is_trailer(self, rules: ChunkRules) -> bool
+        ensures { result ≡ is_trailer_said rules self }
+    {
+        match rules {
+            ChunkRules::Lenient => true,
+            ChunkRules::Standard => self.field.is_whole(),
+        }
+    }
+}
+
+/// A line: the number of its bytes before the CR LF, and what they say.
+#[derive(Clone, Copy, Drop)]
+pub(crate) struct ChunkLine {
+    pub(crate) length: usize,
+    pub(crate) said: Said,
+}
+
+// The bytes of a line so far: what those before a last carriage return say, and whether there is one.
+#[derive(Clone, Copy, Drop)]
+struct Scan {
+    said: Said,
+    after_return: bool,
+}
+
+impl Scan {
+    // A byte that doesn't end the line.
+    fn then(self, rules: ChunkRules, b: u8) -> Scan
+        requires { SizeFits self.said.size }
+        ensures is { result ≡ scan_step rules self b }
+        ensures fits { SizeFits result.said.size }
+    {
+        if b == b'\r' {
+            let said = if self.after_return {
+                self.said.then(rules, b'\r')
+            } else {
+                self.said
+            };
+            Scan {
+                said,
+                after_return: true,
+            }
+        } else {
+            let said = if self.after_return {
+                self.said.then(rules, b'\r').then(rules, b)
+            } else {
+                self.said.then(rules, b)
+            };
+            Scan {
+                said,
+                after_return: false,
+            }
+        }
+    }
+}
+
+/// Takes the next byte. Where there is none, the kind is what the stop in its place is reported as.
+pub(crate) fn next_byte<R: ReadDevice>(reader: &mut R) -> Result<u8, ErrorKind>
+    ensures byte { IfOk result (λ b. R.feed reader.old ≡ prepended (b ∷ []) (R.feed reader.new)) }
+    ensures cut { IfErr result (λ kind. CutBy kind (R.feed reader.old)) }
+    ensures again { OnErr result (R.feed reader.new ≡ R.feed reader.old) }
+{
+    let mut buf = [0u8];
+    match reader.read_in(&mut buf) {
+        Ok(0) => Err(ErrorKind::UnexpectedEof),
+        Ok(_) => Ok(buf[0]),
+        Err(e) => Err(e.kind()),
+    }
+}
+
+// Whether such a byte, which doesn't end the line, breaks it: by the standard an LF does.
+fn breaks_line(rules: ChunkRules, b: u8) -> bool
+    ensures { result ≡ breaks_line rules b }
+{
+    match rules {
+        ChunkRules::Lenient => false,
+        ChunkRules::Standard => b == b'\n',
+    }
+}
+
+/// Takes the next line and its CR LF, if that begins behind at most `LONGEST_LINE` bytes. If none begins there, and two bytes
+/// more than so many follow, it is a fault of kind InvalidData; with fewer the stop is reported. By the standard an LF without a
+/// CR in front of it is a fault of that kind as soon as it was read.
+pub(crate) fn next_line<R: ReadDevice>(
+    reader: &mut R,
+    rules: ChunkRules,
+) -> Result<ChunkLine, ErrorKind>
+    ensures line { IfOk result (OneLine rules (R.feed reader.old) (R.feed reader.new)) }
+    ensures none { IfErr result (NoLine rules (R.feed reader.old) (R.feed reader.new)) }
+{
+    let mut scan = Scan {
+        said: Said {
+            size: Size::Blank,
+            field: Field::Empty,
+        },
+        after_return: false,
+    };
+    for taken in 0..LONGEST_LINE + 2 {
+        let b = match next_byte(reader) {
+            Ok(b) => b,
+            Err(kind) => return Err(kind),
+        };
+        if scan.after_return && b == b'\n' {
+            return Ok(ChunkLine {
+                length: taken - 1,
+                said: scan.said,
+            });
+        }
+        if breaks_line(rules, b) {
+            return Err(ErrorKind::InvalidData);
+        }
+        scan = scan.then(rules, b);
+    }
+    Err(ErrorKind::InvalidData)
+}

@@ -1,0 +1,122 @@
+//! The size that a size line gives, read byte by byte (RFC 9112, section 7.1).
+ghost use Rattle.std.specs.Prelude.{◌≡◌, ◌<◌, IfSome};
+ghost use Rattle.tiny_http_body.specs.Chunks.{is_bws};
+ghost use Rattle.tiny_http_body.specs.ChunkSize.{hex_of, digits_ended, size_step, standard_step, may_follow, size_value, SizeFits};
+
+use httparse::is_header_value_token;
+
+/// What the bytes of a line so far say of a size.
+#[derive(Clone, Copy, Drop)]
+pub(crate) enum Size {
+    /// Blanks alone.
+    Blank,
+    /// Blanks, and digits: their number so far, and how many they are.
+    Digits(u64, u8),
+    /// Blanks, digits of this number, and blanks.
+    Behind(u64),
+    /// The same, and a `;` after it.
+    Extension(u64),
+    /// However the line goes on, it gives no size.
+    Wrong,
+}
+
+// The value of a hexadecimal digit of either case.
+fn hex(b: u8) -> Option<u64>
+    ensures is { result ≡ hex_of b }
+    ensures digit { IfSome result (λ digit. digit < 16) }
+{
+    match char::from(b).to_digit(16) {
+        Some(digit) => Some(u64::from(digit)),
+        None => None,
+    }
+}
+
+// Bytes 9 and 32.
+fn is_bws(b: u8) -> bool
+    ensures { result ≡ is_bws b }
+{
+    b == b'\t' || b == b' '
+}
+
+// Digits of this number, and then a byte that is none.
+fn digits_ended(value: u64, b: u8) -> Size
+    ensures { result ≡ digits_ended value b }
+{
+    if is_bws(b) {
+        Size::Behind(value)
+    } else if b == b';' {
+        Size::Extension(value)
+    } else {
+        Size::Wrong
+    }
+}
+
+impl Size {
+    /// One byte more of the line.
+    pub(crate) fn then(self, b: u8) -> Size
+        requires { SizeFits self }
+        ensures is { result ≡ size_step self b }
+        ensures fits { SizeFits result }
+    {
+        match self {
+            Size::Blank => {
+                if is_bws(b) {
+                    Size::Blank
+                } else {
+                    match hex(b) {
+                        Some(digit) => Size::Digits(digit, 1),
+                        None => Size::Wrong,
+                    }
+                }
+            }
+            Size::Digits(value, count) => match hex(b) {
+                Some(digit) => {
+                    if count < 16 {
+                        Size::Digits(value * 16 + digit, count + 1)
+                    } else {
+                        Size::Wrong
+                    }
+                }
+                None => digits_ended(value, b),
+            },
+            Size::Behind(value) => digits_ended(value, b),
+            Size::Extension(value) => Size::Extension(value),
+            Size::Wrong => Size::Wrong,
+        }
+    }
+
+    // Whether the byte may stand here by the standard: in front a digit alone, and no control byte but the tab.
+    fn may_be_followed_by(self, b: u8) -> bool
+        ensures { result ≡ may_follow self b }
+    {
+        match self {
+            Size::Blank => is_header_value_token(b) && !is_bws(b),
+            Size::Digits(_, _) | Size::Behind(_) | Size::Extension(_) | Size::Wrong => {
+                is_header_value_token(b)
+            }
+        }
+    }
+
+    /// One byte more of the line, by the standard.
+    pub(crate) fn then_by_standard(self, b: u8) -> Size
+        requires { SizeFits self }
+        ensures is { result ≡ standard_step self b }
+        ensures fits { SizeFits result }
+    {
+        if self.may_be_followed_by(b) {
+            self.then(b)
+        } else {
+            Size::Wrong
+        }
+    }
+
+    /// The size, if the line ends here.
+    pub(crate) fn value(self) -> Option<u64>
+        ensures { result ≡ size_value self }
+    {
+        match self {
+            Size::Digits(value, _) | Size::Behind(value) | Size::Extension(value) => Some(value),
+            Size::Blank | Size::Wrong => None,
+        }
+    }
+}

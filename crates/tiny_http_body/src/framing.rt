@@ -1,0 +1,386 @@
+//! How a message is framed, and whether the connection goes on.
+ghost use Rattle.std.specs.Prelude.{◌≡◌, ◌==◌, ◌∷◌, [], if◌then◌else◌, false, map, codes, None, is_some};
+ghost use Rattle.std.specs.Option.{option_copied};
+ghost use Rattle.std.specs.List.{starts_with};
+ghost use Rattle.tiny_http_text.specs.Bytes.{contains_word, is_blank, trimmed, parts, comma};
+ghost use Rattle.tiny_http_head.specs.Common.{lowercase};
+ghost use Rattle.tiny_http_head.specs.Heads.{is_too_new, length_of};
+ghost use Rattle.tiny_http_body.specs.Framing.{value_of, elements_of, mentions, length_in_value, expectation, is_last};
+ghost use Rattle.tiny_http_body.specs.FramingReading.{first_value, same_length, lengths_on, chunked_on, strict_length, body_length, sized_form, form_by, framing};
+
+use tiny_http_head::common::{HTTPVersion, Header};
+use tiny_http_head::grammar::parse_content_length;
+use tiny_http_text::ascii::AsciiString;
+use tiny_http_text::text::trim;
+
+/// The most bytes of a body that is read with its head (as tiny_http).
+pub const LONGEST_WITH_HEAD: usize = 1024;
+
+/// The most bytes of a head under `Strict`, the CR LF of its empty line included (RFC 6585, section 5, names no number).
+pub const STRICT_HEAD: usize = 65_536;
+
+/// The most bytes of a head under `Standard`, its empty lines included (RFC 9112, section 3, and RFC 6585, section 5, name no
+/// number).
+pub const STANDARD_HEAD: usize = 65_536;
+
+/// How strictly a head is judged.
+#[derive(Clone, Copy, Debug, PartialEq, Eq)]
+pub enum Profile {
+    /// As tiny_http 0.12: the first `Content-Length` counts, a `Transfer-Encoding` of any value means chunked and hides it, and
+    /// a head may be of any size.
+    Lenient,
+    /// For a server behind a proxy. Refused as well are `Content-Length` values that aren't one number, `Content-Length` beside
+    /// `Transfer-Encoding`, a `Transfer-Encoding` that doesn't end in `chunked` (RFC 9112, sections 6.1 to 6.3), and a head of
+    /// more than `STRICT_HEAD` bytes (RFC 6585, section 5).
+    Strict,
+    /// By the standard (RFC 9110 and RFC 9112): heads have its grammar, and are judged by `tiny_http_standard_head`. Lengths and sizes
+    /// are refused as under `Strict`, and of codings only `chunked` is served. The lines of a chunked body have its grammar, a body that
+    /// is cut is a fault, and a connection is upgraded only as its request asks. An answer is printed in version 1.1, says what becomes
+    /// of the connection, and is refused where its code isn't final.
+    Standard,
+}
+
+/// How a head is read that isn't read by the standard: by the grammar of tiny_http.
+#[derive(Clone, Copy, Debug, PartialEq, Eq)]
+pub enum HeadRules {
+    /// As `Profile::Lenient`.
+    Lenient,
+    /// As `Profile::Strict`.
+    Strict,
+}
+
+impl HeadRules {
+    ghost use Rattle.tiny_http_body.specs.Framing.{head_limit};
+
+    /// The most bytes that a head may have, the CR LF of its empty line included: `STRICT_HEAD` under `Strict`, and any number
+    /// under `Lenient`.
+    pub fn head_limit(self) -> Option<usize>
+        ensures { result ≡ head_limit self }
+    {
+        match self {
+            HeadRules::Lenient => None,
+            HeadRules::Strict => Some(STRICT_HEAD),
+        }
+    }
+}
+
+/// Why the framing that a head asks for is refused.
+#[derive(Clone, Copy, Debug, PartialEq, Eq)]
+pub enum FramingFault {
+    /// It is invalid: lengths that aren't one number, a length beside a coding, or codings that don't end in `chunked`. Of these
+    /// rules only `Strict` refuses such a head, by 400 (RFC 9112, section 6.3).
+    Invalid,
+    /// The head expects what can't be met: 417 (RFC 9110, section 10.1.1).
+    Expectation,
+}
+
+/// How a request's body is delimited (RFC 9112, section 6).
+#[derive(Clone, Copy, Debug, PartialEq, Eq)]
+pub enum Form {
+    /// The whole rest of the stream: the head names an upgrade.
+    Rest,
+    /// No body.
+    Nothing,
+    /// 1 to 1024 bytes, read with the head.
+    WithHead,
+    /// As many bytes as the head says, read from the stream.
+    Counted,
+    /// Chunks, read from the stream.
+    Chunked,
+}
+
+/// How a message is framed: its body's form, whether a 100 is owed, the length that it says, whether it asks for an upgrade, by which
+/// rules that was judged, and whether the connection ends after it.
+#[derive(Clone, Copy, Debug, PartialEq, Eq)]
+pub struct Framing {
+    /// How the body is read.
+    pub form: Form,
+    /// Whether the head expects a 100 before the body.
+    pub owes_continue: bool,
+    /// The length that `Content-Length` says, where it can be read and no `Transfer-Encoding` hides it.
+    pub body_length: Option<usize>,
+    /// Whether the head asks for an upgrade (RFC 9110, section 7.8); it is told under `Standard` alone.
+    pub asks_upgrade: bool,
+    /// Whether the head was read under `Standard`.
+    pub by_standard: bool,
+    /// Whether the connection ends after the message.
+    pub is_last: bool,
+}
+
+/// The value of the first header of that name, in either case of its letters.
+pub fn value_of<'a>(headers: &'a [Header], name: &str) -> Option<&'a AsciiString>
+    ensures { option_copied result ≡ value_of name.now headers.now }
+{
+    for header in headers {
+        if header.field.equiv(name) {
+            return Some(&header.value);
+        }
+    }
+    None
+}
+
+// The value that was found before, or else this header's if it has the name.
+#[inline(always)]
+fn or_value_of<'a>(
+    found: Option<&'a AsciiString>,
+    header: &'a Header,
+    name: &str,
+) -> Option<&'a AsciiString>
+    ensures { option_copied result ≡ first_value (option_copied found.entry) name.now (header.now ∷ []) }
+{
+    if found.is_none() && header.field.equiv(name) {
+        return Some(&header.value);
+    }
+    found
+}
+
+// Whether the text, in lower case, begins with the word.
+fn begins(text: &[u8], word: &[u8]) -> bool
+    ensures { result ≡ starts_with ◌==◌ (lowercase text.now) word.now }
+{
+    if text.len() < word.len() {
+        return false;
+    }
+    for j in 0..word.len() {
+        if text[j].to_ascii_lowercase() != word[j] {
+            return false;
+        }
+    }
+    true
+}
+
+// Whether the word stands in the text, in lower case, somewhere.
+fn contains_word(text: &[u8], word: &[u8]) -> bool
+    ensures { result ≡ contains_word word.now (lowercase text.now) }
+{
+    for i in 0..text.len() {
+        if begins(&text[i..], word) {
+            return true;
+        }
+    }
+    word.is_empty()
+}
+
+// Whether the word stands in the value, if there is one.
+fn mentions(value: Option<&AsciiString>, word: &str) -> bool
+    ensures { result ≡ mentions word.now (option_copied value.entry) }
+{
+    match value {
+        Some(value) => contains_word(value.as_str().as_bytes(), word.as_bytes()),
+        None => false,
+    }
+}
+
+// The length under `Lenient`, by the first values of `Transfer-Encoding` and `Content-Length`: the coding hides the length.
+fn lenient_length(coding: Option<&AsciiString>, length: Option<&AsciiString>) -> Option<usize>
+    ensures { result ≡ (if is_some (option_copied coding.entry) then None else length_in_value (option_copied length.entry)) }
+{
+    match (coding, length) {
+        (None, Some(value)) => parse_content_length(value.as_str()),
+        _ => None,
+    }
+}
+
+// The length that a text is, of digits alone: without a plus.
+fn digits_length(text: &str) -> Option<usize>
+    ensures { result ≡ length_of text.now }
+{
+    let bytes = text.as_bytes();
+    if !bytes.is_empty() && bytes[0] == b'+' {
+        return None;
+    }
+    parse_content_length(text)
+}
+
+// This length, if it is the one that was found before.
+fn same_length(length: Option<usize>, found: Option<usize>) -> Option<usize>
+    ensures { result ≡ same_length length found }
+{
+    match (length, found) {
+        (Some(length), Some(before)) => {
+            if length == before {
+                return Some(length);
+            }
+            None
+        }
+        (Some(length), None) => Some(length),
+        (None, _) => None,
+    }
+}
+
+// The length that the elements of a value are, if it is the one that was found before.
+fn lengths_in(value: &str, found: Option<usize>) -> Result<Option<usize>, FramingFault>
+    ensures { result ≡ lengths_on found (map (trimmed is_blank) (parts comma value.now)) }
+{
+    let mut found = found;
+    for text in value.split(',') {
+        let Some(length) = same_length(digits_length(trim(text)), found) else {
+            return Err(FramingFault::Invalid);
+        };
+        found = Some(length);
+    }
+    Ok(found)
+}
+
+// The one length that all elements of all `Content-Length` headers are, if there is such a header.
+fn one_length(headers: &[Header]) -> Result<Option<usize>, FramingFault>
+    ensures { result ≡ lengths_on None (elements_of (codes "Content-Length") headers.now) }
+{
+    let mut found = None;
+    for header in headers {
+        if header.field.equiv("Content-Length") {
+            match lengths_in(header.value.as_str(), found) {
+                Ok(length) => found = length,
+                Err(fault) => return Err(fault),
+            }
+        }
+    }
+    Ok(found)
+}
+
+// Whether the last element of a value is `chunked`.
+fn ends_chunked(value: &str) -> bool
+    ensures { result ≡ chunked_on false (map (trimmed is_blank) (parts comma value.now)) }
+{
+    let mut is_chunked = false;
+    for text in value.split(',') {
+        is_chunked = trim(text).eq_ignore_ascii_case("chunked");
+    }
+    is_chunked
+}
+
+// Whether the last element of all `Transfer-Encoding` headers is `chunked`.
+fn is_chunked(headers: &[Header]) -> bool
+    ensures { result ≡ chunked_on false (elements_of (codes "Transfer-Encoding") headers.now) }
+{
+    let mut is_chunked = false;
+    for header in headers {
+        if header.field.equiv("Transfer-Encoding") {
+            is_chunked = ends_chunked(header.value.as_str());
+        }
+    }
+    is_chunked
+}
+
+// The length under `Strict`, where a `Transfer-Encoding` and a `Content-Length` stand there or don't.
+fn strict_length(
+    is_coded: bool,
+    is_sized: bool,
+    headers: &[Header],
+) -> Result<Option<usize>, FramingFault>
+    ensures { is_coded ≡ is_some (value_of (codes "Transfer-Encoding") headers.now) → is_sized ≡ is_some (value_of (codes "Content-Length") headers.now)
+        → result ≡ strict_length (elements_of (codes "Content-Length") headers.now) (elements_of (codes "Transfer-Encoding") headers.now) }
+{
+    if !is_coded {
+        return one_length(headers);
+    }
+    if is_sized {
+        return Err(FramingFault::Invalid);
+    }
+    if is_chunked(headers) {
+        return Ok(None);
+    }
+    Err(FramingFault::Invalid)
+}
+
+// The length that the headers say, if any, where these are the first values of `Transfer-Encoding` and `Content-Length`.
+fn body_length(
+    rules: HeadRules,
+    coding: Option<&AsciiString>,
+    length: Option<&AsciiString>,
+    headers: &[Header],
+) -> Result<Option<usize>, FramingFault>
+    ensures { option_copied coding.entry ≡ value_of (codes "Transfer-Encoding") headers.now → option_copied length.entry ≡ value_of (codes "Content-Length") headers.now
+        → result ≡ body_length rules headers.now }
+{
+    match rules {
+        HeadRules::Lenient => Ok(lenient_length(coding, length)),
+        HeadRules::Strict => strict_length(coding.is_some(), length.is_some(), headers),
+    }
+}
+
+// Whether a 100 is owed by the value of `Expect`; or None for an expectation that can't be met.
+fn expectation(value: Option<&AsciiString>) -> Option<bool>
+    ensures { result ≡ expectation (option_copied value.entry) }
+{
+    match value {
+        None => Some(false),
+        Some(value) if value.eq_ignore_ascii_case("100-continue") => Some(true),
+        Some(_) => None,
+    }
+}
+
+/// The form of a body of a known length, or of none: read with its head where it is short and no 100 is owed (RFC 9112, section
+/// 6.3).
+pub fn sized_form(owed: bool, length: Option<usize>) -> Form
+    ensures { result ≡ sized_form owed length }
+{
+    match length {
+        None | Some(0) => Form::Nothing,
+        Some(n) if n <= LONGEST_WITH_HEAD && !owed => Form::WithHead,
+        Some(_) => Form::Counted,
+    }
+}
+
+fn form_by(is_upgrade: bool, is_coded: bool, owed: bool, length: Option<usize>) -> Form
+    ensures { result ≡ form_by is_upgrade is_coded owed length }
+{
+    if is_upgrade {
+        return Form::Rest;
+    }
+    if is_coded {
+        return Form::Chunked;
+    }
+    sized_form(owed, length)
+}
+
+// Whether the connection ends after the request, by its version and its `Connection` header.
+fn is_last(version: HTTPVersion, connection: Option<&AsciiString>) -> bool
+    ensures { result ≡ is_last version (option_copied connection.entry) }
+{
+    mentions(connection, "close")
+        || mentions(connection, "upgrade")
+        || (version.0 == 1 && version.1 == 0 && !mentions(connection, "keep-alive"))
+}
+
+/// The framing that version and headers give by these rules. It is an error where it is invalid, which is judged first, or
+/// where an expectation can't be met.
+#[tactic(auto, unfolding(crate::specs::FramingReading::framing))]
+pub fn framing_of(
+    rules: HeadRules,
+    version: HTTPVersion,
+    headers: &[Header],
+) -> Result<Framing, FramingFault>
+    ensures { result ≡ framing rules version headers.now }
+{
+    let mut connection = None;
+    let mut expect = None;
+    let mut length = None;
+    let mut coding = None;
+    for header in headers {
+        connection = or_value_of(connection, header, "Connection");
+        expect = or_value_of(expect, header, "Expect");
+        length = or_value_of(length, header, "Content-Length");
+        coding = or_value_of(coding, header, "Transfer-Encoding");
+    }
+    let body_length = body_length(rules, coding, length, headers)?;
+    let Some(owed) = expectation(expect) else {
+        return Err(FramingFault::Expectation);
+    };
+    let is_coded = coding.is_some();
+    Ok(Framing {
+        form: form_by(mentions(connection, "upgrade"), is_coded, owed, body_length),
+        owes_continue: owed,
+        body_length,
+        asks_upgrade: false,
+        by_standard: false,
+        is_last: is_last(version, connection),
+    })
+}
+
+/// Whether this version is above 1.1, the highest one that is served.
+pub fn is_too_new(version: HTTPVersion) -> bool
+    ensures { result ≡ is_too_new version }
+{
+    version.0 > 1 || (version.0 == 1 && version.1 > 1)
+}

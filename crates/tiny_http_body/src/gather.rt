@@ -1,0 +1,53 @@
+//! Data that are read a buffer at a time, or whole.
+ghost use Rattle.std.specs.Prelude.{◌≡◌, ◌<◌, ◌≤◌, ◌+◌, ◌^◌, length, drop, take, IfOk, IfSome};
+ghost use Rattle.tiny_http_io.specs.Device.{Fills, ReadsFrom, Gathers};
+
+use std::alloc::Global;
+use std::io;
+use std::io::ErrorKind;
+use tiny_http_io::device::{ReadDevice, read_some};
+
+/// How many bytes of the data are read at a time, at most.
+pub(crate) const PIECE: usize = 8192;
+
+// Reads into the buffer from `at` on.
+fn read_behind<D: ReadDevice>(source: &mut D, buf: &mut [u8], at: usize) -> Result<usize, io::Error>
+    requires { at ≤ length buf.old }
+    ensures bound { IfOk result (λ n. at + n ≤ length buf.old) }
+    ensures front { take at buf.new ≡ take at buf.old }
+    ensures bytes { ReadsFrom (D.feed source.old) (D.feed source.new) result (drop at buf.new) }
+{
+    read_some(source, &mut buf[at..])
+}
+
+/// Reads until the buffer is full or the data end, and says how many bytes there are.
+pub(crate) fn fill<D: ReadDevice>(source: &mut D, buf: &mut [u8]) -> Result<usize, io::Error>
+    ensures bound { IfOk result (λ n. n ≤ length buf.old) }
+    ensures bytes { Fills (D.feed source.old) (D.feed source.new) result buf.new }
+{
+    let mut at = 0;
+    while at < buf.len() {
+        let n = read_behind(source, buf, at)?;
+        if n == 0 {
+            break;
+        }
+        at += n;
+    }
+    Ok(at)
+}
+
+/// Reads all the data into memory. Its fault is reported, and lack of memory as OutOfMemory.
+pub fn gather<D: ReadDevice>(alloc: Global, source: &mut D) -> Result<Vec<u8>, io::Error>
+    ensures { IfSome (D.feed source.old) (λ feed. length feed.bytes < 2 ^ 63 → Gathers (λ v. v.items) feed result) }
+{
+    let mut all = Vec::new(alloc);
+    let mut buf = [0u8; PIECE];
+    for _turn in 0..u64::MAX {
+        let n = fill(source, &mut buf)?;
+        all.extend_from_slice(&buf[..n])?;
+        if n < PIECE {
+            return Ok(all);
+        }
+    }
+    Err(io::Error::from(ErrorKind::Other))
+}

@@ -1,0 +1,88 @@
+//! A body that is sent as it is, of a known length (RFC 9112, section 6.2).
+ghost use Rattle.std.specs.Prelude.{◌≡◌, ◌<◌, ◌≤◌, length, take, IfOk, IfSome};
+ghost use Rattle.tiny_http_io.specs.Device.{ReadsFrom, CopiesPiece, CountsFaults};
+ghost use Rattle.tiny_http_body.specs.Text.{Prints, identity_body};
+
+use crate::gather::PIECE;
+use std::io;
+use std::io::ErrorKind;
+use tiny_http_io::device::{ReadDevice, WriteDevice, put, read_some};
+
+// Reads some bytes into the first `n` places of the buffer.
+fn read_into_front<D: ReadDevice>(
+    source: &mut D,
+    buf: &mut [u8],
+    n: usize,
+) -> Result<usize, io::Error>
+    requires { n ≤ length buf.old }
+    ensures bound { IfOk result (λ k. k ≤ n) }
+    ensures bytes { ReadsFrom (D.feed source.old) (D.feed source.new) result (take n buf.new) }
+{
+    read_some(source, &mut buf[..n])
+}
+
+// Reads a piece of the next `left` bytes through the buffer and writes it. It says how many bytes it has.
+fn put_piece<D: ReadDevice, W: WriteDevice>(
+    source: &mut D,
+    writer: &mut W,
+    buf: &mut [u8],
+    left: usize,
+) -> Result<usize, io::Error>
+    requires some { 0 < left }
+    requires room { 0 < length buf.old }
+    ensures copies { CopiesPiece (D.feed source.old) (D.feed source.new) (W.sink writer.old) (W.sink writer.new) left result }
+    ensures uses { CountsFaults (W.sink writer.old) (W.sink writer.new) result }
+    ensures len { length buf.new ≡ length buf.old }
+{
+    let room = left.min(buf.len());
+    let count = read_into_front(source, buf, room)?;
+    if count == 0 {
+        return Err(ErrorKind::UnexpectedEof.into());
+    }
+    put(writer, &buf[..count])?;
+    Ok(count)
+}
+
+// Writes the first `n` bytes of the data, piece by piece through the buffer.
+fn put_through<D: ReadDevice, W: WriteDevice>(
+    source: &mut D,
+    writer: &mut W,
+    buf: &mut [u8],
+    n: usize,
+) -> Result<(), io::Error>
+    requires { 0 < length buf.old }
+    ensures text { IfSome (D.feed source.old)
+        (λ feed. Prints (W.sink writer.old) (W.sink writer.new) result (identity_body n feed)) }
+    ensures uses { CountsFaults (W.sink writer.old) (W.sink writer.new) result }
+{
+    let mut left = n;
+    while left > 0 {
+        left -= put_piece(source, writer, buf, left)?;
+    }
+    Ok(())
+}
+
+// Rooms that are enough for short data, and for most: a buffer costs by its size, since it is set to zero.
+const SHORT: usize = 256;
+
+const SMALL: usize = 1024;
+
+/// Writes the first `n` bytes of the data, as they come. Fewer are a fault of kind UnexpectedEof; else
+/// the first fault of the data or of the writer is the error, and nothing is written after it.
+pub fn put_exactly<D: ReadDevice, W: WriteDevice>(
+    source: &mut D,
+    writer: &mut W,
+    n: usize,
+) -> Result<(), io::Error>
+    ensures text { IfSome (D.feed source.old)
+        (λ feed. Prints (W.sink writer.old) (W.sink writer.new) result (identity_body n feed)) }
+    ensures uses { CountsFaults (W.sink writer.old) (W.sink writer.new) result }
+{
+    if n <= SHORT {
+        return put_through(source, writer, &mut [0u8; SHORT], n);
+    }
+    if n <= SMALL {
+        return put_through(source, writer, &mut [0u8; SMALL], n);
+    }
+    put_through(source, writer, &mut [0u8; PIECE], n)
+}

@@ -1,0 +1,231 @@
+//! A body that grows while it is sent.
+ghost use Rattle.std.specs.Prelude.{◌≡◌, List, ℕ, ◌+◌, ◌<◌, ◌≤◌, ◌++◌, [], true, false, length, take, IfOk, IfErr, OnOk, OnErr};
+ghost use Rattle.tiny_http_io.specs.Device.{Sink, Puts, Took, HoldsNothing};
+ghost use Rattle.tiny_http_body.specs.Streamed.{piece_text, end_text, Gathers};
+
+use crate::chunks::{CHUNK, put_chunk};
+use crate::encoder::copy_to;
+use std::io;
+use std::io::{ErrorKind, Write};
+use std::marker::Model;
+use tiny_http_io::device::{WriteDevice, put};
+
+/// How a body stands behind the head of its answer.
+#[derive(Clone, Copy, Debug, PartialEq, Eq)]
+pub enum StreamedForm {
+    /// In chunks, and behind them the last one (RFC 9112, section 7.1).
+    Chunks,
+    /// As it is: the connection's end ends it (RFC 9112, section 6.3).
+    Plain,
+    /// Not at all, as behind the head that answers a `HEAD`: what is written is left out.
+    Absent,
+}
+
+/// A writer of a body of which more may come at any time. It holds up to 8191 bytes. They are sent by
+/// `flush`, and once they are 8192; where the body comes in chunks, as one chunk. `finish` sends what is held, and the end of the body. Where it is dropped
+/// instead it sends nothing more, so that a body in chunks is visibly cut.
+///
+/// After the writer's first fault it writes nothing more: each later call is an error of kind `BrokenPipe`.
+#[derive(Drop)]
+pub struct Streamed<W: WriteDevice> {
+    inner: W,
+    form: StreamedForm,
+    held: [u8; CHUNK],
+    len: usize,
+    failed: bool,
+}
+
+impl<W: WriteDevice> Model for Streamed<W> {
+    ghost use Rattle.std.specs.Prelude.{◌<◌, take};
+    ghost use Rattle.tiny_http_body.specs.Streamed.{StreamedState};
+
+    ghost Value = { StreamedState W };
+
+    ghost view = { λ s. record { writer = s.inner; sink = W.sink s.inner; form = s.form; held = take s.len s.held; failed = s.failed } };
+
+    ghost use Rattle.tiny_http_body.specs.declared.chunks.TheConstants.{CHUNK};
+
+    ghost invariant = { λ s. s.len < CHUNK };
+}
+
+// Sends a piece of a body.
+fn put_piece<W: WriteDevice>(
+    writer: &mut W,
+    form: StreamedForm,
+    bytes: &[u8],
+) -> Result<(), io::Error>
+    ensures { Puts (W.sink writer.old) (W.sink writer.new) result (piece_text form bytes.now) }
+{
+    match form {
+        StreamedForm::Chunks if !bytes.is_empty() => put_chunk(writer, bytes),
+        StreamedForm::Plain => put(writer, bytes),
+        StreamedForm::Chunks | StreamedForm::Absent => put(writer, b""),
+    }
+}
+
+// Sends the end of a body.
+fn put_end<W: WriteDevice>(writer: &mut W, form: StreamedForm) -> Result<(), io::Error>
+    ensures { Puts (W.sink writer.old) (W.sink writer.new) result (end_text form) }
+{
+    match form {
+        StreamedForm::Chunks => put(writer, b"0\r\n\r\n"),
+        StreamedForm::Plain | StreamedForm::Absent => put(writer, b""),
+    }
+}
+
+/// Takes bytes from the front of a text, at least one if there is one, behind the first `len` of the buffer. Where they fill it they
+/// are sent.
+pub(crate) fn gather<W: WriteDevice>(
+    writer: &mut W,
+    form: StreamedForm,
+    held: &mut [u8; CHUNK],
+    len: &mut usize,
+    bytes: &[u8],
+) -> Result<usize, io::Error>
+    requires { len.old < CHUNK }
+    ensures gathers { Gathers form (W.sink writer.old) (W.sink writer.new) (take len.old held.old) (take len.new held.new) result bytes.now }
+    ensures bound { len.new < CHUNK }
+{
+    if *len == 0 && bytes.len() >= CHUNK {
+        put_piece(writer, form, &bytes[..CHUNK])?;
+        return Ok(CHUNK);
+    }
+    let count = bytes.len().min(CHUNK - *len);
+    copy_to(held, *len, bytes, count);
+    if *len + count < CHUNK {
+        *len += count;
+        return Ok(count);
+    }
+    *len = 0;
+    put_piece(writer, form, held)?;
+    Ok(count)
+}
+
+impl<W: WriteDevice> Streamed<W> {
+    ghost use Rattle.tiny_http_body.specs.Streamed.{begun, HasStreamed, EndsStreamed, IsBroken};
+
+    /// A body of this form, of which nothing has come yet, on this writer, which has taken the head of its answer.
+    pub fn new(inner: W, form: StreamedForm) -> Streamed<W>
+        ensures begun { result ≡ begun inner (W.sink inner) form }
+        ensures begins { HasStreamed (W.sink inner) [] result }
+    {
+        Streamed {
+            inner,
+            form,
+            held: [0; CHUNK],
+            len: 0,
+            failed: false,
+        }
+    }
+
+    /// The writer. What is held isn't written yet.
+    pub fn get_ref(&self) -> &W
+        ensures writer { result.now ≡ self.now.writer }
+        ensures sink { self.now.sink ≡ W.sink result.now }
+    {
+        &self.inner
+    }
+
+    /// How the body is sent.
+    pub fn form(&self) -> StreamedForm
+        ensures { result ≡ self.now.form }
+    {
+        self.form
+    }
+
+    /// The writer. What is held is dropped, and the body has no end.
+    pub fn into_inner(self) -> W
+        ensures writer { result ≡ self.writer }
+        ensures sink { W.sink result ≡ self.sink }
+    {
+        self.inner
+    }
+
+    /// Sends what is held, and the end of the body, and gives the writer back. It doesn't flush. The error is the writer's fault; or of
+    /// kind `BrokenPipe` after an earlier one, and then nothing is written.
+    pub fn finish(mut self) -> Result<W, io::Error>
+    where
+        W: Drop,
+        ensures rest { IfOk result (λ w. Took self.sink (W.sink w) (piece_text self.form self.held ++ end_text self.form)) }
+        ensures body { IfOk result (λ w. (start : Sink) (given : List ℕ) → HasStreamed start given self → EndsStreamed self.form start (W.sink w) given) }
+        ensures open { OnOk result (self.failed ≡ false) }
+        ensures after { self.failed ≡ true → IsBroken result }
+    {
+        if self.failed {
+            return Err(ErrorKind::BrokenPipe.into());
+        }
+        put_piece(&mut self.inner, self.form, &self.held[..self.len])?;
+        put_end(&mut self.inner, self.form)?;
+        Ok(self.inner)
+    }
+
+    // Sends what is held, and flushes the writer.
+    fn send(&mut self) -> Result<(), io::Error>
+        ensures puts { Puts self.old.sink self.new.sink result (piece_text self.old.form self.old.held) }
+        ensures held { OnOk result (self.new.held ≡ []) }
+        ensures rest { (self.new.form ≡ self.old.form) × (self.new.failed ≡ self.old.failed) }
+        ensures sent { OnOk result (self.new.sink.has_ended ≡ false → HoldsNothing self.new.sink) }
+    {
+        let len = self.len;
+        self.len = 0;
+        put_piece(&mut self.inner, self.form, &self.held[..len])?;
+        self.inner.flush_out()
+    }
+}
+
+impl<W: WriteDevice> Write for Streamed<W> {
+    ghost use Rattle.std.specs.Io.{WritesAtMost};
+    ghost use Rattle.tiny_http_body.specs.Streamed.{HasStreamed, IsBroken};
+
+    /// Takes some of the bytes, at least one if there is one, and says how many. Where they fill a piece of 8192 bytes it is sent; else
+    /// they are held. The error is the writer's first fault, or of kind `BrokenPipe` after it.
+    fn write(&mut self, buf: &[u8]) -> io::Result<usize>
+        ensures bound { WritesAtMost result buf.now }
+        ensures gathers { self.old.failed ≡ false → Gathers self.old.form self.old.sink self.new.sink self.old.held self.new.held result buf.now }
+        ensures form { self.new.form ≡ self.old.form }
+        ensures body { IfOk result (λ n. (start : Sink) (given : List ℕ) → HasStreamed start given self.old → HasStreamed start (given ++ take n buf.now) self.new) }
+        ensures open { OnOk result (self.new.failed ≡ false) }
+        ensures ended { OnErr result (self.new.failed ≡ true) }
+        ensures after { self.old.failed ≡ true → IsBroken result × (self.new ≡ self.old) }
+    {
+        if self.failed {
+            return Err(ErrorKind::BrokenPipe.into());
+        }
+        match gather(
+            &mut self.inner,
+            self.form,
+            &mut self.held,
+            &mut self.len,
+            buf,
+        ) {
+            Ok(count) => Ok(count),
+            Err(fault) => {
+                self.failed = true;
+                Err(fault)
+            }
+        }
+    }
+
+    /// Sends what is held as one piece, and flushes the writer. Errors as `write`.
+    fn flush(&mut self) -> io::Result<()>
+        ensures puts { self.old.failed ≡ false → Puts self.old.sink self.new.sink result (piece_text self.old.form self.old.held) }
+        ensures held { OnOk result (self.new.held ≡ []) }
+        ensures sent { OnOk result (self.new.sink.has_ended ≡ false → HoldsNothing self.new.sink) }
+        ensures form { self.new.form ≡ self.old.form }
+        ensures body { OnOk result ((start : Sink) (given : List ℕ) → HasStreamed start given self.old → HasStreamed start given self.new) }
+        ensures open { OnOk result (self.new.failed ≡ false) }
+        ensures ended { OnErr result (self.new.failed ≡ true) }
+        ensures after { self.old.failed ≡ true → IsBroken result × (self.new ≡ self.old) }
+    {
+        if self.failed {
+            return Err(ErrorKind::BrokenPipe.into());
+        }
+        match self.send() {
+            Ok(()) => Ok(()),
+            Err(fault) => {
+                self.failed = true;
+                Err(fault)
+            }
+        }
+    }
+}

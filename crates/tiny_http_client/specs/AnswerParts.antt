@@ -1,0 +1,59 @@
+-- What the calls that read the parts of an answer give.
+use Rattle.std.specs.Prelude.{◌≡◌, ℕ, List, [], Option, Some, None, Result, Ok, Err, false, ⊤}
+use Rattle.std.specs.declared.io.ErrorKind.{ErrorKind}
+use Rattle.std.specs.declared.io.ErrorKind.TheVariants.{InvalidData}
+use Rattle.tiny_http_head.specs.declared.common.HTTPVersion.{HTTPVersion}
+use Rattle.tiny_http_head.specs.declared.common.StatusCode.{StatusCode}
+use Rattle.tiny_http_head.specs.declared.common.Header.{Header}
+use Rattle.tiny_http_text.specs.Bytes.{AreAscii}
+use Rattle.tiny_http_text.specs.Lines.{Line}
+use Rattle.tiny_http_client.specs.declared.head.Fault.{Fault}
+use Rattle.tiny_http_client.specs.declared.head.Fault.TheVariants.{Unfinished as IsCut, Malformed as IsBad, Memory as IsMemory}
+use Rattle.tiny_http_client.specs.declared.head.Head.{Head}
+use Rattle.tiny_http_client.specs.declared.answer.Answer.{Answer}
+use Rattle.tiny_http_client.specs.ClientAnswer.{AnswerHead, ClientAnswer, FieldLine, BeginsWithFieldLines, BeginsWithAnswerHead, PassesOver, is_interim, Lack, Unfinished, Invalid, LacksLine, IsFieldLineOrEmpty, LacksHead}
+
+-- a head, and an answer, as the grammar sees them
+abbrev pub head_of : Head → AnswerHead
+head_of h = record { version = h.version; status = h.status.0; headers = h.headers.items }
+
+abbrev pub answer_of : Answer → ClientAnswer
+answer_of a = record { head = record { version = a.version; status = a.status.0; headers = a.headers.items }; body = a.body.items }
+
+-- the version and the status that a line says
+abbrev pub status_line_of : HTTPVersion × StatusCode → HTTPVersion × ℕ
+status_line_of r = (r.0, r.1.0)
+
+-- why a part isn't read; nothing is said where there is no memory
+abbrev pub LacksBy : (Lack → Type 0) → Fault → Type 0
+LacksBy lacks IsCut = lacks Unfinished
+LacksBy lacks IsBad = lacks Invalid
+LacksBy lacks IsMemory = ⊤
+
+-- what a fault of this kind says of a chunked body whose bytes end
+abbrev pub chunk_fault : ErrorKind → Fault
+chunk_fault InvalidData = IsBad
+chunk_fault _ = IsCut
+
+-- a call takes the next field-line, or the empty line
+abbrev pub ReadsFieldLine : List ℕ → List ℕ → Result (Option Header) Fault → Type 0
+ReadsFieldLine old new (Ok None) = Line old [] new
+ReadsFieldLine old new (Ok (Some h)) = (text : List ℕ) × Line old text new × AreAscii text × FieldLine text h
+ReadsFieldLine old new (Err fault) = LacksBy (LacksLine IsFieldLineOrEmpty old) fault
+
+-- the bytes begin with field-lines and an empty line, and the rest follows
+abbrev pub BeginsWithAllFieldLines : List ℕ → List Header → List ℕ → Type 0
+BeginsWithAllFieldLines bytes headers rest = (empty : List ℕ) × BeginsWithFieldLines bytes headers empty × Line empty [] rest
+
+-- after some field-lines the next line is no good
+abbrev pub LacksFieldLines : List ℕ → Lack → Type 0
+LacksFieldLines bytes lack = (headers : List Header) × (rest : List ℕ) × BeginsWithFieldLines bytes headers rest × LacksLine IsFieldLineOrEmpty rest lack
+
+-- the bytes begin with heads that are passed over and one that isn't, and the rest follows
+abbrev pub BeginsWithFinalHead : List ℕ → AnswerHead → List ℕ → Type 0
+BeginsWithFinalHead bytes head rest =
+    (interim : List AnswerHead) × (start : List ℕ) × PassesOver bytes interim start × BeginsWithAnswerHead start head rest × (is_interim head.status ≡ false)
+
+-- after heads that are passed over no head stands
+abbrev pub LacksFinalHead : List ℕ → Lack → Type 0
+LacksFinalHead bytes lack = (interim : List AnswerHead) × (start : List ℕ) × PassesOver bytes interim start × LacksHead start lack

@@ -1,0 +1,177 @@
+-- What a client reads that knows only the method of its request (RFC 9112, sections 2.2, 4, 5, 6.3 and 7.1; RFC 9110,
+-- section 15.2). Chosen where the RFCs leave it open, or where the server never sends it: a 101 is passed over like any other
+-- head below 200; there is no rule for CONNECT, none for a body that ends with the connection, and none for transfer codings
+-- but `chunked`; of two Content-Length the first is read; a status may have any number of digits, up to 65535; and a field's name may be
+-- empty.
+use Rattle.std.specs.Prelude.{◌≡◌, ℕ, ◌<◌, ◌≤◌, ◌⊎◌, Bool, true, false, ◌&&◌, ◌||◌, ◌==◌, nat_lt, nat_le, List, [], ◌∷◌, ◌++◌, length, Option, Some, None, option_and_then, if◌then◌else◌, codes, decimal, IsTrue}
+use Rattle.std.specs.List.{list_any}
+use Rattle.std.specs.declared.io.ErrorKind.TheVariants.{InvalidData, UnexpectedEof}
+use Rattle.tiny_http_head.specs.declared.common.Method.{Method}
+use Rattle.tiny_http_head.specs.declared.common.Method.TheVariants.{Head}
+use Rattle.tiny_http_head.specs.declared.common.HTTPVersion.{HTTPVersion}
+use Rattle.tiny_http_head.specs.declared.common.Header.{Header}
+use Rattle.tiny_http_io.specs.declared.device.Stop.TheVariants.{End}
+use Rattle.tiny_http_text.specs.Bytes.{AreAscii, HasNo, HasNoBlank, has_bare_front, space, colon, point}
+use Rattle.tiny_http_text.specs.Lines.{Line, IsUnfinished}
+use Rattle.tiny_http_head.specs.Common.{same_name}
+use Rattle.tiny_http_head.specs.Heads.{length_of}
+use Rattle.tiny_http_body.specs.Chunks.{WholeChunks, CutChunks}
+
+-- status-line: HTTP/, the version, the status and any phrase; the numbers are decimal, without leading zeros
+pub record StatusLine (text : List ℕ) (version : HTTPVersion) (status : ℕ) : Type 0 where
+  pub phrase : List ℕ
+  pub joins : text ≡ codes "HTTP/" ++ (decimal version.0 ++ point ∷ (decimal version.1 ++ space ∷ (decimal status ++ space ∷ phrase)))
+  pub major_fits : version.0 ≤ 255
+  pub minor_fits : version.1 ≤ 255
+  pub status_fits : status ≤ 65535
+
+abbrev pub is_space : ℕ → Bool
+is_space b = b == space
+
+-- field-line: the name without white space or colon, a colon, exactly one space, and the value as it is
+pub record FieldLine (text : List ℕ) (header : Header) : Type 0 where
+  pub joins : text ≡ header.field ++ colon ∷ space ∷ header.value
+  pub no_colon : HasNo colon header.field
+  pub no_blank : HasNoBlank header.field
+  pub one_space : IsTrue (has_bare_front is_space header.value)
+
+-- the head of an answer
+pub record AnswerHead : Type 0 where
+  pub version : HTTPVersion
+  pub status : ℕ
+  pub headers : List Header
+
+-- the bytes begin with a status-line, and the rest follows
+abbrev pub BeginsWithStatusLine : List ℕ → HTTPVersion → ℕ → List ℕ → Type 0
+BeginsWithStatusLine bytes version status rest = (text : List ℕ) × Line bytes text rest × AreAscii text × StatusLine text version status
+
+-- the bytes begin with these field-lines, and the rest follows
+abbrev pub BeginsWithFieldLines : List ℕ → List Header → List ℕ → Type 0
+BeginsWithFieldLines bytes [] rest = rest ≡ bytes
+BeginsWithFieldLines bytes (h ∷ hs) rest = (text : List ℕ) × (next : List ℕ) × Line bytes text next × AreAscii text × FieldLine text h × BeginsWithFieldLines next hs rest
+
+-- the bytes begin with a head: a status-line, field-lines and an empty line; what follows it is after
+pub record BeginsWithAnswerHead (bytes : List ℕ) (head : AnswerHead) (after : List ℕ) : Type 0 where
+  pub fields : List ℕ
+  pub empty : List ℕ
+  pub starts : BeginsWithStatusLine bytes head.version head.status fields
+  pub names : BeginsWithFieldLines fields head.headers empty
+  pub ends : Line empty [] after
+
+-- an answer of the status 100 to 199 is a head alone, and is passed over
+abbrev pub is_interim : ℕ → Bool
+is_interim status = nat_le 100 status && nat_lt status 200
+
+-- the bytes begin with these heads that are passed over, and the rest follows
+abbrev pub PassesOver : List ℕ → List AnswerHead → List ℕ → Type 0
+PassesOver bytes [] rest = rest ≡ bytes
+PassesOver bytes (h ∷ hs) rest = (next : List ℕ) × BeginsWithAnswerHead bytes h next × (is_interim h.status ≡ true) × PassesOver next hs rest
+
+-- how far the body after a head reaches
+pub data Extent : Type 0 where
+  NoBody : Extent
+  OfChunks : Extent
+  OfLength : ℕ → Extent
+  OfUnknownLength : Extent
+
+abbrev pub is_head : Method → Bool
+is_head Head = true
+is_head _ = false
+
+-- no body follows an answer to a HEAD, a 204 and a 304
+abbrev pub has_no_body : Method → ℕ → Bool
+has_no_body method status = is_head method || (status == 204 || status == 304)
+
+-- some header Transfer-Encoding says chunked
+unfoldable pub says_chunked : List Header → Bool
+says_chunked headers = list_any (λ h. same_name h.field (codes "Transfer-Encoding") && same_name h.value (codes "chunked")) headers
+
+-- the value of the first header of that name
+abbrev pub first_value : List ℕ → List Header → Option (List ℕ)
+first_value name [] = None
+first_value name (h ∷ hs) = if same_name h.field name then Some h.value else first_value name hs
+
+-- what the first Content-Length says: one decimal digit or more, below 2^64
+unfoldable pub content_length : List Header → Option ℕ
+content_length headers = option_and_then length_of (first_value (codes "Content-Length") headers)
+
+abbrev pub extent_of_length : Option ℕ → Extent
+extent_of_length None = OfUnknownLength
+extent_of_length (Some n) = OfLength n
+
+abbrev pub extent : Method → AnswerHead → Extent
+extent method head = if has_no_body method head.status then NoBody else if says_chunked head.headers then OfChunks else extent_of_length (content_length head.headers)
+
+-- the bytes begin with a body of this extent, and the rest follows
+abbrev pub BeginsWithBody : Extent → List ℕ → List ℕ → List ℕ → Type 0
+BeginsWithBody NoBody bytes body rest = (body ≡ []) × (rest ≡ bytes)
+BeginsWithBody OfChunks bytes body rest = WholeChunks bytes body rest
+BeginsWithBody (OfLength n) bytes body rest = (bytes ≡ body ++ rest) × (length body ≡ n)
+BeginsWithBody OfUnknownLength bytes body rest = ⊥
+
+-- an answer as a client gets it
+pub record ClientAnswer : Type 0 where
+  pub head : AnswerHead
+  pub body : List ℕ
+
+-- THE BYTES BEGIN WITH AN ANSWER to a request of this method, after heads that are passed over, and the rest follows.
+pub record ReadsAnswer (method : Method) (bytes : List ℕ) (answer : ClientAnswer) (rest : List ℕ) : Type 0 where
+  pub interim : List AnswerHead
+  pub start : List ℕ
+  pub after : List ℕ
+  pub passes : PassesOver bytes interim start
+  pub has_head : BeginsWithAnswerHead start answer.head after
+  pub is_final : is_interim answer.head.status ≡ false
+  pub has_body : BeginsWithBody (extent method answer.head) after answer.body rest
+
+-- why the bytes begin with no answer: they end before it does, or they break a rule
+pub data Lack : Type 0 where
+  Unfinished : Lack
+  Invalid : Lack
+
+-- the next line isn't finished; or it is, and isn't what has to stand there
+abbrev pub LacksLine : (List ℕ → Type 0) → List ℕ → Lack → Type 0
+LacksLine IsGood bytes Unfinished = IsUnfinished bytes
+LacksLine IsGood bytes Invalid = (text : List ℕ) × (rest : List ℕ) × Line bytes text rest × (AreAscii text → IsGood text → ⊥)
+
+abbrev pub IsStatusLine : List ℕ → Type 0
+IsStatusLine text = (version : HTTPVersion) × (status : ℕ) × StatusLine text version status
+
+abbrev pub IsFieldLineOrEmpty : List ℕ → Type 0
+IsFieldLineOrEmpty text = (text ≡ []) ⊎ ((header : Header) × FieldLine text header)
+
+-- the first line that is no good: the status-line, or, after it and some field-lines, the next line
+abbrev pub LacksHead : List ℕ → Lack → Type 0
+LacksHead bytes lack =
+    LacksLine IsStatusLine bytes lack
+    ⊎ ((version : HTTPVersion) × (status : ℕ) × (fields : List ℕ) × (headers : List Header) × (rest : List ℕ)
+    × BeginsWithStatusLine bytes version status fields × BeginsWithFieldLines fields headers rest × LacksLine IsFieldLineOrEmpty rest lack)
+
+-- the chunked body is cut or breaks a rule, there are fewer bytes than the length, or no length is said
+abbrev pub LacksBody : Extent → List ℕ → Lack → Type 0
+LacksBody OfChunks bytes Unfinished = (front : List ℕ) × CutChunks bytes End front UnexpectedEof
+LacksBody OfChunks bytes Invalid = (front : List ℕ) × CutChunks bytes End front InvalidData
+LacksBody (OfLength n) bytes Unfinished = length bytes < n
+LacksBody OfUnknownLength bytes Invalid = Unit {0}
+LacksBody _ bytes _ = ⊥
+
+-- after the heads that are passed over no head stands, or no body after the head
+abbrev pub LacksAnswer : Method → List ℕ → Lack → Type 0
+LacksAnswer method bytes lack =
+    (interim : List AnswerHead) × (start : List ℕ) × PassesOver bytes interim start
+    × (LacksHead start lack ⊎ ((head : AnswerHead) × (after : List ℕ) × BeginsWithAnswerHead start head after × (is_interim head.status ≡ false) × LacksBody (extent method head) after lack))
+
+-- THE BYTES END BEFORE AN ANSWER DOES. A line that isn't finished breaks no rule yet.
+abbrev pub UnfinishedAnswer : Method → List ℕ → Type 0
+UnfinishedAnswer method bytes = LacksAnswer method bytes Unfinished
+
+-- THE BYTES BREAK A RULE: in a finished line of a head, in a chunked body, or by a head that doesn't state the body's length.
+abbrev pub MalformedAnswer : Method → List ℕ → Type 0
+MalformedAnswer method bytes = LacksAnswer method bytes Invalid
+
+-- One answer after another, in the order of the methods, until these are used up or the bytes begin with no answer.
+abbrev pub ReadsAnswers : List Method → List ℕ → List ClientAnswer → List ℕ → Type 0
+ReadsAnswers [] bytes [] rest = rest ≡ bytes
+ReadsAnswers [] bytes (a ∷ answers) rest = ⊥
+ReadsAnswers (m ∷ methods) bytes [] rest = (rest ≡ bytes) × ((a : ClientAnswer) (next : List ℕ) → ReadsAnswer m bytes a next → ⊥)
+ReadsAnswers (m ∷ methods) bytes (a ∷ answers) rest = (next : List ℕ) × ReadsAnswer m bytes a next × ReadsAnswers methods next answers rest

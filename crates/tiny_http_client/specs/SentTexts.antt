@@ -1,0 +1,56 @@
+-- What a connection sends, answer by answer.
+use Rattle.std.specs.Prelude.{◌≡◌, ℕ, ◌<◌, ◌⊎◌, List, [], ◌∷◌, ◌++◌, length, map, Option, Some, None, MatchOption}
+use Rattle.tiny_http_head.specs.declared.common.Method.{Method}
+use Rattle.tiny_http_io.specs.Device.{IsFront}
+use Rattle.tiny_http_client.specs.ClientAnswer.{ClientAnswer, ReadsAnswer, UnfinishedAnswer}
+
+-- the text under one number: for which method it counts, and the answer that it is, or None where it breaks off or isn't
+-- answered yet
+pub record SentText : Type 0 where
+  pub method : Method
+  pub text : List ℕ
+  pub answer : Option ClientAnswer
+
+-- a text that breaks off is a proper front of an answer
+abbrev pub BreaksOff : Method → List ℕ → Type 0
+BreaksOff m text = (more : List ℕ) × (a : ClientAnswer) × (0 < length more) × ReadsAnswer m (text ++ more) a []
+
+abbrev pub IsSentText : SentText → Type 0
+IsSentText x = MatchOption x.answer (BreaksOff x.method x.text) (λ a. ReadsAnswer x.method x.text a [])
+
+-- the texts in order, ending after the first that breaks off
+abbrev pub joined_behind : Option ClientAnswer → List ℕ → List ℕ
+joined_behind None behind = []
+joined_behind (Some a) behind = behind
+
+abbrev pub joined_texts : List SentText → List ℕ
+joined_texts [] = []
+joined_texts (x ∷ xs) = x.text ++ joined_behind x.answer (joined_texts xs)
+
+abbrev pub methods : List SentText → List Method
+methods xs = map (λ x. x.method) xs
+
+-- the answers in front of the first that breaks off, and what stands of that
+abbrev pub whole_by : Option ClientAnswer → List ClientAnswer → List ClientAnswer
+whole_by None behind = []
+whole_by (Some a) behind = a ∷ behind
+
+abbrev pub whole_answers : List SentText → List ClientAnswer
+whole_answers [] = []
+whole_answers (x ∷ xs) = whole_by x.answer (whole_answers xs)
+
+abbrev pub remains_by : Option ClientAnswer → List ℕ → List ℕ → List ℕ
+remains_by None text behind = text
+remains_by (Some a) text behind = behind
+
+abbrev pub remains : List SentText → List ℕ
+remains [] = []
+remains (x ∷ xs) = remains_by x.answer x.text (remains xs)
+
+-- Of a front of what was sent: the answers that stand in it to their end, and what remains is nothing, or an unfinished front
+-- of the next text.
+abbrev pub StandIn : List SentText → List ℕ → List ClientAnswer → List ℕ → Type 0
+StandIn [] out answers rest = (out ≡ []) × (answers ≡ []) × (rest ≡ [])
+StandIn (x ∷ xs) out answers rest =
+    ((a : ClientAnswer) × (next : List ℕ) × (more : List ClientAnswer) × (x.answer ≡ Some a) × (out ≡ x.text ++ next) × (answers ≡ a ∷ more) × StandIn xs next more rest)
+    ⊎ ((answers ≡ []) × (rest ≡ out) × IsFront rest x.text × UnfinishedAnswer x.method rest)

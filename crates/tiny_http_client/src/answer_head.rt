@@ -1,0 +1,97 @@
+//! One head, read from the front of some bytes.
+ghost use Rattle.std.specs.Prelude.{◌≡◌, ◌≤◌, map, length, drop, Ok, None, IfOk, IfSome};
+ghost use Rattle.std.specs.List.{All};
+ghost use Rattle.httparse.specs.Grammar.{HasNoResponse, MayBecomeResponse, ResponseHead, ReadsResponse};
+ghost use Rattle.httparse.specs.Spans.{header_bytes, IsHeaderWithin};
+ghost use Rattle.tiny_http_client.specs.AnswerHead.{header_pair, IsHeadOf};
+
+use httparse::Status;
+use httparse::spans::{EMPTY_HEADER_SPAN, HeaderSpan, parse_response};
+use std::alloc::{AllocError, Global};
+use thiserror::Error;
+use tiny_http_head::common::{HTTPVersion, Header, StatusCode};
+
+/// The most headers that a head may have.
+pub const MOST_HEADERS: usize = 64;
+
+/// The head of an answer.
+#[derive(Debug, Drop)]
+pub struct AnswerHead {
+    /// The version that its status-line names: 1.0 or 1.1.
+    pub version: HTTPVersion,
+    /// The status, of three digits. One below 200, except 101, is followed by a further head.
+    pub status: StatusCode,
+    /// The headers in their order, each value without spaces and tabs round it.
+    pub headers: Vec<Header>,
+}
+
+/// Why no head is read.
+#[derive(Clone, Copy, Debug, PartialEq, Eq, Error)]
+pub enum HeadFault {
+    /// The bytes break a rule of the grammar, a value has a byte that isn't ASCII, or there are more than 64 headers.
+    #[error("malformed")]
+    Malformed,
+    /// There is no memory for the headers.
+    #[error("out of memory")]
+    Memory,
+}
+
+impl From<AllocError> for HeadFault {
+    ghost use Rattle.tiny_http_client.specs.declared.answer_head.HeadFault.TheVariants.{Memory};
+
+    ghost from_gives = { λ _ fault. fault ≡ Memory };
+
+    /// There is no memory.
+    fn from(_error: AllocError) -> HeadFault {
+        HeadFault::Memory
+    }
+}
+
+// The headers that stand there. It is malformed where a byte isn't ASCII.
+fn headers_at(alloc: Global, bytes: &[u8], spans: &[HeaderSpan]) -> Result<Vec<Header>, HeadFault>
+    requires { All (IsHeaderWithin (length bytes.now)) spans.now }
+    ensures { IfOk result (λ headers. map header_pair headers.items ≡ map (header_bytes bytes.now) spans.now) }
+{
+    let mut headers = Vec::new(alloc);
+    for span in spans {
+        let field = span.name.of(bytes).to_vec(alloc)?;
+        let value = span.value.of(bytes).to_vec(alloc)?;
+        let Ok(header) = Header::from_bytes(field, value) else {
+            return Err(HeadFault::Malformed);
+        };
+        headers.push(header).map_err(AllocError::from)?;
+    }
+    Ok(headers)
+}
+
+/// Reads the head of an answer from the front of the bytes, and says how many bytes it took (RFC 9112, sections 2.2, 4 and 5): a
+/// status-line in version 1.0 or 1.1 with a status of three digits, and field-lines up to an empty line. White space is optional round a
+/// value, a line may end by LF alone, and empty lines may stand in front. What follows the head is the body, as its headers and the
+/// request's method say (section 6.3).
+///
+/// `None` where the bytes end before the head does, and more can complete it.
+///
+/// # Errors
+/// `Malformed` where no bytes that follow make it a head, where a value has a byte that isn't ASCII, and where there are more than 64
+/// headers. `Memory` where there is no memory for the headers.
+pub fn read_answer_head(
+    alloc: Global,
+    bytes: &[u8],
+) -> Result<Option<(AnswerHead, usize)>, HeadFault>
+    ensures head { IfOk result (λ found. IfSome found (λ a. (a.1 ≤ length bytes.now) × ((h : ResponseHead) × ReadsResponse bytes.now h (drop a.1 bytes.now) × IsHeadOf h a.0))) }
+    ensures unfinished { result ≡ Ok None → HasNoResponse bytes.now × MayBecomeResponse bytes.now }
+{
+    let mut spans = [EMPTY_HEADER_SPAN; MOST_HEADERS];
+    let found = match parse_response(bytes, &mut spans) {
+        Ok(Status::Complete(found)) => found,
+        Ok(Status::Partial) => return Ok(None),
+        Err(_) => return Err(HeadFault::Malformed),
+    };
+    let headers = headers_at(alloc, bytes, &spans[..found.headers])?;
+    let head = AnswerHead {
+        version: HTTPVersion(1, found.version),
+        status: StatusCode(found.code),
+        headers,
+    };
+    Ok(Some((head, found.len)))
+}

@@ -1,0 +1,122 @@
+//! The body of an answer, as a client reads it.
+ghost use Rattle.std.specs.Prelude.{◌≡◌, ◌&&◌, codes, IfOk, IfErr};
+ghost use Rattle.std.specs.Option.{option_copied};
+ghost use Rattle.tiny_http_head.specs.Common.{same_name};
+ghost use Rattle.tiny_http_client.specs.ClientAnswer.{has_no_body, says_chunked, content_length, first_value, extent, BeginsWithBody, LacksBody, OfChunks, OfLength};
+ghost use Rattle.tiny_http_client.specs.AnswerParts.{head_of, LacksBy, chunk_fault};
+
+use crate::head::{Fault, Head};
+use crate::number::number_in;
+use crate::rest::Rest;
+use std::alloc::Global;
+use std::io::ErrorKind;
+use tiny_http_body::chunked::Decoding;
+use tiny_http_head::common::{Header, Method, StatusCode};
+use tiny_http_text::ascii::AsciiString;
+
+// How many bytes of a chunked body are decoded at a time, at most.
+const PIECE: usize = 1024;
+
+// Whether no body follows the head: to a HEAD, and under 204 and 304.
+fn has_no_body(method: &Method, status: StatusCode) -> bool
+    ensures { result ≡ has_no_body method.now status.0 }
+{
+    match method {
+        Method::Head => true,
+        _ => status.is(204) || status.is(304),
+    }
+}
+
+// Whether the header says that the body is chunked.
+fn is_chunked(header: &Header) -> bool
+    ensures { result ≡ (same_name header.now.field (codes "Transfer-Encoding") && same_name header.now.value (codes "chunked")) }
+{
+    header.field.equiv("Transfer-Encoding") && header.value.eq_ignore_ascii_case("chunked")
+}
+
+// Whether some header says so.
+#[tactic(auto, unfolding(crate::specs::ClientAnswer::says_chunked))]
+fn says_chunked(headers: &[Header]) -> bool
+    ensures { result ≡ says_chunked headers.now }
+{
+    headers.iter().any(|header| is_chunked(header))
+}
+
+// The value of the first header of that name.
+fn first_value<'a>(headers: &'a [Header], name: &str) -> Option<&'a AsciiString>
+    ensures { option_copied result ≡ first_value name.now headers.now }
+{
+    for header in headers {
+        if header.field.equiv(name) {
+            return Some(&header.value);
+        }
+    }
+    None
+}
+
+// What the first Content-Length says. Unlike in a request, no plus may stand before the digits.
+fn content_length(headers: &[Header]) -> Option<usize>
+    ensures { result ≡ content_length headers.now }
+{
+    number_in(first_value(headers, "Content-Length")?.as_str())
+}
+
+// What a fault of this kind says of a chunked body whose bytes end.
+fn chunk_fault(kind: ErrorKind) -> Fault
+    ensures { result ≡ chunk_fault kind }
+{
+    match kind {
+        ErrorKind::InvalidData => Fault::Malformed,
+        _ => Fault::Unfinished,
+    }
+}
+
+// Takes a chunked body, and gives its data.
+fn read_chunks(alloc: Global, rest: &mut Rest<'_>) -> Result<Vec<u8>, Fault>
+    ensures read { IfOk result (λ body. BeginsWithBody OfChunks rest.old body.items rest.new) }
+    ensures lacks { IfErr result (LacksBy (LacksBody OfChunks rest.old)) }
+{
+    let mut decoding = Decoding::new();
+    let mut body = Vec::new(alloc);
+    let mut piece = [0u8; PIECE];
+    loop {
+        match decoding.read(rest, &mut piece) {
+            Ok(0) => return Ok(body),
+            Ok(n) => body.extend_from_slice(&piece[..n])?,
+            Err(e) => return Err(chunk_fault(e.kind())),
+        }
+    }
+}
+
+// Takes a body of so many bytes.
+fn read_counted(alloc: Global, length: usize, rest: &mut Rest<'_>) -> Result<Vec<u8>, Fault>
+    ensures read { IfOk result (λ body. BeginsWithBody (OfLength length) rest.old body.items rest.new) }
+    ensures lacks { IfErr result (LacksBy (LacksBody (OfLength length) rest.old)) }
+{
+    match rest.take(length) {
+        Some(bytes) => Ok(bytes.to_vec(alloc)?),
+        None => Err(Fault::Unfinished),
+    }
+}
+
+/// Takes the body that follows a head.
+pub(crate) fn read_body(
+    alloc: Global,
+    method: &Method,
+    head: &Head,
+    rest: &mut Rest<'_>,
+) -> Result<Vec<u8>, Fault>
+    ensures read { IfOk result (λ body. BeginsWithBody (extent method.now (head_of head.now)) rest.old body.items rest.new) }
+    ensures lacks { IfErr result (LacksBy (LacksBody (extent method.now (head_of head.now)) rest.old)) }
+{
+    if has_no_body(method, head.status) {
+        return Ok(Vec::new(alloc));
+    }
+    if says_chunked(head.headers.as_slice()) {
+        return read_chunks(alloc, rest);
+    }
+    match content_length(head.headers.as_slice()) {
+        Some(length) => read_counted(alloc, length, rest),
+        None => Err(Fault::Malformed),
+    }
+}

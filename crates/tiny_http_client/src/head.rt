@@ -1,0 +1,176 @@
+//! The head of an answer: its lines, as a client reads them.
+ghost use Rattle.std.specs.Prelude.{◌≡◌, ◌≤◌, IfOk, IfErr, IfSome, IfNone, None, Some, option_map};
+ghost use Rattle.tiny_http_text.specs.Bytes.{AreAscii};
+ghost use Rattle.tiny_http_client.specs.ClientReading.{decimal_until, status_line_read, field_line_read, value_read};
+ghost use Rattle.tiny_http_client.specs.AnswerParts.{status_line_of, LacksBy, head_of, ReadsFieldLine, BeginsWithAllFieldLines, LacksFieldLines};
+ghost use Rattle.tiny_http_client.specs.ClientAnswer.{BeginsWithStatusLine, BeginsWithAnswerHead, LacksLine, LacksHead, IsStatusLine};
+
+use crate::number::decimal;
+use crate::rest::Rest;
+use std::alloc::{AllocError, Global};
+use tiny_http_head::common::{HTTPVersion, Header, HeaderField, StatusCode};
+use tiny_http_text::bytes::{are_ascii, cut, has_no_blank, is};
+use tiny_http_text::copies::owned;
+
+/// Why a part of an answer isn't read.
+#[derive(Clone, Copy, Drop)]
+pub(crate) enum Fault {
+    /// The bytes end before it does.
+    Unfinished,
+    /// The bytes break a rule.
+    Malformed,
+    /// There is no memory for it.
+    Memory,
+}
+
+impl From<AllocError> for Fault {
+    ghost use Rattle.tiny_http_client.specs.declared.head.Fault.TheVariants.{Memory};
+
+    ghost from_gives = { λ _ fault. fault ≡ Memory };
+
+    fn from(_error: AllocError) -> Fault {
+        Fault::Memory
+    }
+}
+
+/// The version, status and headers of an answer.
+#[derive(Drop)]
+pub(crate) struct Head {
+    pub(crate) version: HTTPVersion,
+    pub(crate) status: StatusCode,
+    pub(crate) headers: Vec<Header>,
+}
+
+// The decimal number in front of the first c, up to `most`, and what stands after that.
+fn decimal_until(text: &[u8], c: u8, most: usize) -> Option<(usize, &[u8])>
+    requires { AreAscii text.now }
+    ensures some { IfSome result (λ r. (decimal_until most c text.now ≡ Some (r.0, r.1.now)) × AreAscii r.1.now) }
+    ensures fits { IfSome result (λ r. r.0 ≤ most) }
+    ensures none { IfNone result (decimal_until most c text.now ≡ None) }
+{
+    let Some((digits, after)) = cut(text, c) else {
+        return None;
+    };
+    let number = decimal(digits, most)?;
+    Some((number, after))
+}
+
+// The version and the status that a status-line says (RFC 9112, section 4).
+fn parse_status_line(text: &[u8]) -> Option<(HTTPVersion, StatusCode)>
+    requires { AreAscii text.now }
+    ensures { option_map status_line_of result ≡ status_line_read text.now }
+{
+    let Some((protocol, numbers)) = cut(text, b'/') else {
+        return None;
+    };
+    if !is(protocol, "HTTP") {
+        return None;
+    }
+    let (major, after_major) = decimal_until(numbers, b'.', 255)?;
+    let (minor, after_minor) = decimal_until(after_major, b' ', 255)?;
+    let (status, _phrase) = decimal_until(after_minor, b' ', 65535)?;
+    let version = HTTPVersion(major as u8, minor as u8);
+    Some((version, StatusCode(status as u16)))
+}
+
+// What stands after exactly one space.
+fn after_one_space(text: &[u8]) -> Option<&[u8]>
+    ensures some { IfSome result (λ value. value_read text.now ≡ Some value.now) }
+    ensures none { IfNone result (value_read text.now ≡ None) }
+{
+    if text.is_empty() || text[0] != b' ' {
+        return None;
+    }
+    let value = &text[1..];
+    if !value.is_empty() && value[0] == b' ' {
+        return None;
+    }
+    Some(value)
+}
+
+// The header that a field-line says: exactly one space stands after the first colon (RFC 9112, section 5).
+fn parse_field_line(alloc: Global, text: &[u8]) -> Result<Option<Header>, AllocError>
+    requires { AreAscii text.now }
+    ensures { IfOk result (λ found. found ≡ field_line_read text.now) }
+{
+    let Some((field, after)) = cut(text, b':') else {
+        return Ok(None);
+    };
+    if !has_no_blank(field) {
+        return Ok(None);
+    }
+    let Some(value) = after_one_space(after) else {
+        return Ok(None);
+    };
+    let field = HeaderField::from_text(owned(alloc, field)?);
+    let value = owned(alloc, value)?;
+    Ok(Some(Header { field, value }))
+}
+
+// Takes the status-line.
+fn read_status_line(rest: &mut Rest<'_>) -> Result<(HTTPVersion, StatusCode), Fault>
+    ensures read { IfOk result (λ r. BeginsWithStatusLine rest.old r.0 r.1.0 rest.new) }
+    ensures lacks { IfErr result (LacksBy (LacksLine IsStatusLine rest.old)) }
+{
+    let Some(text) = rest.take_line() else {
+        return Err(Fault::Unfinished);
+    };
+    if !are_ascii(text) {
+        return Err(Fault::Malformed);
+    }
+    match parse_status_line(text) {
+        Some(start) => Ok(start),
+        None => Err(Fault::Malformed),
+    }
+}
+
+// Takes the next field-line, or the empty line.
+fn read_field_line(alloc: Global, rest: &mut Rest<'_>) -> Result<Option<Header>, Fault>
+    ensures { ReadsFieldLine rest.old rest.new result }
+{
+    let Some(text) = rest.take_line() else {
+        return Err(Fault::Unfinished);
+    };
+    if text.is_empty() {
+        return Ok(None);
+    }
+    if !are_ascii(text) {
+        return Err(Fault::Malformed);
+    }
+    match parse_field_line(alloc, text)? {
+        Some(header) => Ok(Some(header)),
+        None => Err(Fault::Malformed),
+    }
+}
+
+// Takes the field-lines and the empty line.
+fn read_field_lines(alloc: Global, rest: &mut Rest<'_>) -> Result<Vec<Header>, Fault>
+    ensures read { IfOk result (λ headers. BeginsWithAllFieldLines rest.old headers.items rest.new) }
+    ensures lacks { IfErr result (LacksBy (LacksFieldLines rest.old)) }
+{
+    let mut headers = Vec::new(alloc);
+    loop {
+        match read_field_line(alloc, rest)? {
+            Some(header) => {
+                if headers.push(header).is_err() {
+                    return Err(Fault::Memory);
+                }
+            }
+            None => return Ok(headers),
+        }
+    }
+}
+
+/// Takes a head: a status-line, field-lines and an empty line.
+pub(crate) fn read_head(alloc: Global, rest: &mut Rest<'_>) -> Result<Head, Fault>
+    ensures read { IfOk result (λ head. BeginsWithAnswerHead rest.old (head_of head) rest.new) }
+    ensures lacks { IfErr result (LacksBy (LacksHead rest.old)) }
+{
+    let (version, status) = read_status_line(rest)?;
+    let headers = read_field_lines(alloc, rest)?;
+    Ok(Head {
+        version,
+        status,
+        headers,
+    })
+}

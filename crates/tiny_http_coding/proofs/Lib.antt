@@ -1,3 +1,0 @@
-pub mod CodingRows
-pub mod AskedLemmas
-pub mod AskedLaws

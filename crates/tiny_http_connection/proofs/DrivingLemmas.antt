@@ -1,0 +1,578 @@
+-- The calls of a `Connection`, as steps.
+use Rattle.std.proofs.Common.{◌≡◌, refl, sym, ap, ◌∙◌, subst, arith, length, ℕ, suc, ◌+◌, ◌-◌, ◌<◌, ◌^◌, ◌⊎◌, inl, inr, ⊎_elim, Bool, true, false, not, ◌&&◌, ◌||◌, List, [], ◌∷◌, ◌++◌, Option, Some, None, Ok, append_assoc}
+use Rattle.std.proofs.Math.Bool.{or-false}
+use Rattle.std.specs.declared.io.ErrorKind.{ErrorKind}
+use Rattle.httpdate.specs.declared.date.HttpDate.{HttpDate}
+use Rattle.tiny_http_io.specs.Device.{Feed, Sink}
+use Rattle.tiny_http_response.specs.Answer.{Answer, Printing, ResponseState}
+use Rattle.tiny_http_io.specs.declared.device.Stop.{Stop}
+use Rattle.tiny_http_connection.specs.declared.pending.Unfinished.{Unfinished}
+use Rattle.tiny_http_connection.specs.declared.pending.Unfinished.TheVariants as still
+use Rattle.tiny_http_connection.specs.Pending.{is_last_once_finished_at as kept_lacks, refuses_at, is_last_with_stream_at, last_holds_next_head, kept_body, GivesUpBody, refuses_upgrade_at}
+use Rattle.std.specs.List.{AllZip}
+use Rattle.tiny_http_connection.specs.declared.driver.Timed.{Timed}
+use Rattle.tiny_http_connection.specs.declared.driver.Reply.{Reply}
+use Rattle.tiny_http_connection.specs.declared.driver.Step.{Step}
+use Rattle.tiny_http_connection.specs.declared.driver.Step.TheVariants as step
+use Rattle.tiny_http_connection.specs.declared.pending.Pending.{Pending}
+use Rattle.tiny_http_io.specs.Source.{SourceState, GoesOn, IsAtEnd}
+use Rattle.tiny_http_io.specs.Outlet.{OutletState, output_of, SentOn}
+use Rattle.tiny_http_response.specs.ResponseValue.{ResponseValue}
+use Rattle.tiny_http_connection.specs.Steps.{StepValue, Ask, AsReader, Read, Respond, IntoWriter, Write, Flush, Upgrade, Finish, Drop, ReplyValue, Handed, Ended, Given, NotYet, Done, Refused, NoSuch, Memory, Fault, Reached, changes, ends_asking, use_in_turn, outcome}
+use Rattle.tiny_http_connection.specs.Conversation.{State, TimedValue, IsFresh, start_state}
+use Rattle.tiny_http_response.specs.Sending.{FailsOnceUnlessEnded, IsHonest, FailsOnce}
+use Rattle.tiny_http_connection.specs.Seen.{seen, IsResponse, IsStep, IsTimedStep, MayFail, ReportsHonestly, IsAnswered, IsOfWriter, is_done, all_sent_after}
+use Rattle.tiny_http_body.specs.declared.body.Body.{Body}
+use Rattle.tiny_http_open_request.specs.declared.open_request.OpenRequest.{OpenRequest}
+use Rattle.tiny_http_open_request.specs.OpenRequest.{refuses_code, request_check}
+use Rattle.tiny_http_body.specs.Body.{is_streaming, body_standing, is_whole}
+use Rattle.std.specs.Prelude.{MatchBool, is_err}
+use Rattle.tiny_http_connection.specs.Connection.{Kept, ConnectionState, kept, Stands, HandedOut, open_slot, dropped}
+use Rattle.tiny_http_connection.specs.Slots.{is_last_once_finished, turn_has_come}
+use Rattle.tiny_http_connection.proofs.ConnectionDrop.{IsKeptOf, at-drop, at-unanswerable, at-refused}
+use Rattle.std.specs.Prelude.{String, string_bytes, slice_get}
+use Rattle.tiny_http_connection.specs.Driving.{HasDone, TakesStep, AskEnds, StepEnds, EndsBehind, UpgradeEnds, ends_behind, IsDeclined, stated_response, stated_step, StepLeaves, AskLeaves, LetsGo, StandsAfter, ReportsFault, AnswerLeaves, UpgradeLeaves, IsDropping, RefusesHeads, RespondEnds}
+use Rattle.tiny_http_connection.proofs.ConnectionAsk.{StepIsAnswered}
+use Rattle.tiny_http_connection.proofs.ConnectionReader.{holds-snoc}
+use Rattle.tiny_http_io.proofs.SourceGoesOn.{goes-on_same, goes-on_more}
+use Rattle.tiny_http_connection.proofs.SeenLemmas.{is-ask, is-as_reader, is-read, is-respond, is-into_writer, is-write, is-flush, is-upgrade, is-finish, is-drop, step-ask, step-as_reader, step-read, step-respond, step-into_writer, step-write, step-flush, step-upgrade, step-finish, step-drop}
+use Rattle.tiny_http_turns.specs.Turns.{Mark}
+use Rattle.std.specs.Prelude.{is_some, replicate}
+use Rattle.tiny_http_open_request.specs.declared.exchange.EndOfRequests.{EndOfRequests}
+use Rattle.tiny_http_io.specs.declared.source.Standing.{Standing}
+use Rattle.tiny_http_io.specs.declared.source.Standing.TheVariants as place
+use Rattle.std.specs.Global.{Global, Vec}
+use Rattle.tiny_http_head.specs.declared.common.StatusCode.{StatusCode}
+use Rattle.tiny_http_open_request.specs.declared.exchange.HeadRead.TheVariants as read
+use Rattle.tiny_http_open_request.specs.declared.exchange.EndOfRequests.TheVariants as because
+use Rattle.tiny_http_open_request.specs.HeadReads.{ReadsHead, EndsAt, IsBeforeHead, HasByteOrTimedOut}
+use Rattle.tiny_http_body.specs.declared.framing.Profile.{Profile}
+use Rattle.tiny_http_open_request.specs.Pipeline.{OneHead, Request, Item, Refuses, Place, place_feed}
+use Rattle.tiny_http_connection.specs.Driving.{IsRefusal, EndsRequestsAt, EndsThere, ArePassedOver, HasByteBehind, standing_behind}
+use Rattle.tiny_http_open_request.proofs.PipelineLemmas.{has-pipeline}
+use Rattle.tiny_http_connection.proofs.ConversationRuns.{run-more, stands-begun, split}
+use Rattle.tiny_http_body.proofs.BodyReads.{gives-up}
+use Rattle.tiny_http_response.proofs.SendingLemmas.{once-none, once-append}
+use Rattle.tiny_http_connection.proofs.Asking.{AskStep, IsAskBehind}
+use Rattle.tiny_http_connection.proofs.ConnectionAsking.{AskGoesOn}
+
+-- the fields as they are seen
+abbrev pub viewed : {R W : Type 0} → Profile → SourceState R → OutletState W → Pending → Option EndOfRequests → ConnectionState R W
+viewed profile source outlet pending end =
+    record { profile = profile; marks = pending.turns.marks; requests = pending.requests; end = end; source = source; outlet = outlet }
+
+-- the same numbers, and the same kept of them
+pub same-view : {R W : Type 0} (profile : Profile) (source : SourceState R) (outlet : OutletState W) (p q : Pending) (end : Option EndOfRequests) → p.turns.marks ≡ q.turns.marks → p.requests ≡ q.requests → viewed profile source outlet p end ≡ viewed profile source outlet q end
+same-view {R = R} {W = W} profile source outlet p q end marks requests =
+    let V : List Mark → List (Option Unfinished) → ConnectionState R W = λ m r. record { profile = profile; marks = m; requests = r; end = end; source = source; outlet = outlet } in
+    ap (λ m. V m p.requests) marks ∙ ap (λ r. V q.turns.marks r) requests
+
+pub none-of : {X : Type 0} (o : Option X) → is_some o ≡ false → o ≡ None
+none-of None e = refl
+none-of (Some x) e = cc
+
+-- why the requests end at a head that was refused, or at none
+refusal-at : (profile : Profile) (at : Standing) (date : HttpDate) (o p : Option Feed) (status : StatusCode) (text : Vec ℕ) → ReadsHead profile at date o p (Ok (read.Refused status text true)) → (f : Feed) → o ≡ Some f → IsRefusal profile f (because.Refused status)
+refusal-at profile at date o p status text h f e =
+    let P : Option Feed → Type 0 = λ y. ReadsHead profile at date y p (Ok (read.Refused status text true)) in
+    let r = subst P e h in
+    let H : Place → Type 0 = λ y. OneHead profile f.bytes f.stop (Some (Refuses r.0 r.1 r.2 true)) y in
+    (status, r.0, r.1, r.2, subst H r.7 r.4, r.6, refl)
+
+end-at : (profile : Profile) (at : Standing) (date : HttpDate) (o p : Option Feed) (why : EndOfRequests) → ReadsHead profile at date o p (Ok (read.Ended why)) → (f : Feed) → o ≡ Some f → OneHead profile f.bytes f.stop None None × EndsAt profile at f.bytes f.stop why
+end-at profile at date o p why h f e = let P : Option Feed → Type 0 = λ y. ReadsHead profile at date y p (Ok (read.Ended why)) in subst P e h
+
+pub end-refused : (profile : Profile) (at : Standing) (date : HttpDate) (o p : Option Feed) (status : StatusCode) (text : Vec ℕ) → IsBeforeHead at → ReadsHead profile at date o p (Ok (read.Refused status text true)) → EndsRequestsAt profile at o (because.Refused status)
+end-refused profile place.Head date o p status text here h = λ f e. ([], f, refl, inl (refusal-at profile place.Head date o p status text h f e))
+end-refused profile place.Abandoned date o p status text here h = λ f e. ([], f, refl, inl (refusal-at profile place.Abandoned date o p status text h f e))
+end-refused profile (place.Broken kind) date o p status text here h = λ f e. ([], f, refl, inl (refusal-at profile (place.Broken kind) date o p status text h f e))
+end-refused profile place.Body date o p status text here h = elim here [ ]
+end-refused profile place.Last date o p status text here h = elim here [ ]
+
+pub end-final : (profile : Profile) (at : Standing) (date : HttpDate) (o p : Option Feed) (why : EndOfRequests) → (at ≡ place.Body → ⊥) → (at ≡ place.Last → why ≡ because.LastRequest) → (IsBeforeHead at → ReadsHead profile at date o p (Ok (read.Ended why))) → EndsRequestsAt profile at o why
+end-final profile place.Head date o p why outside last h = λ f e. ([], f, refl, inr (end-at profile place.Head date o p why (h tt) f e))
+end-final profile place.Abandoned date o p why outside last h = λ f e. ([], f, refl, inr (end-at profile place.Abandoned date o p why (h tt) f e))
+end-final profile (place.Broken kind) date o p why outside last h = λ f e. ([], f, refl, inr (end-at profile (place.Broken kind) date o p why (h tt) f e))
+end-final profile place.Body date o p why outside last h = absurd (outside refl)
+end-final profile place.Last date o p why outside last h = last refl
+
+-- a head was passed, and then the requests end
+pub end-behind : (profile : Profile) (at : Standing) (date : HttpDate) (o p : Option Feed) (status : StatusCode) (text : Vec ℕ) (why : EndOfRequests) → IsBeforeHead at → ReadsHead profile at date o p (Ok (read.Refused status text false)) → EndsRequestsAt profile place.Head p why → EndsRequestsAt profile at o why
+end-behind profile at date o p status text why here h ends = by at here h
+  where
+    stands : (xs : List Item) (rest : Feed) → EndsThere profile (standing_behind place.Head xs) rest why → EndsThere profile place.Head rest why
+    stands [] rest k = k
+    stands (x ∷ xs) rest k = k
+
+    behind : (x : Standing) → ReadsHead profile x date o p (Ok (read.Refused status text false)) → (f : Feed) → o ≡ Some f → (passed : List Item) × (rest : Feed) × ArePassedOver profile f passed rest × EndsThere profile (standing_behind x passed) rest why
+    behind x h f e =
+        let P : Option Feed → Type 0 = λ y. ReadsHead profile x date y p (Ok (read.Refused status text false)) in
+        let r = subst P e h in
+        let next = ends (place_feed f.stop r.3) r.7 in
+        (Refuses r.0 r.1 r.2 false ∷ next.0, next.1, (refl, r.3, r.4, next.2), stands next.0 next.1 next.3)
+
+    by : (x : Standing) → IsBeforeHead x → ReadsHead profile x date o p (Ok (read.Refused status text false)) → EndsRequestsAt profile x o why
+    by place.Head here h = behind place.Head h
+    by place.Abandoned here h = behind place.Abandoned h
+    by (place.Broken kind) here h = behind (place.Broken kind) h
+    by place.Body here h = elim here [ ]
+    by place.Last here h = elim here [ ]
+
+-- a byte of a head comes behind a head that is passed
+pub begins-behind : (profile : Profile) (at : Standing) (date : HttpDate) (o p : Option Feed) (status : StatusCode) (text : Vec ℕ) → ReadsHead profile at date o p (Ok (read.Refused status text false)) → HasByteBehind profile p → HasByteBehind profile o
+begins-behind profile at date None p status text h begun = tt
+begins-behind profile at date (Some f) p status text h begun =
+    let H : Option Feed → Type 0 = λ y. HasByteBehind profile y in
+    let next = subst H h.7 begun in
+    (Refuses h.0 h.1 h.2 false ∷ next.0, next.1, (refl, h.3, h.4, next.2), next.3)
+
+-- a byte of a head comes here
+pub begins-here : (profile : Profile) (o : Option Feed) → HasByteOrTimedOut o → HasByteBehind profile o
+begins-here profile None h = tt
+begins-here profile (Some f) h = ([], f, refl, h)
+
+-- what a step does to input and output, whatever they state; it holds back nothing if `all`, else if nothing was held before
+pub record Moves {R W : Type 0} (all : Bool) (old new : ConnectionState R W) : Type 0 where
+  pub profile : new.profile ≡ old.profile
+  pub goes_on : GoesOn old.source.feed new.source.feed
+  pub fails_once : FailsOnce old.outlet new.outlet
+  pub flushed : (all ≡ false → old.outlet.held ≡ []) → new.outlet.held ≡ []
+  pub sent_on : (all ≡ false → SentOn old.outlet) → SentOn new.outlet
+
+-- nothing is written
+pub driving-reads-on : {R W : Type 0} (old new : ConnectionState R W) → new.profile ≡ old.profile → old.outlet ≡ new.outlet → GoesOn old.source.feed new.source.feed → Moves false old new
+driving-reads-on {W = W} old new same e h =
+    let P : OutletState W → Type 0 = λ o. FailsOnceUnlessEnded old.outlet.ended (output_of old.outlet) (output_of o) o.ended in
+    record {
+      profile = same;
+      goes_on = h;
+      fails_once = subst P e (once-none old.outlet.ended (output_of old.outlet));
+      flushed = λ none. ap (λ o. o.held) (sym e) ∙ none refl;
+      sent_on = λ s. subst (λ o. SentOn o) e (s refl);
+    }
+
+pub moves-none : {R W : Type 0} (c : ConnectionState R W) → Moves false c c
+moves-none c = driving-reads-on c c refl refl (goes-on_same c.source.feed)
+
+-- the same, by the step and its reply
+pub record MovesBy {R W : Type 0} (x : Step (Option Feed)) (reply : ReplyValue) (old new : ConnectionState R W) : Type 0 where
+  pub profile : new.profile ≡ old.profile
+  pub goes_on : GoesOn old.source.feed new.source.feed
+  pub fails_once : FailsOnce old.outlet new.outlet
+  pub flushed : (sent : Bool) → (sent ≡ true → old.outlet.held ≡ []) → all_sent_after x reply sent ≡ true → new.outlet.held ≡ []
+  pub sent_on : (sent : Bool) → (sent ≡ true → SentOn old.outlet) → all_sent_after x reply sent ≡ true → SentOn new.outlet
+
+-- a step after which as much is sent on as before
+moves-kept : {R W : Type 0} (x : Step (Option Feed)) (reply : ReplyValue) (old new : ConnectionState R W) → ((sent : Bool) → all_sent_after x reply sent ≡ sent) → Moves false old new → MovesBy x reply old new
+moves-kept x reply old new same m = record {
+  profile = m.profile;
+  goes_on = m.goes_on;
+  fails_once = m.fails_once;
+  flushed = λ sent was e. m.flushed (λ z. was (sym (same sent) ∙ e));
+  sent_on = λ sent was e. m.sent_on (λ z. was (sym (same sent) ∙ e));
+}
+
+-- an answer or a Flush, after which all is sent on if it is done
+moves-sent : {R W : Type 0} (x : Step (Option Feed)) (reply : ReplyValue) (all : Bool) (old new : ConnectionState R W) → ((sent : Bool) → all_sent_after x reply sent ≡ (sent || is_done reply)) → is_done reply ≡ all → Moves all old new → MovesBy x reply old new
+moves-sent x reply all old new same done m = record {
+  profile = m.profile;
+  goes_on = m.goes_on;
+  fails_once = m.fails_once;
+  flushed = λ sent was e. m.flushed (λ z. was (before sent e z));
+  sent_on = λ sent was e. m.sent_on (λ z. was (before sent e z));
+}
+  where
+    before : (sent : Bool) → all_sent_after x reply sent ≡ true → all ≡ false → sent ≡ true
+    before sent e z = sym (or-false sent) ∙ ap (λ b. sent || b) (sym (done ∙ z)) ∙ sym (same sent) ∙ e
+
+pub takes : {R W : Type 0} (old new : ConnectionState R W) (now : HttpDate) (x : Step (Option Feed)) (reply : ReplyValue)
+    → ((client : Feed) (before : Sink) (s : State) (asked : StepValue) → before.failures < 2 ^ 64 - 1 → IsStep (λ f. f) x asked → Stands client before (kept old) s → StepIsAnswered client before (kept new) s now asked reply)
+    → (IsDeclined x reply → new ≡ old) → StepEnds x old new reply → StepLeaves x old new reply → MovesBy x reply old new → ((kind : ErrorKind) → reply ≡ Fault kind → ReportsFault old new now x kind) → TakesStep old new now x reply
+takes old new now x reply answers declined ends leaves moves honest =
+    record {
+      does = λ p client before steps replies asked is done.
+          let a = answers client before done.at asked done.fresh.can_count is done.stands in
+          record { profile = moves.profile ∙ done.profile; fresh = done.fresh; items = done.items; pipeline = done.pipeline; at = a.0; run = run-more _ done.at a.0 steps replies (now, asked) reply done.run a.2; stands = a.1 };
+      profile = moves.profile;
+      declined = declined;
+      ends = ends;
+      leaves = leaves;
+      goes_on = moves.goes_on;
+      fails_once = moves.fails_once;
+      flushed = moves.flushed;
+      sent_on = moves.sent_on;
+      honest = honest;
+    }
+
+-- the body of what is kept under one number was given up
+pub gives-up-of : {R : Type 0} (old new : SourceState R) (o : Option (Option Unfinished)) (u : Unfinished) → o ≡ Some (Some u) → GivesUpBody (kept_body (Some u)) old new → (v : Unfinished) → o ≡ Some (Some v) → GivesUpBody (kept_body (Some v)) old new
+gives-up-of old new o u e gives v f = subst (λ x. GivesUpBody (kept_body (Some x)) old new) (one u v (sym e ∙ f)) gives
+  where
+    one : (x y : Unfinished) → ◌≡◌ {A = Option (Option Unfinished)} (Some (Some x)) (Some (Some y)) → x ≡ y
+    one x y h = cc
+
+-- the source goes on where a body is given up
+pub gives-up-body : {R : Type 0} (b : Option Body) (old new : SourceState R) → GivesUpBody b old new → GoesOn old.feed new.feed
+gives-up-body {R = R} None old new h = let P : SourceState R → Type 0 = λ x. GoesOn old.feed x.feed in subst P (sym h) (goes-on_same old.feed)
+gives-up-body (Some b) old new h = gives-up b old new h
+
+-- where the source stands after a read
+pub stands-after : {R : Type 0} (was body : Body) (old new : SourceState R) → (is_streaming was ≡ false → new ≡ old) → (is_streaming was ≡ true → new.standing ≡ body_standing body old.standing) → StandsAfter was body old new
+stands-after was body old new same moves = by (is_streaming was) same moves
+  where
+    by : (b : Bool) → (b ≡ false → new ≡ old) → (b ≡ true → new.standing ≡ body_standing body old.standing) → MatchBool b (new.standing ≡ body_standing body old.standing) (new ≡ old)
+    by true same moves = moves refl
+    by false same moves = same refl
+
+-- no fault is reported
+abbrev pub ReportsNoFault : ReplyValue → Type 0
+ReportsNoFault reply = (kind : ErrorKind) → reply ≡ Fault kind → ⊥
+
+-- whether the requests end behind a number that gets the connection's stream
+pub ends-some : (holds : Bool) (end : Option EndOfRequests) → is_some (ends_behind holds end) ≡ (is_some end || holds)
+ends-some false None = refl
+ends-some false (Some why) = refl
+ends-some true None = refl
+ends-some true (Some why) = refl
+
+-- an Ask reports no fault
+ask-reports-none : {R W : Type 0} (old new : ConnectionState R W) (reply : ReplyValue) → AskEnds old new reply → ReportsNoFault reply
+ask-reports-none old new (Handed k message framing) h kind e = cc
+ask-reports-none old new Ended h kind e = cc
+ask-reports-none old new (Given bytes) h kind e = elim h [ ]
+ask-reports-none old new (Fault x) h kind e = elim h [ ]
+ask-reports-none old new NotYet h kind e = cc
+ask-reports-none old new Done h kind e = cc
+ask-reports-none old new Refused h kind e = cc
+ask-reports-none old new NoSuch h kind e = cc
+ask-reports-none old new Memory h kind e = cc
+
+pub ask-step : {R W : Type 0} (old new : ConnectionState R W) (now : HttpDate) (reply : ReplyValue)
+    → ((client : Feed) (before : Sink) (s : State) → before.failures < 2 ^ 64 - 1 → Stands client before (kept old) s → StepIsAnswered client before (kept new) s now Ask reply)
+    → (IsDeclined step.Ask reply → new ≡ old) → AskEnds old new reply → AskLeaves old new reply → Moves false old new → AskStep old new now reply
+ask-step old new now reply answers declined ends leaves moves = record {
+  does = answers;
+  profile = moves.profile;
+  declined = declined;
+  ends = ends;
+  leaves = leaves;
+  goes_on = moves.goes_on;
+  fails_once = moves.fails_once;
+  flushed = λ was. moves.flushed (λ z. was);
+  sent_on = λ was. moves.sent_on (λ z. was);
+}
+
+pub takes-ask : {R W : Type 0} (old new : ConnectionState R W) (now : HttpDate) (reply : ReplyValue) → AskStep old new now reply → TakesStep old new now step.Ask reply
+takes-ask old new now reply a =
+    takes old new now step.Ask reply
+    (λ client before s asked low is st. step-ask {D = Option Feed} (λ f. f) client before (kept new) s now (now, asked) step.Ask reply refl refl is (a.does client before s low st))
+    a.declined a.ends a.leaves
+    (moves-kept step.Ask reply old new (λ sent. refl) (record { profile = a.profile; goes_on = a.goes_on; fails_once = a.fails_once; flushed = λ was. a.flushed (was refl); sent_on = λ was. a.sent_on (was refl) }))
+    (λ kind e. absurd (ask-reports-none old new reply a.ends kind e))
+
+-- What a head that is passed leaves: what stood in front of it asks no more than what stands behind it.
+pub record PassesHead {R W : Type 0} (old mid : ConnectionState R W) (now : HttpDate) : Type 0 where
+  pub does : (client : Feed) (before : Sink) (s : State) → before.failures < 2 ^ 64 - 1 → Stands client before (kept old) s → AskGoesOn client before (kept mid) s now
+  pub was_open : old.end ≡ None
+  pub is_open : mid.end ≡ None
+  pub here : IsBeforeHead old.source.standing
+  pub unended : IsAtEnd old.source → ⊥
+  pub begins : HasByteBehind mid.profile mid.source.feed → HasByteBehind old.profile old.source.feed
+  pub stands : mid.source.standing ≡ place.Head
+  pub ends : (why : EndOfRequests) → EndsRequestsAt mid.profile place.Head mid.source.feed why → EndsRequestsAt old.profile old.source.standing old.source.feed why
+  pub requests : mid.requests ≡ old.requests ++ (None ∷ [])
+  pub counts : length mid.marks ≡ length old.marks + 1
+  pub moves : Moves false old mid
+
+-- within a body no head stands
+pub not-body : (x : Standing) → x ≡ place.Head → x ≡ place.Body → ⊥
+not-body x e f = cc
+
+not-last : (x : Standing) → IsBeforeHead x → x ≡ place.Last → ⊥
+not-last x h e = let P : Standing → Type 0 = λ y. IsBeforeHead y in elim (subst P e h) [ ]
+
+-- one refused head more
+one-more : (old mid new end : List (Option Unfinished)) (n : ℕ) → mid ≡ old ++ (None ∷ []) → new ≡ (mid ++ replicate n None) ++ end → new ≡ (old ++ replicate (suc n) None) ++ end
+one-more old mid new end n e h = h ∙ ap (λ x. x ++ end) (ap (λ x. x ++ replicate n None) e ∙ append_assoc old (None ∷ []) (replicate n None))
+
+refuses-more : {R W : Type 0} (old mid new : ConnectionState R W) (n : ℕ) → mid.requests ≡ old.requests ++ (None ∷ []) → RefusesHeads n mid new → RefusesHeads (suc n) old new
+refuses-more old mid new n e h =
+    (h.0 ∙ (ap (λ x. x ++ replicate n None) e ∙ append_assoc old.requests (None ∷ []) (replicate n None)), λ z. (let no : suc n ≡ 0 = z in cc))
+
+one-behind : (a b n : ℕ) → b ≡ a + 1 → b + n ≡ a + suc n
+one-behind a b n e = omega (arith, e)
+
+leaves-behind : {R W : Type 0} (old mid new : ConnectionState R W) (reply : ReplyValue) → mid.requests ≡ old.requests ++ (None ∷ []) → length mid.marks ≡ length old.marks + 1 → IsBeforeHead old.source.standing → (IsAtEnd old.source → ⊥) → AskLeaves mid new reply → AskLeaves old new reply
+leaves-behind old mid new (Handed k message framing) e count here unended h = (suc h.0, h.1, one-more old.requests mid.requests new.requests (Some (still.Waiting h.1) ∷ []) h.0 e h.2, h.3, h.4 ∙ one-behind (length old.marks) (length mid.marks) h.0 count, λ z. (let no : suc h.0 ≡ 0 = z in cc))
+leaves-behind old mid new Ended e count here unended h = (suc h.0, refuses-more old mid new h.0 e h.1, λ z. absurd (⊎_elim (not-last old.source.standing here) unended z))
+leaves-behind old mid new Memory e count here unended h = (suc h.0, refuses-more old mid new h.0 e h.1)
+leaves-behind old mid new NotYet e count here unended h = tt
+leaves-behind old mid new (Given bytes) e count here unended h = elim h [ ]
+leaves-behind old mid new (Fault x) e count here unended h = elim h [ ]
+leaves-behind old mid new Done e count here unended h = elim h [ ]
+leaves-behind old mid new Refused e count here unended h = elim h [ ]
+leaves-behind old mid new NoSuch e count here unended h = elim h [ ]
+
+-- behind a refused head no body and no answer is waited for
+never-waits : {R W : Type 0} (old mid : ConnectionState R W) (now : HttpDate) → PassesHead old mid now → (mid.source.standing ≡ place.Body ⊎ last_holds_next_head mid.requests ≡ true) → ⊥
+never-waits old mid now p h =
+    ⊎_elim (not-body mid.source.standing p.stands)
+    (λ waits. (let no : false ≡ true = sym (ap last_holds_next_head p.requests ∙ holds-snoc old.requests None) ∙ waits in cc)) h
+
+ends-behind : {R W : Type 0} (old mid new : ConnectionState R W) (now : HttpDate) (reply : ReplyValue) → PassesHead old mid now → AskEnds mid new reply → AskEnds old new reply
+ends-behind old mid new now (Handed k message framing) p h = (p.was_open, h.1)
+ends-behind old mid new now Ended p h = (
+  λ some. (let absent : false ≡ true = ap is_some (sym p.was_open) ∙ some in cc),
+  λ last. absurd (not-last old.source.standing p.here last),
+  λ open_is.
+      let x = h.2 p.is_open in
+      let E : Standing → Type 0 = λ y. EndsRequestsAt mid.profile y mid.source.feed x.0 in
+      (x.0, x.1, p.ends x.0 (subst E p.stands x.2)),
+)
+ends-behind old mid new now Memory p h = (p.was_open, h.1, p.here, p.begins h.3)
+ends-behind old mid new now NotYet p h = absurd (never-waits old mid now p h.1)
+ends-behind old mid new now (Given bytes) p h = elim h [ ]
+ends-behind old mid new now (Fault x) p h = elim h [ ]
+ends-behind old mid new now Done p h = elim h [ ]
+ends-behind old mid new now Refused p h = elim h [ ]
+ends-behind old mid new now NoSuch p h = elim h [ ]
+
+never-declined : {R W : Type 0} (old mid new : ConnectionState R W) (now : HttpDate) (reply : ReplyValue) → PassesHead old mid now → AskEnds mid new reply → IsDeclined step.Ask reply → ⊥
+never-declined old mid new now (Handed k message framing) e h was = elim was [ ]
+never-declined old mid new now Ended e h was = elim was [ ]
+never-declined old mid new now Memory e h was = elim was [ ]
+never-declined old mid new now NotYet e h was = never-waits old mid now e h.1
+never-declined old mid new now (Given bytes) e h was = elim h [ ]
+never-declined old mid new now (Fault x) e h was = elim h [ ]
+never-declined old mid new now Done e h was = elim h [ ]
+never-declined old mid new now Refused e h was = elim h [ ]
+never-declined old mid new now NoSuch e h was = elim h [ ]
+
+pub asks-behind-head : {R W : Type 0} (old mid : ConnectionState R W) (now : HttpDate) → PassesHead old mid now → IsAskBehind old mid now
+asks-behind-head old mid now p = λ new reply a. record {
+  does = λ client before s low st. (let g = p.does client before s low st in g.asks (kept new) reply (a.does client before g.mid low g.stands));
+  profile = a.profile ∙ p.moves.profile;
+  declined = λ was. absurd (never-declined old mid new now reply p a.ends was);
+  ends = ends-behind old mid new now reply p a.ends;
+  leaves = leaves-behind old mid new reply p.requests p.counts p.here p.unended a.leaves;
+  goes_on = goes-on_more old.source.feed mid.source.feed new.source.feed p.moves.goes_on a.goes_on;
+  fails_once = once-append old.outlet.ended mid.outlet.ended new.outlet.ended (output_of old.outlet) (output_of mid.outlet) (output_of new.outlet) p.moves.fails_once a.fails_once;
+  flushed = λ was. a.flushed (p.moves.flushed (λ z. was));
+  sent_on = λ was. a.sent_on (p.moves.sent_on (λ z. was));
+}
+
+pub takes-as_reader : {R W : Type 0} (old new : ConnectionState R W) (now : HttpDate) (n : ℕ) (reply : ReplyValue)
+    → ((client : Feed) (before : Sink) (s : State) → before.failures < 2 ^ 64 - 1 → Stands client before (kept old) s → StepIsAnswered client before (kept new) s now (AsReader n) reply)
+    → (IsDeclined (step.AsReader n) reply → new ≡ old) → new.end ≡ old.end → StepLeaves (step.AsReader n) old new reply → Moves false old new → ReportsNoFault reply → TakesStep old new now (step.AsReader n) reply
+takes-as_reader old new now n reply answers declined ends leaves moves none =
+    takes old new now (step.AsReader n) reply
+    (λ client before s asked low is st. step-as_reader {D = Option Feed} (λ f. f) client before (kept new) s now (now, asked) (step.AsReader n) n reply refl refl is (answers client before s low st))
+    declined ends leaves (moves-kept (step.AsReader n) reply old new (λ sent. refl) moves) (λ kind e. absurd (none kind e))
+
+pub takes-drop : {R W : Type 0} (old new : ConnectionState R W) (now : HttpDate) (n : ℕ) (reply : ReplyValue)
+    → ((client : Feed) (before : Sink) (s : State) → before.failures < 2 ^ 64 - 1 → Stands client before (kept old) s → StepIsAnswered client before (kept new) s now (Drop n) reply)
+    → (IsDeclined (step.Drop n) reply → new ≡ old) → EndsBehind (kept_lacks (slice_get old.requests n)) old new reply → (IsAnswered reply → LetsGo n old new) → Moves false old new → ReportsNoFault reply → TakesStep old new now (step.Drop n) reply
+takes-drop old new now n reply answers declined ends leaves moves none =
+    takes old new now (step.Drop n) reply
+    (λ client before s asked low is st. step-drop {D = Option Feed} (λ f. f) client before (kept new) s (now, asked) (step.Drop n) n reply refl is (answers client before s low st))
+    declined ends leaves (moves-kept (step.Drop n) reply old new (λ sent. refl) moves) (λ kind e. absurd (none kind e))
+
+pub takes-read : {R W : Type 0} (old new : ConnectionState R W) (now : HttpDate) (n m : ℕ) (reply : ReplyValue)
+    → ((client : Feed) (before : Sink) (s : State) → Stands client before (kept old) s → StepIsAnswered client before (kept new) s now (Read n m) reply)
+    → (IsDeclined (step.Read n m) reply → new ≡ old) → new.end ≡ old.end → StepLeaves (step.Read n m) old new reply → Moves false old new → TakesStep old new now (step.Read n m) reply
+takes-read old new now n m reply answers declined ends leaves moves =
+    takes old new now (step.Read n m) reply
+    (λ client before s asked low is st. step-read {D = Option Feed} (λ f. f) client before (kept new) s (now, asked) (step.Read n m) n m reply refl is (answers client before s st))
+    declined ends leaves (moves-kept (step.Read n m) reply old new (λ sent. refl) moves) (λ kind e. tt)
+
+pub takes-respond : {R W D : Type 0} (feed : D → Option Feed) (all : Bool) (old new : ConnectionState R W) (now : HttpDate) (n : ℕ) (r : ResponseState D) (reply : ReplyValue)
+    → ((client : Feed) (before : Sink) (s : State) (value : ResponseValue) → before.failures < 2 ^ 64 - 1 → IsResponse feed r value → Stands client before (kept old) s → StepIsAnswered client before (kept new) s now (Respond n value) reply)
+    → (IsDeclined (step.Respond n (stated_response feed r)) reply → new ≡ old) → RespondEnds n r.answer.closes old new reply → AnswerLeaves n r.answer old new reply → is_done reply ≡ all → Moves all old new → ((kind : ErrorKind) → reply ≡ Fault kind → ReportsFault old new now (step.Respond n (stated_response feed r)) kind)
+    → TakesStep old new now (step.Respond n (stated_response feed r)) reply
+takes-respond feed all old new now n r reply answers declined ends leaves done moves honest =
+    takes old new now (step.Respond n (stated_response feed r)) reply
+    (λ client before s asked low is st. step-respond {D = Option Feed} (λ f. f) client before (kept new) s now (now, asked) (step.Respond n (stated_response feed r)) n (stated_response feed r) reply refl refl is (λ v h. answers client before s v low h st))
+    declined ends leaves (moves-sent (step.Respond n (stated_response feed r)) reply all old new (λ sent. refl) done moves) honest
+
+pub takes-into_writer : {R W : Type 0} (old new : ConnectionState R W) (now : HttpDate) (n : ℕ) (reply : ReplyValue)
+    → ((client : Feed) (before : Sink) (s : State) → before.failures < 2 ^ 64 - 1 → Stands client before (kept old) s → StepIsAnswered client before (kept new) s now (IntoWriter n) reply)
+    → (IsDeclined (step.IntoWriter n) reply → new ≡ old) → EndsBehind (is_last_with_stream_at (slice_get old.requests n)) old new reply → StepLeaves (step.IntoWriter n) old new reply → Moves false old new → ReportsNoFault reply → TakesStep old new now (step.IntoWriter n) reply
+takes-into_writer old new now n reply answers declined ends leaves moves none =
+    takes old new now (step.IntoWriter n) reply
+    (λ client before s asked low is st. step-into_writer {D = Option Feed} (λ f. f) client before (kept new) s (now, asked) (step.IntoWriter n) n reply refl is (answers client before s low st))
+    declined ends leaves (moves-kept (step.IntoWriter n) reply old new (λ sent. refl) moves) (λ kind e. absurd (none kind e))
+
+pub takes-finish : {R W : Type 0} (old new : ConnectionState R W) (now : HttpDate) (n : ℕ) (reply : ReplyValue)
+    → ((client : Feed) (before : Sink) (s : State) → before.failures < 2 ^ 64 - 1 → Stands client before (kept old) s → StepIsAnswered client before (kept new) s now (Finish n) reply)
+    → (IsDeclined (step.Finish n) reply → new ≡ old) → new.end ≡ old.end → StepLeaves (step.Finish n) old new reply → Moves false old new → ReportsNoFault reply → TakesStep old new now (step.Finish n) reply
+takes-finish old new now n reply answers declined ends leaves moves none =
+    takes old new now (step.Finish n) reply
+    (λ client before s asked low is st. step-finish {D = Option Feed} (λ f. f) client before (kept new) s (now, asked) (step.Finish n) n reply refl is (answers client before s low st))
+    declined ends leaves (moves-kept (step.Finish n) reply old new (λ sent. refl) moves) (λ kind e. absurd (none kind e))
+
+pub takes-flush : {R W : Type 0} (all : Bool) (old new : ConnectionState R W) (now : HttpDate) (n : ℕ) (reply : ReplyValue)
+    → ((client : Feed) (before : Sink) (s : State) → before.failures < 2 ^ 64 - 1 → Stands client before (kept old) s → StepIsAnswered client before (kept new) s now (Flush n) reply)
+    → (IsDeclined (step.Flush n) reply → new ≡ old) → new.end ≡ old.end → StepLeaves (step.Flush n) old new reply → is_done reply ≡ all → Moves all old new → ((kind : ErrorKind) → reply ≡ Fault kind → IsOfWriter (output_of old.outlet) (output_of new.outlet) kind)
+    → TakesStep old new now (step.Flush n) reply
+takes-flush all old new now n reply answers declined ends leaves done moves honest =
+    takes old new now (step.Flush n) reply
+    (λ client before s asked low is st. step-flush {D = Option Feed} (λ f. f) client before (kept new) s (now, asked) (step.Flush n) n reply refl is (answers client before s low st))
+    declined ends leaves (moves-sent (step.Flush n) reply all old new (λ sent. refl) done moves) honest
+
+-- a Write that wasn't done leaves what is sent on as it was; of one that was nothing is said
+pub takes-write : {R W : Type 0} (old new : ConnectionState R W) (now : HttpDate) (n : ℕ) (v : Vec ℕ) (bytes : List ℕ) (reply : ReplyValue)
+    → v.items ≡ bytes → ((client : Feed) (before : Sink) (s : State) → before.failures < 2 ^ 64 - 1 → Stands client before (kept old) s → StepIsAnswered client before (kept new) s now (Write n bytes) reply)
+    → (IsDeclined (step.Write n v) reply → new ≡ old) → new.end ≡ old.end → StepLeaves (step.Write n v) old new reply → new.profile ≡ old.profile → GoesOn old.source.feed new.source.feed
+    → FailsOnce old.outlet new.outlet → (is_done reply ≡ false → new.outlet ≡ old.outlet) → ((kind : ErrorKind) → reply ≡ Fault kind → IsOfWriter (output_of old.outlet) (output_of new.outlet) kind)
+    → TakesStep old new now (step.Write n v) reply
+takes-write {W = W} old new now n v bytes reply same answers declined ends leaves profile_is goes once still honest =
+    takes old new now (step.Write n v) reply
+    (λ client before s asked low is st.
+    let P : List ℕ → Type 0 = λ l. StepIsAnswered client before (kept new) s now (Write n l) reply in
+    step-write {D = Option Feed} (λ f. f) client before (kept new) s (now, asked) (step.Write n v) n v reply refl is (subst P (sym same) (answers client before s low st)))
+    declined ends leaves (record {
+      profile = profile_is;
+      goes_on = goes;
+      fails_once = once;
+      flushed = λ sent was e. let h = apart sent (is_done reply) refl e in ap (λ (o : OutletState W). o.held) (still h.1) ∙ was h.0;
+      sent_on = λ sent was e. let h = apart sent (is_done reply) refl e in subst (λ (o : OutletState W). SentOn o) (sym (still h.1)) (was h.0);
+    }) honest
+  where
+    apart : (sent done : Bool) → is_done reply ≡ done → (sent && not done) ≡ true → (sent ≡ true) × (is_done reply ≡ false)
+    apart true false d e = (refl, d)
+    apart true true d e = cc
+    apart false true d e = cc
+    apart false false d e = cc
+
+pub takes-upgrade : {R W D : Type 0} (feed : D → Option Feed) (all : Bool) (old new : ConnectionState R W) (now : HttpDate) (n : ℕ) (p : String Global) (r : ResponseState D) (reply : ReplyValue)
+    → ((client : Feed) (before : Sink) (s : State) (value : ResponseValue) → before.failures < 2 ^ 64 - 1 → value.answer ≡ r.answer → Stands client before (kept old) s → StepIsAnswered client before (kept new) s now (Upgrade n (string_bytes p) value) reply)
+    → (IsDeclined (step.Upgrade n p (stated_response feed r)) reply → new ≡ old) → UpgradeEnds n old new reply → UpgradeLeaves n (string_bytes p) r.answer.status old new reply → is_done reply ≡ all → Moves all old new → ReportsNoFault reply → TakesStep old new now (step.Upgrade n p (stated_response feed r)) reply
+takes-upgrade feed all old new now n p r reply answers declined ends leaves done moves none =
+    takes old new now (step.Upgrade n p (stated_response feed r)) reply
+    (λ client before s asked low is st. step-upgrade {D = Option Feed} (λ f. f) client before (kept new) s (now, asked) (step.Upgrade n p (stated_response feed r)) n p (stated_response feed r) reply refl is (λ v same. answers client before s v low same st))
+    declined ends leaves (moves-sent (step.Upgrade n p (stated_response feed r)) reply all old new (λ sent. refl) done moves) (λ kind e. absurd (none kind e))
+
+-- a step that drops a request
+pub drops-by : {R W : Type 0} (n : ℕ) (w : OpenRequest Body) (old new : ConnectionState R W) (now : HttpDate) → slice_get old.requests n ≡ Some (Some (still.Waiting w))
+    → ((client : Feed) (before : Sink) (s : State) (asked : StepValue) (reply : ReplyValue)
+    → ((was : Reached) (by : HandedOut) (r : Request) (given : ℕ) (end_reported : Bool) → IsKeptOf w r given end_reported → slice_get was.slots n ≡ Some (open_slot by r given end_reported) → outcome true now was asked ≡ ends_asking (is_last_once_finished r by.owed given end_reported) (changes was n (dropped by r given end_reported) reply (use_in_turn (turn_has_come n was.slots))))
+    → before.failures < 2 ^ 64 - 1 → Stands client before (kept old) s → StepIsAnswered client before (kept new) s now asked reply)
+    → new.end ≡ ends_behind (kept_lacks (slice_get old.requests n)) old.end → LetsGo n old new → Moves false old new → (x : Step (Option Feed)) (reply : ReplyValue) → IsDropping old.requests n x reply → TakesStep old new now x reply
+drops-by n w old new now kept answers ends leaves moves = by
+  where
+    by : (x : Step (Option Feed)) (reply : ReplyValue) → IsDropping old.requests n x reply → TakesStep old new now x reply
+    by step.Ask reply is = elim is [ ]
+    by (step.AsReader k) reply is = elim is [ ]
+    by (step.Read k m) reply is = elim is [ ]
+    by (step.Respond k r) (Handed a b c) is = elim is [ ]
+    by (step.Respond k r) Ended is = elim is [ ]
+    by (step.Respond k r) (Given b) is = elim is [ ]
+    by (step.Respond k r) (Fault kind) is = elim is [ ]
+    by (step.Respond k r) NotYet is = elim is [ ]
+    by (step.Respond k r) Done is = elim is [ ]
+    by (step.Respond k r) Refused is =
+        let T : ℕ → Type 0 = λ m. TakesStep old new now (step.Respond m r) Refused in
+        let refused = ap (refuses_at r.answer.status) (sym kept) ∙ is.1 in
+        subst T (sym is.0) (takes-respond {D = Option Feed} (λ f. f) false old new now n r Refused
+        (λ client before s v low same st.
+        let A : Answer → Type 0 = λ a. refuses_code w.by_standard w.is_connect a.status ≡ true in
+        answers client before s (Respond n v) Refused (at-unanswerable now n v w (subst A (sym same.0) refused)) low st) (λ no. elim no [ ]) ends (leaves, is.1) refl moves (λ kind e. cc))
+    by (step.Respond k r) NoSuch is = elim is [ ]
+    by (step.Respond k r) Memory is = elim is [ ]
+    by (step.IntoWriter k) reply is = elim is [ ]
+    by (step.Write k v) reply is = elim is [ ]
+    by (step.Flush k) reply is = elim is [ ]
+    by (step.Finish k) reply is = elim is [ ]
+    by (step.Drop k) (Handed a b c) is = elim is [ ]
+    by (step.Drop k) Ended is = elim is [ ]
+    by (step.Drop k) (Given b) is = elim is [ ]
+    by (step.Drop k) (Fault kind) is = elim is [ ]
+    by (step.Drop k) NotYet is = elim is [ ]
+    by (step.Drop k) Done is =
+        let T : ℕ → Type 0 = λ m. TakesStep old new now (step.Drop m) Done in
+        subst T (sym is) (takes-drop old new now n Done (λ client before s low st. answers client before s (Drop n) Done (λ was by r given end_reported same. at-drop now n was by r given end_reported) low st) (λ no. elim no [ ]) ends (λ done. leaves) moves (λ kind e. cc))
+    by (step.Drop k) Refused is = elim is [ ]
+    by (step.Drop k) NoSuch is = elim is [ ]
+    by (step.Drop k) Memory is = elim is [ ]
+    by (step.Upgrade k p r) (Handed a b c) is = elim is [ ]
+    by (step.Upgrade k p r) Ended is = elim is [ ]
+    by (step.Upgrade k p r) (Given b) is = elim is [ ]
+    by (step.Upgrade k p r) (Fault kind) is = elim is [ ]
+    by (step.Upgrade k p r) NotYet is = elim is [ ]
+    by (step.Upgrade k p r) Done is = elim is [ ]
+    by (step.Upgrade k p r) Refused is =
+        let T : ℕ → Type 0 = λ m. TakesStep old new now (step.Upgrade m p r) Refused in
+        let refused = ap (refuses_upgrade_at (string_bytes p) r.answer.status) (sym kept) ∙ is.1 in
+        subst T (sym is.0) (takes-upgrade {D = Option Feed} (λ f. f) false old new now n p r Refused (λ client before s v low same st.
+        let A : Answer → Type 0 = λ a. is_err (request_check w (string_bytes p) a.status (is_whole w.body)) ≡ true in
+        answers client before s (Upgrade n (string_bytes p) v) Refused (at-refused now n (string_bytes p) v w (subst A (sym same) refused)) low st) (λ no. elim no [ ]) ends (leaves, is.1) refl moves (λ kind e. cc))
+    by (step.Upgrade k p r) NoSuch is = elim is [ ]
+    by (step.Upgrade k p r) Memory is = elim is [ ]
+
+-- a connection at its begin
+pub begins : {R W : Type 0} (client : Feed) (before : Sink) (writer : W) (c : ConnectionState R W) → c.marks ≡ [] → c.requests ≡ [] → c.source.standing ≡ place.Head → c.end ≡ None → c.source.feed ≡ Some client → c.source.stop ≡ None
+    → c.outlet ≡ record { held = []; ended = false; writer = writer; sink = before } → IsFresh before → HasDone c.profile client before c [] []
+begins {W = W} client before writer c m r o e feed stop outlet fresh =
+    let K : List Mark → List (Option Unfinished) → Standing → Option EndOfRequests → Option Stop → OutletState W → Kept = λ m r o e s w.
+    record { profile = c.profile; marks = m; requests = r; standing = o; asking_ended = is_some e; feed = c.source.feed; stop = s; is_over = c.source.is_over; sink = output_of w; output_ended = w.ended } in
+    let has = has-pipeline c.profile client in
+    let S : Kept → Type 0 = λ k. Stands client before k (start_state has.0) in
+    let none : OutletState W = record { held = []; ended = false; writer = writer; sink = before } in
+    let st = stands-begun c.profile client c.source.feed c.source.is_over before has.0 feed fresh has.1 in
+    let st1 = subst (λ w. S (K [] [] place.Head None None w)) (sym outlet) st in
+    let st2 = subst (λ s. S (K [] [] place.Head None s c.outlet)) (sym stop) st1 in
+    let st3 = subst (λ x. S (K [] [] place.Head x c.source.stop c.outlet)) (sym e) st2 in
+    let st4 = subst (λ x. S (K [] [] x c.end c.source.stop c.outlet)) (sym o) st3 in
+    let st5 = subst (λ x. S (K [] x c.source.standing c.end c.source.stop c.outlet)) (sym r) st4 in
+    let st6 = subst (λ x. S (K x c.requests c.source.standing c.end c.source.stop c.outlet)) (sym m) st5 in
+    record { profile = refl; fresh = fresh; items = has.0; pipeline = has.1; at = start_state has.0; run = refl; stands = st6 }
+
+pub honest-more : (mid ended : Bool) (a b c : Sink) (x : Answer) (feed : Option Feed) (p : Printing) (kind : ErrorKind) → mid ≡ true → FailsOnceUnlessEnded mid b c ended → IsHonest a b x feed p kind → IsHonest a c x feed p kind
+honest-more true ended a b c x feed p kind e k (inl h) = inl (k.0 ∙ h)
+honest-more true ended a b c x feed p kind e k (inr h) = inr h
+honest-more false ended a b c x feed p kind e k h = let no : false ≡ true = e in cc
+
+-- a step, and what it is in place of its data
+is-stated : {D : Type 0} (feed : D → Option Feed) (x : Step D) (asked : StepValue) → IsStep feed x asked → IsStep (λ f. f) (stated_step feed x) asked
+is-stated feed step.Ask asked h = subst (λ y. (let a : Step (Option Feed) = step.Ask in IsStep (λ f. f) a y)) (sym (is-ask feed asked h)) tt
+is-stated feed (step.AsReader k) asked h = subst (λ y. (let a : Step (Option Feed) = step.AsReader k in IsStep (λ f. f) a y)) (sym (is-as_reader feed k asked h)) refl
+is-stated feed (step.Read k n) asked h = subst (λ y. (let a : Step (Option Feed) = step.Read k n in IsStep (λ f. f) a y)) (sym (is-read feed k n asked h)) (refl, refl)
+is-stated feed (step.Respond k r) asked h =
+    let s = is-respond feed k r asked h in
+    subst (λ y. IsStep (λ f. f) (step.Respond k (stated_response feed r)) y) (sym s.is) (refl, s.response)
+is-stated feed (step.IntoWriter k) asked h = subst (λ y. (let a : Step (Option Feed) = step.IntoWriter k in IsStep (λ f. f) a y)) (sym (is-into_writer feed k asked h)) refl
+is-stated feed (step.Write k v) asked h = subst (λ y. (let a : Step (Option Feed) = step.Write k v in IsStep (λ f. f) a y)) (sym (is-write feed k v asked h)) (refl, refl)
+is-stated feed (step.Flush k) asked h = subst (λ y. (let a : Step (Option Feed) = step.Flush k in IsStep (λ f. f) a y)) (sym (is-flush feed k asked h)) refl
+is-stated feed (step.Upgrade k p r) asked h =
+    let s = is-upgrade feed k p r asked h in
+    subst (λ y. IsStep (λ f. f) (step.Upgrade k p (stated_response feed r)) y) (sym s.is) (refl, refl, s.answer)
+is-stated feed (step.Finish k) asked h = subst (λ y. (let a : Step (Option Feed) = step.Finish k in IsStep (λ f. f) a y)) (sym (is-finish feed k asked h)) refl
+is-stated feed (step.Drop k) asked h = subst (λ y. (let a : Step (Option Feed) = step.Drop k in IsStep (λ f. f) a y)) (sym (is-drop feed k asked h)) refl
+
+may-fail : {R W D : Type 0} (feed : D → Option Feed) (old new : ConnectionState R W) (now : HttpDate) (x : Step D) (kind : ErrorKind) → ReportsFault old new now (stated_step feed x) kind → MayFail feed (output_of old.outlet) (output_of new.outlet) now x kind
+may-fail feed old new now step.Ask kind h = h
+may-fail feed old new now (step.AsReader k) kind h = h
+may-fail feed old new now (step.Read k n) kind h = h
+may-fail feed old new now (step.Respond k r) kind h = (h.0, h.2)
+may-fail feed old new now (step.IntoWriter k) kind h = h
+may-fail feed old new now (step.Write k v) kind h = h
+may-fail feed old new now (step.Flush k) kind h = h
+may-fail feed old new now (step.Upgrade k p r) kind h = h
+may-fail feed old new now (step.Finish k) kind h = h
+may-fail feed old new now (step.Drop k) kind h = h
+
+pub reports-step : {R W D : Type 0} (feed : D → Option Feed) (old new : ConnectionState R W) (t : Timed D) (reply : Reply) → ((kind : ErrorKind) → seen reply ≡ Fault kind → ReportsFault old new t.now (stated_step feed t.step) kind) → ReportsHonestly feed (output_of old.outlet) (output_of new.outlet) t reply
+reports-step feed old new t reply h kind e = may-fail feed old new t.now t.step kind (h kind e)
+
+pub done-none : {R W X : Type 0} (stated : X → TimedValue → Type 0) (p : Profile) (client : Feed) (before : Sink) (c : ConnectionState R W) (dated : List TimedValue) → HasDone p client before c [] [] → AllZip stated [] dated → HasDone p client before c dated []
+done-none stated p client before c [] h t = h
+done-none stated p client before c (d ∷ ds) h t = elim t [ ]
+
+pub done-step : {R W D : Type 0} (feed : D → Option Feed) (p : Profile) (client : Feed) (before : Sink) (old new : ConnectionState R W) (t : Timed D) (done : List (Timed D)) (replies : List ReplyValue) (reply : ReplyValue) (dated : List TimedValue)
+    → ((ds : List TimedValue) → AllZip (IsTimedStep feed) done ds → HasDone p client before old ds replies) → TakesStep old new t.now (stated_step feed t.step) reply → AllZip (IsTimedStep feed) (done ++ t ∷ []) dated
+    → HasDone p client before new dated (replies ++ reply ∷ [])
+done-step feed p client before old new t done replies reply dated has step stated =
+    let s = split (IsTimedStep feed) done t dated stated in
+    let more = step.does p client before s.front replies s.last.1 (is-stated feed t.step s.last.1 s.one.1) (has s.front s.all) in
+    let H : List TimedValue → Type 0 = λ ds. HasDone p client before new ds (replies ++ reply ∷ []) in
+    subst H (sym s.joins) (subst (λ (x : HttpDate). H (s.front ++ (x, s.last.1) ∷ [])) (sym s.one.0) more)

@@ -1,0 +1,210 @@
+-- Whole conversations: which replies and which output a list of steps may have.
+use Rattle.std.specs.Prelude.{◌≡◌, ℕ, ◌+◌, ◌-◌, ◌^◌, ◌<◌, ◌⊎◌, Bool, true, false, not, ◌&&◌, ◌||◌, List, [], ◌∷◌, ◌++◌, map, length, Option, Some, None, is_some, unwrap_or, option_map, MatchBool, slice_get, if◌then◌else◌}
+use Rattle.std.specs.List.{AllByRecursion}
+use Rattle.std.specs.declared.io.ErrorKind.{ErrorKind}
+use Rattle.httpdate.specs.declared.date.HttpDate.{HttpDate}
+use Rattle.tiny_http_io.specs.Device.{Feed, Sink, IsFront, StatesKind}
+use Rattle.tiny_http_body.specs.declared.framing.Profile.{Profile}
+use Rattle.tiny_http_open_request.specs.Pipeline.{Item, Asks, Refuses, Place, body_length_or_0, Pipeline, place_after}
+use Rattle.tiny_http_open_request.specs.BodyRemains.{RemainsAt}
+use Rattle.tiny_http_io.specs.declared.device.Stop.TheVariants.{End}
+use Rattle.tiny_http_io.specs.ToCome.{stopped}
+use Rattle.tiny_http_response.specs.ResponseValue.{ResponseValue}
+use Rattle.tiny_http_response.specs.Answer.{IsGathered}
+use Rattle.tiny_http_connection.specs.Slots.{Slot, is_finished, joined, is_output_broken, new_slot, rest_of, last_slot, last_is_open, is_last_slot, last_holds_reader, last_was_abandoned, turn_has_come, to_request}
+use Rattle.tiny_http_connection.specs.Steps.{StepValue, Ask, Read, Respond, ReplyValue, NoSuch, Memory, WriterUse, Unused, Unreported, Reported, use_in_turn, Outcome, Reached, outcome}
+
+-- the writer's first fault: its kind, and all that the writer took
+pub record Failure : Type 0 where
+  pub kind : ErrorKind
+  pub output : List ℕ
+
+-- Where a conversation stands: what is reached; the output as of the last step that flushed it, while the writer has not
+-- failed; and how the writer failed, if it did.
+pub record State : Type 0 where
+  pub reached : Reached
+  pub flushed : List ℕ
+  pub failure : Option Failure
+
+-- nothing is written any more
+abbrev pub has_output_ended : State → Bool
+has_output_ended old = is_some old.failure || is_output_broken old.reached.slots
+
+-- how many numbers are finished in front
+abbrev pub finished_front : List Slot → ℕ
+finished_front [] = 0
+finished_front (s ∷ slots) = if is_finished s then finished_front slots + 1 else 0
+
+-- HOW THE WRITER FARES in a step: without a fault; or it fails in the step's own text; or after that, in a text that was left
+-- or, where the data broke off, in what was held.
+pub data Fares : Type 0 where
+  Well : Fares
+  FailsWithin : (failure : Failure) → Fares
+  FailsAfter : (failure : Failure) → Fares
+
+-- the writer took all of one text, and a front of the other
+abbrev pub FallsBetween : List ℕ → List ℕ → Failure → Type 0
+FallsBetween from to f = IsFront from f.output × IsFront f.output to
+
+-- the writer's fault can be reported, unless the step's data broke off before the first byte of its text
+abbrev pub CanMeet : List ℕ → Option ErrorKind → Type 0
+CanMeet [] (Some kind) = ⊥
+CanMeet own broken = Unit {0}
+
+-- how it may fare: a fault falls after what was flushed, and within what the step leaves to send
+abbrev pub MayFare : WriterUse → State → List Slot → Fares → Type 0
+MayFare writer old slots Well = Unit {0}
+MayFare Unused old slots (FailsWithin f) = ⊥
+MayFare Unused old slots (FailsAfter f) = ⊥
+MayFare Unreported old slots (FailsWithin f) = ⊥
+MayFare Unreported old slots (FailsAfter f) = FallsBetween old.flushed (joined slots) f
+MayFare (Reported own broken flushes report) old slots (FailsWithin f) = CanMeet own broken × FallsBetween old.flushed (joined old.reached.slots ++ own) f
+MayFare (Reported own None flushes report) old slots (FailsAfter f) =
+    (finished_front old.reached.slots + 1 < finished_front slots) × FallsBetween (joined old.reached.slots ++ own) (joined slots) f
+MayFare (Reported own (Some kind) flushes report) old slots (FailsAfter f) = FallsBetween old.flushed (joined old.reached.slots ++ own) f
+
+-- the reply: the fault in the step's own text, or that of its data; else what was planned
+abbrev pub reply_in : WriterUse → ReplyValue → Fares → ReplyValue
+reply_in (Reported own broken flushes report) planned (FailsWithin f) = report f.kind
+reply_in (Reported own broken flushes report) planned _ = unwrap_or (option_map report broken) planned
+reply_in _ planned _ = planned
+
+abbrev pub failure_in : Fares → Option Failure
+failure_in Well = None
+failure_in (FailsWithin f) = Some f
+failure_in (FailsAfter f) = Some f
+
+-- the step writes nothing
+abbrev pub is_silent : WriterUse → State → Bool
+is_silent Unused old = true
+is_silent writer old = has_output_ended old
+
+-- THE WRITER'S PART of a step: its reply, and the writer's failure after it
+abbrev pub WriterPart : WriterUse → State → ReplyValue → List Slot → ReplyValue → Option Failure → Type 0
+WriterPart writer old planned slots reply failure =
+    MatchBool (is_silent writer old)
+    ((reply ≡ planned) × (failure ≡ old.failure))
+    ((fares : Fares) × MayFare writer old slots fares × (reply ≡ reply_in writer planned fares) × (failure ≡ failure_in fares))
+
+abbrev pub flushes : WriterUse → Bool
+flushes Unused = false
+flushes Unreported = true
+flushes (Reported own broken flushed report) = flushed
+
+-- what has been flushed after a step
+abbrev pub flushed_after : WriterUse → State → List Slot → List ℕ
+flushed_after writer old slots = if (flushes writer && not (is_silent writer old)) then joined slots else old.flushed
+
+abbrev pub reached_by : Outcome → Reached
+reached_by o = record { slots = o.slots; rest = o.rest; asking_ended = o.asking_ended }
+
+-- the step has this outcome
+abbrev pub HasOutcome : Outcome → State → ReplyValue → State → Type 0
+HasOutcome o old reply new = (new.reached ≡ reached_by o) × (new.flushed ≡ flushed_after o.writer old o.slots) × WriterPart o.writer old o.reply o.slots reply new.failure
+
+-- the response's data are read whole before its head
+abbrev pub GathersFor : HttpDate → ResponseValue → Slot → Item → Type 0
+GathersFor date response s (Asks r) = IsGathered response.answer (to_request r.framing.is_last r date)
+GathersFor date response s (Refuses refusal manner no_body last) = ⊥
+
+abbrev pub GathersAt : HttpDate → ResponseValue → Option Slot → Type 0
+GathersAt date response None = ⊥
+GathersAt date response (Some s) = GathersFor date response s s.item
+
+-- where no memory was found, the step had to gather
+abbrev pub MayLack : Bool → HttpDate → Reached → StepValue → Type 0
+MayLack true date old step = Unit {0}
+MayLack false date old (Respond k response) = GathersAt date response (slice_get old.slots k)
+MayLack false date old _ = ⊥
+
+-- the item is a head that is refused, and after which the asking goes on
+abbrev pub IsPassedOver : Item → Type 0
+IsPassedOver (Asks r) = ⊥
+IsPassedOver (Refuses refusal manner no_body last) = last ≡ false
+
+-- the heads that were refused on the way are answered, if the turn of the first has come
+abbrev pub answers_to : List Slot → List Item → WriterUse
+answers_to slots [] = Unused
+answers_to slots (item ∷ refused) = use_in_turn (turn_has_come (length slots) slots)
+
+-- out of memory: before a read, which changes nothing; or at a head, after the refused ones before it, which ends the asking
+abbrev pub FindsNoMemory : HttpDate → State → StepValue → ReplyValue → State → Type 0
+FindsNoMemory date old (Read k n) reply new = 0 < n × ((outcome true date old.reached (Read k n)).reply ≡ NoSuch → ⊥) × (reply ≡ Memory) × (new ≡ old)
+FindsNoMemory date old Ask reply new =
+    (old.reached.asking_ended ≡ false) × (is_last_slot (last_slot old.reached.slots) ≡ false) × (last_holds_reader (last_slot old.reached.slots) ≡ false)
+    × (last_was_abandoned (last_slot old.reached.slots) ≡ false)
+    × (refused : List Item) × (rest : List Item) × (old.reached.rest ≡ refused ++ rest) × AllByRecursion IsPassedOver refused
+    × (let slots = old.reached.slots ++ map (new_slot date) refused in
+    HasOutcome (record { reply = Memory; slots = slots; rest = rest; asking_ended = true; writer = answers_to old.reached.slots refused }) old reply new)
+FindsNoMemory date old _ reply new = ⊥
+
+-- One step on a date may be answered so and leave this.
+abbrev pub StepsTo : State → HttpDate → StepValue → ReplyValue → State → Type 0
+StepsTo old date step reply new =
+    ((found : Bool) × MayLack found date old.reached step × HasOutcome (outcome found date old.reached step) old reply new)
+    ⊎ FindsNoMemory date old step reply new
+
+-- a step on a date
+abbrev pub TimedValue : Type 0
+TimedValue = HttpDate × StepValue
+
+-- the steps may have these replies, one after another
+abbrev pub Run : State → List TimedValue → List ReplyValue → State → Type 0
+Run old [] [] new = new ≡ old
+Run old (s ∷ steps) (r ∷ replies) new = (mid : State) × StepsTo old s.0 s.1 r mid × Run mid steps replies new
+Run old [] (r ∷ replies) new = ⊥
+Run old (s ∷ steps) [] new = ⊥
+
+-- nothing is reached of a pipeline
+abbrev pub start_state : List Item → State
+start_state items = record { reached = record { slots = []; rest = items; asking_ended = false }; flushed = []; failure = None }
+
+-- The output: what the writer took and what is held are the joined segments, it took all that was flushed, it did not fail, and
+-- the output has ended exactly if one of them broke off. Or the writer failed once: it states that kind and those bytes,
+-- nothing is held, and the output has ended.
+abbrev pub IsOutput : List Slot → List ℕ → Option Failure → Sink → Sink → List ℕ → Bool → Type 0
+IsOutput slots flushed None before after held ended =
+    (after.failures ≡ before.failures) × (taken : List ℕ) × (after.taken ≡ Some taken) × (taken ++ held ≡ joined slots) × IsFront flushed taken × (ended ≡ is_output_broken slots)
+IsOutput slots flushed (Some f) before after held ended =
+    (after.failures ≡ before.failures + 1) × StatesKind after.last_kind f.kind × (after.taken ≡ Some f.output) × (held ≡ []) × (ended ≡ true)
+
+-- what the bytes still ask: nothing after the last head, else the pipeline from where the input stands
+abbrev pub PlaceAt : Profile → Bool → Option Feed → List Item → Type 0
+PlaceAt p true feed rest = rest ≡ []
+PlaceAt p false None rest = ⊥
+PlaceAt p false (Some f) rest = Pipeline p (Some f.bytes) f.stop rest
+
+-- The input stands within this number's body: what is left of the body comes next, and after it what the pipeline still has.
+abbrev pub WithinBody : Profile → Slot → Item → Feed → List Item → Type 0
+WithinBody p s (Asks r) feed rest =
+    (next : Place) × RemainsAt r.framing.by_standard r.framing.form (body_length_or_0 r.framing - s.given) feed.bytes feed.stop (rest_of r s.given) next
+    × Pipeline p (place_after r.framing.is_last next) feed.stop rest
+WithinBody p s (Refuses refusal manner no_body last) feed rest = ⊥
+
+abbrev pub WithinLast : Profile → Option Slot → Option Feed → List Item → Type 0
+WithinLast p (Some s) (Some feed) rest = WithinBody p s s.item feed rest
+WithinLast p _ _ rest = ⊥
+
+-- How the input stands while the asking goes on: it has ended after a chunked body that was given up before its end; it
+-- stands within the last body, while that is open; else what the bytes still ask is the rest of the pipeline.
+abbrev pub InputAt : Profile → Reached → Option Feed → Type 0
+InputAt p old feed =
+    MatchBool old.asking_ended (Unit {0})
+    (MatchBool (last_was_abandoned (last_slot old.slots)) (feed ≡ Some (stopped End))
+    (MatchBool (last_is_open (last_slot old.slots)) (WithinLast p (last_slot old.slots) feed old.rest) (PlaceAt p (is_last_slot (last_slot old.slots)) feed old.rest)))
+
+-- THE CONNECTION THEOREM: replies and output are those of a run over the pipeline that stands in the feed under this profile; and
+-- this of the feed is left.
+pub record IsConversation (p : Profile) (feed : Feed) (before : Sink) (steps : List TimedValue) (replies : List ReplyValue) (after : Sink) (held : List ℕ) (ended : Bool) (unread : Option Feed) : Type 0 where
+  pub items : List Item
+  pub end : State
+  pub pipeline : Pipeline p (Some feed.bytes) feed.stop items
+  pub run : Run (start_state items) steps replies end
+  pub output : IsOutput end.reached.slots end.flushed end.failure before after held ended
+  pub input : InputAt p end.reached unread
+
+-- the writer as a run takes it: it states that it took no bytes, it has not ended, and its count can rise
+pub record IsFresh (sink : Sink) : Type 0 where
+  pub no_bytes : sink.taken ≡ Some []
+  pub unended : sink.has_ended ≡ false
+  pub can_count : sink.failures < 2 ^ 64 - 1

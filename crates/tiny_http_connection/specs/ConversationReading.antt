@@ -1,0 +1,35 @@
+-- A run over a feed by the rules of tiny_http, computed for a writer that takes all: one plain reading, by which the definitions are tried out.
+use Rattle.std.specs.Prelude.{ℕ, Bool, true, List, [], ◌∷◌, if◌then◌else◌}
+use Rattle.std.specs.Prelude.{false}
+use Rattle.tiny_http_io.specs.Device.{Feed}
+use Rattle.tiny_http_body.specs.declared.framing.HeadRules.{HeadRules}
+use Rattle.tiny_http_open_request.specs.PipelineReading.{heading_of, items_of}
+use Rattle.tiny_http_connection.specs.Slots.{joined, is_output_broken}
+use Rattle.tiny_http_connection.specs.Steps.{ReplyValue, WriterUse, Reached, outcome}
+use Rattle.tiny_http_connection.specs.Conversation.{TimedValue, Well, reply_in, reached_by}
+
+-- the reply, where the writer takes all, or the output has ended
+abbrev pub reply_of : WriterUse → Bool → ReplyValue → ReplyValue
+reply_of writer over planned = if over then planned else reply_in writer planned Well
+
+-- the replies, and what is reached in the end
+pub record Reading : Type 0 where
+  pub replies : List ReplyValue
+  pub end : Reached
+
+abbrev pub run_from : Reached → List TimedValue → Reading
+run_from old [] = record { replies = []; end = old }
+run_from old (s ∷ steps) =
+    let o = outcome true s.0 old s.1 in
+    let more = run_from (reached_by o) steps in
+    record { replies = reply_of o.writer (is_output_broken old.slots) o.reply ∷ more.replies; end = more.end }
+
+-- the replies to steps over a feed, and the output
+pub record Conversed : Type 0 where
+  pub replies : List ReplyValue
+  pub output : List ℕ
+
+abbrev pub conversed : HeadRules → Feed → List TimedValue → Conversed
+conversed p feed steps =
+    let r = run_from (record { slots = []; rest = items_of (heading_of p) feed; asking_ended = false }) steps in
+    record { replies = r.replies; output = joined r.end.slots }

@@ -1,0 +1,9 @@
+pub mod Slots
+pub mod Steps
+pub mod Conversation
+pub mod Seen
+pub mod Pending
+pub mod Connection
+pub mod Driving
+pub mod Runs
+pub mod ConversationReading

@@ -1,0 +1,210 @@
+-- Numbers whose turn comes, and what is sent as it does.
+use Rattle.std.specs.Prelude.{◌≡◌, ◌==◌, ◌<◌, ◌^◌, ◌+◌, ℕ, Bool, true, false, not, ◌||◌, List, [], ◌∷◌, ◌++◌, length, Option, Some, None, MatchBool, is_err, slice_get, if◌then◌else◌}
+use Rattle.tiny_http_io.specs.Device.{Sink}
+use Rattle.tiny_http_response.specs.declared.answer_context.AnswerContext.{AnswerContext}
+use Rattle.std.specs.Global.{Vec}
+use Rattle.tiny_http_connection.specs.declared.pending.HeldNumber.{HeldNumber}
+use Rattle.tiny_http_connection.specs.declared.pending.Pending.{Pending}
+use Rattle.tiny_http_connection.specs.declared.pending.Unfinished.{Unfinished}
+use Rattle.tiny_http_connection.specs.declared.pending.Unfinished.TheVariants as still
+use Rattle.tiny_http_body.specs.declared.body.Body.{Body}
+use Rattle.tiny_http_open_request.specs.declared.open_request.OpenRequest.{OpenRequest}
+use Rattle.tiny_http_body.specs.Body.{is_streaming, is_whole, remainder, GivesUp}
+use Rattle.tiny_http_open_request.specs.OpenRequest.{closing, is_last_once_finished, final_context, refuses_code, request_check}
+use Rattle.tiny_http_io.specs.Source.{SourceState}
+use Rattle.tiny_http_io.specs.Outlet.{OutletState, output_of, outlet_ended, outlet_held, SentOn}
+use Rattle.tiny_http_response.specs.Sending.{CanSend, SendsUnlessEnded, SendsQuietlyOn, IsFlushed, FailsOnce}
+use Rattle.tiny_http_turns.specs.Turns.{Mark, Open, Held, Left, Finished, AreInShape, first_unfinished, TurnsState, Finish, marks_after_step, turn_answer}
+use Rattle.tiny_http_turns.specs.TurnsCalls.{Finishes}
+use Rattle.tiny_http_turns.specs.declared.turns.Finishing.{Finishing}
+use Rattle.tiny_http_turns.specs.declared.turns.Finishing.TheVariants.{Go}
+
+-- the texts that were left at the front of these numbers
+abbrev pub left_text : List Mark → List ℕ
+left_text [] = []
+left_text (Open ∷ marks) = []
+left_text (Held ∷ marks) = []
+left_text (Left text ∷ marks) = text ++ left_text marks
+left_text (Finished ∷ marks) = []
+
+-- these numbers are finished
+abbrev pub with_left_finished : List Mark → List Mark
+with_left_finished [] = []
+with_left_finished (Open ∷ marks) = Open ∷ marks
+with_left_finished (Held ∷ marks) = Held ∷ marks
+with_left_finished (Left text ∷ marks) = Finished ∷ with_left_finished marks
+with_left_finished (Finished ∷ marks) = Finished ∷ marks
+
+-- the first of these numbers was left
+abbrev pub begins_left : List Mark → Bool
+begins_left [] = false
+begins_left (Open ∷ marks) = false
+begins_left (Held ∷ marks) = false
+begins_left (Left text ∷ marks) = true
+begins_left (Finished ∷ marks) = false
+
+-- as a turn passes to these numbers the texts that were left at their front are sent; if there is none, nothing is done
+abbrev pub SendsLeft : List Mark → Bool → Sink → Sink → Bool → Type 0
+SendsLeft rest was old new ended = MatchBool (begins_left rest) (SendsUnlessEnded was old new ended (left_text rest) × IsFlushed new) ((new ≡ old) × (ended ≡ was))
+
+-- the number at the place of the held one is finished, and so are those after it that were left
+abbrev pub FinishesFront : List Mark → List Mark → List Mark → Type 0
+FinishesFront front rest new = new ≡ front ++ (Finished ∷ with_left_finished rest)
+
+-- An open number is left with a text: in its turn the text is sent, with those after it; else it waits.
+abbrev pub LeavesText : Bool → List Mark → List Mark → List Mark → List ℕ → Bool → Sink → Sink → Bool → Type 0
+LeavesText in_turn front rest marks text was old new ended =
+    MatchBool in_turn
+    (FinishesFront front rest marks × SendsUnlessEnded was old new ended (text ++ left_text rest) × IsFlushed new)
+    ((marks ≡ front ++ (Left text ∷ rest)) × AreInShape marks × (new ≡ old) × (ended ≡ was))
+
+-- how the request of a number is answered now, if it waits for its answer
+abbrev pub waiting_answer_context : Option (Option Unfinished) → Option AnswerContext
+waiting_answer_context (Some (Some (still.Waiting w))) = Some (final_context w (remainder w.body))
+waiting_answer_context (Some (Some still.Raw)) = None
+waiting_answer_context (Some (Some (still.Upgraded b))) = None
+waiting_answer_context (Some None) = None
+waiting_answer_context None = None
+
+-- this number waits for its answer, and this is kept of it
+abbrev pub WaitsAt : List (Option Unfinished) → ℕ → OpenRequest Body → Type 0
+WaitsAt requests number w = slice_get requests number ≡ Some (Some (still.Waiting w))
+
+-- its body can be read: it waits for its answer, and no 100 is owed; or it was upgraded
+abbrev pub is_readable : Option (Option Unfinished) → Bool
+is_readable (Some (Some (still.Waiting w))) = not w.owes_continue
+is_readable (Some (Some still.Raw)) = false
+is_readable (Some (Some (still.Upgraded b))) = true
+is_readable (Some None) = false
+is_readable None = false
+
+-- bytes can be written under it: its raw writer is in use, or it was upgraded
+abbrev pub is_writable : Option (Option Unfinished) → Bool
+is_writable (Some (Some (still.Waiting w))) = false
+is_writable (Some (Some still.Raw)) = true
+is_writable (Some (Some (still.Upgraded b))) = true
+is_writable (Some None) = false
+is_writable None = false
+
+-- it waits for its answer, and a 100 is owed
+abbrev pub owes_continue : Option (Option Unfinished) → Bool
+owes_continue (Some (Some (still.Waiting w))) = w.owes_continue
+owes_continue (Some (Some still.Raw)) = false
+owes_continue (Some (Some (still.Upgraded b))) = false
+owes_continue (Some None) = false
+owes_continue None = false
+
+-- the next head isn't read before it is answered
+abbrev pub holds_next_head_at : Option (Option Unfinished) → Bool
+holds_next_head_at (Some (Some (still.Waiting w))) = w.holds_next_head
+holds_next_head_at (Some (Some still.Raw)) = false
+holds_next_head_at (Some (Some (still.Upgraded b))) = false
+holds_next_head_at (Some None) = false
+holds_next_head_at None = false
+
+-- it waits for its answer, and no head is read behind it if it is finished now
+abbrev pub is_last_once_finished_at : Option (Option Unfinished) → Bool
+is_last_once_finished_at (Some (Some (still.Waiting w))) = is_last_once_finished w (remainder w.body)
+is_last_once_finished_at (Some (Some still.Raw)) = false
+is_last_once_finished_at (Some (Some (still.Upgraded b))) = false
+is_last_once_finished_at (Some None) = false
+is_last_once_finished_at None = false
+
+-- it waits for its answer, and one with this code is refused
+abbrev pub refuses_at : ℕ → Option (Option Unfinished) → Bool
+refuses_at code (Some (Some (still.Waiting w))) = refuses_code w.by_standard w.is_connect code
+refuses_at code (Some (Some still.Raw)) = false
+refuses_at code (Some (Some (still.Upgraded b))) = false
+refuses_at code (Some None) = false
+refuses_at code None = false
+
+-- it waits for its answer, and an upgrade to this protocol with this code is refused
+abbrev pub refuses_upgrade_at : List ℕ → ℕ → Option (Option Unfinished) → Bool
+refuses_upgrade_at protocol code (Some (Some (still.Waiting w))) = is_err (request_check w protocol code (is_whole w.body))
+refuses_upgrade_at protocol code (Some (Some still.Raw)) = false
+refuses_upgrade_at protocol code (Some (Some (still.Upgraded b))) = false
+refuses_upgrade_at protocol code (Some None) = false
+refuses_upgrade_at protocol code None = false
+
+-- no head is read behind it once it gets the connection's stream
+abbrev pub is_last_with_stream_at : Option (Option Unfinished) → Bool
+is_last_with_stream_at o = holds_next_head_at o || is_last_once_finished_at o
+
+-- the answer of this number says that the connection ends, if it waits for it
+abbrev pub closing_number : Option Unfinished → Option Unfinished
+closing_number (Some (still.Waiting w)) = Some (still.Waiting (closing w))
+closing_number (Some still.Raw) = Some still.Raw
+closing_number (Some (still.Upgraded b)) = Some (still.Upgraded b)
+closing_number None = None
+
+-- the same of the last of these
+abbrev pub last_closing : List (Option Unfinished) → List (Option Unfinished)
+last_closing [] = []
+last_closing (u ∷ []) = closing_number u ∷ []
+last_closing (u ∷ v ∷ us) = u ∷ last_closing (v ∷ us)
+
+-- the same if an answer asks for it
+abbrev pub asked_to_close : Bool → List (Option Unfinished) → List (Option Unfinished)
+asked_to_close closes requests = if closes then last_closing requests else requests
+
+-- the next head isn't read before the last of these is answered
+abbrev pub last_holds_next_head : List (Option Unfinished) → Bool
+last_holds_next_head [] = false
+last_holds_next_head (u ∷ []) = holds_next_head_at (Some u)
+last_holds_next_head (u ∷ v ∷ us) = last_holds_next_head (v ∷ us)
+
+-- the body that is kept of a number, if any
+abbrev pub kept_body : Option Unfinished → Option Body
+kept_body None = None
+kept_body (Some (still.Waiting w)) = Some w.body
+kept_body (Some still.Raw) = None
+kept_body (Some (still.Upgraded b)) = Some b
+
+-- this body was given up; where none is, the source is left alone
+abbrev pub GivesUpBody : {R : Type 0} → Option Body → SourceState R → SourceState R → Type 0
+GivesUpBody None old new = new ≡ old
+GivesUpBody (Some b) old new = GivesUp b old new
+
+-- the same number, with this in place of its body
+abbrev pub with_body : Body → Unfinished → Unfinished
+with_body b (still.Waiting w) = still.Waiting (record w { body = b })
+with_body b still.Raw = still.Raw
+with_body b (still.Upgraded c) = still.Upgraded b
+
+-- the body of the last of these, if one is kept
+abbrev pub last_body : List (Option Unfinished) → Option Body
+last_body [] = None
+last_body (u ∷ []) = kept_body u
+last_body (u ∷ v ∷ us) = last_body (v ∷ us)
+
+-- the body is read from the input
+abbrev pub is_streaming_body : Option Body → Bool
+is_streaming_body None = false
+is_streaming_body (Some b) = is_streaming b
+
+-- A REFUSED HEAD takes the next number, and its answer is left there; or memory is refused for that, and nothing changes. The answer
+-- isn't held back while the next head is waited for.
+pub record RefusesHead {W : Type 0} (p : Pending) (o : OutletState W) (text : List ℕ) (kept : Bool) (q : Pending) (u : OutletState W) : Type 0 where
+  pub leaves : kept ≡ true → (outlet_ended o ≡ false → CanSend (output_of o))
+      → LeavesText (length p.turns.marks == first_unfinished p.turns.marks) p.turns.marks [] q.turns.marks text (outlet_ended o) (output_of o) (output_of u) (outlet_ended u)
+  pub counts : kept ≡ true → length q.turns.marks ≡ length p.turns.marks + 1
+  pub requests : kept ≡ true → q.requests ≡ p.requests ++ (None ∷ [])
+  pub bound : kept ≡ true → length q.requests < 2 ^ 64
+  pub stays : kept ≡ false → (q.turns ≡ p.turns) × (q.requests ≡ p.requests) × (u ≡ o)
+  pub fails_once : FailsOnce o u
+  pub flushed : outlet_held o ≡ [] → outlet_held u ≡ []
+  pub sent_on : SentOn o → SentOn u
+
+-- a text is written in the turn of a number that is held
+abbrev pub WritesHeld : {W : Type 0} → HeldNumber → OutletState W → List ℕ → HeldNumber → OutletState W → Type 0
+WritesHeld k o text l u = (l ≡ k) × SendsQuietlyOn o u text × FailsOnce o u
+
+-- what finishing says of the next number: it had been left with this text, and is held; or it hadn't
+abbrev pub NextHeld : HeldNumber → Finishing (Unit {0}) → Option (Vec ℕ) → HeldNumber → Type 0
+NextHeld k r None l = ((u : Unit {0}) (next : Vec ℕ) → r ≡ Go u next → ⊥)
+NextHeld k r (Some text) l = ((u : Unit {0}) × (r ≡ Go u text)) × (l.0 ≡ k.0 + 1) × (l.0 < 2 ^ 64)
+
+-- a number that is held is finished, by a step of the turns
+abbrev pub FinishesHeld : HeldNumber → TurnsState (Unit {0}) → Option (Vec ℕ) → HeldNumber → TurnsState (Unit {0}) → Type 0
+FinishesHeld k p left l q =
+    (r : Finishing (Unit {0})) × (q.marks ≡ marks_after_step (Finish k.0) p.marks) × Finishes (turn_answer (Finish k.0) p.marks) tt p.resting r q.resting × NextHeld k r left l

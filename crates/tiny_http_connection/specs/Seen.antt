@@ -1,0 +1,129 @@
+-- The program's steps and replies as the definitions see them.
+use Rattle.std.specs.Prelude.{◌≡◌, ◌<◌, ◌^◌, List, [], ◌∷◌, length, Option, Some, Bool, true, false, not, ◌&&◌, ◌||◌, Result, Ok, Err, string_bytes}
+use Rattle.std.specs.IoError.{error_kind}
+use Rattle.std.specs.declared.io.Error.{Error}
+use Rattle.std.specs.declared.io.ErrorKind.{ErrorKind}
+use Rattle.httpdate.specs.declared.date.HttpDate.{HttpDate}
+use Rattle.tiny_http_io.specs.Device.{Feed, Sink, StatesKind, next_count}
+use Rattle.tiny_http_response.specs.Answer.{Answer, Printing, ResponseState}
+use Rattle.tiny_http_connection.specs.declared.driver.Step.{Step}
+use Rattle.tiny_http_connection.specs.declared.driver.Step.TheVariants as step
+use Rattle.tiny_http_connection.specs.declared.driver.Timed.{Timed}
+use Rattle.tiny_http_response.specs.declared.answer_context.AnswerContext.{AnswerContext}
+use Rattle.tiny_http_connection.specs.declared.driver.Reply.{Reply}
+use Rattle.tiny_http_connection.specs.declared.driver.Reply.TheVariants as reply
+use Rattle.tiny_http_open_request.specs.HeadReads.{head_message, head_framing}
+use Rattle.tiny_http_response.specs.ResponseValue.{ResponseValue, printing_in}
+use Rattle.tiny_http_connection.specs.Steps.{StepValue, Ask, AsReader, Read, Respond, IntoWriter, Write, Flush, Upgrade, Finish, Drop, ReplyValue, Handed, Ended, Given, Fault, NotYet, Done, Refused, NoSuch, Memory, fault_reply}
+use Rattle.tiny_http_connection.specs.Conversation.{TimedValue}
+use Rattle.tiny_http_response.specs.Sending.{Sends, IsFlushed, IsHonest, FailsAtMostOnce}
+
+-- the response states its data, of fewer than 2^63 bytes
+abbrev pub IsResponse : {D : Type 0} → (D → Option Feed) → ResponseState D → ResponseValue → Type 0
+IsResponse feed r value = (value.answer ≡ r.answer) × (feed r.data_reader ≡ Some value.content) × (length value.content.bytes < 2 ^ 63)
+
+-- the step is this one
+abbrev pub IsStep : {D : Type 0} → (D → Option Feed) → Step D → StepValue → Type 0
+IsStep feed step.Ask Ask = Unit {0}
+IsStep feed (step.AsReader k) (AsReader n) = n ≡ k
+IsStep feed (step.Read k n) (Read j m) = (j ≡ k) × (m ≡ n)
+IsStep feed (step.Respond k r) (Respond n value) = (n ≡ k) × IsResponse feed r value
+IsStep feed (step.IntoWriter k) (IntoWriter n) = n ≡ k
+IsStep feed (step.Write k v) (Write n bytes) = (n ≡ k) × (bytes ≡ v.items)
+IsStep feed (step.Flush k) (Flush n) = n ≡ k
+IsStep feed (step.Upgrade k p r) (Upgrade n protocol value) = (n ≡ k) × (protocol ≡ string_bytes p) × (value.answer ≡ r.answer)
+IsStep feed (step.Finish k) (Finish n) = n ≡ k
+IsStep feed (step.Drop k) (Drop n) = n ≡ k
+IsStep feed _ _ = ⊥
+
+-- the step on its date is this one
+abbrev pub IsTimedStep : {D : Type 0} → (D → Option Feed) → Timed D → TimedValue → Type 0
+IsTimedStep feed t d = (d.0 ≡ t.now) × IsStep feed t.step d.1
+
+-- the reply as it is seen
+abbrev pub seen : Reply → ReplyValue
+seen (reply.Handed k h) = Handed k (head_message h) (head_framing h)
+seen reply.Ended = Ended
+seen (reply.Given bytes) = Given bytes.items
+seen (reply.Fault kind) = Fault kind
+seen reply.NotYet = NotYet
+seen reply.Done = Done
+seen reply.Refused = Refused
+seen reply.NoSuch = NoSuch
+seen reply.Memory = Memory
+
+-- the fault is the writer's: its count rose, and it states this kind
+abbrev pub IsOfWriter : Sink → Sink → ErrorKind → Type 0
+IsOfWriter old new kind = (new.failures ≡ next_count old.failures) × StatesKind new.last_kind kind
+
+-- The step may fail by this kind: a Write and a Flush by the writer, a Respond by the writer or by its own data, printed for
+-- some request, and a Read by that of the body that it reads. The others report no fault.
+abbrev pub MayFail : {D : Type 0} → (D → Option Feed) → Sink → Sink → HttpDate → Step D → ErrorKind → Type 0
+MayFail feed old new date step.Ask kind = ⊥
+MayFail feed old new date (step.AsReader k) kind = ⊥
+MayFail feed old new date (step.Read k n) kind = Unit {0}
+MayFail feed old new date (step.Drop k) kind = ⊥
+MayFail feed old new date (step.IntoWriter k) kind = ⊥
+MayFail feed old new date (step.Write k v) kind = IsOfWriter old new kind
+MayFail feed old new date (step.Flush k) kind = IsOfWriter old new kind
+MayFail feed old new date (step.Upgrade k p r) kind = ⊥
+MayFail feed old new date (step.Finish k) kind = ⊥
+MayFail feed old new date (step.Respond k r) kind = (context : AnswerContext) × IsHonest old new r.answer (feed r.data_reader) (printing_in context date) kind
+
+-- a fault that an answer reports is the writer's, whose count rose, or that of the step's own data; of a body's nothing is said
+abbrev pub ReportsHonestly : {D : Type 0} → (D → Option Feed) → Sink → Sink → Timed D → Reply → Type 0
+ReportsHonestly feed old new t reply = (kind : ErrorKind) → seen reply ≡ Fault kind → MayFail feed old new t.now t.step kind
+
+-- Steps that report their faults so, while the writer's count goes from one number to another: a step raises it at most once.
+abbrev pub ReportHonestly : {D : Type 0} → (D → Option Feed) → Sink → List (Timed D) → List Reply → Sink → Type 0
+ReportHonestly feed old [] [] new = new.failures ≡ old.failures
+ReportHonestly feed old (t ∷ steps) (r ∷ replies) new =
+    (mid : Sink) × FailsAtMostOnce old mid × ReportsHonestly feed old mid t r × ReportHonestly feed mid steps replies new
+ReportHonestly feed old [] (r ∷ replies) new = ⊥
+ReportHonestly feed old (t ∷ steps) [] new = ⊥
+
+-- the step was done
+abbrev pub is_done : ReplyValue → Bool
+is_done Done = true
+is_done (Fault kind) = true
+is_done _ = false
+
+-- WHETHER ALL WAS SENT ON after a step, by whether all was before it: a Write that is done may hold its bytes back, a Flush, an
+-- answer and an upgrade that are done hold none; the other steps leave it as it is.
+abbrev pub all_sent_after : {D : Type 0} → Step D → ReplyValue → Bool → Bool
+all_sent_after step.Ask reply sent = sent
+all_sent_after (step.AsReader k) reply sent = sent
+all_sent_after (step.Read k n) reply sent = sent
+all_sent_after (step.Respond k r) reply sent = sent || is_done reply
+all_sent_after (step.IntoWriter k) reply sent = sent
+all_sent_after (step.Write k bytes) reply sent = sent && not (is_done reply)
+all_sent_after (step.Flush k) reply sent = sent || is_done reply
+all_sent_after (step.Upgrade k p r) reply sent = sent || is_done reply
+all_sent_after (step.Finish k) reply sent = sent
+all_sent_after (step.Drop k) reply sent = sent
+
+-- the same after all these steps
+abbrev pub all_sent : {D : Type 0} → List (Timed D) → List Reply → Bool → Bool
+all_sent [] [] sent = sent
+all_sent (t ∷ steps) (r ∷ replies) sent = all_sent steps replies (all_sent_after t.step (seen r) sent)
+all_sent _ _ sent = false
+
+-- what a call that sends an answer is reported as
+abbrev pub reply_to : {T : Type 0} → Result T Error → ReplyValue
+reply_to (Ok x) = Done
+reply_to (Err e) = fault_reply (error_kind e)
+
+-- what a call of a raw writer is reported as
+abbrev pub write_reply : {T : Type 0} → Result T Error → ReplyValue
+write_reply (Ok x) = Done
+write_reply (Err e) = Fault (error_kind e)
+
+-- what an answer that was made is replied
+abbrev pub IsAnswered : ReplyValue → Type 0
+IsAnswered Done = Unit {0}
+IsAnswered (Fault kind) = Unit {0}
+IsAnswered _ = ⊥
+
+-- an answer with this data was sent and flushed, and the reply reports how that went
+abbrev pub Answers : Sink → Sink → Bool → ReplyValue → Answer → Feed → Printing → Type 0
+Answers old new ended reply answer content p = (r : Result (Unit {0}) Error) × (reply ≡ reply_to r) × Sends old new ended r answer content p × IsFlushed new

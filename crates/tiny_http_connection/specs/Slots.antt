@@ -1,0 +1,265 @@
+-- The numbers of a connection: what stands under each, and what each sends.
+use Rattle.std.specs.Prelude.{ℕ, ◌-◌, nat_lt, Bool, true, false, not, ◌&&◌, ◌||◌, List, [], ◌∷◌, ◌++◌, take, drop, Option, Some, None, is_err, if◌then◌else◌}
+use Rattle.std.specs.List.{list_all, last_or}
+use Rattle.std.specs.declared.io.ErrorKind.TheVariants.{OutOfMemory}
+use Rattle.httpdate.specs.declared.date.HttpDate.{HttpDate}
+use Rattle.tiny_http_io.specs.Device.{Feed, whole_feed}
+use Rattle.tiny_http_io.specs.declared.device.Stop.{Stop}
+use Rattle.tiny_http_io.specs.declared.device.Stop.TheVariants.{End, Fault}
+use Rattle.tiny_http_response.specs.Answer.{Printing}
+use Rattle.tiny_http_body.specs.Text.{Text, Ending, Whole, Broken, prepend_text, whole, nothing_sent}
+use Rattle.tiny_http_body.specs.declared.framing.Form.{Form}
+use Rattle.tiny_http_body.specs.declared.framing.Form.TheVariants.{Rest, Nothing, WithHead, Counted, Chunked}
+use Rattle.tiny_http_open_request.specs.Pipeline.{Item, Asks, Refuses, Request, is_head_method, is_connect_method, body_length_or_0}
+use Rattle.tiny_http_open_request.specs.OpenRequest.{coding_for, refuses_code, upgrade_check}
+use Rattle.tiny_http_standard_head.specs.Judging.{names_protocol}
+use Rattle.tiny_http_response.specs.ResponseValue.{ResponseValue, response_of, response_text, upgrade_text, printing_to}
+use Rattle.tiny_http_open_request.specs.OwnAnswer.{own_printing, persistence_of, refusal_response}
+use Rattle.tiny_http_body.specs.declared.body.TheConstants.{MOST_SKIPPED}
+use Rattle.tiny_http_body.specs.declared.body.Remainder.{Remainder}
+use Rattle.tiny_http_body.specs.declared.body.Remainder.TheVariants as left
+use Rattle.tiny_http_body.specs.Body.{body_finished, is_long, is_skipped}
+
+-- what became of a number
+pub data Stage : Type 0 where
+  -- it waits for its answer
+  Unanswered : Stage
+  -- it was answered by this response on this date; `found`: the memory for data that are read whole first was found
+  Answered : (response : ResponseValue) (date : HttpDate) (found : Bool) → Stage
+  -- the server answered itself: a refused head, a request that was dropped, or one whose upgrade was refused
+  ByServer : Stage
+  -- its raw writer wrote these bytes, and has ended or not
+  Raw : (written : List ℕ) (closed : Bool) → Stage
+  -- it was upgraded by this response on this date; then these bytes were written, and the stream has ended or not
+  Upgraded : (protocol : List ℕ) (response : ResponseValue) (date : HttpDate) (written : List ℕ) (closed : Bool) → Stage
+
+-- A number that was reached: its item, the date of its Ask, the date of its 100 if that was sent, whether a 100 is still
+-- owed, how many bytes of its body were given out, whether the body's end or fault was reported, whether the body was given
+-- up, whether, by the standard, its answer says that the connection ends (where an answer asked for that; and then as was decided
+-- as it was finished), and what became of it.
+pub record Slot : Type 0 where
+  pub item : Item
+  pub date : HttpDate
+  pub continued : Option HttpDate
+  pub owed : Bool
+  pub given : ℕ
+  pub end_reported : Bool
+  pub given_up : Bool
+  pub closes : Bool
+  pub stage : Stage
+
+-- what a dropped request is answered
+abbrev pub drop_response : ResponseValue
+drop_response = response_of 500 [] []
+
+-- the 100 of a request that expects it
+abbrev pub continue_response : ResponseValue
+continue_response = response_of 100 [] []
+
+-- an answer to a request: in its version, by its headers, without a body for HEAD; by the standard it says whether the connection ends
+abbrev pub to_request : Bool → Request → HttpDate → Printing
+to_request closes r date = printing_to (coding_for r.framing.by_standard r.message.headers) r.message.version (is_head_method r.message.method) (persistence_of r.framing.by_standard closes) date
+
+-- how an answer under an item is printed
+abbrev pub printing_for : Bool → Item → HttpDate → Printing
+printing_for closes (Asks r) date = to_request closes r date
+printing_for closes (Refuses refusal manner no_body last) date = own_printing manner no_body date
+
+abbrev pub server_response : Item → ResponseValue
+server_response (Asks r) = drop_response
+server_response (Refuses refusal manner no_body last) = refusal_response refusal
+
+-- the text of a response; no byte where its data had to be read whole first and no memory was found
+abbrev pub text_if : Bool → ResponseValue → Printing → Text
+text_if true r p = response_text r p
+text_if false r p = nothing_sent OutOfMemory
+
+-- the number has the last head
+abbrev pub is_last_item : Item → Bool
+is_last_item (Asks r) = r.framing.is_last
+is_last_item (Refuses refusal manner no_body last) = last
+
+-- what a stage sends
+abbrev pub stage_text : Bool → Item → HttpDate → Stage → Text
+stage_text closes item date Unanswered = whole []
+stage_text closes item date (Answered response at found) = text_if found response (printing_for closes item at)
+stage_text closes item date ByServer = response_text (server_response item) (printing_for closes item date)
+stage_text closes item date (Raw written closed) = whole written
+stage_text closes item date (Upgraded protocol response at written closed) = whole (upgrade_text response protocol (printing_for (is_last_item item) item at) ++ written)
+
+-- the 100 in front, if it was sent
+abbrev pub opening : Item → Option HttpDate → List ℕ
+opening item None = []
+opening item (Some date) = (response_text continue_response (printing_for (is_last_item item) item date)).bytes
+
+-- THE SEGMENT: the part of the output that belongs to a number, and how it ends
+abbrev pub slot_text : Slot → Text
+slot_text s = prepend_text (opening s.item s.continued) (stage_text s.closes s.item s.date s.stage)
+
+abbrev pub segment : Slot → List ℕ
+segment s = (slot_text s).bytes
+
+abbrev pub is_broken : Ending → Bool
+is_broken Whole = false
+is_broken (Broken kind) = true
+
+abbrev pub is_slot_broken : Slot → Bool
+is_slot_broken s = is_broken (slot_text s).ending
+
+-- the number is finished
+abbrev pub is_stage_finished : Stage → Bool
+is_stage_finished Unanswered = false
+is_stage_finished (Answered response date found) = true
+is_stage_finished ByServer = true
+is_stage_finished (Raw written closed) = closed
+is_stage_finished (Upgraded protocol response date written closed) = closed
+
+abbrev pub is_finished : Slot → Bool
+is_finished s = is_stage_finished s.stage
+
+-- the number's turn has come when all before it are finished
+abbrev pub turn_has_come : ℕ → List Slot → Bool
+turn_has_come k slots = list_all is_finished (take k slots)
+
+-- THE JOINED OUTPUT: the segments in the order of their numbers, as far as turns have come, ending after the first broken one
+abbrev pub joined : List Slot → List ℕ
+joined [] = []
+joined (s ∷ slots) = segment s ++ (if (is_finished s && not (is_slot_broken s)) then joined slots else [])
+
+-- a broken segment has ended the output
+abbrev pub is_output_broken : List Slot → Bool
+is_output_broken [] = false
+is_output_broken (s ∷ slots) = is_slot_broken s || (is_finished s && is_output_broken slots)
+
+-- the slot of an item that is reached
+abbrev pub new_slot : HttpDate → Item → Slot
+new_slot date (Asks r) =
+    record { item = Asks r; date = date; continued = None; owed = r.framing.owes_continue; given = 0; end_reported = false; given_up = false; closes = false; stage = Unanswered }
+new_slot date (Refuses refusal manner no_body last) =
+    record { item = Refuses refusal manner no_body last; date = date; continued = None; owed = false; given = 0; end_reported = false; given_up = true; closes = false; stage = ByServer }
+
+-- what is left of a request's body
+abbrev pub rest_of : Request → ℕ → Feed
+rest_of r given = record { bytes = drop given r.body.bytes; stop = r.body.stop }
+
+-- a body stops by its end
+abbrev pub is_end : Stop → Bool
+is_end End = true
+is_end (Fault kind) = false
+
+abbrev pub is_body_finished : Request → Slot → Bool
+is_body_finished r s = body_finished r.framing.form (body_length_or_0 r.framing) s.given s.end_reported
+
+-- forms whose body is read from the stream, up to where the next head begins, or to its end
+abbrev pub is_form_streamed : Form → Bool
+is_form_streamed Counted = true
+is_form_streamed Chunked = true
+is_form_streamed Rest = true
+is_form_streamed Nothing = false
+is_form_streamed WithHead = false
+
+-- the body is read from the stream, isn't finished and wasn't given up
+abbrev pub body_is_open : Slot → Item → Bool
+body_is_open s (Asks r) = is_form_streamed r.framing.form && not (is_body_finished r s || s.given_up)
+body_is_open s (Refuses refusal manner no_body last) = false
+
+abbrev pub is_chunked : Form → Bool
+is_chunked Chunked = true
+is_chunked _ = false
+
+abbrev pub is_counted : Form → Bool
+is_counted Counted = true
+is_counted _ = false
+
+abbrev pub is_unanswered : Stage → Bool
+is_unanswered Unanswered = true
+is_unanswered _ = false
+
+-- it asks for an upgrade, and isn't the last: what follows it may be bytes of the other protocol
+abbrev pub holds_next_head : Request → Bool
+holds_next_head r = r.framing.asks_upgrade && not r.framing.is_last
+
+-- What is left of the body of a request, if it is finished now. Its end isn't known where chunks were not read to their end, or a read met
+-- its cut or its break.
+abbrev pub remainder_of : Request → ℕ → Bool → Remainder
+remainder_of r given end_reported =
+    if (is_chunked r.framing.form && not end_reported) || (body_finished r.framing.form (body_length_or_0 r.framing) given end_reported && not (is_end r.body.stop)) then left.Endless else
+    if is_counted r.framing.form && (not end_reported && nat_lt MOST_SKIPPED (body_length_or_0 r.framing - given)) then left.Long else left.Skipped
+
+-- No head is read behind a request that is finished now: by the standard its 100 wasn't sent, so that the client may leave the body out, or
+-- send it; or more is left of its body than is skipped.
+abbrev pub is_last_once_finished : Request → Bool → ℕ → Bool → Bool
+is_last_once_finished r owed given end_reported = r.framing.by_standard && (owed || is_long (remainder_of r given end_reported))
+
+-- By the standard the answer of a request that is finished now says that the connection ends: its head ended it, an answer asked for that,
+-- its 100 is owed, or what is left of its body isn't skipped: it is long, or its end isn't known.
+abbrev pub closes_now : Request → Bool → Bool → ℕ → Bool → Bool
+closes_now r closes owed given end_reported = r.framing.is_last || (closes || (owed || not (is_skipped (remainder_of r given end_reported))))
+
+-- the number's answer says that the connection ends, if it isn't made yet
+abbrev pub closing : Slot → Slot
+closing s = if is_unanswered s.stage then record s { closes = true } else s
+
+-- the same of the last of these
+abbrev pub last_closing : List Slot → List Slot
+last_closing [] = []
+last_closing (s ∷ []) = closing s ∷ []
+last_closing (s ∷ t ∷ slots) = s ∷ last_closing (t ∷ slots)
+
+-- the request isn't answered by this response
+abbrev pub refuses_response : Request → ResponseValue → Bool
+refuses_response r response = refuses_code r.framing.by_standard (is_connect_method r.message.method) response.answer.status
+
+-- it asks for this protocol, and isn't the last
+abbrev pub asks_protocol : Request → List ℕ → Bool
+asks_protocol r protocol = holds_next_head r && names_protocol r.message.headers protocol
+
+-- its body has come whole, and was read to its end or with its head
+abbrev pub is_body_whole : Request → Slot → Bool
+is_body_whole r s = is_body_finished r s && is_end r.body.stop
+
+-- the request isn't upgraded to this protocol by this response
+abbrev pub refuses_upgrade : Request → Slot → List ℕ → ResponseValue → Bool
+refuses_upgrade r s protocol response = is_err (upgrade_check r.framing.by_standard (asks_protocol r protocol) protocol response.answer.status (is_body_whole r s))
+
+-- all that follows the request, as the body of its upgraded connection
+abbrev pub as_stream : Request → Request
+as_stream r = record r { framing = record r.framing { form = Rest; is_last = true }; body = r.behind; behind = whole_feed [] }
+
+-- The number is upgraded. By the standard its stream reads all that follows the request, else the request's own body.
+abbrev pub upgraded_slot : Request → Slot → Stage → Slot
+upgraded_slot r s stage =
+    if r.framing.by_standard then record s { item = Asks (as_stream r); given = 0; end_reported = false; stage = stage; owed = false } else record s { stage = stage; owed = false }
+
+-- the next head isn't read before this number is answered
+abbrev pub is_holding : Slot → Item → Bool
+is_holding s (Asks r) = holds_next_head r && is_unanswered s.stage
+is_holding s (Refuses refusal manner no_body last) = false
+
+-- a chunked body was given up before its end was reported: where the next head begins isn't known
+abbrev pub body_was_abandoned : Slot → Item → Bool
+body_was_abandoned s (Asks r) = is_chunked r.framing.form && (s.given_up && not s.end_reported)
+body_was_abandoned s (Refuses refusal manner no_body last) = false
+
+abbrev pub last_slot : List Slot → Option Slot
+last_slot slots = last_or None slots
+
+abbrev pub is_last_slot : Option Slot → Bool
+is_last_slot None = false
+is_last_slot (Some s) = is_last_item s.item
+
+abbrev pub last_is_open : Option Slot → Bool
+last_is_open None = false
+last_is_open (Some s) = body_is_open s s.item
+
+abbrev pub last_is_holding : Option Slot → Bool
+last_is_holding None = false
+last_is_holding (Some s) = is_holding s s.item
+
+-- the last request holds the reader: the next head can't be read yet
+abbrev pub last_holds_reader : Option Slot → Bool
+last_holds_reader last = (not (is_last_slot last) && last_is_open last) || last_is_holding last
+
+abbrev pub last_was_abandoned : Option Slot → Bool
+last_was_abandoned None = false
+last_was_abandoned (Some s) = body_was_abandoned s s.item

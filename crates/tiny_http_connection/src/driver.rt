@@ -1,0 +1,625 @@
+//! A connection driven step by step, or by a list of steps, without threads.
+ghost use Rattle.std.specs.Global.{Global as Heap, Vec};
+ghost use Rattle.std.specs.Prelude.{◌≡◌, ℕ, ◌+◌, ◌-◌, ◌<◌, ◌^◌, true, false, List, [], length, Some, None, Ok, IfOk, IfErr, IsTrue, is_some, slice_get, String, string_bytes};
+ghost use Rattle.tiny_http_io.specs.Device.{Feed, Sink};
+ghost use Rattle.tiny_http_response.specs.ResponseValue.{ResponseValue};
+ghost use Rattle.tiny_http_open_request.specs.OpenRequest.{final_context};
+ghost use Rattle.tiny_http_open_request.specs.Pipeline.{Item, Pipeline};
+ghost use Rattle.tiny_http_connection.specs.Conversation.{IsConversation, IsFresh, TimedValue};
+ghost use Rattle.httpdate.specs.declared.date.HttpDate.{HttpDate as Date};
+ghost use Rattle.tiny_http_connection.specs.Steps.{ReplyValue, Done, Fault};
+ghost use Rattle.std.specs.declared.io.ErrorKind.{ErrorKind};
+ghost use Rattle.tiny_http_connection.specs.Pending.{waiting_answer_context};
+ghost use Rattle.tiny_http_connection.specs.Driving.{HasDone, TakesStep, Drops, ends_behind, stated_response, stated_step};
+ghost use Rattle.tiny_http_connection.specs.Runs.{IsConversationOf, RunsSteps};
+ghost use Rattle.tiny_http_response.specs.ResponseValue.{printing_in};
+ghost use Rattle.tiny_http_connection.specs.Seen.{seen, write_reply, Answers, IsAnswered, IsResponse, ReportsHonestly};
+ghost use Rattle.tiny_http_io.specs.Outlet.{output_of, outlet_ended, outlet_held, outlet_writer, SentOn};
+ghost use Rattle.tiny_http_response.specs.Sending.{CanSend, IsHonest, FailsOnce};
+
+use crate::pending::{Pending, Unfinished, close_body};
+use httpdate::HttpDate;
+use std::alloc::{AllocError, Global};
+use std::io;
+use std::io::ErrorKind;
+use std::marker::Model;
+use tiny_http_body::body::{Body, Remainder};
+use tiny_http_body::framing::Profile;
+use tiny_http_io::device::{ReadDevice, WriteDevice};
+use tiny_http_io::outlet::Outlet;
+use tiny_http_io::source::{Source, Standing};
+use tiny_http_open_request::exchange::{EndOfRequests, Head};
+use tiny_http_open_request::next_request::{NextRequest, next_request};
+use tiny_http_open_request::open_request::OpenRequest;
+use tiny_http_response::response::Response;
+use tiny_http_response::sending::reported;
+
+/// What is done next on a connection.
+#[derive(Drop)]
+pub enum Step<D> {
+    /// Reads the next head and hands it out. It is `NotYet` while the body of the last request that was handed out holds the
+    /// reader: one that is counted or chunked, neither read to its end nor given up, of a request that isn't the connection's
+    /// last. Under `Standard` it is `NotYet`, too, while a request that asks for an upgrade waits for its answer. After a
+    /// chunked body that was given up before its end was reported no head follows.
+    Ask,
+    /// Sends the 100 that is owed to the request of this number. Before its turn it is `NotYet`.
+    AsReader(u64),
+    /// Reads the body of the request of this number, until there are so many bytes, 0 to 65535, or no more follow.
+    Read(u64, u16),
+    /// Answers the request of this number in its turn, and gives its body up.
+    Respond(u64, Response<D>),
+    /// Takes the raw writer of the request of this number in place of an answer, and gives its body up.
+    IntoWriter(u64),
+    /// Writes these bytes by the raw writer of this number, or to the stream of its upgrade, in its turn. They may be held
+    /// until its `Flush` or `Finish`.
+    Write(u64, Vec<u8>),
+    /// Sends what was written under this number, in its turn.
+    Flush(u64),
+    /// Answers the request of this number in its turn by a response that upgrades the connection to this protocol. Then its
+    /// stream is read by `Read`, and written by `Write`, until its `Finish`. It reads what is left of the request's body, or under
+    /// `Standard` all that follows the body.
+    Upgrade(u64, String, Response<D>),
+    /// Ends the raw writer of this number, or the stream of an upgrade. In its turn what was written is sent.
+    Finish(u64),
+    /// Drops the request of this number, and gives its body up: it is answered by an empty 500, on the date on which it was
+    /// handed out.
+    Drop(u64),
+}
+
+/// A step on its date.
+#[derive(Drop)]
+pub struct Timed<D> {
+    /// The `Date` of what the step sends; a dropped request's 500 has that of its `Ask`.
+    pub now: HttpDate,
+    /// What is done.
+    pub step: Step<D>,
+}
+
+/// What a step is answered.
+#[derive(Drop)]
+pub enum Reply {
+    /// The request of this number. Refused heads have taken numbers too.
+    Handed(u64, Head),
+    /// The connection has no further request.
+    Ended,
+    /// These bytes of the body. Where they are fewer than were asked for no byte follows: the next read reports the end by
+    /// none, or the fault.
+    Given(Vec<u8>),
+    /// The body ends by this fault; or the writer or the response's data failed so.
+    Fault(ErrorKind),
+    /// The step has to wait: an `Ask` for the last body to be read or given up, or for the answer to a request that asks for an
+    /// upgrade; a `Respond` or an `Upgrade` that isn't refused, a `Write`, a `Flush`, or an `AsReader` that has a 100 to send,
+    /// for its turn. Nothing has changed.
+    NotYet,
+    /// The step was done, and met no fault that is reported.
+    Done,
+    /// An upgrade was refused; or under `Standard` an answer, by its code. The request was dropped.
+    Refused,
+    /// No request of this number takes the step; nothing has changed.
+    NoSuch,
+    /// No memory was found. A `Read` has changed nothing; after an `Ask` every later one is answered `Ended`.
+    Memory,
+}
+
+/// What a run leaves: one reply a step, and reader and writer within their buffers.
+#[derive(Drop)]
+pub struct Record<R: ReadDevice, W: WriteDevice> {
+    /// What each step was answered.
+    pub replies: Vec<Reply>,
+    /// The reader, with the bytes that are held. While requests may follow it stands after the last head that was read, and
+    /// after what was read of that request's body.
+    pub source: Source<R>,
+    /// The writer, with what is held back. Its bytes and then those held are the output.
+    pub outlet: Outlet<W>,
+}
+
+/// Room for the replies was refused: nothing was read or written.
+#[derive(Drop)]
+pub struct RunError<R, W> {
+    /// The reader, as it was.
+    pub reader: R,
+    /// The writer, as it was.
+    pub writer: W,
+}
+
+/// A connection over a reader and a writer, without threads. It hands out the client's requests one after another, reads
+/// their bodies when they are asked for, and sends the answers in the order of the requests (RFC 9112, section 9.3.2): an
+/// answer that is made before its turn is refused by `NotYet`, and a drop waits for its turn. A program drives it call by call;
+/// each call is a step of the connection theorem.
+#[derive(Drop)]
+pub struct Connection<R: ReadDevice, W: WriteDevice> {
+    profile: Profile,
+    source: Source<R>,
+    outlet: Outlet<W>,
+    pending: Pending,
+    end: Option<EndOfRequests>,
+}
+
+impl<R: ReadDevice, W: WriteDevice> Model for Connection<R, W> {
+    ghost use Rattle.tiny_http_connection.specs.Connection.{ConnectionState};
+
+    ghost Value = { ConnectionState R W };
+
+    ghost view = { λ c. record { profile = c.profile; marks = c.pending.turns.marks; requests = c.pending.requests; end = c.end; source = c.source; outlet = c.outlet } };
+}
+
+impl Reply {
+    // The reply for a reported result: `Done`, or the kind of the fault.
+    fn write_reply(written: Result<(), io::Error>) -> Reply
+        ensures { seen result ≡ write_reply written }
+    {
+        match written {
+            Ok(()) => Reply::Done,
+            Err(fault) => Reply::Fault(fault.kind()),
+        }
+    }
+}
+
+// Answers a request whose turn has come, of whose body this is left, and says how that is replied. An output that has ended
+// sends nothing, and the data are left unread.
+fn answer<W: WriteDevice, D: ReadDevice + Drop>(
+    alloc: Global,
+    request: &mut OpenRequest<Body>,
+    outlet: &mut Outlet<W>,
+    response: Response<D>,
+    left: Remainder,
+    now: HttpDate,
+) -> Reply
+    ensures past { outlet_ended outlet.old ≡ true → (outlet.new ≡ outlet.old) × (seen result ≡ Done) }
+    ensures sends { (content : Feed) → D.feed response.data_reader ≡ Some content → length content.bytes < 2 ^ 63
+        → outlet_ended outlet.old ≡ false → CanSend (output_of outlet.old)
+        → Answers (output_of outlet.old) (output_of outlet.new) (outlet_ended outlet.new) (seen result) response.answer content (printing_in (final_context request.old left) now) }
+    ensures fails_once { FailsOnce outlet.old outlet.new }
+    ensures flushed { outlet_held outlet.new ≡ [] }
+    ensures sent_on { SentOn outlet.new }
+    ensures body { request.new.body ≡ request.old.body }
+    ensures done { IsAnswered (seen result) }
+    ensures honest { (kind : ErrorKind) → seen result ≡ Fault kind → (outlet_ended outlet.new ≡ true)
+        × IsHonest (output_of outlet.old) (output_of outlet.new) response.answer (D.feed response.data_reader) (printing_in (final_context request.old left) now) kind }
+{
+    Reply::write_reply(reported(request.respond(alloc, outlet, response, left, now)))
+}
+
+// Why the requests end, where no head is read behind a request, if this holds.
+fn ends_behind(ends: bool, end: Option<EndOfRequests>) -> Option<EndOfRequests>
+    ensures { result ≡ ends_behind ends end }
+{
+    match end {
+        None if ends => Some(EndOfRequests::LastRequest),
+        _ => end,
+    }
+}
+
+// So many bytes 0.
+fn zeros(alloc: Global, count: u16) -> Result<Vec<u8>, AllocError>
+    ensures { IfOk result (λ v. length v.items ≡ count) }
+{
+    let mut bytes = Vec::new(alloc);
+    bytes.resize(usize::from(count), 0)?;
+    Ok(bytes)
+}
+
+impl<R: ReadDevice, W: WriteDevice> Connection<R, W> {
+    /// A connection on which nothing was asked yet, under `Lenient`. Its theorem is for a writer that has taken nothing and has
+    /// not ended.
+    pub fn new(alloc: Global, reader: R, writer: W) -> Connection<R, W>
+        ensures profile { result.profile ≡ Profile.Lenient }
+        ensures begins { (client : Feed) → R.feed reader ≡ Some client → IsFresh (W.sink writer) → HasDone Profile.Lenient client (W.sink writer) result [] [] }
+        ensures open { (result.end ≡ None) × (result.requests ≡ []) }
+        ensures source { (result.source.feed ≡ R.feed reader) × (result.source.standing ≡ Standing.Head) }
+        ensures outlet { result.outlet ≡ record { held = []; ended = false; writer = writer; sink = W.sink writer } }
+    {
+        Connection::new_with(alloc, Profile::Lenient, reader, writer)
+    }
+
+    /// The same under this profile, by which its heads are read.
+    pub fn new_with(alloc: Global, profile: Profile, reader: R, writer: W) -> Connection<R, W>
+        ensures profile { result.profile ≡ profile }
+        ensures begins { (client : Feed) → R.feed reader ≡ Some client → IsFresh (W.sink writer) → HasDone profile client (W.sink writer) result [] [] }
+        ensures open { (result.end ≡ None) × (result.requests ≡ []) }
+        ensures source { (result.source.feed ≡ R.feed reader) × (result.source.standing ≡ Standing.Head) }
+        ensures outlet { result.outlet ≡ record { held = []; ended = false; writer = writer; sink = W.sink writer } }
+    {
+        Connection {
+            profile,
+            source: Source::new(reader),
+            outlet: Outlet::new(writer),
+            pending: Pending::new(alloc),
+            end: None,
+        }
+    }
+
+    /// Why no further request is handed out, once an `ask` was answered `Ended` or `Memory`, or a request was finished,
+    /// upgraded or its raw writer taken, behind which none is read.
+    pub fn end_of_requests(&self) -> Option<EndOfRequests>
+        ensures { result ≡ self.now.end }
+    {
+        self.end
+    }
+
+    /// The number that the next request or refused head takes. They are numbered from 0.
+    pub fn next_number(&self) -> u64
+        ensures { result ≡ length self.now.requests }
+    {
+        self.pending.requests.len()
+    }
+
+    /// Whether the request of this number waits for its answer.
+    pub fn is_open(&self, number: u64) -> bool
+        ensures { result ≡ is_some (waiting_answer_context (slice_get self.now.requests number)) }
+    {
+        self.pending.is_waiting(number)
+    }
+
+    /// Goes to the next request, and hands it out with its number: `Handed`. It is `NotYet` while the body of the last request
+    /// holds the reader: until that was read to its end or given up. It is so, too, while the last request waits for its answer
+    /// and its head says `asks_upgrade`, unless it is the connection's last: what follows it may be bytes of the other protocol
+    /// (RFC 9110, section 7.8). The reply is `Ended` once the connection has no further request, from then on, and
+    /// `end_of_requests` says why. A refused head is answered under a number of its own, in its turn, and ends the asking; but
+    /// a 505 does so only where its head names an upgrade or its body is chunked. After any other 505 the same call reads the
+    /// next head. `Memory` ends the asking too, and so does a chunked body that was given up before its end. Under `Standard`
+    /// each 505 ends it; so does a request that asked for an upgrade, once its raw writer is taken or it is upgraded, and one
+    /// that is answered, dropped or gives its raw writer while its 100 is owed, or while more than 65,536 bytes of its body are
+    /// unread. The call waits for the client only until the
+    /// head and a body of up to 1024 bytes have come, or the head alone where it expects a 100, and before them the rest of a
+    /// counted body that was given up or passed over. After the last request the reader isn't called. `now` dates the answers
+    /// to refused heads, and the 500 of this request if it is dropped.
+    #[inline(never)]
+    pub fn ask(&mut self, alloc: Global, now: HttpDate) -> Reply
+        ensures step { TakesStep self.old self.new now Step.Ask (seen result) }
+    {
+        if self.end.is_some() {
+            return Reply::Ended;
+        }
+        if matches!(self.source.standing(), Standing::Body) {
+            return Reply::NotYet;
+        }
+        if self.pending.last_holds_next_head() {
+            return Reply::NotYet;
+        }
+        let (source, outlet) = (&mut self.source, &mut self.outlet);
+        match next_request(alloc, source, self.profile, &mut self.pending, outlet, now) {
+            Ok(NextRequest::Request(exchange)) => {
+                let (head, request) = exchange.into_parts();
+                match self.pending.issue(Some(Unfinished::Waiting(request))) {
+                    Ok(number) => Reply::Handed(number, head),
+                    Err(_) => {
+                        self.end = Some(EndOfRequests::Memory);
+                        Reply::Memory
+                    }
+                }
+            }
+            Ok(NextRequest::Ended(why)) => {
+                self.end = Some(why);
+                Reply::Ended
+            }
+            Err(_) => {
+                self.end = Some(EndOfRequests::Memory);
+                Reply::Memory
+            }
+        }
+    }
+
+    /// Sends the 100 that is owed to the request of this number, and flushes (RFC 9110, section 10.1.1): `Done`. Its body can
+    /// be read then. It is `Done` too where no 100 is owed, and changes nothing. After the output has ended nothing is sent,
+    /// and none is owed any more. It is `NotYet` where a 100 is owed and a number before it isn't finished, and `NoSuch` for a
+    /// number that doesn't wait for an answer; then nothing has changed. No reply reports a fault of the writer. The call takes
+    /// no memory. `now` is the `Date` of the 100.
+    #[inline(never)]
+    pub fn as_reader(&mut self, alloc: Global, now: HttpDate, number: u64) -> Reply
+        ensures step { TakesStep self.old self.new now (Step.AsReader number) (seen result) }
+    {
+        if !self.pending.is_waiting(number) {
+            return Reply::NoSuch;
+        }
+        if !self.pending.owes_continue(number) {
+            return Reply::Done;
+        }
+        if !self.pending.is_in_turn(number) {
+            return Reply::NotYet;
+        }
+        self.pending
+            .send_continue(alloc, &mut self.outlet, number, now);
+        Reply::Done
+    }
+
+    /// Reads the body of the request of this number, until there are `count` bytes or no more follow: `Given`, without a byte
+    /// once the body has ended. It is `Fault` where the body is cut or broken, at each later read too. It is `NoSuch` for a
+    /// number that neither waits for an answer nor was upgraded, and while a 100 is owed to its request. It is `Memory` where
+    /// there is none for so many bytes, which changes nothing. It takes no date, as it sends nothing.
+    #[inline(never)]
+    pub fn read(&mut self, alloc: Global, number: u64, count: u16) -> Reply
+        ensures step { (date : Date) → TakesStep self.old self.new date (Step.Read number count) (seen result) }
+    {
+        if !self.pending.is_readable(number) {
+            return Reply::NoSuch;
+        }
+        if count == 0 {
+            return Reply::Given(Vec::new(alloc));
+        }
+        let Ok(mut bytes) = zeros(alloc, count) else {
+            return Reply::Memory;
+        };
+        match self
+            .pending
+            .fill(&mut self.source, number, bytes.as_mut_slice())
+        {
+            Ok(n) => {
+                bytes.truncate(n);
+                Reply::Given(bytes)
+            }
+            Err(kind) => Reply::Fault(kind),
+        }
+    }
+
+    /// Drops the request of this number, and gives its body up: an empty 500 is its answer, on the date of its `ask`. It is
+    /// sent now, or by the call that finishes the last number before it; it is never `NotYet`. `Done`, or `NoSuch` for a number
+    /// that doesn't wait for an answer. It takes no memory, and no reply reports a fault of the writer. Under `Standard` no request
+    /// follows one that is dropped or answered while its 100 is owed, or while more than 65,536 bytes of its body are unread. The
+    /// 500 says `close` as an answer by `respond` does.
+    #[inline(never)]
+    pub fn drop_request(&mut self, number: u64) -> Reply
+        ensures step { (date : Date) → TakesStep self.old self.new date (Step.Drop number) (seen result) }
+    {
+        if !self.let_go(number) {
+            return Reply::NoSuch;
+        }
+        Reply::Done
+    }
+
+    // Drops the request of this number, and gives its body up. Whether it waited for its answer.
+    #[inline(never)]
+    fn let_go(&mut self, number: u64) -> bool
+        ensures drops { IsTrue result → Drops number self.old self.new }
+        ensures none { result ≡ false → (waiting_answer_context (slice_get self.old.requests number) ≡ None) × (self.new ≡ self.old) }
+    {
+        let Some(request) = self.pending.take(number, None) else {
+            return false;
+        };
+        let left = request.body.remainder();
+        self.end = ends_behind(request.is_last_once_finished(left), self.end);
+        let (text, mut body) = request.into_drop_text(left);
+        self.pending.leave(&mut self.outlet, number, text);
+        body.give_up(&mut self.source);
+        true
+    }
+
+    /// Answers the request of this number, and gives its body up: `Done`, or `Fault` where the writer failed within the answer
+    /// or the response's data broke off, after which nothing more is sent on the connection: later answers are `Done` and
+    /// unsent. A fault by which the client has gone is `Done` too, and data of unknown length for which there is no memory are
+    /// a fault of kind `OutOfMemory`. `now` is the answer's `Date`.
+    /// `NotYet` while a number before it isn't finished, and `NoSuch` for a number that doesn't wait for an answer: then the
+    /// response is let go, and nothing has changed. Under `Standard` it is `Refused`, in its turn or before it, where the code is
+    /// below 200 or above 999, or a 2xx to `CONNECT`: then the request is dropped. The answer says there
+    /// `Connection: close` where the request is the last by its head, its 100 is owed, more than 65,536 bytes of its counted body
+    /// weren't given out, or the end of its body isn't known. What a later `ask` meets doesn't change it.
+    ///
+    /// Where the response was made by `with_close`, no further head is read: a later `ask` is `Ended`. Under `Standard` the answer to
+    /// the last number says `Connection: close`: this answer, or that of a later request or refused head. A later request says
+    /// nothing of it that was dropped before, is upgraded or gives its raw writer.
+    #[inline(never)]
+    pub fn respond<D: ReadDevice + Drop>(
+        &mut self,
+        alloc: Global,
+        now: HttpDate,
+        number: u64,
+        response: Response<D>,
+    ) -> Reply
+        ensures step { TakesStep self.old self.new now (Step.Respond number (stated_response D.feed response)) (seen result) }
+    {
+        if !self.pending.is_waiting(number) {
+            return Reply::NoSuch;
+        }
+        if self.pending.refuses(number, response.status_code()) {
+            self.let_go(number);
+            return Reply::Refused;
+        }
+        if !self.pending.hold(number) {
+            return Reply::NotYet;
+        }
+        let closes = response.closes();
+        self.pending.close_last(closes);
+        let Some(mut request) = self.pending.take(number, None) else {
+            unreachable!()
+        };
+        let left = request.body.remainder();
+        let end = ends_behind(request.is_last_once_finished(left), self.end);
+        self.end = ends_behind(closes, end);
+        let reply = answer(alloc, &mut request, &mut self.outlet, response, left, now);
+        self.pending.pass(&mut self.outlet, number);
+        request.give_up(&mut self.source);
+        reply
+    }
+
+    /// Takes the raw writer of the request of this number in place of an answer, and gives its body up: `Done`, in its turn or
+    /// before it, or `NoSuch` for a number that doesn't wait for an answer. Nothing is sent: after a 100 that was sent before,
+    /// the bytes that `write` writes are all that the client gets for the request. A 100 that is owed isn't sent any more. Under
+    /// `Standard` no request follows one whose head says `asks_upgrade`, whose 100 is owed, or of whose body more than 65,536
+    /// bytes are unread.
+    #[inline(never)]
+    pub fn into_writer(&mut self, number: u64) -> Reply
+        ensures step { (date : Date) → TakesStep self.old self.new date (Step.IntoWriter number) (seen result) }
+    {
+        let Some(mut request) = self.pending.take(number, Some(Unfinished::Raw)) else {
+            return Reply::NoSuch;
+        };
+        let left = request.body.remainder();
+        self.end = ends_behind(request.is_last_with_stream(left), self.end);
+        request.give_up(&mut self.source);
+        Reply::Done
+    }
+
+    /// Writes bytes by the raw writer of this number, or to the stream of its upgrade: `Done`, or `Fault` where the writer
+    /// failed in them or in what was held before them. A fault of any kind is reported. After it nothing more is sent on the
+    /// connection, and later writes are `Done` and unsent. Up to 1024 bytes may be held until `flush` or `finish`. It is
+    /// `NotYet` while a number before it isn't finished, and `NoSuch` for a number without a raw writer or stream; then nothing
+    /// has changed.
+    #[inline(never)]
+    pub fn write(&mut self, number: u64, bytes: &[u8]) -> Reply
+        ensures step { (date : Date) (written : Vec ℕ) → written.items ≡ bytes.now → TakesStep self.old self.new date (Step.Write number written) (seen result) }
+    {
+        if !self.pending.is_writable(number) {
+            return Reply::NoSuch;
+        }
+        if !self.pending.is_in_turn(number) {
+            return Reply::NotYet;
+        }
+        Reply::write_reply(self.outlet.write(bytes))
+    }
+
+    /// Sends what was written under this number, and has the writer send it on: `Done`, or `Fault` where the writer failed.
+    /// `NotYet` and `NoSuch` are as for `write`.
+    #[inline(never)]
+    pub fn flush(&mut self, number: u64) -> Reply
+        ensures step { (date : Date) → TakesStep self.old self.new date (Step.Flush number) (seen result) }
+    {
+        if !self.pending.is_writable(number) {
+            return Reply::NoSuch;
+        }
+        if !self.pending.is_in_turn(number) {
+            return Reply::NotYet;
+        }
+        Reply::write_reply(self.outlet.flush())
+    }
+
+    /// Answers the request of this number by a response that upgrades the connection to this protocol (RFC 9110, section
+    /// 7.8): `Done`. The response's head is sent and flushed, with `Connection: upgrade` and `Upgrade: PROTOCOL`, and its data
+    /// are let go unread. From then on `read` gives what is left of the request's body, which is all that follows where its head
+    /// names an upgrade. Under `Standard` it gives all that follows the body. Bytes are written by `write`, `flush` and `finish`,
+    /// as by a raw writer. It is `Refused` where the protocol isn't ASCII, in its turn or before it: then the request is dropped.
+    /// Under `Standard` it is so, too, where the request doesn't ask for this protocol or is its connection's last, where the code
+    /// isn't 101, and where the body wasn't read until its end was reported, or was cut or is broken. (A body without bytes or of
+    /// up to 1024 bytes that came with its head needn't be read, and a counted one only to its last byte.) `NotYet` and `NoSuch`
+    /// are as for `respond`.
+    /// It takes no memory, and no reply reports a fault of the writer. `now` is the answer's `Date`.
+    #[inline(never)]
+    pub fn upgrade<D: ReadDevice + Drop>(
+        &mut self,
+        alloc: Global,
+        now: HttpDate,
+        number: u64,
+        protocol: &str,
+        response: Response<D>,
+    ) -> Reply
+        ensures step { (named : String Heap) → string_bytes named ≡ protocol.now
+            → TakesStep self.old self.new now (Step.Upgrade number named (stated_response D.feed response)) (seen result) }
+    {
+        if !self.pending.is_waiting(number) {
+            return Reply::NoSuch;
+        }
+        let status = response.status_code();
+        if self.pending.refuses_upgrade(number, protocol, status) {
+            self.let_go(number);
+            return Reply::Refused;
+        }
+        if !self.pending.is_in_turn(number) {
+            return Reply::NotYet;
+        }
+        self.end = ends_behind(self.pending.is_last_with_stream(number), self.end);
+        let outlet = &mut self.outlet;
+        self.pending
+            .upgrade(alloc, outlet, number, protocol, response, now);
+        Reply::Done
+    }
+
+    /// Ends the raw writer of this number, or the stream of its upgrade, and gives the body up: `Done`, in its turn or before
+    /// it, or `NoSuch` for a number without a raw writer or stream. In its turn what was written is sent, and so are the texts
+    /// that wait directly after it. It takes no memory, and no reply reports a fault of the writer.
+    #[inline(never)]
+    pub fn finish(&mut self, alloc: Global, number: u64) -> Reply
+        ensures step { (date : Date) → TakesStep self.old self.new date (Step.Finish number) (seen result) }
+    {
+        let Some(finished) = self.pending.close(number) else {
+            return Reply::NoSuch;
+        };
+        self.pending
+            .leave(&mut self.outlet, number, Vec::new(alloc));
+        close_body(finished, &mut self.source);
+        Reply::Done
+    }
+
+    /// Does a step on its date: the call that it names.
+    // The calls aren't inlined here: the rooms of what all of them may hold would be set to zero at each step.
+    pub fn step<D: ReadDevice + Drop>(&mut self, alloc: Global, timed: Timed<D>) -> Reply
+        ensures step { TakesStep self.old self.new timed.now (stated_step D.feed timed.step) (seen result) }
+    {
+        let Timed { now, step } = timed;
+        match step {
+            Step::Ask => self.ask(alloc, now),
+            Step::AsReader(number) => self.as_reader(alloc, now, number),
+            Step::Read(number, count) => self.read(alloc, number, count),
+            Step::Respond(number, response) => self.respond(alloc, now, number, response),
+            Step::IntoWriter(number) => self.into_writer(number),
+            Step::Write(number, bytes) => self.write(number, &bytes),
+            Step::Flush(number) => self.flush(number),
+            Step::Upgrade(number, protocol, response) => {
+                self.upgrade(alloc, now, number, &protocol, response)
+            }
+            Step::Finish(number) => self.finish(alloc, number),
+            Step::Drop(number) => self.drop_request(number),
+        }
+    }
+
+    /// Reader and writer within their buffers, and the end of the connection: requests that wait for their answers are let go
+    /// without one.
+    pub fn into_parts(self) -> (Source<R>, Outlet<W>)
+        ensures conversation { (p : Profile) (client : Feed) (before : Sink) (steps : List TimedValue) (replies : List ReplyValue) → HasDone p client before self steps replies
+            → IsConversation p client before steps replies (W.sink (outlet_writer result.1)) (outlet_held result.1) (outlet_ended result.1) result.0.feed }
+        ensures source { result.0 ≡ self.source }
+        ensures outlet { result.1 ≡ self.outlet }
+        ensures sink { result.1.sink ≡ W.sink (outlet_writer result.1) }
+    {
+        self.outlet.facts();
+        (self.source, self.outlet)
+    }
+}
+
+/// Runs the steps over a connection under `Lenient`, one reply a step. It hands out exactly the requests that the grammar finds
+/// in the client's bytes, each body gives its own bytes and reports its end only there, and the output is one segment a request
+/// or refused head, in order, whole up to the first fault.
+pub fn run<R: ReadDevice + Drop, W: WriteDevice + Drop, D: ReadDevice + Drop>(
+    alloc: Global,
+    reader: R,
+    writer: W,
+    steps: Vec<Timed<D>>,
+) -> Result<Record<R, W>, RunError<R, W>>
+    // The connection theorem.
+    ensures conversation { IfOk result (IsConversationOf R.feed W.sink D.feed Profile.Lenient reader writer steps.items) }
+    // Whatever reader, writer and data state.
+    ensures run { IfOk result (RunsSteps R.feed W.sink D.feed reader writer steps.items) }
+    ensures err { IfErr result (λ e. (e.reader ≡ reader) × (e.writer ≡ writer)) }
+{
+    run_with(alloc, Profile::Lenient, reader, writer, steps)
+}
+
+/// Runs the steps over a connection under this profile, one reply a step. It hands out exactly the requests that the grammar
+/// finds in the client's bytes, each body gives its own bytes and reports its end only there, and the output is one segment a
+/// request or refused head, in order, whole up to the first fault.
+pub fn run_with<R: ReadDevice + Drop, W: WriteDevice + Drop, D: ReadDevice + Drop>(
+    alloc: Global,
+    profile: Profile,
+    reader: R,
+    writer: W,
+    steps: Vec<Timed<D>>,
+) -> Result<Record<R, W>, RunError<R, W>>
+    // The connection theorem.
+    ensures conversation { IfOk result (IsConversationOf R.feed W.sink D.feed profile reader writer steps.items) }
+    // Whatever reader, writer and data state.
+    ensures run { IfOk result (RunsSteps R.feed W.sink D.feed reader writer steps.items) }
+    ensures err { IfErr result (λ e. (e.reader ≡ reader) × (e.writer ≡ writer)) }
+{
+    let Ok(mut replies) = Vec::with_capacity(alloc, steps.len()) else {
+        return Err(RunError { reader, writer });
+    };
+    let mut connection = Connection::new_with(alloc, profile, reader, writer);
+    for timed in steps {
+        let reply = connection.step(alloc, timed);
+        replies.push_reserved(reply);
+    }
+    let (source, outlet) = connection.into_parts();
+    Ok(Record {
+        replies,
+        source,
+        outlet,
+    })
+}

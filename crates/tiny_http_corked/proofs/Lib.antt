@@ -1,2 +1,0 @@
-pub mod CorkedLemmas
-pub mod ReadAheadLemmas

@@ -1,3 +1,0 @@
-pub mod Corked
-pub mod ReadAhead
-pub mod Cork

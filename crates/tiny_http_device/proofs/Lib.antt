@@ -1,3 +1,0 @@
-pub mod DeviceLemmas
-pub mod DeviceFeeds
-pub mod DeviceReads

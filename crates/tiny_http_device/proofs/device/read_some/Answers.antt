@@ -1,5 +1,0 @@
-use Rattle.tiny_http_device.proofs.DeviceReads.{reads-from}
-use Rattle.tiny_http_device.proofs.device.read_some.Goals as goal
-
-pub returns-clause-bytes : goal.returns-clause-bytes
-returns-clause-bytes g c = let e = c.read_in.ensures.reads in reads-from _ _ c.read_in.result _ e.bytes e.end e.fault e.again

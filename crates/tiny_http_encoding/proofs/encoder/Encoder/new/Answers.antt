@@ -1,6 +1,0 @@
-use Rattle.std.proofs.Common.{refl}
-use Rattle.tiny_http_encoding.proofs.EncoderLemmas.{Encoded-none}
-use Rattle.tiny_http_encoding.proofs.encoder.Encoder.new.Goals as goal
-
-pub returns-clause-begins : goal.returns-clause-begins
-returns-clause-begins g c = (refl, Encoded-none _ _ refl)

@@ -1,6 +1,0 @@
-use Rattle.std.proofs.Common.{arith, length-take}
-use Rattle.tiny_http_encoding.proofs.StreamedLemmas.{Encodes-gathered}
-use Rattle.tiny_http_encoding.proofs.encoder.encode.Goals as goal
-
-pub returns-clause-encodes : goal.returns-clause-encodes
-returns-clause-encodes g c = Encodes-gathered _ _ _ _ _ _ (simp length-take (omega arith)) c.gather.ensures.gathers

@@ -1,0 +1,14 @@
+pub mod DeviceLemmas
+pub mod DeviceFeeds
+pub mod DeviceReads
+pub mod FeedPartsLemmas
+pub mod BufferLemmas
+pub mod ToComeLemmas
+pub mod LineEndsLemmas
+pub mod LineEndsScanning
+pub mod LineEndsSearching
+pub mod WithinLines
+pub mod SourceLines
+pub mod OutletLemmas
+pub mod SourceGoesOn
+pub mod SourceOver

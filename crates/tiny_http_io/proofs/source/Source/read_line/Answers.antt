@@ -1,0 +1,25 @@
+use Rattle.std.proofs.Common.{rules, None}
+use Rattle.tiny_http_io.proofs.SourceGoesOn.{within-goes_on, reads-unlimited}
+use Rattle.tiny_http_io.proofs.SourceOver.{source-stays}
+use Rattle.tiny_http_io.proofs.source.Source.read_line.Goals as goal
+
+pub returns-clause-line : goal.returns-clause-line
+returns-clause-line g c = rw (← c.self.view_is) (reads-unlimited _ _ c.read_line.result c.read_line.ensures.line)
+
+pub returns-clause-reads : goal.returns-clause-reads
+returns-clause-reads g c =
+    record {
+      line = search rules;
+      goes_on = rw (← c.self.view_is) (within-goes_on None _ _ c.read_line.result c.read_line.ensures.line);
+      limited = search rules;
+      once = search rules;
+      over = search rules;
+      ended = search rules;
+      stop = search rules;
+      stays = rw (← c.self.view_is) (source-stays g.R.ReadDevice.feed c.self.inside.standing c.self.inside.input c.read_line.new.self None _ c.read_line.ensures.stays);
+      lazy = search rules;
+      passed = search rules;
+      held = search rules;
+      full = search rules;
+      standing = search rules;
+    }

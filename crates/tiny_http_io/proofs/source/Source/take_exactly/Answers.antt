@@ -1,0 +1,15 @@
+use Rattle.std.proofs.Common.{rules}
+use Rattle.tiny_http_io.proofs.source.Source.take_exactly.Goals as goal
+
+pub returns : goal.returns
+returns g c =
+    record {
+      takes = search rules;
+      over = search rules;
+      err = search rules;
+      once = search rules;
+      lazy = search rules;
+      held = search rules;
+      goes_on = rw (← c.self.view_is) c.take_exactly.ensures.goes_on;
+      standing = search rules;
+    }

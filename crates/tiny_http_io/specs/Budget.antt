@@ -1,0 +1,21 @@
+-- What a clause reads of a `Budget`.
+use Rattle.std.specs.Prelude.{ℕ, List, Some, false}
+use Rattle.std.specs.declared.io.ErrorKind.{ErrorKind}
+use Rattle.tiny_http_io.specs.Device.{Sink}
+use Rattle.tiny_http_io.specs.declared.device.Budget.{Budget}
+
+-- the bytes that it took
+abbrev pub budget_bytes : Budget → List ℕ
+budget_bytes b = b.bytes.items
+
+-- how many more it takes
+abbrev pub budget_room : Budget → ℕ
+budget_room b = b.room
+
+-- the kind of its faults after them
+abbrev pub budget_kind : Budget → ErrorKind
+budget_kind b = b.kind
+
+-- what it states as a writer
+abbrev pub budget_sink : Budget → Sink
+budget_sink b = record { taken = Some b.bytes.items; sent = b.bytes.items; failures = b.failures; last_kind = b.last; has_ended = false }

@@ -1,0 +1,214 @@
+-- What a device gives when it is read, and what it reports when it is written.
+use Rattle.std.specs.Prelude.{◌≡◌, ℕ, ◌+◌, ◌-◌, ◌*◌, ◌^◌, ◌<◌, ◌≤◌, min, Bool, true, false, List, [], ◌++◌, length, take, drop, Option, Some, None, Result, Ok, Err, IfOk, IfErr, OnErr, ⊤, ◌⊎◌}
+use Rattle.std.specs.Option.{option_map}
+use Rattle.std.specs.IoError.{error_kind}
+use Rattle.std.specs.declared.io.Error.{Error}
+use Rattle.std.specs.declared.io.ErrorKind.{ErrorKind}
+use Rattle.std.specs.declared.io.ErrorKind.TheVariants.{UnexpectedEof, OutOfMemory}
+use Rattle.std.specs.Io.KnownBytes.{append_known}
+use Rattle.tiny_http_io.specs.declared.device.Stop.{Stop}
+use Rattle.tiny_http_io.specs.declared.device.Stop.TheVariants.{End, Fault}
+
+-- the bytes that a reader still gives, and how they stop
+pub record Feed : Type 0 where
+  pub bytes : List ℕ
+  pub stop : Stop
+
+-- the bytes of a feed
+abbrev pub bytes_of : Option Feed → Option (List ℕ)
+bytes_of None = None
+bytes_of (Some f) = Some f.bytes
+
+-- a feed that ends after these bytes
+abbrev pub whole_feed : List ℕ → Feed
+whole_feed bs = record { bytes = bs; stop = End }
+
+-- these bytes, and then the feed
+abbrev pub prepend : List ℕ → Feed → Feed
+prepend bs feed = record { bytes = bs ++ feed.bytes; stop = feed.stop }
+
+-- these bytes, and then the feed, if it is stated
+abbrev pub prepended : List ℕ → Option Feed → Option Feed
+prepended bs feed = option_map (prepend bs) feed
+
+-- only bytes at the front of the feed were taken
+abbrev pub TakesFront : Option Feed → Option Feed → Type 0
+TakesFront old new = (gone : List ℕ) × (old ≡ prepended gone new)
+
+-- no byte is left of the feed, if it is stated, and this is how it stops
+abbrev pub StopsBy : Stop → Option Feed → Type 0
+StopsBy stop None = ⊤
+StopsBy stop (Some feed) = (feed.bytes ≡ []) × (feed.stop ≡ stop)
+
+-- the answer of a read is this end or fault
+abbrev pub AnswersStop : Stop → Result ℕ Error → Type 0
+AnswersStop End (Ok n) = n ≡ 0
+AnswersStop End (Err e) = ⊥
+AnswersStop (Fault kind) (Ok n) = ⊥
+AnswersStop (Fault kind) (Err e) = error_kind e ≡ kind
+
+-- an end, or the fault of this kind
+abbrev pub stop_of : Option ErrorKind → Stop
+stop_of None = End
+stop_of (Some kind) = Fault kind
+
+-- what a stop in front of the last byte wanted is reported as
+abbrev pub fault_of : Stop → ErrorKind
+fault_of End = UnexpectedEof
+fault_of (Fault kind) = kind
+
+-- ONE READ into a buffer: the bytes that came are the next of the feed and stand in the buffer's front; none of some only
+-- after the last byte, at the feed's end; an error comes after the last byte alone, is the feed's fault, and takes nothing.
+-- Nothing is said of the bytes where the feed isn't stated.
+pub record Reads (old new : Option Feed) (r : Result ℕ Error) (buf : List ℕ) : Type 0 where
+  pub bound : IfOk r (λ n. n ≤ length buf)
+  pub bytes : IfOk r (λ n. old ≡ prepended (take n buf) new)
+  pub end : IfOk r (λ n. n ≡ 0 → 0 < length buf → StopsBy End old)
+  pub fault : IfErr r (λ e. StopsBy (Fault (error_kind e)) old)
+  pub again : OnErr r (new ≡ old)
+
+-- One read by cases: it took the bytes that it gave from the front of the feed, none only after its last byte
+-- at its end. A fault comes after the last byte alone, and changes nothing.
+abbrev pub ReadsFrom : Option Feed → Option Feed → Result ℕ Error → List ℕ → Type 0
+ReadsFrom None new r buf = ⊤
+ReadsFrom (Some f) None r buf = ⊥
+ReadsFrom (Some f) (Some g) (Ok n) buf = (f.bytes ≡ take n buf ++ g.bytes) × (g.stop ≡ f.stop) × (n ≡ 0 → 0 < length buf → (f.bytes ≡ []) × (f.stop ≡ End))
+ReadsFrom (Some f) (Some g) (Err e) buf = (f.bytes ≡ []) × (f.stop ≡ Fault (error_kind e)) × (g ≡ f)
+
+-- these bytes begin those
+abbrev pub IsFront : List ℕ → List ℕ → Type 0
+IsFront front whole = (rest : List ℕ) × (whole ≡ front ++ rest)
+
+-- What a writer states: the bytes that it took, if it states them; the front of them that it has sent on, which no failure
+-- takes back; how often it failed, and how the last time, if it states them; and whether it has ended: it then answers Ok
+-- and takes no more.
+pub record Sink : Type 0 where
+  pub taken : Option (List ℕ)
+  pub sent : List ℕ
+  pub failures : ℕ
+  pub last_kind : Option ErrorKind
+  pub has_ended : Bool
+
+-- what was sent on begins what was taken, if that is stated
+abbrev pub BeginsKnown : List ℕ → Option (List ℕ) → Type 0
+BeginsKnown sent None = ⊤
+BeginsKnown sent (Some taken) = IsFront sent taken
+
+-- what was sent on is all that was taken, if that is stated
+abbrev pub IsAllKnown : List ℕ → Option (List ℕ) → Type 0
+IsAllKnown sent None = ⊤
+IsAllKnown sent (Some taken) = sent ≡ taken
+
+-- a writer holds back none of its bytes
+abbrev pub HoldsNothing : Sink → Type 0
+HoldsNothing s = IsAllKnown s.sent s.taken
+
+-- what is stated is a front of these bytes
+abbrev pub IsKnownFront : Option (List ℕ) → Option (List ℕ) → Type 0
+IsKnownFront known whole = (rest : List ℕ) × (whole ≡ append_known known rest)
+
+-- the bytes that a writer has taken, after these more; one that has ended takes none
+abbrev pub grown : Bool → Option (List ℕ) → List ℕ → Option (List ℕ)
+grown true known bs = known
+grown false known bs = append_known known bs
+
+-- the kind that is stated, if one is, is this one
+abbrev pub StatesKind : Option ErrorKind → ErrorKind → Type 0
+StatesKind None kind = ⊤
+StatesKind (Some stated) kind = stated ≡ kind
+
+-- one failure more, up to the greatest number
+abbrev pub next_count : ℕ → ℕ
+next_count n = min (n + 1) (2 ^ 64 - 1)
+
+-- the writer took the text, or nothing if it has ended, and did not fail
+pub record Took (old new : Sink) (text : List ℕ) : Type 0 where
+  pub bytes : new.taken ≡ grown old.has_ended old.taken text
+  pub sent : IsFront old.sent new.sent
+  pub failures : new.failures ≡ old.failures
+  pub last_kind : new.last_kind ≡ old.last_kind
+  pub stays : new.has_ended ≡ old.has_ended
+
+-- the writer failed, and states a front of its bytes before and the text, with all that it had sent on
+pub record Failed (old new : Sink) (text : List ℕ) (kind : ErrorKind) : Type 0 where
+  pub bytes : IsKnownFront new.taken (append_known old.taken text)
+  pub sent : IsFront old.sent new.sent
+  pub keeps : BeginsKnown new.sent new.taken
+  pub failures : new.failures ≡ next_count old.failures
+  pub last_kind : StatesKind new.last_kind kind
+  pub was_open : old.has_ended ≡ false
+
+-- a call that writes a text took all of it, or the writer failed
+abbrev pub Puts : {T : Type 0} → Sink → Sink → Result T Error → List ℕ → Type 0
+Puts old new (Ok x) text = Took old new text
+Puts old new (Err e) text = Failed old new text (error_kind e)
+
+-- a call that writes the front of a text took so many bytes, or the writer failed
+abbrev pub PutsFront : Sink → Sink → Result ℕ Error → List ℕ → Type 0
+PutsFront old new (Ok n) text = (n ≤ length text) × (0 < length text → 0 < n) × Took old new (take n text)
+PutsFront old new (Err e) text = Failed old new text (error_kind e)
+
+-- what a writer states of its faults is as it was
+pub record SameFaults (old new : Sink) : Type 0 where
+  pub failures : new.failures ≡ old.failures
+  pub last_kind : new.last_kind ≡ old.last_kind
+  pub stays : new.has_ended ≡ old.has_ended
+
+-- the writer failed by this kind, and had not ended
+pub record Faulted (old new : Sink) (kind : ErrorKind) : Type 0 where
+  pub failures : new.failures ≡ next_count old.failures
+  pub last_kind : StatesKind new.last_kind kind
+  pub was_open : old.has_ended ≡ false
+
+-- What a call that writes does to what a writer states of its faults, whatever it writes: nothing where it answers Ok.
+-- At a fault either nothing, and the fault was not the writer's, or the count rose, and it was.
+abbrev pub CountsFaults : {T : Type 0} → Sink → Sink → Result T Error → Type 0
+CountsFaults old new (Ok x) = SameFaults old new
+CountsFaults old new (Err e) = SameFaults old new ⊎ Faulted old new (error_kind e)
+
+-- a reader gave the first n bytes of its feed, and a writer took them
+pub record Copied (old new : Feed) (from to : Sink) (n : ℕ) : Type 0 where
+  pub within : n ≤ length old.bytes
+  pub rest : new.bytes ≡ drop n old.bytes
+  pub stop : new.stop ≡ old.stop
+  pub taken : Took from to (take n old.bytes)
+
+abbrev pub CopiedKnown : Option Feed → Option Feed → Sink → Sink → ℕ → Type 0
+CopiedKnown None new from to n = ⊤
+CopiedKnown (Some f) None from to n = ⊥
+CopiedKnown (Some f) (Some g) from to n = Copied f g from to n
+
+-- a reader stopped before it gave a byte more, or the writer failed within the next `left` bytes
+abbrev pub CopyBreaks : Option Feed → Sink → Sink → ℕ → ErrorKind → Type 0
+CopyBreaks None from to left kind = ⊤
+CopyBreaks (Some f) from to left kind = ((f.bytes ≡ []) × (fault_of f.stop ≡ kind) × Took from to []) ⊎ Failed from to (take left f.bytes) kind
+
+-- a call went on from a reader to a writer, by a byte or more of the next `left`
+abbrev pub CopiesPiece : Option Feed → Option Feed → Sink → Sink → ℕ → Result ℕ Error → Type 0
+CopiesPiece f g from to left (Ok n) = (0 < n) × (n ≤ left) × CopiedKnown f g from to n
+CopiesPiece f g from to left (Err e) = CopyBreaks f from to left (error_kind e)
+
+-- A call filled a buffer from the feed: whole, or with all that there was in front of an end. A fault came
+-- before it was full.
+abbrev pub Fills : Option Feed → Option Feed → Result ℕ Error → List ℕ → Type 0
+Fills None new r buf = ⊤
+Fills (Some f) None r buf = ⊥
+Fills (Some f) (Some g) (Ok n) buf = (n ≤ length f.bytes) × (take n buf ≡ take n f.bytes) × (g.bytes ≡ drop n f.bytes) × (g.stop ≡ f.stop) × (n < length buf → (g.bytes ≡ []) × (f.stop ≡ End))
+Fills (Some f) (Some g) (Err e) buf = (length f.bytes < length buf) × (f.stop ≡ Fault (error_kind e))
+
+-- the first n bytes of a buffer came from the feed
+abbrev pub FilledTo : Option Feed → Option Feed → ℕ → List ℕ → Type 0
+FilledTo None new n buf = ⊤
+FilledTo (Some f) None n buf = ⊥
+FilledTo (Some f) (Some g) n buf = (n ≤ length f.bytes) × (take n buf ≡ take n f.bytes) × (g.bytes ≡ drop n f.bytes) × (g.stop ≡ f.stop)
+
+-- a call read all bytes of a feed that ends; else it reported the fault, or found no memory
+abbrev pub Gathers : {T : Type 0} → (T → List ℕ) → Feed → Result T Error → Type 0
+Gathers items f (Ok all) = (items all ≡ f.bytes) × (f.stop ≡ End)
+Gathers items f (Err e) = (f.stop ≡ Fault (error_kind e)) ⊎ (error_kind e ≡ OutOfMemory)
+
+-- so many pieces of a feed were read into a list
+abbrev pub GatheredTo : Option Feed → Option Feed → List ℕ → ℕ → Type 0
+GatheredTo None new all count = ⊤
+GatheredTo (Some f) None all count = ⊥
+GatheredTo (Some f) (Some g) all count = (count * 8192 ≤ length f.bytes) × (all ≡ take (count * 8192) f.bytes) × (g.bytes ≡ drop (count * 8192) f.bytes) × (g.stop ≡ f.stop)

@@ -1,0 +1,30 @@
+-- What clauses read of an `EqualReader`.
+use Rattle.std.specs.Prelude.{◌≡◌, ℕ, ◌+◌, List, length, Option, Result, Ok, IfOk, OnErr}
+use Rattle.std.specs.declared.io.Error.{Error}
+use Rattle.std.specs.Option.{option_map}
+use Rattle.tiny_http_io.specs.Device.{Feed, Reads}
+use Rattle.tiny_http_io.specs.declared.equal_reader.EqualReader.{EqualReader}
+use Rattle.tiny_http_io.specs.FeedParts.{feed_front, feed_behind}
+
+-- the reader inside
+abbrev pub equal_inner : {R : Type 0} → EqualReader R → R
+equal_inner r = r.inner
+
+-- how many bytes of it are still to be given
+abbrev pub equal_left : {R : Type 0} → EqualReader R → ℕ
+equal_left r = r.left
+
+-- what it still gives: so many of the inner reader's bytes
+abbrev pub equal_feed : {R : Type 0} → (R → Option Feed) → EqualReader R → Option Feed
+equal_feed feed r = option_map (feed_front r.left) (feed r.inner)
+
+-- ONE READ. Of what it still gives it is a read; what stands after the part stays the same. And whatever the reader inside
+-- states: into an empty buffer, and where no byte is left, it answers 0 and changes nothing; the bytes that came are taken off
+-- those that are left, and a fault takes none off.
+pub record ReadsPart {R : Type 0} (feed : R → Option Feed) (old new : EqualReader R) (r : Result ℕ Error) (buf : List ℕ) : Type 0 where
+  pub reads : Reads (equal_feed feed old) (equal_feed feed new) r buf
+  pub empty : length buf ≡ 0 → (r ≡ Ok 0) × (new ≡ old)
+  pub past : equal_left old ≡ 0 → (r ≡ Ok 0) × (new ≡ old)
+  pub count : IfOk r (λ n. equal_left old ≡ n + equal_left new)
+  pub fault_takes_none : OnErr r (equal_left new ≡ equal_left old)
+  pub behind : option_map (feed_behind (equal_left new)) (feed (equal_inner new)) ≡ option_map (feed_behind (equal_left old)) (feed (equal_inner old))

@@ -1,0 +1,32 @@
+-- What clauses read of a `FusedReader`.
+use Rattle.std.specs.Prelude.{◌≡◌, ℕ, ◌<◌, List, length, Bool, true, false, [], Option, Some, None, Result, Ok, IfOk, OnErr, IsSome}
+use Rattle.std.specs.declared.io.Error.{Error}
+use Rattle.std.specs.Option.{option_map}
+use Rattle.tiny_http_io.specs.Device.{Feed, whole_feed, Reads}
+use Rattle.tiny_http_io.specs.declared.fused_reader.FusedReader.{FusedReader}
+
+abbrev pub inner_unless_over : {R : Type 0} → Bool → R → Option R
+inner_unless_over true inner = None
+inner_unless_over false inner = Some inner
+
+-- the reader inside, until its end
+abbrev pub fused_inner : {R : Type 0} → FusedReader R → Option R
+fused_inner r = inner_unless_over r.over r.inner
+
+abbrev pub feed_unless : Bool → Option Feed → Option Feed
+feed_unless true feed = option_map (λ f. whole_feed []) feed
+feed_unless false feed = feed
+
+-- after the end nothing comes
+abbrev pub fused_feed : {R : Type 0} → (R → Option Feed) → FusedReader R → Option Feed
+fused_feed feed r = feed_unless r.over (feed r.inner)
+
+-- ONE READ. Of what it still gives it is a read; and whatever the reader inside states: into an empty buffer it changes
+-- nothing; a byte or a fault is no end; and the reader isn't called again after its end.
+pub record ReadsFused {R : Type 0} (feed : R → Option Feed) (old new : FusedReader R) (r : Result ℕ Error) (buf : List ℕ) : Type 0 where
+  pub reads : Reads (fused_feed feed old) (fused_feed feed new) r buf
+  pub empty : length buf ≡ 0 → (r ≡ Ok 0) × (new ≡ old)
+  pub over : IfOk r (λ n. n ≡ 0 → 0 < length buf → fused_inner new ≡ None)
+  pub keeps_reader : IfOk r (λ n. 0 < n → IsSome (fused_inner new))
+  pub failed : OnErr r (IsSome (fused_inner new))
+  pub stays : fused_inner old ≡ None → (r ≡ Ok 0) × (new ≡ old)

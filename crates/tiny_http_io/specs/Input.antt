@@ -1,0 +1,37 @@
+-- What an `Input` still gives.
+use Rattle.std.specs.Prelude.{◌≡◌, ◌&&◌, ◌==◌, ℕ, Bool, is_some, List, length, drop, [], Option, IsSome}
+use Rattle.tiny_http_io.specs.Device.{Feed}
+use Rattle.tiny_http_io.specs.declared.device.Stop.{Stop}
+use Rattle.tiny_http_io.specs.ToCome.{behind_held, to_come}
+use Rattle.tiny_http_io.specs.declared.source.Input.{Input}
+
+-- the feed that is still to come, where the reader states its own
+abbrev pub input_feed : {R : Type 0} → (R → Option Feed) → Input R → Option Feed
+input_feed feed s = to_come s.skip s.held (behind_held s.stop (feed s.inner))
+
+-- how the reader stopped, if it has
+abbrev pub input_stop : {R : Type 0} → Input R → Option Stop
+input_stop s = s.stop
+
+-- the reader inside
+abbrev pub input_reader : {R : Type 0} → Input R → R
+input_reader s = s.inner
+
+-- the bytes that are held
+abbrev pub input_held : {R : Type 0} → Input R → List ℕ
+input_held s = s.held
+
+-- how many bytes are to be skipped
+abbrev pub input_skip : {R : Type 0} → Input R → ℕ
+input_skip s = s.skip
+
+-- the bytes to be skipped are taken off, and nothing else has changed
+abbrev pub SkipsHeld : {R : Type 0} → Input R → Input R → Type 0
+SkipsHeld old new = new ≡ record old { held = drop old.skip old.held; skip = 0 }
+
+-- the reader has stopped, and no byte that it gave is left
+abbrev pub IsInputOver : {R : Type 0} → Input R → Type 0
+IsInputOver s = IsSome s.stop × (s.held ≡ []) × (s.skip ≡ 0)
+
+abbrev pub is_input_over : {R : Type 0} → Input R → Bool
+is_input_over s = is_some s.stop && ((length s.held == 0) && (s.skip == 0))

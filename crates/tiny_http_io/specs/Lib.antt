@@ -1,0 +1,16 @@
+pub mod Device
+pub mod Budget
+pub mod Metered
+pub mod Cursor
+pub mod Pieces
+pub mod FailsAt
+pub mod LineEnds
+pub mod ToCome
+pub mod Input
+pub mod Standing
+pub mod Source
+pub mod Outlet
+pub mod FeedParts
+pub mod EqualReader
+pub mod FusedReader
+pub mod CustomStream

@@ -1,0 +1,42 @@
+-- What a contract sees of an `Outlet`.
+use Rattle.std.specs.Prelude.{◌≡◌, ℕ, Bool, false, ◌||◌, List, [], Result, Ok, Err}
+use Rattle.std.specs.IoError.{error_kind}
+use Rattle.std.specs.declared.io.Error.{Error}
+use Rattle.tiny_http_io.specs.Device.{Sink, IsFront, grown, Failed, HoldsNothing}
+
+-- what a writer took and what is held back, as one sink
+abbrev pub holding : Sink → List ℕ → Bool → Sink
+holding s held ended = record { taken = grown s.has_ended s.taken held; sent = s.sent; failures = s.failures; last_kind = s.last_kind; has_ended = ended || s.has_ended }
+
+-- What a clause sees of an `Outlet`: what is held back, whether it takes nothing more, the writer inside, and what that
+-- reports.
+pub record OutletState (W : Type 0) : Type 0 where
+  pub held : List ℕ
+  pub ended : Bool
+  pub writer : W
+  pub sink : Sink
+
+-- what its writer took and what is held back, as one sink
+abbrev pub output_of : {W : Type 0} → OutletState W → Sink
+output_of o = holding o.sink o.held o.ended
+
+-- the bytes that are held back
+abbrev pub outlet_held : {W : Type 0} → OutletState W → List ℕ
+outlet_held o = o.held
+
+-- the outlet takes nothing more
+abbrev pub outlet_ended : {W : Type 0} → OutletState W → Bool
+outlet_ended o = o.ended
+
+-- the writer inside
+abbrev pub outlet_writer : {W : Type 0} → OutletState W → W
+outlet_writer o = o.writer
+
+-- an outlet that still takes bytes has a writer that holds none of them back
+abbrev pub SentOn : {W : Type 0} → OutletState W → Type 0
+SentOn o = (output_of o).has_ended ≡ false → HoldsNothing o.sink
+
+-- what was held was sent; or the writer failed in it
+abbrev pub EndsOutlet : {T : Type 0} → Sink → Sink → Result T Error → Type 0
+EndsOutlet old new (Ok x) = (new.taken ≡ old.taken) × IsFront old.sent new.sent × (new.failures ≡ old.failures) × (new.last_kind ≡ old.last_kind)
+EndsOutlet old new (Err e) = Failed old new [] (error_kind e)

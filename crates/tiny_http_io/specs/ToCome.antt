@@ -1,0 +1,33 @@
+-- What is still to come of an input, some of which is held or to be skipped.
+use Rattle.std.specs.Prelude.{◌≡◌, ℕ, nat_le, if◌then◌else◌, List, [], length, drop, Option, None, Some, ⊤}
+use Rattle.std.specs.Option.{option_map}
+use Rattle.tiny_http_io.specs.Device.{Feed, prepended}
+use Rattle.tiny_http_io.specs.declared.device.Stop.{Stop}
+use Rattle.tiny_http_io.specs.declared.device.Stop.TheVariants.{End}
+
+-- a feed with no byte left
+abbrev pub stopped : Stop → Feed
+stopped stop = record { bytes = []; stop = stop }
+
+-- what comes after the held bytes: the reader's feed, and nothing once the input has stopped
+abbrev pub behind_held : Option Stop → Option Feed → Option Feed
+behind_held None feed = feed
+behind_held (Some stop) feed = option_map (λ _. stopped stop) feed
+
+-- the feed without its first n bytes; one that is cut short ends
+abbrev pub skipped : ℕ → Feed → Feed
+skipped n feed = if nat_le n (length feed.bytes) then record { bytes = drop n feed.bytes; stop = feed.stop } else stopped End
+
+-- what is still to come, after n bytes are skipped of those that are held and those after them
+abbrev pub to_come : ℕ → List ℕ → Option Feed → Option Feed
+to_come n held feed = option_map (skipped n) (prepended held feed)
+
+-- a byte is still to come, if that is stated
+abbrev pub HasByte : Option Feed → Type 0
+HasByte None = ⊤
+HasByte (Some feed) = feed.bytes ≡ [] → ⊥
+
+-- no byte is still to come, if that is stated
+abbrev pub HasNoByte : Option Feed → Type 0
+HasNoByte None = ⊤
+HasNoByte (Some feed) = feed.bytes ≡ []

@@ -1,0 +1,599 @@
+//! What is read and what is written: readers that may state what they give, and writers that count their failures.
+ghost use Rattle.std.specs.Prelude.{◌≡◌, ◌<◌, ◌≤◌, min, false, [], length, take, drop, Option, None, Some, Ok, IfOk, IfErr, OnOk, OnErr, vec_len, flat_map};
+ghost use Rattle.std.specs.IoError.{error_kind};
+ghost use Rattle.tiny_http_io.specs.Cursor.{cursor_bytes};
+ghost use Rattle.tiny_http_io.specs.Device.{Feed, whole_feed, prepended, StopsBy, stop_of, next_count, Sink, BeginsKnown, HoldsNothing, Reads, ReadsFrom, Puts, PutsFront};
+
+use std::alloc::Global;
+use std::io;
+use std::io::{Cursor, ErrorKind, Read, Write};
+use std::marker::Model;
+
+/// How a reader's bytes stop.
+#[derive(Clone, Copy, Debug, PartialEq, Eq)]
+pub enum Stop {
+    /// No byte follows.
+    End,
+    /// Each further read fails with this kind.
+    Fault(ErrorKind),
+}
+
+/// A reader whose contract may state its feed: the bytes that it still gives, and how they stop.
+pub trait ReadDevice {
+    /// The bytes that it still gives and how they stop, if it states them.
+    ghost feed: { Self → Option Feed } = { λ _. None };
+
+    /// Reads some bytes into the front of `buf`, and says how many: 0 at the end, and where `buf`
+    /// is empty. After the last byte each call answers the stop. An error gives no byte.
+    fn read_in(&mut self, buf: &mut [u8]) -> Result<usize, io::Error>
+        ensures reads { Reads (feed self.old) (feed self.new) result buf.new }
+        ensures empty { length buf.new ≡ 0 → (result ≡ Ok 0) × (self.new ≡ self.old) };
+}
+
+/// A writer that counts its failures, and may state the bytes that it took and how it failed last.
+pub trait WriteDevice {
+    /// The bytes that it took, if it states them, and those that it has sent on; its failures; and whether it has ended.
+    ghost sink: { Self → Sink };
+
+    /// How often it has failed to write or to flush, up to 2^64 - 1.
+    fn failures(&self) -> u64
+        ensures count { result ≡ (sink self.now).failures }
+        // A law of every writer, for which this call is only the place: of its bytes the first were sent on, and the
+        // others are held back.
+        ensures sent { BeginsKnown (sink self.now).sent (sink self.now).taken };
+
+    /// Writes some bytes from the front of `buf`, and says how many: at least one if there is one.
+    /// A writer that has ended answers so too, and takes none of them.
+    fn write_out(&mut self, buf: &[u8]) -> Result<usize, io::Error>
+        ensures { PutsFront (sink self.old) (sink self.new) result buf.now };
+
+    /// Sends on what it holds back. The bytes that it took stay the same by that.
+    fn flush_out(&mut self) -> Result<(), io::Error>
+        ensures puts { Puts (sink self.old) (sink self.new) result [] }
+        ensures sent { OnOk result ((sink self.new).has_ended ≡ false → HoldsNothing (sink self.new)) };
+
+    /// Says that no byte follows (RFC 9112, section 9.6): the caller writes nothing more. What the writer states stays the same. A
+    /// writer that can't say so does nothing, as this body. That the others say it is tested.
+    fn end_out(&mut self)
+        ensures { sink self.new ≡ sink self.old }
+    {}
+}
+
+/// Copies bytes from the front of `from` to that of `to`, as many as both have, and says how many. What stands behind them in
+/// `to` stays.
+pub fn copy_front(from: &[u8], to: &mut [u8]) -> usize
+    ensures count { result ≡ min (length from.now) (length to.old) }
+    ensures len { length to.new ≡ length to.old }
+    ensures copied { take result to.new ≡ take result from.now }
+    ensures rest { drop result to.new ≡ drop result to.old }
+{
+    let n = from.len().min(to.len());
+    to[..n].copy_from_slice(&from[..n]);
+    n
+}
+
+/// A reader of bytes in memory, with the stop that it is given. A contract sees it as its feed.
+#[derive(Drop)]
+pub struct Canned {
+    bytes: Vec<u8>,
+    at: usize,
+    stop: Stop,
+}
+
+impl Model for Canned {
+    ghost Value = { Feed };
+
+    ghost view = { λ c. record { bytes = drop c.at c.bytes.items; stop = c.stop } };
+
+    ghost invariant = { λ c. c.at ≤ vec_len c.bytes };
+}
+
+impl Canned {
+    /// Gives these bytes, and then an end, or a fault of this kind at each call.
+    pub fn new(bytes: Vec<u8>, fault: Option<ErrorKind>) -> Canned
+        ensures { result ≡ record { bytes = bytes.items; stop = stop_of fault } }
+    {
+        let stop = match fault {
+            None => Stop::End,
+            Some(kind) => Stop::Fault(kind),
+        };
+        Canned { bytes, at: 0, stop }
+    }
+}
+
+impl ReadDevice for Canned {
+    ghost feed = { λ c. Some c };
+
+    /// Copies the next bytes.
+    fn read_in(&mut self, buf: &mut [u8]) -> Result<usize, io::Error> {
+        if buf.is_empty() {
+            return Ok(0);
+        }
+        let n = copy_front(&self.bytes[self.at..], buf);
+        if n == 0
+            && let Stop::Fault(kind) = self.stop
+        {
+            return Err(kind.into());
+        }
+        self.at += n;
+        Ok(n)
+    }
+}
+
+impl ReadDevice for Cursor<Vec<u8>> {
+    ghost feed = { λ c. Some (whole_feed (cursor_bytes c)) };
+
+    /// Copies the next bytes. It never fails.
+    fn read_in(&mut self, buf: &mut [u8]) -> Result<usize, io::Error> {
+        self.read(buf)
+    }
+}
+
+impl ReadDevice for io::Empty {
+    ghost feed = { λ _. Some (whole_feed []) };
+
+    /// Answers the end.
+    fn read_in(&mut self, _buf: &mut [u8]) -> Result<usize, io::Error> {
+        Ok(0)
+    }
+}
+
+/// A stream with a count of its failures to write, and the kind of the last of them. As a reader it
+/// states no feed, as a writer it doesn't state its bytes.
+#[derive(Drop)]
+pub struct Metered<S> {
+    inner: S,
+    failures: u64,
+    last: Option<ErrorKind>,
+}
+
+impl<S> Metered<S> {
+    ghost use Rattle.tiny_http_io.specs.Metered.{metered_inner, metered_sink};
+
+    /// A stream that has not failed.
+    pub fn new(inner: S) -> Metered<S>
+        ensures inner { metered_inner result ≡ inner }
+        ensures sink { metered_sink result ≡ record { taken = None; sent = []; failures = 0; last_kind = None; has_ended = false } }
+    {
+        Metered {
+            inner,
+            failures: 0,
+            last: None,
+        }
+    }
+
+    // Counts a failure of this kind.
+    fn count(&mut self, kind: ErrorKind)
+        ensures { self.new ≡ record self.old { failures = next_count self.old.failures; last = Some kind } }
+    {
+        self.failures = next(self.failures);
+        self.last = Some(kind);
+    }
+
+    /// Gives the stream back.
+    pub fn into_inner(self) -> S
+        ensures { result ≡ metered_inner self }
+    {
+        self.inner
+    }
+}
+
+impl<S: Read> ReadDevice for Metered<S> {
+    ghost use Rattle.std.specs.Io.KnownBytes.{ReadConsumes};
+    ghost use Rattle.tiny_http_io.specs.Metered.{metered_inner};
+
+    /// Reads once from the stream, and not at all into an empty buffer.
+    fn read_in(&mut self, buf: &mut [u8]) -> Result<usize, io::Error>
+        ensures reads { Reads None None result buf.new }
+        ensures empty { length buf.new ≡ 0 → (result ≡ Ok 0) × (self.new ≡ self.old) }
+        // What came is the stream's, if it states what it still gives.
+        ensures stream { ReadConsumes (S.remaining (metered_inner self.old)) (S.remaining (metered_inner self.new)) result buf.new }
+    {
+        if buf.is_empty() {
+            return Ok(0);
+        }
+        self.inner.read(buf)
+    }
+}
+
+impl<S: Write> WriteDevice for Metered<S> {
+    ghost use Rattle.std.specs.Io.KnownBytes.{Keeps, WriteAppends};
+    ghost use Rattle.tiny_http_io.specs.Metered.{metered_inner, metered_sink};
+
+    ghost sink = { metered_sink };
+
+    /// The count.
+    fn failures(&self) -> u64 {
+        self.failures
+    }
+
+    /// Writes once to the stream. That it takes no byte of some is a fault of kind `WriteZero`.
+    fn write_out(&mut self, buf: &[u8]) -> Result<usize, io::Error>
+        ensures puts { PutsFront (metered_sink self.old) (metered_sink self.new) result buf.now }
+        // The stream took what was taken, and nothing at a fault, if it states its bytes.
+        ensures stream { WriteAppends (S.contents (metered_inner self.old)) (S.contents (metered_inner self.new)) result buf.now }
+    {
+        let outcome = match self.inner.write(buf) {
+            Ok(0) if !buf.is_empty() => Err(ErrorKind::WriteZero.into()),
+            outcome => outcome,
+        };
+        if let Err(e) = &outcome {
+            self.count(e.kind());
+        }
+        outcome
+    }
+
+    /// Flushes the stream. No contract says so, as std's words for a flush say only that the bytes stay.
+    fn flush_out(&mut self) -> Result<(), io::Error>
+        ensures puts { Puts (metered_sink self.old) (metered_sink self.new) result [] }
+        ensures sent { OnOk result ((metered_sink self.new).has_ended ≡ false → HoldsNothing (metered_sink self.new)) }
+        // The stream's bytes stay, if it states them.
+        ensures stream { Keeps (S.contents (metered_inner self.old)) (S.contents (metered_inner self.new)) }
+    {
+        let outcome = self.inner.flush();
+        if let Err(e) = &outcome {
+            self.count(e.kind());
+        }
+        outcome
+    }
+}
+
+// One failure more, up to the greatest number.
+fn next(failures: u64) -> u64
+    ensures { result ≡ next_count failures }
+{
+    failures.saturating_add(1)
+}
+
+/// A writer in memory: it takes so many bytes, and then each write of a byte fails. It keeps what it
+/// took.
+#[derive(Drop)]
+pub struct Budget {
+    bytes: Vec<u8>,
+    room: usize,
+    kind: ErrorKind,
+    failures: u64,
+    last: Option<ErrorKind>,
+}
+
+impl Budget {
+    ghost use Rattle.tiny_http_io.specs.Budget.{budget_bytes, budget_room, budget_kind, budget_sink};
+
+    /// Takes `room` bytes, and then fails with this kind; with `OutOfMemory` where there is no
+    /// memory for the bytes.
+    pub fn new(alloc: Global, room: usize, kind: ErrorKind) -> Budget
+        ensures sink { budget_sink result ≡ record { taken = Some []; sent = []; failures = 0; last_kind = None; has_ended = false } }
+        ensures room { budget_room result ≡ room }
+        ensures kind { budget_kind result ≡ kind }
+    {
+        Budget::from_vec(Vec::new(alloc), room, kind)
+    }
+
+    /// The same, with these bytes as the first that it took.
+    pub fn from_vec(bytes: Vec<u8>, room: usize, kind: ErrorKind) -> Budget
+        ensures sink { budget_sink result ≡ record { taken = Some bytes.items; sent = bytes.items; failures = 0; last_kind = None; has_ended = false } }
+        ensures room { budget_room result ≡ room }
+        ensures kind { budget_kind result ≡ kind }
+    {
+        Budget {
+            bytes,
+            room,
+            kind,
+            failures: 0,
+            last: None,
+        }
+    }
+
+    /// What it took, itself.
+    pub fn into_bytes(self) -> Vec<u8>
+        ensures { result.items ≡ budget_bytes self }
+    {
+        let Budget { bytes, .. } = self;
+        bytes
+    }
+
+    /// What it took.
+    pub fn bytes(&self) -> &[u8]
+        ensures { result.now ≡ budget_bytes self.now }
+    {
+        self.bytes.as_slice()
+    }
+
+    // Counts a failure of this kind.
+    fn fail(&mut self, kind: ErrorKind) -> io::Error
+        ensures kind { error_kind result ≡ kind }
+        ensures rest { self.new ≡ record self.old { failures = next_count self.old.failures; last = Some kind } }
+    {
+        self.failures = next(self.failures);
+        self.last = Some(kind);
+        kind.into()
+    }
+}
+
+impl WriteDevice for Budget {
+    ghost use Rattle.std.specs.Prelude.{◌+◌, IsOk};
+    ghost use Rattle.tiny_http_io.specs.Budget.{budget_bytes, budget_room, budget_kind, budget_sink};
+
+    ghost sink = { budget_sink };
+
+    /// The count.
+    fn failures(&self) -> u64 {
+        self.failures
+    }
+
+    /// Takes as many bytes as there is room for. It fails where there is room for none, or where memory was refused, and
+    /// then takes none.
+    fn write_out(&mut self, buf: &[u8]) -> Result<usize, io::Error>
+        ensures puts { PutsFront (budget_sink self.old) (budget_sink self.new) result buf.now }
+        ensures count { IfOk result (λ n. n ≡ min (length buf.now) (budget_room self.old)) }
+        ensures room { IfOk result (λ n. budget_room self.old ≡ n + budget_room self.new) }
+        ensures empty { length buf.now ≡ 0 → (result ≡ Ok 0) × (self.new ≡ self.old) }
+        ensures full { budget_room self.old ≡ 0 → IfErr result (λ e. error_kind e ≡ budget_kind self.old) }
+        ensures memory { 0 < budget_room self.old → IfErr result (λ e. error_kind e ≡ ErrorKind.OutOfMemory) }
+        ensures none { OnErr result ((budget_bytes self.new ≡ budget_bytes self.old) × (budget_room self.new ≡ budget_room self.old)) }
+        ensures kind { budget_kind self.new ≡ budget_kind self.old }
+    {
+        let n = buf.len().min(self.room);
+        if n == 0 {
+            return if buf.is_empty() {
+                Ok(0)
+            } else {
+                Err(self.fail(self.kind))
+            };
+        }
+        match self.bytes.extend_from_slice(&buf[..n]) {
+            Ok(()) => {
+                self.room -= n;
+                Ok(n)
+            }
+            Err(_) => Err(self.fail(ErrorKind::OutOfMemory)),
+        }
+    }
+
+    /// Nothing is held back.
+    fn flush_out(&mut self) -> Result<(), io::Error>
+        ensures puts { Puts (budget_sink self.old) (budget_sink self.new) result [] }
+        ensures sent { OnOk result ((budget_sink self.new).has_ended ≡ false → HoldsNothing (budget_sink self.new)) }
+        ensures ok { IsOk result }
+        ensures unchanged { self.new ≡ self.old }
+    {
+        Ok(())
+    }
+}
+
+/// Reads once from the device, as `read_in`; its contract says by cases what came of it.
+pub fn read_some<R: ReadDevice>(reader: &mut R, buf: &mut [u8]) -> Result<usize, io::Error>
+    ensures bound { IfOk result (λ n. n ≤ length buf.new) }
+    ensures bytes { ReadsFrom (R.feed reader.old) (R.feed reader.new) result buf.new }
+{
+    reader.read_in(buf)
+}
+
+/// Reads some bytes into the front of `buf`, at most `most` of them: as `read_in` into the smaller of
+/// that front and `buf`. Where either is empty it answers 0 and changes nothing.
+pub fn read_front<R: ReadDevice>(
+    reader: &mut R,
+    most: usize,
+    buf: &mut [u8],
+) -> Result<usize, io::Error>
+    ensures most { IfOk result (λ n. n ≤ most) }
+    ensures bound { IfOk result (λ n. n ≤ length buf.new) }
+    // The bytes that came are the next of the feed.
+    ensures bytes { IfOk result (λ n. R.feed reader.old ≡ prepended (take n buf.new) (R.feed reader.new)) }
+    ensures end { IfOk result (λ n. n ≡ 0 → 0 < most → 0 < length buf.new → StopsBy Stop.End (R.feed reader.old)) }
+    ensures fault { IfErr result (λ e. StopsBy (Stop.Fault (error_kind e)) (R.feed reader.old)) }
+    ensures again { OnErr result (R.feed reader.new ≡ R.feed reader.old) }
+    ensures empty { min most (length buf.old) ≡ 0 → (result ≡ Ok 0) × (reader.new ≡ reader.old) }
+    ensures len { length buf.new ≡ length buf.old }
+{
+    let room = most.min(buf.len());
+    let front = &mut buf[..room];
+    reader.read_in(front)
+}
+
+/// Writes all the bytes, by as many calls as it takes. After the writer's first fault nothing more
+/// is written.
+pub fn put<W: WriteDevice>(writer: &mut W, bytes: &[u8]) -> Result<(), io::Error>
+    ensures { Puts (W.sink writer.old) (W.sink writer.new) result bytes.now }
+{
+    let mut at = 0;
+    while at < bytes.len() {
+        at += writer.write_out(&bytes[at..])?;
+    }
+    Ok(())
+}
+
+/// Writes pieces one after another, as `put`.
+pub fn put_all<W: WriteDevice>(writer: &mut W, pieces: &[&[u8]]) -> Result<(), io::Error>
+    ensures { Puts (W.sink writer.old) (W.sink writer.new) result (flat_map (λ p. p.now) pieces.now) }
+{
+    for piece in pieces {
+        put(writer, piece)?;
+    }
+    Ok(())
+}
+
+/// A reader that gives another's bytes, at most so many a call. It is for tests of what reads.
+#[derive(Drop)]
+pub struct ByPieces<R> {
+    inner: R,
+    most: usize,
+}
+
+impl<R> ByPieces<R> {
+    ghost use Rattle.std.specs.Prelude.{max};
+    ghost use Rattle.tiny_http_io.specs.Pieces.{pieces_inner, pieces_most};
+
+    /// Gives this reader's bytes, at most `most` a call, and at most one where `most` is 0.
+    pub fn new(inner: R, most: usize) -> ByPieces<R>
+        ensures inner { pieces_inner result ≡ inner }
+        ensures most { pieces_most result ≡ max most 1 }
+    {
+        ByPieces { inner, most }
+    }
+
+    /// Gives the reader back.
+    pub fn into_inner(self) -> R
+        ensures { result ≡ pieces_inner self }
+    {
+        self.inner
+    }
+}
+
+impl<R: ReadDevice> ReadDevice for ByPieces<R> {
+    ghost use Rattle.tiny_http_io.specs.Pieces.{pieces_inner, pieces_most};
+
+    ghost feed = { λ p. R.feed (pieces_inner p) };
+
+    /// Reads once from the reader, into the front of `buf`.
+    fn read_in(&mut self, buf: &mut [u8]) -> Result<usize, io::Error>
+        ensures reads { Reads (R.feed (pieces_inner self.old)) (R.feed (pieces_inner self.new)) result buf.new }
+        ensures empty { length buf.new ≡ 0 → (result ≡ Ok 0) × (self.new ≡ self.old) }
+        ensures most { IfOk result (λ n. n ≤ pieces_most self.old) }
+        ensures stays { pieces_most self.new ≡ pieces_most self.old }
+    {
+        read_front(&mut self.inner, self.most.max(1), buf)
+    }
+}
+
+/// A reader or a writer of which one call fails, once: that call doesn't reach the stream inside, and every other does. It is a
+/// `ReadDevice` over one, and std's `Write` over one. It is for tests of what reads and writes.
+#[derive(Drop)]
+pub struct FailsAt<S> {
+    inner: S,
+    // How many calls are left up to the one that fails, that one included. 0: none fails any more.
+    calls: u64,
+    kind: ErrorKind,
+    has_failed: bool,
+}
+
+impl<S> FailsAt<S> {
+    ghost use Rattle.tiny_http_io.specs.FailsAt.{fails_at_inner, calls_left, fault_kind, has_failed, Counts};
+
+    /// The `nth` call, counted from 1, fails by this kind. For 0 none fails. Reads, writes and flushes count alike. A read into
+    /// an empty buffer doesn't count.
+    pub fn new(inner: S, nth: u64, kind: ErrorKind) -> FailsAt<S>
+        ensures inner { fails_at_inner result ≡ inner }
+        ensures calls { calls_left result ≡ nth }
+        ensures kind { fault_kind result ≡ kind }
+        ensures fresh { has_failed result ≡ false }
+    {
+        FailsAt {
+            inner,
+            calls: nth,
+            kind,
+            has_failed: false,
+        }
+    }
+
+    /// Whether the call that fails has come.
+    pub fn has_failed(&self) -> bool
+        ensures { result ≡ has_failed self.now }
+    {
+        self.has_failed
+    }
+
+    /// Gives the stream back.
+    pub fn into_inner(self) -> S
+        ensures { result ≡ fails_at_inner self }
+    {
+        self.inner
+    }
+
+    // Counts a call. An error if it is the one that fails.
+    fn count(&mut self) -> Result<(), io::Error>
+        ensures { Counts self.old self.new result }
+    {
+        if self.calls == 1 {
+            self.calls = 0;
+            self.has_failed = true;
+            return Err(self.kind.into());
+        }
+        self.calls = self.calls.saturating_sub(1);
+        Ok(())
+    }
+}
+
+impl<S: ReadDevice> ReadDevice for FailsAt<S> {
+    ghost use Rattle.std.specs.Prelude.{◌≢◌};
+    ghost use Rattle.tiny_http_io.specs.FailsAt.{fails_at_inner, calls_left, IsCounted, FailsNow};
+
+    /// Reads once from the reader, or fails. It states no feed, since what it gives may go on behind a fault.
+    fn read_in(&mut self, buf: &mut [u8]) -> Result<usize, io::Error>
+        ensures reads { Reads None None result buf.new }
+        ensures empty { length buf.new ≡ 0 → (result ≡ Ok 0) × (self.new ≡ self.old) }
+        ensures fails { 0 < length buf.new → calls_left self.old ≡ 1 → FailsNow self.old self.new result }
+        ensures counts { 0 < length buf.new → calls_left self.old ≢ 1 → IsCounted self.old self.new }
+        // What came is the reader's, if it states what it still gives.
+        ensures stream { calls_left self.old ≢ 1 → ReadsFrom (S.feed (fails_at_inner self.old)) (S.feed (fails_at_inner self.new)) result buf.new }
+    {
+        if buf.is_empty() {
+            return Ok(0);
+        }
+        self.count()?;
+        self.inner.read_in(buf)
+    }
+}
+
+impl<S: Write> Write for FailsAt<S> {
+    ghost use Rattle.std.specs.Prelude.{◌≢◌};
+    ghost use Rattle.std.specs.Io.{WritesAtMost};
+    ghost use Rattle.std.specs.Io.KnownBytes.{Keeps, WriteAppends};
+    ghost use Rattle.tiny_http_io.specs.FailsAt.{fails_at_inner, calls_left, IsCounted, FailsNow};
+
+    ghost contents = { λ f. S.contents (fails_at_inner f) };
+
+    /// Writes once to the stream, or fails.
+    fn write(&mut self, buf: &[u8]) -> io::Result<usize>
+        ensures bound { WritesAtMost result buf.now }
+        ensures bytes { WriteAppends (S.contents (fails_at_inner self.old)) (S.contents (fails_at_inner self.new)) result buf.now }
+        ensures fails { calls_left self.old ≡ 1 → FailsNow self.old self.new result }
+        ensures counts { calls_left self.old ≢ 1 → IsCounted self.old self.new }
+    {
+        self.count()?;
+        self.inner.write(buf)
+    }
+
+    /// Flushes the stream, or fails. No contract says that it is flushed, as std's words for a flush say only that the bytes stay.
+    fn flush(&mut self) -> io::Result<()>
+        ensures bytes { Keeps (S.contents (fails_at_inner self.old)) (S.contents (fails_at_inner self.new)) }
+        ensures fails { calls_left self.old ≡ 1 → FailsNow self.old self.new result }
+        ensures counts { calls_left self.old ≢ 1 → IsCounted self.old self.new }
+    {
+        self.count()?;
+        self.inner.flush()
+    }
+}
+
+impl<R: ReadDevice> ReadDevice for &mut R {
+    ghost feed = { λ r. R.feed r.now };
+
+    /// Reads from the reader that is lent.
+    fn read_in(&mut self, buf: &mut [u8]) -> Result<usize, io::Error> {
+        ReadDevice::read_in(&mut **self, buf)
+    }
+}
+
+impl<W: WriteDevice> WriteDevice for &mut W {
+    ghost sink = { λ w. W.sink w.now };
+
+    /// The count of the writer that is lent.
+    fn failures(&self) -> u64 {
+        WriteDevice::failures(&**self)
+    }
+
+    /// Writes to it.
+    fn write_out(&mut self, buf: &[u8]) -> Result<usize, io::Error> {
+        WriteDevice::write_out(&mut **self, buf)
+    }
+
+    /// Flushes it.
+    fn flush_out(&mut self) -> Result<(), io::Error> {
+        WriteDevice::flush_out(&mut **self)
+    }
+
+    /// Ends it.
+    fn end_out(&mut self) {
+        WriteDevice::end_out(&mut **self)
+    }
+}

@@ -1,0 +1,82 @@
+//! A reader that stays at its end.
+ghost use Rattle.std.specs.Prelude.{◌≡◌, ◌<◌, ◌≤◌, length, take, Some, None, Ok, IfOk, IfErr, OnErr, IsSome};
+ghost use Rattle.std.specs.IoError.{error_kind};
+ghost use Rattle.tiny_http_io.specs.Device.{prepended, StopsBy};
+
+use crate::device::{ReadDevice, Stop};
+use std::io;
+use std::io::Read;
+
+/// A reader that isn't called again after its end, and from then on answers the end. A fault is reported as it comes.
+#[derive(Drop)]
+pub struct FusedReader<R> {
+    inner: R,
+    over: bool,
+}
+
+impl<R: ReadDevice> FusedReader<R> {
+    ghost use Rattle.tiny_http_io.specs.FusedReader.{fused_inner};
+
+    /// A fused reader over this one, whose end isn't known yet.
+    pub fn new(reader: R) -> FusedReader<R>
+        ensures { fused_inner result ≡ Some reader }
+    {
+        FusedReader {
+            inner: reader,
+            over: false,
+        }
+    }
+}
+
+impl<R: ReadDevice + Drop> FusedReader<R> {
+    ghost use Rattle.tiny_http_io.specs.FusedReader.{fused_inner};
+
+    /// The reader inside, or None once its end was reported.
+    pub fn into_inner(self) -> Option<R>
+        ensures { result ≡ fused_inner self }
+    {
+        if self.over { None } else { Some(self.inner) }
+    }
+}
+
+impl<R: ReadDevice> ReadDevice for FusedReader<R> {
+    ghost use Rattle.tiny_http_io.specs.FusedReader.{fused_feed, ReadsFused};
+
+    ghost feed = { fused_feed R.feed };
+
+    /// Reads some bytes. A read into an empty buffer is no end.
+    fn read_in(&mut self, buf: &mut [u8]) -> Result<usize, io::Error>
+        ensures reads { ReadsFused R.feed self.old self.new result buf.new }
+    {
+        if self.over || buf.is_empty() {
+            return Ok(0);
+        }
+        match self.inner.read_in(buf) {
+            Err(e) => Err(e),
+            Ok(n) => {
+                if n == 0 {
+                    self.over = true;
+                }
+                Ok(n)
+            }
+        }
+    }
+}
+
+impl<R: ReadDevice> Read for FusedReader<R> {
+    ghost use Rattle.std.specs.Io.{ReadsAtMost};
+    ghost use Rattle.std.specs.Io.KnownBytes.{ReadConsumes};
+    ghost use Rattle.tiny_http_io.specs.FusedReader.{fused_feed, ReadsFused};
+    ghost use Rattle.tiny_http_io.specs.Device.{bytes_of};
+
+    ghost remaining = { λ r. bytes_of (fused_feed R.feed r) };
+
+    /// Reads some bytes. A read into an empty buffer is no end.
+    fn read(&mut self, buf: &mut [u8]) -> io::Result<usize>
+        ensures bound { ReadsAtMost result buf.new }
+        ensures bytes { ReadConsumes (bytes_of (fused_feed R.feed self.old)) (bytes_of (fused_feed R.feed self.new)) result buf.new }
+        ensures reads { ReadsFused R.feed self.old self.new result buf.new }
+    {
+        self.read_in(buf)
+    }
+}

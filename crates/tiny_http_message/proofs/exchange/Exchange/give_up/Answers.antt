@@ -1,5 +1,0 @@
-use Rattle.tiny_http_message.proofs.BodyReads.{gives-up}
-use Rattle.tiny_http_message.proofs.exchange.Exchange.give_up.Goals as goal
-
-pub returns-clause-goes_on : goal.returns-clause-goes_on
-returns-clause-goes_on g c = gives-up c.args.self.now.open_request.body c.args.source.now c.give_up.new.source c.give_up.ensures.gives_up

@@ -1,7 +1,0 @@
-use Rattle.std.proofs.Common.{subst}
-use Rattle.std.specs.Option.{option_copied}
-use Rattle.tiny_http_wire.specs.Target.{IsQuery}
-use Rattle.tiny_http_message.proofs.exchange.Head.query.Goals as goal
-
-pub returns : goal.returns
-returns c = subst (λ target. IsQuery target (option_copied c.query_of.result)) c.as_str.ensures.value c.query_of.ensures

@@ -1,6 +1,0 @@
-use Rattle.std.proofs.Common.{subst}
-use Rattle.tiny_http_wire.specs.Target.{IsPath}
-use Rattle.tiny_http_message.proofs.exchange.Head.target_path.Goals as goal
-
-pub returns : goal.returns
-returns c = subst (λ target. IsPath target c.path_of.result.now) c.as_str.ensures.value c.path_of.ensures

@@ -1,8 +1,0 @@
-use Rattle.std.proofs.Common.{◌≡◌, drop}
-use Rattle.std.specs.Prelude.{◌==◌}
-use Rattle.std.specs.List.{starts_with}
-use Rattle.tiny_http_wire.specs.Common.{lowercase}
-use Rattle.tiny_http_message.proofs.framing.begins.Given as goal
-
-abbrev pub invariant-loop-j : goal.invariant-loop-j
-invariant-loop-j l = starts_with ◌==◌ (lowercase (drop l.j l.text)) (drop l.j l.word) ≡ starts_with ◌==◌ (lowercase l.text) l.word

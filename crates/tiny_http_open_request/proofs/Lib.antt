@@ -1,0 +1,11 @@
+pub mod HeadReadsLemmas
+pub mod HeadReadsServing
+pub mod StandardServing
+pub mod NextRequestLemmas
+pub mod BodyRemainsLemmas
+pub mod OwnAnswerLemmas
+pub mod WithinLemmas
+pub mod SeenLemmas
+pub mod StandardLemmas
+pub mod PipelineLemmas
+pub mod UpgradesLemmas

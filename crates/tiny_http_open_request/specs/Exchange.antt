@@ -1,0 +1,77 @@
+-- What a contract sees of an `Exchange`.
+use Rattle.std.specs.Prelude.{◌≡◌, ℕ, Bool, false, List, Option, Result, ⊤, unwrap_or}
+use Rattle.httpdate.specs.declared.date.HttpDate.{HttpDate}
+use Rattle.tiny_http_io.specs.Device.{Feed}
+use Rattle.tiny_http_open_request.specs.declared.exchange.Head.{Head}
+use Rattle.tiny_http_body.specs.declared.body.Body.{Body}
+use Rattle.tiny_http_open_request.specs.declared.open_request.OpenRequest.{OpenRequest}
+use Rattle.tiny_http_open_request.specs.declared.exchange.Exchange.{Exchange}
+use Rattle.tiny_http_open_request.specs.declared.upgrading.UpgradeError.{UpgradeError}
+use Rattle.tiny_http_io.specs.Source.{SourceState}
+use Rattle.tiny_http_response.specs.ResponseValue.{printing_in}
+use Rattle.tiny_http_response.specs.Answer.{Printing}
+use Rattle.tiny_http_open_request.specs.OpenRequest.{KeepsHead, final_context, request_check}
+use Rattle.tiny_http_response.specs.declared.answer_context.AnswerContext.{AnswerContext}
+use Rattle.tiny_http_open_request.specs.TextState.{drop_text}
+use Rattle.tiny_http_body.specs.Body.{Remaining, remaining, remainder, is_streaming, is_whole, Fits, GivesUp}
+
+-- a request of this head, of which this is kept
+abbrev pub exchange_of : Head → OpenRequest Body → Exchange
+exchange_of head request = record { head = head; open_request = request }
+
+-- what the request's head says
+abbrev pub exchange_head : Exchange → Head
+exchange_head x = x.head
+
+-- what is kept of it until it is answered
+abbrev pub exchange_open : Exchange → OpenRequest Body
+exchange_open x = x.open_request
+
+-- how far its body was read
+abbrev pub exchange_body : Exchange → Body
+exchange_body x = x.open_request.body
+
+-- what is still to come of its body, where the input still gives this, and what stands after it
+abbrev pub exchange_left : Exchange → Option Feed → Option Remaining
+exchange_left x feed = remaining x.open_request.body feed
+
+-- how a 100 of this date is printed, and the answer of an upgrade
+abbrev pub exchange_printing : Exchange → HttpDate → Printing
+exchange_printing x date = printing_in x.open_request.answer_context date
+
+-- how it is answered now, by what is left of its body
+abbrev pub exchange_context : Exchange → AnswerContext
+exchange_context x = final_context x.open_request (remainder x.open_request.body)
+
+-- its body is read from the input, which has to stand after it before the next head is read
+abbrev pub exchange_streams : Exchange → Bool
+exchange_streams x = is_streaming x.open_request.body
+
+-- a 100 is owed that wasn't sent yet
+abbrev pub exchange_owes_continue : Exchange → Bool
+exchange_owes_continue x = x.open_request.owes_continue
+
+-- the text that answers it if it is dropped; no byte, once that was taken
+abbrev pub exchange_drop_text : Exchange → List ℕ
+exchange_drop_text x = drop_text x.open_request.dropped (exchange_context x)
+
+-- whether the connection can be upgraded, and why not
+abbrev pub exchange_check : Exchange → List ℕ → ℕ → Result ⊤ UpgradeError
+exchange_check x protocol code = request_check x.open_request protocol code (is_whole x.open_request.body)
+
+-- its head is the same, and of what is kept of it this has changed
+abbrev pub Changes : (OpenRequest Body → OpenRequest Body → Type 0) → Exchange → Exchange → Type 0
+Changes P old new = (new.head ≡ old.head) × P old.open_request new.open_request
+
+-- nothing but how far its body was read has changed
+abbrev pub KeepsButBody : Exchange → Exchange → Type 0
+KeepsButBody old new = (body : Body) × (new ≡ record old { open_request = record old.open_request { body = body } })
+
+-- its body is given up
+abbrev pub GivesUpBody : {R : Type 0} → Exchange → SourceState R → SourceState R → Type 0
+GivesUpBody x old new = GivesUp x.open_request.body old new
+
+-- what is kept of a request that was read on this date, of whose body nothing was read yet
+pub record KeepsRequest (x : Exchange) (date : HttpDate) : Type 0 where
+  pub answer : KeepsHead x.open_request x.head date
+  pub body : Fits x.head.by_standard x.open_request.body x.head.form (unwrap_or x.head.body_length 0) 0 false

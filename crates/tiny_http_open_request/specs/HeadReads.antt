@@ -1,0 +1,341 @@
+-- What the calls that read a head make of the input.
+use Rattle.std.specs.Prelude.{◌≡◌, ◌≢◌, ℕ, ◌+◌, ◌-◌, ⊤, ◌⊎◌, List, [], length, nat_lt, Option, Some, None, Result, Ok, Err, unwrap_or, Bool, true, false, MatchBool, IfSome, IfOk, IsErr, if◌then◌else◌}
+use Rattle.std.specs.declared.alloc.AllocError.{AllocError}
+use Rattle.httpdate.specs.declared.date.HttpDate.{HttpDate}
+use Rattle.tiny_http_head.specs.declared.common.Method.{Method}
+use Rattle.tiny_http_head.specs.declared.common.HTTPVersion.{HTTPVersion}
+use Rattle.tiny_http_head.specs.declared.common.Header.{Header}
+use Rattle.tiny_http_io.specs.declared.device.Stop.{Stop}
+use Rattle.tiny_http_io.specs.declared.device.Stop.TheVariants.{End, Fault}
+use Rattle.tiny_http_io.specs.Device.{Feed}
+use Rattle.tiny_http_text.specs.Bytes.{AreAscii}
+use Rattle.tiny_http_text.specs.Lines.{Line, IsUnfinished}
+use Rattle.tiny_http_head.specs.HeadReading as reading
+use Rattle.tiny_http_head.specs.Heads.{Message as Texted, BeginsWithRequestLine, BeginsWithHeaderLines, HeaderLine, FaultyLine, FaultyHead, IsRequestLine, IsFieldOrEnd, NotAscii, Malformed, version}
+use Rattle.tiny_http_open_request.specs.declared.heads.Message.{Message}
+use Rattle.tiny_http_body.specs.declared.framing.Profile.{Profile}
+use Rattle.tiny_http_body.specs.declared.framing.Profile.TheVariants as under
+use Rattle.tiny_http_body.specs.declared.framing.HeadRules.{HeadRules}
+use Rattle.tiny_http_body.specs.declared.framing.HeadRules.TheVariants as rules
+use Rattle.tiny_http_standard_head.specs.declared.judging.HeadSummary.{HeadSummary}
+use Rattle.tiny_http_standard_head.specs.Judging.{Judges}
+use Rattle.tiny_http_standard_head.specs.Heads.{is_begun}
+use Rattle.tiny_http_body.specs.declared.framing.Framing.{Framing}
+use Rattle.tiny_http_open_request.specs.declared.exchange.Head.{Head}
+use Rattle.tiny_http_open_request.specs.declared.exchange.Exchange.{Exchange}
+use Rattle.tiny_http_open_request.specs.declared.exchange.EndOfRequests.{EndOfRequests}
+use Rattle.tiny_http_open_request.specs.declared.exchange.EndOfRequests.TheVariants as because
+use Rattle.tiny_http_io.specs.declared.source.Standing.{Standing}
+use Rattle.tiny_http_io.specs.declared.source.Standing.TheVariants as at
+use Rattle.tiny_http_io.specs.ToCome.{HasByte}
+use Rattle.tiny_http_open_request.specs.declared.exchange.HeadRead.{HeadRead}
+use Rattle.tiny_http_open_request.specs.declared.exchange.HeadRead.TheVariants as read
+use Rattle.tiny_http_io.specs.declared.source.LineFault.{LineFault}
+use Rattle.tiny_http_io.specs.declared.source.LineFault.TheVariants as linefault
+use Rattle.tiny_http_open_request.specs.declared.heads.HeadFault.{HeadFault}
+use Rattle.tiny_http_open_request.specs.declared.heads.HeadFault.TheVariants as fault
+use Rattle.tiny_http_body.specs.declared.body.Body.{Body}
+use Rattle.tiny_http_body.specs.FramingReading.{framing}
+use Rattle.tiny_http_io.specs.declared.source.FirstLine.{FirstLine}
+use Rattle.tiny_http_io.specs.Source.{SourceState, GoesOn, feed_from, FindsLine, IsShort, IsTooLong, IsAtEnd, seen_within}
+use Rattle.tiny_http_open_request.specs.Pipeline.{place_feed, Manner, plainly, Request, Asks, Refuses, Refusal, VersionNotSupported, refusal_status, is_timed_out, Place, BeginsWithin, IsUnfinishedHead, IsTooLarge, IsCutWithHead, IsCutHead, IsNotAsciiHead, BodyAt, OneHead, body_length_or_0, place_after, served_version, standard_framing}
+use Rattle.tiny_http_open_request.specs.OwnAnswer.{own_text, refusal_response, refused_text}
+use Rattle.tiny_http_body.specs.Body.{Remaining, remaining, Fits}
+use Rattle.tiny_http_open_request.specs.Exchange.{exchange_head, exchange_open, exchange_left, exchange_streams, KeepsRequest}
+use Rattle.tiny_http_open_request.specs.declared.open_request.OpenRequest.{OpenRequest}
+use Rattle.tiny_http_open_request.specs.OpenRequest.{KeepsHead}
+
+-- what is wrong with a head whose next line isn't read
+abbrev pub head_fault : LineFault → HeadFault
+head_fault linefault.NotAscii = fault.NotAscii
+head_fault linefault.TooLong = fault.TooLarge
+head_fault linefault.Memory = fault.Memory
+head_fault _ = fault.Cut
+
+-- a line was read that is no good
+abbrev pub IsBadLine : HeadFault → Type 0
+IsBadLine fault.NotAscii = ⊤
+IsBadLine fault.Malformed = ⊤
+IsBadLine fault.Cut = ⊥
+IsBadLine fault.TooLarge = ⊥
+IsBadLine fault.Memory = ⊥
+
+-- what is left of a limit in front of the rest of these bytes
+abbrev pub IsSpent : Option ℕ → List ℕ → Option ℕ → List ℕ → Type 0
+IsSpent None bytes None rest = ⊤
+IsSpent (Some limit) bytes (Some left) rest = limit + length rest ≡ left + length bytes
+IsSpent _ bytes _ rest = ⊥
+
+-- the limit after a line of so many bytes and its CR LF
+abbrev pub left_after : ℕ → Option ℕ → Option ℕ
+left_after n None = None
+left_after n (Some left) = Some (left - (n + 2))
+
+-- what a text is read as: a request line
+abbrev pub StartIn : List ℕ → Result (Method × List ℕ × HTTPVersion) HeadFault → Type 0
+StartIn text (Ok r) = AreAscii text × (reading.request_line text ≡ Some r)
+StartIn text (Err fault.NotAscii) = AreAscii text → ⊥
+StartIn text (Err fault.Malformed) = AreAscii text × (reading.request_line text ≡ None)
+StartIn text (Err fault.Cut) = ⊥
+StartIn text (Err fault.TooLarge) = ⊥
+StartIn text (Err fault.Memory) = ⊤
+
+-- what a text is read as: a header line, or the empty line
+abbrev pub FieldIn : List ℕ → Result (Option Header) HeadFault → Type 0
+FieldIn text (Ok None) = text ≡ []
+FieldIn text (Ok (Some h)) = AreAscii text × (reading.header_line text ≡ Some h)
+FieldIn text (Err fault.NotAscii) = AreAscii text → ⊥
+FieldIn text (Err fault.Malformed) = AreAscii text × (text ≢ []) × (reading.header_line text ≡ None)
+FieldIn text (Err fault.Cut) = ⊥
+FieldIn text (Err fault.TooLarge) = ⊥
+FieldIn text (Err fault.Memory) = ⊤
+
+-- why there is no next line within this limit
+abbrev pub HasNoLine : Option ℕ → Option Feed → HeadFault → Type 0
+HasNoLine left None e = ⊤
+HasNoLine left (Some f) fault.Cut = IsUnfinished f.bytes × IsShort left f.bytes
+HasNoLine left (Some f) fault.TooLarge = IsTooLong left f.bytes
+HasNoLine left (Some f) fault.NotAscii = ⊥
+HasNoLine left (Some f) fault.Malformed = ⊥
+HasNoLine left (Some f) fault.Memory = ⊤
+
+-- where the next line of a head is found, or why there is none
+abbrev pub FindsText : Option ℕ → Option Feed → Option Feed → List ℕ → ℕ → Result FirstLine HeadFault → Type 0
+FindsText left old new held skip (Ok line) = FindsLine left old new held skip (Ok line)
+FindsText left old new held skip (Err e) = HasNoLine left old e × (IsBadLine e → ⊥)
+
+-- a line that has to be good and to keep this limit, and doesn't
+abbrev pub IsFaulty : Option ℕ → (List ℕ → Type 0) → List ℕ → HeadFault → Type 0
+IsFaulty left IsGood bytes fault.Cut = IsUnfinished bytes × IsShort left bytes
+IsFaulty left IsGood bytes fault.TooLarge = IsTooLong left bytes
+IsFaulty left IsGood bytes fault.NotAscii = FaultyLine IsGood (seen_within left bytes) NotAscii
+IsFaulty left IsGood bytes fault.Malformed = FaultyLine IsGood (seen_within left bytes) Malformed
+IsFaulty left IsGood bytes fault.Memory = ⊤
+
+-- a request line, within this limit, of which so much is left
+abbrev pub ReadsStart : Option ℕ → Option ℕ → Option Feed → Option Feed → Result (Method × List ℕ × HTTPVersion) HeadFault → Type 0
+ReadsStart limit left None new r = ⊤
+ReadsStart limit left (Some f) new (Ok r) = (rest : List ℕ) × BeginsWithRequestLine f.bytes r.0 r.1 r.2 rest × (new ≡ feed_from f rest) × IsSpent limit f.bytes left rest
+ReadsStart limit left (Some f) new (Err e) = IsFaulty limit IsRequestLine f.bytes e
+
+-- a header line, or the empty line
+abbrev pub ReadsField : Option ℕ → Option ℕ → Option Feed → Option Feed → Result (Option Header) HeadFault → Type 0
+ReadsField limit left None new r = ⊤
+ReadsField limit left (Some f) new (Ok (Some h)) =
+    (text : List ℕ) × (rest : List ℕ) × Line f.bytes text rest × AreAscii text × HeaderLine text h.field h.value × (new ≡ feed_from f rest) × IsSpent limit f.bytes left rest
+ReadsField limit left (Some f) new (Ok None) = (rest : List ℕ) × Line f.bytes [] rest × (new ≡ feed_from f rest) × IsSpent limit f.bytes left rest
+ReadsField limit left (Some f) new (Err e) = IsFaulty limit IsFieldOrEnd f.bytes e
+
+-- these header lines were read
+abbrev pub HasReadFields : Option ℕ → Option ℕ → Option Feed → Option Feed → List Header → Type 0
+HasReadFields limit left None new hs = ⊤
+HasReadFields limit left (Some f) new hs = (rest : List ℕ) × BeginsWithHeaderLines f.bytes hs rest × (new ≡ feed_from f rest) × IsSpent limit f.bytes left rest
+
+-- all header lines and the empty line
+abbrev pub ReadsFields : {T : Type 0} → (T → List Header) → Option ℕ → Option ℕ → Option Feed → Option Feed → Result T HeadFault → Type 0
+ReadsFields items limit left None new r = ⊤
+ReadsFields items limit left (Some f) new (Ok hs) =
+    (empty : List ℕ) × (rest : List ℕ) × BeginsWithHeaderLines f.bytes (items hs) empty × Line empty [] rest × (new ≡ feed_from f rest) × IsSpent limit f.bytes left rest
+ReadsFields items limit left (Some f) new (Err e) =
+    (hs : List Header) × (rest : List ℕ) × (now : Option ℕ) × BeginsWithHeaderLines f.bytes hs rest × IsSpent limit f.bytes now rest × IsFaulty now IsFieldOrEnd rest e
+
+abbrev pub message_of : Message → Texted
+message_of m = record { method = m.method; path = m.path; version = m.version; headers = m.headers.items }
+
+-- what a head says, and how it is framed
+abbrev pub head_message : Head → Texted
+head_message h = record { method = h.method; path = h.path; version = h.version; headers = h.headers.items }
+
+abbrev pub head_framing : Head → Framing
+head_framing h = record { form = h.form; owes_continue = h.owes_continue; body_length = h.body_length; asks_upgrade = h.asks_upgrade; by_standard = h.by_standard; is_last = h.is_last }
+
+-- the request of a head, with its body and what follows that
+abbrev pub request_of : Head → Feed → Feed → Request
+request_of h body behind = record { message = head_message h; framing = head_framing h; body = body; behind = behind }
+
+-- a head that is faulty so within this limit, under the version if that was read
+abbrev pub IsFaultyHead : Option ℕ → List ℕ → Option HTTPVersion → HeadFault → Type 0
+IsFaultyHead limit bytes v fault.Cut = IsUnfinishedHead limit bytes v
+IsFaultyHead limit bytes v fault.TooLarge = IsTooLarge limit bytes v
+IsFaultyHead limit bytes v fault.NotAscii = FaultyHead (seen_within limit bytes) v NotAscii
+IsFaultyHead limit bytes v fault.Malformed = FaultyHead (seen_within limit bytes) v Malformed
+IsFaultyHead limit bytes v fault.Memory = ⊤
+
+-- a whole head that keeps this limit, or how it is faulty
+abbrev pub ReadsMessage : Option ℕ → Option Feed → Option Feed → Result Message (Option HTTPVersion × HeadFault) → Type 0
+ReadsMessage limit None new r = ⊤
+ReadsMessage limit (Some f) new (Ok m) = (rest : List ℕ) × BeginsWithin limit f.bytes (message_of m) rest × (new ≡ feed_from f rest)
+ReadsMessage limit (Some f) new (Err e) = IsFaultyHead limit f.bytes e.0 e.1
+
+-- why no request comes where the input stopped so, in front of a head or after bytes of one
+abbrev pub cut_end : Stop → Bool → EndOfRequests
+cut_end (Fault kind) has_begun = because.Fault kind
+cut_end End true = because.Cut
+cut_end End false = because.Closed
+
+-- WHY NO REQUEST comes from these bytes, which are answered by nothing: the head is cut, and not by a time-out; or a line of
+-- it isn't ASCII.
+abbrev pub RulesEndBy : HeadRules → List ℕ → Stop → EndOfRequests → Type 0
+RulesEndBy p bytes stop why =
+    (IsCutHead p bytes × (is_timed_out stop ≡ false) × (why ≡ cut_end stop (nat_lt 0 (length bytes)))) ⊎ (IsNotAsciiHead p bytes × (why ≡ because.NotAscii))
+
+-- By the standard it is cut; a time-out before it has begun is no reason to answer.
+abbrev pub EndsBy : Profile → List ℕ → Stop → EndOfRequests → Type 0
+EndsBy under.Lenient bytes stop why = RulesEndBy rules.Lenient bytes stop why
+EndsBy under.Strict bytes stop why = RulesEndBy rules.Strict bytes stop why
+EndsBy under.Standard bytes stop why = why ≡ cut_end stop (is_begun bytes)
+
+-- the same at a place: after a body that was given up, or broke off, that is the reason
+abbrev pub EndsAt : Profile → Standing → List ℕ → Stop → EndOfRequests → Type 0
+EndsAt p at.Abandoned bytes stop why = why ≡ because.AbandonedBody
+EndsAt p (at.Broken kind) bytes stop why = why ≡ because.BrokenBody kind
+EndsAt p _ bytes stop why = EndsBy p bytes stop why
+
+-- the reason at a place, where the input alone gives this one
+abbrev pub end_at : Standing → EndOfRequests → EndOfRequests
+end_at at.Abandoned why = because.AbandonedBody
+end_at (at.Broken kind) why = because.BrokenBody kind
+end_at _ why = why
+
+-- A head is refused by this status in this version: the text of its answer, after which no head follows. Or memory for that
+-- was refused.
+abbrev pub RefusesWith : ℕ → Manner → HttpDate → Result HeadRead AllocError → Type 0
+RefusesWith status v date (Ok (read.Refused code text last)) = (code.0 ≡ status) × (text.items ≡ own_text status v false date) × (last ≡ true)
+RefusesWith status v date (Ok _) = ⊥
+RefusesWith status v date (Err e) = ⊤
+
+-- A head is refused for its version, under version 1.1: the text of its answer, after which no head follows, or one does. Or
+-- memory for that was refused.
+abbrev pub RefusesTooNew : Bool → Bool → HttpDate → Result HeadRead AllocError → Type 0
+RefusesTooNew ends no_body date (Ok (read.Refused code text last)) = (code.0 ≡ 505) × (text.items ≡ refused_text (refusal_response VersionNotSupported) (plainly (version 1 1)) no_body date) × (last ≡ ends)
+RefusesTooNew ends no_body date (Ok _) = ⊥
+RefusesTooNew ends no_body date (Err e) = ⊤
+
+-- What a head is answered that is cut by this stop: 408 at a time-out, else nothing, for this reason.
+abbrev pub AnswersCut : Stop → Bool → Bool → HttpDate → Result HeadRead AllocError → Type 0
+AnswersCut stop standard has_begun date r = MatchBool (is_timed_out stop) (RefusesWith 408 (record { version = version 1 1; by_standard = standard }) date r) (r ≡ Ok (read.Ended (cut_end stop has_begun)))
+
+-- What a faulty head is answered, under the version if that was read, where the input stopped so if it is cut; or why it ends
+-- the requests; or memory for its line was refused.
+abbrev pub AnswersFault : Option HTTPVersion → HeadFault → Option Stop → HttpDate → Result HeadRead AllocError → Type 0
+AnswersFault v fault.Malformed stop date r = RefusesWith 400 (plainly (unwrap_or v (version 1 1))) date r
+AnswersFault v fault.Cut stop date r = IfSome stop (λ s. AnswersCut s false true date r)
+AnswersFault v fault.TooLarge stop date r = RefusesWith 431 (plainly (unwrap_or v (version 1 1))) date r
+AnswersFault v fault.NotAscii stop date r = r ≡ Ok (read.Ended because.NotAscii)
+AnswersFault v fault.Memory stop date r = IsErr r
+
+-- the body that stands here, and the place after it, are to come
+abbrev pub ComesWith : Option Remaining → Stop → Feed → Place → Type 0
+ComesWith left stop body next = left ≡ Some (record { body = body; behind = place_feed stop next })
+
+-- The body that begins at the input's place, or none: it is read with its head, and cut short.
+abbrev pub Begins : Framing → Option Feed → Option Feed → Option Body → Type 0
+Begins f None new b = ⊤
+Begins f (Some x) new None = IsCutWithHead f.form (body_length_or_0 f) x.bytes
+Begins f (Some x) new (Some b) =
+    (IsCutWithHead f.form (body_length_or_0 f) x.bytes → ⊥) × (body : Feed) × (next : Place) × BodyAt f.by_standard f.form (body_length_or_0 f) x.bytes x.stop body next
+    × ComesWith (remaining b new) x.stop body next × Fits f.by_standard b f.form (body_length_or_0 f) 0 false
+
+-- the reader times out
+abbrev pub TimesOut : Option Feed → Type 0
+TimesOut None = ⊥
+TimesOut (Some f) = is_timed_out f.stop ≡ true
+
+-- a byte of a head comes, or the reader times out
+abbrev pub HasByteOrTimedOut : Option Feed → Type 0
+HasByteOrTimedOut o = HasByte o ⊎ TimesOut o
+
+-- After a refused head that is the last no head follows; after another the input stands at the place of the next one.
+abbrev pub GoesOnAt : Bool → Stop → Place → Option Feed → Type 0
+GoesOnAt true stop next new = next ≡ None
+GoesOnAt false stop next new = new ≡ Some (place_feed stop next)
+
+-- ONE HEAD, read at a place: the item that stands there, what is still to come of its body, and where the next head begins
+-- after that, unless the request is the last; or why no request comes.
+abbrev pub ReadsHead : Profile → Standing → HttpDate → Option Feed → Option Feed → Result HeadRead AllocError → Type 0
+ReadsHead p from_here date None new r = ⊤
+ReadsHead p from_here date (Some f) new (Ok (read.Request x)) =
+    (body : Feed) × (next : Place) × OneHead p f.bytes f.stop (Some (Asks (request_of (exchange_head x) body (place_feed f.stop next)))) (place_after (exchange_head x).is_last next)
+    × ComesWith (exchange_left x new) f.stop body next × KeepsRequest x date
+ReadsHead p from_here date (Some f) new (Ok (read.Refused status text last)) =
+    (refusal : Refusal) × (v : Manner) × (no_body : Bool) × (next : Place) × OneHead p f.bytes f.stop (Some (Refuses refusal v no_body last)) next
+    × (text.items ≡ refused_text (refusal_response refusal) v no_body date) × (status.0 ≡ refusal_status refusal) × GoesOnAt last f.stop next new
+ReadsHead p from_here date (Some f) new (Ok (read.Ended why)) = OneHead p f.bytes f.stop None None × EndsAt p from_here f.bytes f.stop why
+ReadsHead p from_here date (Some f) new (Err e) = ⊤
+
+-- after anything but a request, or a refused head after which another follows, the source has ended
+abbrev pub EndsUnlessHanded : {R : Type 0} → Result HeadRead AllocError → SourceState R → Type 0
+EndsUnlessHanded (Ok (read.Request x)) s = ⊤
+EndsUnlessHanded (Ok (read.Refused status text false)) s = ⊤
+EndsUnlessHanded _ s = IsAtEnd s
+
+-- a source stands in front of a head, or where one would begin
+abbrev pub IsBeforeHead : Standing → Type 0
+IsBeforeHead at.Head = Unit {0}
+IsBeforeHead at.Abandoned = Unit {0}
+IsBeforeHead (at.Broken kind) = Unit {0}
+IsBeforeHead at.Body = ⊥
+IsBeforeHead at.Last = ⊥
+
+-- the answer is the end
+abbrev pub IsOkEnd : Result HeadRead AllocError → Type 0
+IsOkEnd (Ok (read.Ended why)) = ⊤
+IsOkEnd _ = ⊥
+
+-- a request was read
+abbrev pub IsRequest : HeadRead → Type 0
+IsRequest (read.Request x) = ⊤
+IsRequest _ = ⊥
+
+-- a head was refused, was read to its end or its first bad line (not by a 408 or a 431), and no head follows
+abbrev pub IsRefusedUncut : HeadRead → Type 0
+IsRefusedUncut (read.Refused status text last) = (status.0 ≢ 408) × (status.0 ≢ 431) × (last ≡ true)
+IsRefusedUncut _ = ⊥
+
+-- a head is framed as its version and headers say; by the standard it is judged so, in a version that counts as its own
+abbrev pub IsFramedHead : Profile → Head → Type 0
+IsFramedHead under.Lenient h = framing rules.Lenient h.version h.headers.items ≡ Ok (head_framing h)
+IsFramedHead under.Strict h = framing rules.Strict h.version h.headers.items ≡ Ok (head_framing h)
+IsFramedHead under.Standard h =
+    (v : HTTPVersion) × (s : HeadSummary) × Judges v h.method h.headers.items (Ok s) × (h.version ≡ served_version v) × (head_framing h ≡ standard_framing s)
+
+-- and this is what is kept of a request with this head, on this date
+abbrev pub IsFramedBy : {B : Type 0} → Profile → HttpDate → Head → OpenRequest B → Type 0
+IsFramedBy p date h kept = IsFramedHead p h × KeepsHead kept h date
+
+-- the same of a request that was read
+abbrev pub IsFramedRequest : Profile → HttpDate → HeadRead → Type 0
+IsFramedRequest p date (read.Request x) =
+    IsFramedBy p date (exchange_head x) (exchange_open x)
+IsFramedRequest p date _ = ⊤
+
+-- where a source stands after the head of this request
+abbrev pub standing_of : Exchange → Standing
+standing_of x = if (exchange_head x).is_last then at.Last else if exchange_streams x then at.Body else at.Head
+
+-- and after a head was read, or none
+abbrev pub standing_read : Result HeadRead AllocError → Standing → Standing
+standing_read (Ok (read.Request x)) old = standing_of x
+standing_read (Ok (read.Refused status text false)) old = at.Head
+standing_read _ old = old
+
+-- ONE CALL THAT READS A HEAD, from wherever the source stands.
+pub record TakesHead {R : Type 0} (p : Profile) (date : HttpDate) (old new : SourceState R) (r : Result HeadRead AllocError) : Type 0 where
+  -- Where a head would begin: the item that stands there, or why none follows. After anything but a request, or a refused head
+  -- behind which the next one stands, the source has ended.
+  pub reads : IsBeforeHead old.standing → ReadsHead p old.standing date old.feed new.feed r
+  pub ends : IsBeforeHead old.standing → EndsUnlessHanded r new
+  -- after the last request nothing is read; within a body neither, and the source ends there
+  pub last : old.standing ≡ at.Last → (r ≡ Ok (read.Ended because.LastRequest)) × (new ≡ old)
+  pub unread : old.standing ≡ at.Body → (r ≡ Ok (read.Ended because.UnreadBody)) × IsAtEnd new × (new.reader ≡ old.reader)
+  -- the source goes on, or stays
+  pub goes_on : GoesOn old.feed new.feed
+  -- whatever the reader states: after the end no head follows, and the reader isn't called
+  pub at_end : IsAtEnd old → IsOkEnd r × (new.reader ≡ old.reader)
+  -- unless it is the end, a byte of a head has come, or the reader timed out: memory isn't refused in place of the end
+  pub begun : (IsOkEnd r → ⊥) → HasByteOrTimedOut old.feed
+  -- whatever the reader states: a request is framed as its version and headers say, and its drop's text is that of its head
+  pub framed : IfOk r (IsFramedRequest p date)
+  -- nothing is read ahead: where a request was read no end or fault of the reader was met
+  pub lazy : IfOk r (λ x. IsRequest x → new.stop ≡ old.stop)
+  pub standing : new.standing ≡ standing_read r old.standing

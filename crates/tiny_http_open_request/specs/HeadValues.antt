@@ -1,0 +1,18 @@
+-- What a head asks of its connection.
+use Rattle.std.specs.Prelude.{Bool, true, false, not, ◌&&◌, if◌then◌else◌}
+use Rattle.tiny_http_open_request.specs.declared.exchange.Head.{Head}
+use Rattle.tiny_http_body.specs.declared.framing.Form.{Form}
+use Rattle.tiny_http_body.specs.declared.framing.Form.TheVariants.{Rest, Nothing, WithHead, Counted, Chunked}
+
+-- the body is the whole rest of the stream
+abbrev pub is_rest : Form → Bool
+is_rest Rest = true
+is_rest Nothing = false
+is_rest WithHead = false
+is_rest Counted = false
+is_rest Chunked = false
+
+-- The head asks for an upgrade that its profile takes: by the standard as RFC 9110, section 7.8, says, unless the connection ends
+-- after the request; else by a first `Connection` that names one.
+abbrev pub is_upgrade : Head → Bool
+is_upgrade h = if h.by_standard then h.asks_upgrade && not h.is_last else is_rest h.form

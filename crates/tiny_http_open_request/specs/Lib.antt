@@ -1,0 +1,12 @@
+pub mod OwnAnswer
+pub mod Page
+pub mod TextState
+pub mod Pipeline
+pub mod PipelineReading
+pub mod BodyRemains
+pub mod OpenRequest
+pub mod Exchange
+pub mod HeadReads
+pub mod HeadValues
+pub mod StandardReads
+pub mod NextRequest

@@ -1,0 +1,74 @@
+-- One head after another: those are passed that are refused and have another behind them.
+use Rattle.std.specs.Prelude.{◌≡◌, ℕ, zero, suc, ◌^◌, ◌⊎◌, Bool, true, false, List, Option, Some, None, Result, Ok, Err}
+use Rattle.std.specs.declared.alloc.AllocError.{AllocError}
+use Rattle.httpdate.specs.declared.date.HttpDate.{HttpDate}
+use Rattle.tiny_http_head.specs.declared.common.StatusCode.{StatusCode}
+use Rattle.tiny_http_io.specs.Source.{SourceState}
+use Rattle.tiny_http_body.specs.declared.framing.Profile.{Profile}
+use Rattle.tiny_http_open_request.specs.declared.exchange.HeadRead.{HeadRead}
+use Rattle.tiny_http_open_request.specs.declared.exchange.HeadRead.TheVariants as read
+use Rattle.tiny_http_open_request.specs.declared.exchange.EndOfRequests.TheVariants as because
+use Rattle.tiny_http_open_request.specs.declared.next_request.NextRequest.{NextRequest}
+use Rattle.tiny_http_open_request.specs.declared.next_request.NextRequest.TheVariants as next
+use Rattle.tiny_http_open_request.specs.HeadReads.{TakesHead}
+
+-- where the reading stands: the source, the place where refusals go, and the output that is lent for that
+pub record At (R P O : Type 0) : Type 0 where
+  pub source : SourceState R
+  pub place : P
+  pub output : O
+
+abbrev pub at : {R P O : Type 0} → SourceState R → P → O → At R P O
+at source place output = record { source = source; place = place; output = output }
+
+-- How a text is put where refusals go: the flag says whether it was. A trait's relation.
+abbrev pub Refuses : Type 0 → Type 0 → Type 1
+Refuses P O = P → O → List ℕ → Bool → P → O → Type 0
+
+-- what is found: a request or the end; or, where there is none, another head stands behind
+abbrev pub Found : Type 0
+Found = Option (Result NextRequest AllocError)
+
+-- what follows a refused head whose answer went where it goes: the end after the last one, or the next head
+abbrev pub after_refused : StatusCode → Bool → Found
+after_refused status true = Some (Ok (next.Ended (because.Refused status)))
+after_refused status false = None
+
+-- the answer of a refused head went where it goes; or memory was refused for that
+abbrev pub FollowsRefusal : StatusCode → Bool → Bool → Found → Type 0
+FollowsRefusal status last true found = found ≡ after_refused status last
+FollowsRefusal status last false found = (e : AllocError) × (found ≡ Some (Err e))
+
+-- place and output are as they were
+abbrev pub Stays : {R P O : Type 0} → At R P O → At R P O → Type 0
+Stays here there = (there.place ≡ here.place) × (there.output ≡ here.output)
+
+-- What follows what was read of a head. Place and output change only where the head is refused.
+abbrev pub Follows : {R P O : Type 0} → Refuses P O → Result HeadRead AllocError → At R P O → Found → At R P O → Type 0
+Follows refuses (Ok (read.Request x)) here found there = (found ≡ Some (Ok (next.Request x))) × Stays here there
+Follows refuses (Ok (read.Ended why)) here found there = (found ≡ Some (Ok (next.Ended why))) × Stays here there
+Follows refuses (Ok (read.Refused status text last)) here found there =
+    (kept : Bool) × refuses here.place here.output text.items kept there.place there.output × FollowsRefusal status last kept found
+Follows refuses (Err e) here found there = (found ≡ Some (Err e)) × Stays here there
+
+-- ONE HEAD is read, and this is found
+abbrev pub FindsHead : {R P O : Type 0} → Refuses P O → Profile → HttpDate → At R P O → Found → At R P O → Type 0
+FindsHead refuses profile date here found there =
+    (r : Result HeadRead AllocError) × TakesHead profile date here.source there.source r × Follows refuses r here found there
+
+-- so many heads were refused, and another stands behind each
+abbrev pub PassesHeads : {R P O : Type 0} → Refuses P O → Profile → HttpDate → ℕ → At R P O → At R P O → Type 0
+PassesHeads refuses profile date zero here there = there ≡ here
+PassesHeads {R = R} {P = P} {O = O} refuses profile date (suc n) here there =
+    (mid : At R P O) × PassesHeads refuses profile date n here mid × FindsHead refuses profile date mid None there
+
+-- 2^64 heads were passed, and no further one was looked at
+abbrev pub PassesTooMany : {R P O : Type 0} → ℕ → At R P O → Result NextRequest AllocError → At R P O → Type 0
+PassesTooMany passed here r there = (passed ≡ 2 ^ 64) × ((e : AllocError) × (r ≡ Err e)) × (there ≡ here)
+
+-- THE NEXT REQUEST, over the heads that are passed before it
+pub record FindsNext {R P O : Type 0} (refuses : Refuses P O) (profile : Profile) (date : HttpDate) (here : At R P O) (r : Result NextRequest AllocError) (there : At R P O) : Type 0 where
+  pub passed : ℕ
+  pub mid : At R P O
+  pub passes : PassesHeads refuses profile date passed here mid
+  pub ends : FindsHead refuses profile date mid (Some r) there ⊎ PassesTooMany passed mid r there

@@ -1,0 +1,19 @@
+//! Laws of the definitions, each the contract of a function that does nothing.
+ghost use Rattle.std.specs.Prelude.{◌≡◌, List, Some};
+ghost use Rattle.tiny_http_io.specs.Device.{Feed};
+ghost use Rattle.tiny_http_open_request.specs.Pipeline.{Item, Pipeline};
+
+use tiny_http_body::framing::{LONGEST_WITH_HEAD, Profile, STANDARD_HEAD, STRICT_HEAD};
+
+/// The sizes that the definitions of a head and of its framing take from the code.
+pub fn sizes_of_heads()
+    ensures with_head { LONGEST_WITH_HEAD ≡ 1024 }
+    ensures strict { STRICT_HEAD ≡ 65536 }
+    ensures standard { STANDARD_HEAD ≡ 65536 }
+{}
+
+/// Under each profile each feed has exactly one pipeline.
+pub fn one_pipeline()
+    ensures some { (p : Profile) (feed : Feed) → (items : List Item) × Pipeline p (Some feed.bytes) feed.stop items }
+    ensures one { (p : Profile) (feed : Feed) (items others : List Item) → Pipeline p (Some feed.bytes) feed.stop items → Pipeline p (Some feed.bytes) feed.stop others → items ≡ others }
+{}

@@ -1,0 +1,14 @@
+//! One request of a connection, without locks (RFC 9112): its head read from the connection's input, what it owes and where
+//! its body stands, its answer, and the server's own answers. It stands on `tiny_http_standard_head` and
+//! `tiny_http_response`; `tiny_http_core` names what programs use.
+#![tactic(auto)]
+
+pub mod exchange;
+mod head_values;
+mod heads;
+pub mod laws;
+pub mod next_request;
+pub mod open_request;
+pub mod own_answer;
+mod standard;
+pub mod upgrading;

@@ -1,0 +1,359 @@
+//! A request that was handed out and isn't answered yet: what it owes, how its answer is printed, and its body. A
+//! `Connection` keeps it under its number, a `Request` beside its turn. They see to the turn; what is sent, and what is owed
+//! after it, is decided here.
+ghost use Rattle.std.specs.Prelude.{◌≡◌, ℕ, List, true, false, IfOk};
+ghost use Rattle.tiny_http_standard_head.specs.Judging.{names_protocol};
+ghost use Rattle.std.specs.List.{list_all};
+ghost use Rattle.tiny_http_text.specs.Bytes.{is_ascii};
+ghost use Rattle.tiny_http_io.specs.Device.{Feed, Puts};
+ghost use Rattle.tiny_http_response.specs.Streaming.{streamed_form, streamed_head};
+ghost use Rattle.tiny_http_io.specs.Outlet.{output_of};
+ghost use Rattle.tiny_http_response.specs.ResponseValue.{printing_in, upgrade_text};
+ghost use Rattle.tiny_http_response.specs.Sending.{FailsOnce, SendsQuietlyOn, SendsAnswer};
+ghost use Rattle.tiny_http_open_request.specs.TextState.{drop_text};
+ghost use Rattle.tiny_http_open_request.specs.OwnAnswer.{own_text_by};
+ghost use Rattle.tiny_http_open_request.specs.OpenRequest.{coding_for, KeepsHead, closing, OwesNoContinue, HasNoDropText, HasNoBodyLeft, HasSentAll, final_context, streaming_context, is_last_once_finished, is_last_with_stream, refuses_code, request_check};
+ghost use Rattle.tiny_http_open_request.specs.Pipeline.{is_head_method};
+ghost use Rattle.tiny_http_body.specs.Body.{ReadsBody, GivesUp};
+
+use crate::exchange::Head;
+use crate::own_answer::{DropText, persistence_of, send_own_quietly};
+use crate::upgrading::{UpgradeError, check_upgrade, send_upgrade_quietly};
+use httpdate::HttpDate;
+use std::alloc::{AllocError, Global};
+use std::io;
+use tiny_http_body::body::{Body, Remainder};
+use tiny_http_body::streamed::StreamedForm;
+use tiny_http_head::common::{Header, Method, StatusCode};
+use tiny_http_io::device::{ReadDevice, WriteDevice};
+use tiny_http_io::outlet::Outlet;
+use tiny_http_io::source::Source;
+use tiny_http_response::answer_context::{AnswerContext, Persistence};
+use tiny_http_response::coding::{Coding, asked_coding};
+use tiny_http_response::response::Response;
+use tiny_http_response::sending::send_unless_ended;
+use tiny_http_standard_head::judging::{asks_chunked, names_protocol};
+
+/// A request that was handed out and isn't answered yet. Its head isn't part of it.
+#[derive(Drop)]
+pub struct OpenRequest<B> {
+    /// How its answer is printed.
+    pub answer_context: AnswerContext,
+    /// Whether a 100 is owed that wasn't sent yet.
+    pub owes_continue: bool,
+    /// Whether the next head isn't read before the answer: the request asks for an upgrade, and isn't its connection's last. What
+    /// follows it may be bytes of the other protocol (RFC 9110, section 7.8).
+    pub holds_next_head: bool,
+    /// Whether its head was read under `Standard`.
+    pub by_standard: bool,
+    /// Whether its method is `CONNECT`.
+    pub is_connect: bool,
+    /// Whether an answer asked that the connection ends behind this request.
+    pub closes: bool,
+    /// The `Upgrade` headers of a request that holds the next head.
+    pub upgrades: Vec<Header>,
+    /// What is sent if the request is dropped.
+    pub dropped: DropText,
+    /// Its body, and how far that was read.
+    pub body: B,
+}
+
+impl<B: Drop> OpenRequest<B> {
+    /// A request with this head and this body. `now` dates the 500 that is sent if it is dropped. It is an error where memory
+    /// for that was refused.
+    #[inline(always)]
+    pub fn new(
+        alloc: Global,
+        head: &Head,
+        body: B,
+        now: HttpDate,
+    ) -> Result<OpenRequest<B>, AllocError>
+        ensures { IfOk result (λ w. (w.body ≡ body) × KeepsHead w head.now now) }
+    {
+        let answer_context = AnswerContext {
+            version: head.version,
+            asked_coding: coding_for(head.by_standard, head.headers.as_slice()),
+            no_body: is_head(&head.method),
+            persistence: persistence_of(head.by_standard, head.is_last),
+        };
+        let holds_next_head = head.asks_upgrade && !head.is_last;
+        let upgrades = if holds_next_head {
+            upgrade_headers(alloc, head.headers.as_slice())?
+        } else {
+            Vec::new(alloc)
+        };
+        let dropped = DropText::new(alloc, now)?;
+        Ok(OpenRequest {
+            answer_context,
+            owes_continue: head.owes_continue,
+            holds_next_head,
+            by_standard: head.by_standard,
+            is_connect: matches!(head.method, Method::Connect),
+            closes: false,
+            upgrades,
+            dropped,
+            body,
+        })
+    }
+
+    /// Has the answer to this request say, by the standard, that the connection ends behind it (RFC 9112, section 9.6). The
+    /// caller reads no further head.
+    pub fn close(&mut self)
+        ensures { self.new ≡ closing self.old }
+    {
+        self.closes = true;
+    }
+
+    /// Whether no head is read behind this request if it is answered now or dropped, or its raw writer taken, where this is left of
+    /// its body. By the standard that is so while its 100 is owed: the client may leave the body out, or send it, and both are
+    /// right (RFC 9110, section 10.1.1). It is so, too, where more is left than is skipped.
+    pub fn is_last_once_finished(&self, left: Remainder) -> bool
+        ensures { result ≡ is_last_once_finished self.now left }
+    {
+        self.by_standard && (self.owes_continue || left == Remainder::Long)
+    }
+
+    /// Whether no head is read behind this request once it gets the connection's stream, by its raw writer or an upgrade: it holds
+    /// the next head, or would be the last if it were answered.
+    pub fn is_last_with_stream(&self, left: Remainder) -> bool
+        ensures { result ≡ is_last_with_stream self.now left }
+    {
+        self.holds_next_head || self.is_last_once_finished(left)
+    }
+
+    // How it is answered now, where this is left of its body: by the standard the answer says that the connection ends where the
+    // request is the last by its head, `close` was called, its 100 is owed, or what is left isn't skipped: it is long, or its end
+    // isn't known (RFC 9112, section 9.6).
+    fn final_context(&self, left: Remainder) -> AnswerContext
+        ensures { result ≡ final_context self.now left }
+    {
+        let mut context = self.answer_context;
+        let closes = self.closes || self.owes_continue || left != Remainder::Skipped;
+        if self.by_standard && closes {
+            context.persistence = Some(Persistence::Close);
+        }
+        context
+    }
+
+    /// Whether an answer with this code is refused: by the standard, one that isn't final, since the client would take a later
+    /// answer for this request's (RFC 9110, section 15.2), or whose code hasn't three digits; and a 2xx to `CONNECT`, since it
+    /// would open a tunnel (section 9.3.6).
+    pub fn refuses(&self, status: StatusCode) -> bool
+        ensures { result ≡ refuses_code self.now.by_standard self.now.is_connect status.0 }
+    {
+        let is_final = status.0 >= 200 && status.0 < 1000;
+        self.by_standard && (!is_final || (self.is_connect && status.0 < 300))
+    }
+
+    /// Whether the connection can be upgraded to this protocol by an answer with this code, where the body is whole or isn't: the
+    /// first error that holds. By the standard the request has to ask for the protocol, without being its connection's last, the
+    /// code has to be 101, and the body has to be whole (RFC 9110, section 7.8). An element of `Upgrade` with a percent sign isn't
+    /// taken for a protocol.
+    pub fn check_upgrade(
+        &self,
+        protocol: &str,
+        status: StatusCode,
+        is_whole: bool,
+    ) -> Result<(), UpgradeError>
+        ensures { result ≡ request_check self.now protocol.now status.0 is_whole }
+    {
+        let is_asked = self.holds_next_head && names_protocol(self.upgrades.as_slice(), protocol);
+        check_upgrade(self.by_standard, is_asked, protocol, status, is_whole)
+    }
+
+    /// Sends the answer to this request, of whose body this is left, printed for it and dated `now`, and flushes it. By the standard
+    /// it says that the connection ends where the request is the last by its head, `close` was called, its 100 is owed, or what is
+    /// left isn't skipped (RFC 9112, section 9.6). What the response itself asks of the connection is the caller's. No 100 is owed any more. The caller
+    /// does so in the turn of the request, and then gives the body up. On an outlet that has ended nothing is sent, the data
+    /// aren't read, and the result is `Ok`. The first fault is the error: the data's, or the writer's. Where both fail, either
+    /// may be reported. Then the outlet has ended, and what was held before a fault of the data is sent.
+    pub fn respond<W: WriteDevice, D: ReadDevice + Drop>(
+        &mut self,
+        alloc: Global,
+        outlet: &mut Outlet<W>,
+        response: Response<D>,
+        left: Remainder,
+        now: HttpDate,
+    ) -> Result<(), io::Error>
+        ensures answers { SendsAnswer D.feed outlet.old outlet.new result response (printing_in (final_context self.old left) now) }
+        ensures once { OwesNoContinue self.old self.new }
+    {
+        let context = self.final_context(left);
+        self.owes_continue = false;
+        send_unless_ended(alloc, outlet, response, context, now)
+    }
+
+    /// How a body is sent that grows behind the answer to this request with this code, as `AnswerContext::streamed_form` says.
+    pub fn streamed_form(&self, status: StatusCode) -> StreamedForm
+        ensures { result ≡ streamed_form self.now.answer_context status.0 }
+    {
+        self.answer_context.streamed_form(status)
+    }
+
+    // How the head of an answer is printed whose body grows. By the standard it says that the connection ends where it would else, and
+    // where the body goes on up to that end.
+    fn streaming_context(&self, status: StatusCode, left: Remainder) -> AnswerContext
+        ensures { result ≡ streaming_context self.now status.0 left }
+    {
+        let mut context = self.final_context(left);
+        if self.by_standard && self.streamed_form(status) == StreamedForm::Plain {
+            context.persistence = Some(Persistence::Close);
+        }
+        context
+    }
+
+    /// Writes the head of the answer to this request, of whose body this is left, where the answer's own body comes later, and grows
+    /// while it is sent: `streamed_form` says how that is to be sent. The head is dated `now`; the answer's data and their length are
+    /// passed over. By the standard it says that the connection ends where that of `respond` would, and where the body goes on up to
+    /// that end. No 100 is owed any more. It doesn't flush. The caller does so in the turn of the request, and then gives the body up.
+    /// The error is the writer's first fault. On an outlet that has ended nothing is written, and the result is `Ok`.
+    pub fn begin_streaming<W: WriteDevice, D>(
+        &mut self,
+        outlet: &mut Outlet<W>,
+        response: &Response<D>,
+        left: Remainder,
+        now: HttpDate,
+    ) -> Result<(), io::Error>
+        ensures head { Puts (output_of outlet.old) (output_of outlet.new) result
+            (streamed_head response.now.answer (streaming_context self.old response.now.answer.status left) now) }
+        ensures once { OwesNoContinue self.old self.new }
+    {
+        let context = self.streaming_context(response.status_code(), left);
+        self.owes_continue = false;
+        response.print_head(outlet, context, now)
+    }
+
+    /// Sends the 100 that is owed to this request, and flushes (RFC 9110, section 10.1.1). Where none is owed it changes
+    /// nothing. The caller does so in the turn of the request, before the body is read and before the answer. The call takes
+    /// no memory. A fault of the writer ends the outlet, and isn't reported; on an outlet that has ended nothing is sent.
+    pub fn send_continue<W: WriteDevice>(
+        &mut self,
+        alloc: Global,
+        outlet: &mut Outlet<W>,
+        now: HttpDate,
+    )
+        ensures unowed { self.old.owes_continue ≡ false → (self.new ≡ self.old) × (outlet.new ≡ outlet.old) }
+        ensures sends { self.old.owes_continue ≡ true
+            → SendsQuietlyOn outlet.old outlet.new (own_text_by 100 (printing_in self.old.answer_context now)) }
+        ensures once { OwesNoContinue self.old self.new }
+        ensures fails_once { FailsOnce outlet.old outlet.new }
+        ensures sent { self.old.owes_continue ≡ true → HasSentAll outlet.new }
+    {
+        if self.owes_continue {
+            let context = self.answer_context;
+            send_own_quietly(alloc, outlet, StatusCode(100), context, now);
+            self.owes_continue = false;
+        }
+    }
+
+    /// Sends the answer that upgrades the connection to this protocol (RFC 9110, section 7.8), printed for this request and
+    /// dated `now`, and flushes it: its head alone, with `Connection: upgrade` and `Upgrade: PROTOCOL` in front of the other
+    /// headers (as tiny_http). No 100 is owed any more. The caller asks `check_upgrade` first. It makes this
+    /// call in the turn of the request, in the place of an answer; then the output is the protocol's, and what the body
+    /// gives after `become_stream` is its input. The data are let go unread. A fault of the writer ends the outlet, and isn't
+    /// reported. On an outlet that has ended nothing is sent. The call takes no memory.
+    pub fn upgrade<W: WriteDevice, D: Drop>(
+        &mut self,
+        alloc: Global,
+        outlet: &mut Outlet<W>,
+        protocol: &str,
+        response: Response<D>,
+        now: HttpDate,
+    )
+        requires { list_all is_ascii protocol.now ≡ true }
+        // Whatever the data are.
+        ensures sends { (content : Feed) → SendsQuietlyOn outlet.old outlet.new
+            (upgrade_text (record { answer = response.answer; content = content }) protocol.now (printing_in self.old.answer_context now)) }
+        ensures once { OwesNoContinue self.old self.new }
+        ensures fails_once { FailsOnce outlet.old outlet.new }
+        ensures sent { HasSentAll outlet.new }
+    {
+        self.owes_continue = false;
+        send_upgrade_quietly(alloc, outlet, response, self.answer_context, protocol, now);
+    }
+
+    /// Takes the text that answers this request if it is dropped: an empty 500, printed for its version, its headers and its
+    /// method, on the date on which it was read (as tiny_http). No byte of it is left, and no 100 is owed any more. The caller
+    /// sends it in the turn of the request, in the place of an answer, and gives the body up. The call takes no memory.
+    pub fn take_drop_text(&mut self, left: Remainder) -> Vec<u8>
+        ensures text { result.items ≡ drop_text self.old.dropped (final_context self.old left) }
+        ensures once { HasNoDropText self.old self.new }
+    {
+        let context = self.final_context(left);
+        self.owes_continue = false;
+        self.dropped.take_text(context)
+    }
+
+    /// The text that answers this request, as it is dropped, and the body, which the caller gives up once it has left the text
+    /// in the turn of the request.
+    pub fn into_drop_text(self, left: Remainder) -> (Vec<u8>, B)
+        ensures text { result.0.items ≡ drop_text self.dropped (final_context self left) }
+        ensures body { result.1 ≡ self.body }
+    {
+        let context = self.final_context(left);
+        let OpenRequest { dropped, body, .. } = self;
+        (dropped.into_text(context), body)
+    }
+}
+
+impl OpenRequest<Body> {
+    /// Reads some bytes of the body into the front of `buf`, and says how many. The source must be the one that the request
+    /// was read from. Errors and ends are those of `Exchange::read_body`. No memory is taken.
+    pub fn read<R: ReadDevice>(
+        &mut self,
+        source: &mut Source<R>,
+        buf: &mut [u8],
+    ) -> Result<usize, io::Error>
+        ensures reads { ReadsBody self.old.body self.new.body source.old source.new result buf.new }
+        ensures kept { self.new ≡ record self.old { body = self.new.body } }
+    {
+        self.body.read(source, buf)
+    }
+
+    /// Gives the body up: each later read answers 0, no 100 is owed any more, and by the standard no upgrade is taken. The rest
+    /// of a body of a known length is skipped before the next head; after a chunked one whose end or fault wasn't reported the
+    /// source has ended.
+    pub fn give_up<R: ReadDevice>(&mut self, source: &mut Source<R>)
+        ensures gives_up { GivesUp self.old.body source.old source.new }
+        ensures kept { HasNoBodyLeft self.old self.new }
+    {
+        self.owes_continue = false;
+        self.holds_next_head = false;
+        self.body.give_up(source);
+    }
+}
+
+// The coding that the headers of a request ask for: by the standard, chunks or none (RFC 9110, section 10.1.4).
+#[inline(always)]
+fn coding_for(by_standard: bool, headers: &[Header]) -> Option<Coding>
+    ensures { result ≡ coding_for by_standard headers.now }
+{
+    if !by_standard {
+        return asked_coding(headers);
+    }
+    if asks_chunked(headers) {
+        Some(Coding::Chunked)
+    } else {
+        None
+    }
+}
+
+// The `Upgrade` headers among these. An error where there is no memory for them.
+fn upgrade_headers(alloc: Global, headers: &[Header]) -> Result<Vec<Header>, AllocError>
+    ensures { IfOk result (λ upgrades. (protocol : List ℕ) → names_protocol upgrades.items protocol ≡ names_protocol headers.now protocol) }
+{
+    let mut upgrades = Vec::new(alloc);
+    for header in headers {
+        if header.field.equiv("Upgrade") {
+            upgrades.push(header.try_clone()?)?;
+        }
+    }
+    Ok(upgrades)
+}
+
+// Whether only the head is asked for (RFC 9110, section 9.3.2).
+pub(crate) fn is_head(method: &Method) -> bool
+    ensures { result ≡ is_head_method method.now }
+{
+    matches!(method, Method::Head)
+}

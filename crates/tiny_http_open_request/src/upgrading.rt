@@ -1,0 +1,90 @@
+//! Upgrades of a connection to another protocol (RFC 9110, section 7.8).
+ghost use Rattle.std.specs.Prelude.{◌≡◌, true};
+ghost use Rattle.std.specs.List.{list_all};
+ghost use Rattle.tiny_http_text.specs.Bytes.{is_ascii};
+ghost use Rattle.tiny_http_io.specs.Device.{Feed};
+ghost use Rattle.tiny_http_response.specs.ResponseValue.{printing_in, upgrade_text};
+ghost use Rattle.tiny_http_response.specs.Sending.{FailsOnce, SendsQuietlyOn};
+ghost use Rattle.tiny_http_open_request.specs.OpenRequest.{HasSentAll, upgrade_check};
+
+use httpdate::HttpDate;
+use std::alloc::Global;
+use thiserror::Error;
+use tiny_http_head::common::StatusCode;
+use tiny_http_io::device::WriteDevice;
+use tiny_http_io::outlet::Outlet;
+use tiny_http_response::answer_context::AnswerContext;
+use tiny_http_response::response::Response;
+use tiny_http_response::sending::send_upgrade;
+use tiny_http_text::bytes::are_ascii;
+
+/// Why a connection wasn't upgraded.
+#[derive(Clone, Copy, Debug, PartialEq, Eq, Error)]
+pub enum UpgradeError {
+    /// The name of the protocol isn't ASCII.
+    #[error("the protocol's name is not ASCII")]
+    Protocol,
+    /// By the standard: the request doesn't ask for this protocol, or no upgrade of it is taken, as it is its connection's last.
+    #[error("the request does not ask for this protocol, or is the last")]
+    NotAsked,
+    /// By the standard: the answer's code isn't 101.
+    #[error("the status code of an upgrade is 101")]
+    Status,
+    /// By the standard: the request's body wasn't read to its end, or it was cut or is broken.
+    #[error("the request's body is not whole")]
+    UnfinishedBody,
+}
+
+/// Whether a connection can be upgraded to a protocol of this name by an answer with this code: the first error that holds. By
+/// the standard the request has to ask for it, and its body has to be whole (RFC 9110, section 7.8).
+pub fn check_upgrade(
+    by_standard: bool,
+    is_asked: bool,
+    protocol: &str,
+    status: StatusCode,
+    is_whole: bool,
+) -> Result<(), UpgradeError>
+    ensures { result ≡ upgrade_check by_standard is_asked protocol.now status.0 is_whole }
+{
+    if !are_ascii(protocol.as_bytes()) {
+        return Err(UpgradeError::Protocol);
+    }
+    if !by_standard {
+        return Ok(());
+    }
+    if !is_asked {
+        return Err(UpgradeError::NotAsked);
+    }
+    if status != StatusCode(101) {
+        return Err(UpgradeError::Status);
+    }
+    if !is_whole {
+        return Err(UpgradeError::UnfinishedBody);
+    }
+    Ok(())
+}
+
+// Sends the answer that upgrades a connection to this protocol, and flushes it: its head alone, with `Connection: upgrade`
+// and `Upgrade: PROTOCOL` in front of the other headers (as tiny_http). Its data are let go unread. No reply reports a fault
+// of the writer; an outlet that has ended sends nothing. It takes no memory.
+pub(crate) fn send_upgrade_quietly<W: WriteDevice, D: Drop>(
+    alloc: Global,
+    outlet: &mut Outlet<W>,
+    response: Response<D>,
+    context: AnswerContext,
+    protocol: &str,
+    now: HttpDate,
+)
+    requires { list_all is_ascii protocol.now ≡ true }
+    // Whatever the data are.
+    ensures sends { (content : Feed) → SendsQuietlyOn outlet.old outlet.new
+        (upgrade_text (record { answer = response.answer; content = content }) protocol.now (printing_in context now)) }
+    ensures fails_once { FailsOnce outlet.old outlet.new }
+    ensures sent { HasSentAll outlet.new }
+{
+    if outlet.is_ended() {
+        outlet.facts();
+        return;
+    }
+    let _ = send_upgrade(alloc, outlet, response, context, protocol, now);
+}

@@ -1,0 +1,13 @@
+pub mod Coding
+pub mod Asked
+pub mod ByStandard
+pub mod Answer
+pub mod Streaming
+pub mod AddHeader
+pub mod ResponseHeaders
+pub mod Readable
+pub mod HeaderPlace
+pub mod Top
+pub mod Page
+pub mod ResponseValue
+pub mod Sending

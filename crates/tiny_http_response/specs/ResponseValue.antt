@@ -1,0 +1,43 @@
+-- Responses as values, their texts, and how they are printed.
+use Rattle.std.specs.Prelude.{ℕ, Bool, List, length, Option, Some, None}
+use Rattle.httpdate.specs.declared.date.HttpDate.{HttpDate}
+use Rattle.tiny_http_head.specs.declared.common.HTTPVersion.{HTTPVersion}
+use Rattle.tiny_http_head.specs.declared.common.Header.{Header}
+use Rattle.tiny_http_response.specs.declared.answer_context.AnswerContext.{AnswerContext}
+use Rattle.tiny_http_response.specs.declared.answer_context.Persistence.{Persistence}
+use Rattle.tiny_http_response.specs.declared.coding.Coding.{Coding}
+use Rattle.tiny_http_io.specs.Device.{Feed, whole_feed}
+use Rattle.tiny_http_body.specs.Text.{Text}
+use Rattle.tiny_http_response.specs.Answer.{Answer, Printing, answer_with, text_of}
+
+-- a response: the answer, and what its data give
+pub record ResponseValue : Type 0 where
+  pub answer : Answer
+  pub content : Feed
+
+-- a response with these headers, whose data are a text
+abbrev pub response_of : ℕ → List Header → List ℕ → ResponseValue
+response_of status headers text = record { answer = answer_with status headers (length text); content = whole_feed text }
+
+abbrev pub response_text : ResponseValue → Printing → Text
+response_text r p = text_of r.answer r.content p
+
+-- how an answer to a request is printed that asks for this coding, and what it says of its connection, by the standard
+abbrev pub printing_to : Option Coding → HTTPVersion → Bool → Option Persistence → HttpDate → Printing
+printing_to asked version no_body persistence date = record { version = version; asked_coding = asked; no_body = no_body; persistence = persistence; upgrade = None; date = date }
+
+-- how the answer to a request is printed, by what is kept of it
+abbrev pub printing_in : AnswerContext → HttpDate → Printing
+printing_in context date = printing_to context.asked_coding context.version context.no_body context.persistence date
+
+-- the same, with an upgrade to this protocol, if there is one
+abbrev pub printing_with : AnswerContext → Option (List ℕ) → HttpDate → Printing
+printing_with context upgrade date = record (printing_in context date) { upgrade = upgrade }
+
+-- the same way of printing, with an upgrade to this protocol
+abbrev pub upgrading : List ℕ → Printing → Printing
+upgrading protocol p = record p { upgrade = Some protocol }
+
+-- the text of a response that upgrades to this protocol: its head alone
+abbrev pub upgrade_text : ResponseValue → List ℕ → Printing → List ℕ
+upgrade_text r protocol p = (response_text r (upgrading protocol p)).bytes

@@ -1,0 +1,256 @@
+//! The head of an answer, line by line (RFC 9112, sections 4 and 5).
+ghost use Rattle.std.specs.Prelude.{◌≡◌};
+ghost use Rattle.std.specs.List.{flat_map};
+ghost use Rattle.std.specs.Option.{option_copied};
+ghost use Rattle.tiny_http_io.specs.Device.{Puts};
+ghost use Rattle.tiny_http_response.specs.Top.{top_text, top_listed};
+ghost use Rattle.tiny_http_response.specs.ByStandard.{status_version};
+ghost use Rattle.tiny_http_response.specs.Answer.{has_header, status_line, field_line, field_line_of, protocol_lines, upgrade_lines, server_line, date_line, length_line, framing_line};
+
+use crate::answer_context::Persistence;
+use crate::by_standard::{persistence_option, put_connection, put_safe_headers};
+use crate::coding::FramingHeader;
+use crate::page::Page;
+use httpdate::HttpDate;
+use std::io;
+use tiny_http_head::common::{HTTPVersion, Header, StatusCode};
+use tiny_http_io::device::{WriteDevice, put, put_all};
+use tiny_http_text::ascii::AsciiString;
+use tiny_http_text::number::Numeral;
+
+/// What the head of an answer is made of, beside how it says the length of the body.
+#[derive(Clone, Copy)]
+pub(crate) struct Top<'a> {
+    /// The version of the request.
+    pub(crate) version: HTTPVersion,
+    /// What the answer says of its connection, by the standard.
+    pub(crate) persistence: Option<Persistence>,
+    pub(crate) status: StatusCode,
+    pub(crate) headers: &'a [Header],
+    /// The protocols that it offers to upgrade to.
+    pub(crate) offered: &'a Option<AsciiString>,
+    pub(crate) date: HttpDate,
+}
+
+// Whether some header has this name.
+pub(crate) fn has_header(headers: &[Header], name: &str) -> bool
+    ensures { result ≡ has_header headers.now name.now }
+{
+    headers.iter().any(|h| h.field.equiv(name))
+}
+
+// `HTTP/`, version, code and phrase, piece by piece.
+#[tactic(auto, unfolding(crate::specs::Answer::status_line))]
+fn put_other_status_line<W: WriteDevice>(
+    writer: &mut W,
+    version: HTTPVersion,
+    status: StatusCode,
+) -> Result<(), io::Error>
+    ensures { Puts (W.sink writer.old) (W.sink writer.new) result (status_line version status.0) }
+{
+    let major = Numeral::decimal(version.0.into());
+    let minor = Numeral::decimal(version.1.into());
+    let code = Numeral::decimal(status.0.into());
+    put_all(
+        writer,
+        &[
+            b"HTTP/",
+            major.as_bytes(),
+            b".",
+            minor.as_bytes(),
+            b" ",
+            code.as_bytes(),
+            b" ",
+            status.default_reason_phrase().as_bytes(),
+            b"\r\n",
+        ],
+    )
+}
+
+// The status line. That of a 200 under version 1.1 is one piece.
+fn put_status_line<W: WriteDevice>(
+    writer: &mut W,
+    version: HTTPVersion,
+    status: StatusCode,
+) -> Result<(), io::Error>
+    ensures { Puts (W.sink writer.old) (W.sink writer.new) result (status_line version status.0) }
+{
+    if version == HTTPVersion(1, 1) && status == StatusCode(200) {
+        return put(writer, b"HTTP/1.1 200 OK\r\n");
+    }
+    put_other_status_line(writer, version, status)
+}
+
+// One header line.
+#[tactic(auto, unfolding(crate::specs::Answer::field_line))]
+pub(crate) fn put_field<W: WriteDevice>(
+    writer: &mut W,
+    field: &[u8],
+    value: &[u8],
+) -> Result<(), io::Error>
+    ensures { Puts (W.sink writer.old) (W.sink writer.new) result (field_line field.now value.now) }
+{
+    put_all(writer, &[field, b": ", value, b"\r\n"])
+}
+
+// The line of a header.
+fn put_header<W: WriteDevice>(writer: &mut W, header: &Header) -> Result<(), io::Error>
+    ensures { Puts (W.sink writer.old) (W.sink writer.new) result (field_line_of header.now) }
+{
+    let field = header.field.as_str();
+    put_field(
+        writer,
+        field.as_str().as_bytes(),
+        header.value.as_str().as_bytes(),
+    )
+}
+
+// The lines of a list of headers.
+fn put_headers<W: WriteDevice>(writer: &mut W, headers: &[Header]) -> Result<(), io::Error>
+    ensures { Puts (W.sink writer.old) (W.sink writer.new) result (flat_map field_line_of headers.now) }
+{
+    for header in headers {
+        put_header(writer, header)?;
+    }
+    Ok(())
+}
+
+// The two lines of an upgrade to a protocol (RFC 9110, section 7.8).
+fn put_protocol<W: WriteDevice>(writer: &mut W, protocol: &str) -> Result<(), io::Error>
+    ensures { Puts (W.sink writer.old) (W.sink writer.new) result (protocol_lines protocol.now) }
+{
+    put_field(writer, b"Connection", b"upgrade")?;
+    put_field(writer, b"Upgrade", protocol.as_bytes())
+}
+
+// These lines, if there is an upgrade.
+#[tactic(auto, unfolding(crate::specs::Answer::upgrade_lines))]
+fn put_upgrade<W: WriteDevice>(writer: &mut W, upgrade: Option<&str>) -> Result<(), io::Error>
+    ensures { Puts (W.sink writer.old) (W.sink writer.new) result (upgrade_lines (option_copied upgrade.entry)) }
+{
+    let Some(protocol) = upgrade else {
+        return Ok(());
+    };
+    put_protocol(writer, protocol)
+}
+
+// The server's name, unless the list has one.
+#[tactic(auto, unfolding(crate::specs::Answer::server_line, crate::specs::Answer::field_line))]
+fn put_server<W: WriteDevice>(writer: &mut W, headers: &[Header]) -> Result<(), io::Error>
+    ensures { Puts (W.sink writer.old) (W.sink writer.new) result (server_line headers.now) }
+{
+    if has_header(headers, "Server") {
+        return Ok(());
+    }
+    put(writer, b"Server: tiny-http (Rust)\r\n")
+}
+
+// The date, unless the list has one.
+#[tactic(auto, unfolding(crate::specs::Answer::date_line, crate::specs::Answer::field_line))]
+fn put_date<W: WriteDevice>(
+    writer: &mut W,
+    headers: &[Header],
+    now: HttpDate,
+) -> Result<(), io::Error>
+    ensures { Puts (W.sink writer.old) (W.sink writer.new) result (date_line headers.now now) }
+{
+    if has_header(headers, "Date") {
+        return Ok(());
+    }
+    // The 29 bytes of this date are written over.
+    let mut line = *b"Date: Thu, 01 Jan 1970 00:00:00 GMT\r\n";
+    line[6..35].copy_from_slice(&now.to_bytes());
+    put(writer, &line)
+}
+
+// The number of bytes of the body.
+#[tactic(auto, unfolding(crate::specs::Answer::field_line))]
+fn put_length<W: WriteDevice>(writer: &mut W, n: usize) -> Result<(), io::Error>
+    ensures { Puts (W.sink writer.old) (W.sink writer.new) result (length_line n) }
+{
+    let digits = Numeral::decimal(n as u64);
+    put_all(writer, &[b"Content-Length: ", digits.as_bytes(), b"\r\n"])
+}
+
+// The line that frames the body, if there is one.
+#[tactic(auto, unfolding(crate::specs::Answer::framing_line))]
+fn put_framing<W: WriteDevice>(writer: &mut W, framing: FramingHeader) -> Result<(), io::Error>
+    ensures { Puts (W.sink writer.old) (W.sink writer.new) result (framing_line framing) }
+{
+    match framing {
+        FramingHeader::Neither => Ok(()),
+        FramingHeader::TransferEncoding => put_field(writer, b"Transfer-Encoding", b"chunked"),
+        FramingHeader::ContentLength(n) => put_length(writer, n),
+    }
+}
+
+// The status line of a head.
+fn put_status<W: WriteDevice>(writer: &mut W, top: &Top<'_>) -> Result<(), io::Error>
+    ensures { Puts (W.sink writer.old) (W.sink writer.new) result (status_line (status_version top.now.persistence top.now.version) top.now.status.0) }
+{
+    match top.persistence {
+        None => put_status_line(writer, top.version, top.status),
+        Some(_) => put_status_line(writer, HTTPVersion(1, 1), top.status),
+    }
+}
+
+// The header lines behind the date, for an upgrade or not.
+fn put_listed<W: WriteDevice>(
+    writer: &mut W,
+    top: &Top<'_>,
+    upgrade: Option<&str>,
+) -> Result<(), io::Error>
+    ensures { Puts (W.sink writer.old) (W.sink writer.new) result (flat_map field_line_of (top_listed top.now (option_copied upgrade.entry))) }
+{
+    let Some(persistence) = top.persistence else {
+        return put_headers(writer, top.headers);
+    };
+    if upgrade.is_none() && top.status.0 >= 200 {
+        put_connection(
+            writer,
+            top.offered,
+            persistence_option(top.version, persistence),
+        )?;
+    }
+    put_safe_headers(writer, top.headers)
+}
+
+// The lines of a head, piece by piece, and the empty line.
+fn put_lines<W: WriteDevice>(
+    writer: &mut W,
+    top: &Top<'_>,
+    upgrade: Option<&str>,
+    framing: FramingHeader,
+) -> Result<(), io::Error>
+    ensures { Puts (W.sink writer.old) (W.sink writer.new) result
+        (top_text top.now (option_copied upgrade.entry) framing) }
+{
+    put_status(writer, top)?;
+    put_upgrade(writer, upgrade)?;
+    put_server(writer, top.headers)?;
+    put_date(writer, top.headers, top.date)?;
+    put_listed(writer, top, upgrade)?;
+    put_framing(writer, framing)?;
+    put(writer, b"\r\n")
+}
+
+/// Writes the head of an answer: the status line, the header lines in their order, and an empty
+/// line (RFC 9112, sections 4 and 5). By the standard the status line is in version 1.1;
+/// `Connection` says that the connection ends, or to a version up to 1.0 that it persists, and that
+/// protocols are offered, but for an upgrade and a code below 200; and a header whose name isn't a token is left out, and makes
+/// one line else. A head of up to 512 bytes is written as one piece.
+pub(crate) fn put_head<W: WriteDevice>(
+    writer: &mut W,
+    top: &Top<'_>,
+    upgrade: Option<&str>,
+    framing: FramingHeader,
+) -> Result<(), io::Error>
+    ensures { Puts (W.sink writer.old) (W.sink writer.new) result
+        (top_text top.now (option_copied upgrade.entry) framing) }
+{
+    let mut page = Page::new();
+    match put_lines(&mut page, top, upgrade, framing) {
+        Ok(()) => put(writer, page.as_slice()),
+        Err(_) => put_lines(writer, top, upgrade, framing),
+    }
+}

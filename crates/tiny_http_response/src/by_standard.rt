@@ -1,0 +1,205 @@
+//! What the head of an answer says by the standard: of its connection, and each header on one line (RFC 9112, sections 9.3, 9.6 and
+//! 11.1; RFC 9110, sections 5.5, 7.8 and 15).
+ghost use Rattle.std.specs.Prelude.{◌≡◌, ◌∷◌, [], Some, option_map};
+ghost use Rattle.std.specs.List.{flat_map};
+ghost use Rattle.std.specs.Option.{option_copied};
+ghost use Rattle.tiny_http_io.specs.Device.{Puts};
+ghost use Rattle.tiny_http_response.specs.Answer.{field_line, field_line_of};
+ghost use Rattle.tiny_http_response.specs.ByStandard.{persistence_option, connection_header, connection_headers, options_with_upgrade, safe_byte, safe_value, safe_headers, contentless_framing, framing_by_standard, has_no_content, framing_of_304};
+
+use crate::answer_context::Persistence;
+use crate::answer_head::put_field;
+use crate::coding::FramingHeader;
+use httparse::{is_header_value, is_header_value_token, is_token};
+use std::io;
+use tiny_http_head::common::{HTTPVersion, Header, StatusCode};
+use tiny_http_io::device::{WriteDevice, put, put_all};
+use tiny_http_text::ascii::AsciiString;
+
+// What is said of a connection: that it ends, or, to a version up to 1.0, that it persists.
+pub(crate) fn persistence_option(
+    version: HTTPVersion,
+    persistence: Persistence,
+) -> Option<&'static str>
+    ensures { option_copied result ≡ persistence_option version persistence }
+{
+    match persistence {
+        Persistence::Close => Some("close"),
+        Persistence::Persistent if version <= HTTPVersion(1, 0) => Some("keep-alive"),
+        Persistence::Persistent => None,
+    }
+}
+
+// A byte of a value, or a space in its place.
+fn safe_byte(byte: u8) -> u8
+    ensures { result ≡ safe_byte byte }
+{
+    if is_header_value_token(byte) {
+        byte
+    } else {
+        b' '
+    }
+}
+
+// A value, byte by byte.
+fn put_replaced<W: WriteDevice>(writer: &mut W, value: &[u8]) -> Result<(), io::Error>
+    ensures { Puts (W.sink writer.old) (W.sink writer.new) result (safe_value value.now) }
+{
+    for byte in value {
+        put(writer, &[safe_byte(*byte)])?;
+    }
+    Ok(())
+}
+
+// The line of a header whose value has bytes that may not stand there.
+fn put_replaced_field<W: WriteDevice>(
+    writer: &mut W,
+    field: &[u8],
+    value: &[u8],
+) -> Result<(), io::Error>
+    ensures { Puts (W.sink writer.old) (W.sink writer.new) result (field_line field.now (safe_value value.now)) }
+{
+    put(writer, field)?;
+    put(writer, b": ")?;
+    put_replaced(writer, value)?;
+    put(writer, b"\r\n")
+}
+
+// A header line, with a space in place of each byte that may not stand in a value.
+fn put_safe_field<W: WriteDevice>(
+    writer: &mut W,
+    field: &[u8],
+    value: &[u8],
+) -> Result<(), io::Error>
+    ensures { Puts (W.sink writer.old) (W.sink writer.new) result (field_line field.now (safe_value value.now)) }
+{
+    if is_header_value(value) {
+        return put_field(writer, field, value);
+    }
+    put_replaced_field(writer, field, value)
+}
+
+// The line of a header, unless its name isn't a token.
+fn put_safe_header<W: WriteDevice>(writer: &mut W, header: &Header) -> Result<(), io::Error>
+    ensures { Puts (W.sink writer.old) (W.sink writer.new) result (flat_map field_line_of (safe_headers (header.now ∷ []))) }
+{
+    let field = header.field.as_str();
+    let field = field.as_str().as_bytes();
+    if !is_token(field) {
+        return Ok(());
+    }
+    put_safe_field(writer, field, header.value.as_str().as_bytes())
+}
+
+/// The lines of a list of headers, each safe.
+pub(crate) fn put_safe_headers<W: WriteDevice>(
+    writer: &mut W,
+    headers: &[Header],
+) -> Result<(), io::Error>
+    ensures { Puts (W.sink writer.old) (W.sink writer.new) result (flat_map field_line_of (safe_headers headers.now)) }
+{
+    for header in headers {
+        put_safe_header(writer, header)?;
+    }
+    Ok(())
+}
+
+// The `Connection` header of an answer that offers protocols.
+fn put_options<W: WriteDevice>(writer: &mut W, option: Option<&str>) -> Result<(), io::Error>
+    ensures { Puts (W.sink writer.old) (W.sink writer.new) result
+        (field_line_of (connection_header (options_with_upgrade (option_copied option.entry)))) }
+{
+    match option {
+        None => put_field(writer, b"Connection", b"upgrade"),
+        Some(option) => put_all(
+            writer,
+            &[b"Connection: ", option.as_bytes(), b", upgrade\r\n"],
+        ),
+    }
+}
+
+// The headers that offer protocols, and say what becomes of the connection.
+fn put_offer<W: WriteDevice>(
+    writer: &mut W,
+    protocols: &str,
+    option: Option<&str>,
+) -> Result<(), io::Error>
+    ensures { Puts (W.sink writer.old) (W.sink writer.new) result
+        (flat_map field_line_of (connection_headers (Some (safe_value protocols.now)) (option_copied option.entry))) }
+{
+    put_options(writer, option)?;
+    put_safe_field(writer, b"Upgrade", protocols.as_bytes())
+}
+
+/// The headers that say what becomes of the connection, and offer protocols (RFC 9112, section 9.6; RFC 9110, section 7.8).
+pub(crate) fn put_connection<W: WriteDevice>(
+    writer: &mut W,
+    offered: &Option<AsciiString>,
+    option: Option<&str>,
+) -> Result<(), io::Error>
+    ensures { Puts (W.sink writer.old) (W.sink writer.new) result
+        (flat_map field_line_of (connection_headers (option_map safe_value offered.now) (option_copied option.entry))) }
+{
+    if let Some(protocols) = offered {
+        return put_offer(writer, protocols.as_str(), option);
+    }
+    match option {
+        Some(option) => put_field(writer, b"Connection", option.as_bytes()),
+        None => Ok(()),
+    }
+}
+
+// A 304 says a length that is known and isn't 0.
+fn framing_of_304(data_length: Option<usize>) -> FramingHeader
+    ensures { result ≡ framing_of_304 data_length }
+{
+    match data_length {
+        None | Some(0) => FramingHeader::Neither,
+        Some(n) => FramingHeader::ContentLength(n),
+    }
+}
+
+// How an answer is framed that is a head alone by its code, by the standard (RFC 9110, sections 8.6 and 15.3.6; RFC 9112, section
+// 6.1). A 1xx and a 204 have neither header, a 205 the length 0, and a 304 the length of its data, if that is known and isn't 0.
+fn framing_by_standard(
+    persistence: Option<Persistence>,
+    status: StatusCode,
+    data_length: Option<usize>,
+) -> Option<FramingHeader>
+    ensures { result ≡ framing_by_standard persistence status.0 data_length }
+{
+    let _ = persistence?;
+    if status.0 < 200 || status.0 == 204 {
+        return Some(FramingHeader::Neither);
+    }
+    if status.0 == 205 {
+        return Some(FramingHeader::ContentLength(0));
+    }
+    if status.0 == 304 {
+        return Some(framing_of_304(data_length));
+    }
+    None
+}
+
+/// Whether no answer with this code has content (RFC 9110, section 6.4.1).
+pub(crate) fn has_no_content(status: StatusCode) -> bool
+    ensures { result ≡ has_no_content status.0 }
+{
+    (status.0 >= 100 && status.0 < 200) || status.0 == 204 || status.0 == 304
+}
+
+/// How an answer is framed that is a head alone by its code: by the standard, and where it was made to say no length and its code has
+/// no content. That one has neither header.
+pub(crate) fn contentless_framing(
+    persistence: Option<Persistence>,
+    contentless: bool,
+    status: StatusCode,
+    data_length: Option<usize>,
+) -> Option<FramingHeader>
+    ensures { result ≡ contentless_framing persistence contentless status.0 data_length }
+{
+    if contentless && has_no_content(status) {
+        return Some(FramingHeader::Neither);
+    }
+    framing_by_standard(persistence, status, data_length)
+}

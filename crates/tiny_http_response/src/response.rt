@@ -1,0 +1,663 @@
+//! Answers to requests, and how they are printed.
+ghost use Rattle.std.specs.Prelude.{◌≡◌, true, Option, Some, None, IfSome, if◌then◌else◌, ◌∷◌, IfOk, IfErr, OnOk, OnErr, IsTrue, ◌↔◌, vec_len, string_len, string_bytes, [], ◌<◌, ◌^◌, ◌++◌, length};
+ghost use Rattle.std.specs.Option.{option_copied};
+ghost use Rattle.std.specs.List.{list_all, AllByRecursion};
+ghost use Rattle.tiny_http_text.specs.Bytes.{is_ascii};
+ghost use Rattle.tiny_http_response.specs.AddHeader.{add_header, is_put_last, is_some_put_last, with_headers, first_answer};
+ghost use Rattle.tiny_http_response.specs.ResponseHeaders.{IsResponseHeaders};
+ghost use Rattle.tiny_http_response.specs.Readable.{IsReadable};
+ghost use Rattle.tiny_http_response.specs.Answer.{Answer, ResponseState, is_withheld, PrintsText, PrintsGathered, PrintsUncoded, PrintsAnswer, uncoded_text, body_unless_withheld, text_plain, answer_with, contentless_answer};
+ghost use Rattle.tiny_http_response.specs.Streaming.{streamed_head};
+ghost use Rattle.tiny_http_body.specs.Text.{Prints, prepend_text, whole, identity_body, chunked_body, nothing_sent};
+ghost use Rattle.tiny_http_io.specs.Cursor.{cursor_bytes};
+ghost use Rattle.tiny_http_io.specs.Metered.{metered_inner};
+ghost use Rattle.tiny_http_response.specs.Top.{top_text};
+ghost use Rattle.tiny_http_response.specs.Coding.{coding_asked};
+ghost use Rattle.tiny_http_io.specs.Device.{Puts, CountsFaults};
+
+use crate::add_header::{add, add_all, add_in_place};
+use crate::answer_context::AnswerContext;
+use crate::answer_head::{Top, put_head};
+use crate::by_standard::{contentless_framing, has_no_content};
+use crate::coding::{Coding, FramingHeader, asked_coding, choose};
+use crate::readable::are_readable;
+use httpdate::HttpDate;
+use std::alloc::{AllocError, Global};
+use std::fs::OpenFile;
+use std::io;
+use std::io::{Cursor, ErrorKind, Read};
+use std::marker::Model;
+use tiny_http_body::chunks::put_chunked;
+use tiny_http_body::gather::gather;
+use tiny_http_body::identity::put_exactly;
+use tiny_http_head::common::{HTTPVersion, Header, HeaderField, StatusCode};
+use tiny_http_io::device::{Metered, ReadDevice, WriteDevice, put};
+use tiny_http_text::ascii::AsciiString;
+use tiny_http_text::bytes::are_ascii;
+use tiny_http_text::copies::owned;
+
+/// An answer to a request: a status code, headers, and a reader of the data with its length, where
+/// that is known. A contract sees it as the answer and the reader.
+#[derive(Drop)]
+pub struct Response<R> {
+    reader: R,
+    status: StatusCode,
+    headers: Vec<Header>,
+    data_length: Option<usize>,
+    threshold: usize,
+    closes: bool,
+    offered: Option<AsciiString>,
+    contentless: bool,
+}
+
+/// An answer whose data any reader gives (as tiny_http).
+pub type ResponseBox = Response<Metered<Box<dyn Read + Send + Drop>>>;
+
+impl<R> Model for Response<R> {
+    ghost use Rattle.tiny_http_response.specs.Answer.{ResponseState};
+    ghost use Rattle.tiny_http_response.specs.ResponseHeaders.{IsResponseHeaders};
+
+    ghost Value = { ResponseState R };
+
+    ghost view = { λ r. record { answer = record { status = r.status.0; headers = r.headers.items; data_length = r.data_length; threshold = r.threshold; closes = r.closes; offered = r.offered; contentless = r.contentless }; data_reader = r.reader } };
+
+    ghost invariant = { λ r. IsResponseHeaders r.headers.items };
+}
+
+/// The length in bytes from which data is sent in chunks, until another is set (as tiny_http). An answer that is to say its length
+/// however long it is, as that of a file, is given another one: `with_chunked_threshold(usize::MAX)`.
+pub const THRESHOLD: usize = 32768;
+
+// The header of a plain text.
+#[tactic(auto, unfolding(crate::specs::Answer::text_plain))]
+fn text_plain(alloc: Global) -> Result<Header, AllocError>
+    ensures { IfOk result (λ h. h ≡ text_plain) }
+{
+    let field = HeaderField::from_text(owned(alloc, b"Content-Type")?);
+    let value = owned(alloc, b"text/plain; charset=UTF-8")?;
+    Ok(Header { field, value })
+}
+
+impl<F: Read + OpenFile> Response<Metered<F>> {
+    /// An answer 200 with an open file as its data, and no headers (as tiny_http). The length is the
+    /// file's, by its metadata, and unknown where that can't be read. A file of `THRESHOLD` bytes or more is sent in chunks, and
+    /// its length isn't said; after `with_chunked_threshold(usize::MAX)` it is. It takes no memory.
+    pub fn from_file(alloc: Global, file: F) -> Response<Metered<F>>
+        ensures status { result.answer.status ≡ 200 }
+        ensures headers { result.answer.headers ≡ [] }
+        ensures threshold { result.answer.threshold ≡ THRESHOLD }
+        ensures file { metered_inner result.data_reader ≡ file }
+    {
+        let length = file.metadata().ok().map(|of| of.len() as usize);
+        Response::of(alloc, StatusCode(200), Metered::new(file), length)
+    }
+}
+
+impl Response<Cursor<Vec<u8>>> {
+    /// An answer 200 with a text as its data, of known length, under `Content-Type: text/plain;
+    /// charset=UTF-8` (as tiny_http). An error where there is no memory for that header.
+    pub fn from_string(alloc: Global, text: String) -> Result<Response<Cursor<Vec<u8>>>, AllocError>
+        ensures answer { IfOk result (λ r. r.answer ≡ answer_with 200 (text_plain ∷ []) (string_len text)) }
+        ensures bytes { IfOk result (λ r. cursor_bytes r.data_reader ≡ string_bytes text) }
+    {
+        let mut response = Response::from_data(alloc, text.into_bytes());
+        response.headers.push(text_plain(alloc)?)?;
+        Ok(response)
+    }
+
+    /// An answer 200 with these bytes as its data, of known length, and no headers. It takes no
+    /// memory.
+    pub fn from_data(alloc: Global, bytes: Vec<u8>) -> Response<Cursor<Vec<u8>>>
+        ensures answer { result.answer ≡ answer_with 200 [] (vec_len bytes) }
+        ensures bytes { cursor_bytes result.data_reader ≡ bytes.items }
+    {
+        let length = bytes.len();
+        Response::of(alloc, StatusCode(200), Cursor::new(bytes), Some(length))
+    }
+}
+
+impl Response<io::Empty> {
+    /// An answer with this code, no headers and no data, of length 0. It takes no memory.
+    pub fn empty(alloc: Global, status: StatusCode) -> Response<io::Empty>
+        ensures { result.answer ≡ answer_with status.0 [] 0 }
+    {
+        Response::of(alloc, status, io::empty(), Some(0))
+    }
+
+    /// An answer without data that says no length, for a code whose answers have no content: one from 100 to 199, a 204 or a 304 (RFC 9110,
+    /// sections 6.4.1, 8.6, 15.3.5 and 15.4.5). Such an answer has neither `Content-Length` nor `Transfer-Encoding`, under each
+    /// profile and whatever the request asks for. `empty` says the length 0, but by the standard. With another code this answer
+    /// is printed as that of `empty`. It has no headers, and takes no memory.
+    pub fn contentless(alloc: Global, status: StatusCode) -> Response<io::Empty>
+        ensures { result.answer ≡ contentless_answer status.0 }
+    {
+        let mut response = Response::empty(alloc, status);
+        response.contentless = true;
+        response
+    }
+
+    /// The same as `empty`.
+    pub fn new_empty(alloc: Global, status: StatusCode) -> Response<io::Empty>
+        ensures { result.answer ≡ answer_with status.0 [] 0 }
+    {
+        Response::empty(alloc, status)
+    }
+
+    /// A copy, or an error where there is no memory for it.
+    pub fn try_clone(&self) -> Result<Response<io::Empty>, AllocError>
+        ensures { IfOk result (λ r. r ≡ self.now) }
+    {
+        let headers = copies_of(*self.headers.allocator(), &self.headers)?;
+        Ok(Response {
+            reader: io::empty(),
+            status: self.status,
+            headers,
+            data_length: self.data_length,
+            threshold: self.threshold,
+            closes: self.closes,
+            offered: copy_of(&self.offered)?,
+            contentless: self.contentless,
+        })
+    }
+}
+
+// A copy of a text, if there is one.
+fn copy_of(text: &Option<AsciiString>) -> Result<Option<AsciiString>, AllocError>
+    ensures { IfOk result (λ copy. copy ≡ text.now) }
+{
+    match text {
+        None => Ok(None),
+        Some(text) => Ok(Some(text.try_clone()?)),
+    }
+}
+
+// Copies of the headers, in a list of just their room.
+fn copies_of(alloc: Global, headers: &[Header]) -> Result<Vec<Header>, AllocError>
+    ensures { IfOk result (λ list. list.items ≡ headers.now) }
+{
+    let mut list = Vec::with_capacity(alloc, headers.len())?;
+    for header in headers {
+        list.push(header.try_clone()?)?;
+    }
+    Ok(list)
+}
+
+/// What `Response::new` gives back where it finds no memory for a header: the data.
+#[derive(Drop)]
+pub struct Refused<R> {
+    /// The reader of the data, as it was given.
+    pub reader: R,
+}
+
+/// What `Response::with_header` gives back where it finds no memory for the header: both, as they
+/// were given.
+#[derive(Drop)]
+pub struct NotAdded<R> {
+    /// The answer, without the header.
+    pub response: Response<R>,
+    /// The header.
+    pub header: Header,
+}
+
+impl<R> Response<R> {
+    /// An answer with this code and data, of this length in bytes, if it is known, and no headers. It takes no memory.
+    pub fn of(
+        alloc: Global,
+        status: StatusCode,
+        reader: R,
+        data_length: Option<usize>,
+    ) -> Response<R>
+        ensures { result ≡ record { answer = first_answer status.0 [] data_length; data_reader = reader } }
+    {
+        let headers = Vec::new(alloc);
+        Response {
+            reader,
+            status,
+            headers,
+            data_length,
+            threshold: THRESHOLD,
+            closes: false,
+            offered: None,
+            contentless: false,
+        }
+    }
+
+    /// An answer with this code and data, of this length in bytes, if it is known. Each of `headers`
+    /// and then each of `more` is added as `add_header` does. The room of `headers` is used for the
+    /// list: only a header of `more` takes memory. An error where there is none for it: the data
+    /// comes back.
+    pub fn new(
+        status: StatusCode,
+        mut headers: Vec<Header>,
+        reader: R,
+        data_length: Option<usize>,
+        more: Vec<Header>,
+    ) -> Result<Response<R>, Refused<R>>
+        ensures made { IfOk result (λ r. r ≡ record { answer = with_headers more.items (first_answer status.0 headers.items data_length); data_reader = reader }) }
+        ensures refused { IfErr result (λ e. e.reader ≡ reader) }
+        ensures memory { OnErr result (IsTrue (is_some_put_last more.items (first_answer status.0 headers.items data_length))) }
+    {
+        let mut data_length = add_in_place(&mut headers, data_length);
+        match add_all(&mut headers, &mut data_length, more) {
+            Ok(()) => Ok(Response {
+                reader,
+                status,
+                headers,
+                data_length,
+                threshold: THRESHOLD,
+                closes: false,
+                offered: None,
+                contentless: false,
+            }),
+            Err(_) => Err(Refused { reader }),
+        }
+    }
+
+    /// The same answer with another code.
+    pub fn with_status_code(mut self, code: StatusCode) -> Response<R>
+        ensures { result ≡ record self { answer = record self.answer { status = code.0 } } }
+    {
+        self.status = code;
+        self
+    }
+
+    /// The same answer with other data, of this length in bytes, if it is known. The threshold is
+    /// kept.
+    pub fn with_data<S>(self, reader: S, data_length: Option<usize>) -> Response<S>
+    where
+        R: Drop,
+        ensures { result ≡ record { answer = record self.answer { data_length = data_length }; data_reader = reader } }
+    {
+        Response {
+            reader,
+            status: self.status,
+            headers: self.headers,
+            data_length,
+            threshold: self.threshold,
+            closes: self.closes,
+            offered: self.offered,
+            contentless: self.contentless,
+        }
+    }
+
+    /// The same answer with another threshold: the length in bytes from which data is sent in
+    /// chunks. Shorter data say their length, unless the request's `TE` asks for chunks.
+    pub fn with_chunked_threshold(self, length: usize) -> Response<R>
+        ensures { result ≡ record self { answer = record self.answer { threshold = length } } }
+    {
+        let mut response = self;
+        response.threshold = length;
+        response
+    }
+
+    /// The same answer, which offers to upgrade to these protocols, in place of those that it offered: a list such as `websocket` or
+    /// `h2c, foo/2`, as a 426 has to (RFC 9110, sections 7.8 and 15.5.22). An answer by the standard has it as its `Upgrade` header,
+    /// with a space in place of each byte that may not stand there, and names it in `Connection`. Other answers, an upgrade's own
+    /// and one with a code below 200 leave it out.
+    pub fn with_upgrade_offer(self, protocols: AsciiString) -> Response<R>
+        ensures { result ≡ record self { answer = record self.answer { offered = Some protocols } } }
+    {
+        let mut response = self;
+        response.offered = Some(protocols);
+        response
+    }
+
+    /// The same answer, behind which the connection is to end (RFC 9112, section 9.6). Where a `Connection` or a `Request` sends it
+    /// as its answer, no further request is handed out; those that were are answered. By the standard the last answer of the
+    /// connection says `Connection: close`: this one, if nothing was read behind its request. Behind the last answer that `Request`s
+    /// send the client of a socket sees the end; a `Connection` closes nothing. An upgrade and an `Exchange` pass it
+    /// over, and what `raw_print` and `print` print is the same.
+    pub fn with_close(self) -> Response<R>
+        ensures { result ≡ record self { answer = record self.answer { closes = true } } }
+    {
+        let mut response = self;
+        response.closes = true;
+        response
+    }
+
+    /// Adds a header (as tiny_http). `Connection`, `Trailer`, `Transfer-Encoding` and `Upgrade` are
+    /// left out, in any case of letters. A `Content-Length` is kept as the length of the data, if it
+    /// can be read: an optional `+`, then digits, at most 18446744073709551615; else it is left out.
+    /// A second `Content-Type` replaces the value of the first, at its place. Any other header is
+    /// put last, and that alone takes memory: without it the header comes back, and the answer is
+    /// unchanged.
+    pub fn add_header(&mut self, header: Header) -> Result<(), Header>
+        ensures added { OnOk result (self.new ≡ record self.old { answer = add_header header self.old.answer }) }
+        ensures refused { IfErr result (λ h. (h ≡ header) × (self.new ≡ self.old)) }
+        ensures memory { OnErr result (IsTrue (is_put_last header self.old.answer.headers)) }
+    {
+        add(&mut self.headers, &mut self.data_length, header)
+    }
+
+    /// The same answer with a header more, as `add_header` does. An error where there is no memory
+    /// for it: both come back.
+    pub fn with_header(mut self, header: Header) -> Result<Response<R>, NotAdded<R>>
+        ensures added { IfOk result (λ r. r ≡ record self { answer = add_header header self.answer }) }
+        ensures refused { IfErr result (λ e. (e.response ≡ self) × (e.header ≡ header)) }
+        ensures memory { OnErr result (IsTrue (is_put_last header self.answer.headers)) }
+    {
+        match self.add_header(header) {
+            Ok(()) => Ok(self),
+            Err(header) => Err(NotAdded {
+                response: self,
+                header,
+            }),
+        }
+    }
+
+    /// The status code.
+    pub fn status_code(&self) -> StatusCode
+        ensures { result.0 ≡ self.now.answer.status }
+    {
+        self.status
+    }
+
+    /// The length of the data in bytes, if it is known.
+    pub fn data_length(&self) -> Option<usize>
+        ensures { result ≡ self.now.answer.data_length }
+    {
+        self.data_length
+    }
+
+    /// The headers, in the order in which they are sent.
+    pub fn headers(&self) -> &[Header]
+        ensures value { result.now ≡ self.now.answer.headers }
+        // It never holds `Connection`, `Trailer`, `Transfer-Encoding`, `Upgrade` or `Content-Length`, and `Content-Type`
+        // at most once.
+        ensures law { IsResponseHeaders result.now }
+    {
+        self.headers.as_slice()
+    }
+
+    /// Whether a client reads each of the headers as it was meant. The name has no white space (bytes 9 to 13 and 32) and no
+    /// colon. The value has no white space at its ends, and no CR LF. Both are ASCII (RFC 9110, section 5.5; RFC 9112, section
+    /// 5). Check it where a header has a client's text in it, such as a `Location` that is made of a decoded path: what stands
+    /// behind a CR LF is read as a header of its own. The client theorem asks this of the headers of an answer that isn't
+    /// printed by the standard.
+    pub fn is_readable(&self) -> bool
+        ensures { IsTrue result ↔ AllByRecursion IsReadable self.now.answer.headers }
+    {
+        are_readable(self.headers.as_slice())
+    }
+
+    /// The protocols that the answer offers to upgrade to, if it offers any.
+    pub fn upgrade_offer(&self) -> Option<&str>
+        ensures { option_copied result ≡ self.now.answer.offered }
+    {
+        self.offered.as_ref().map(AsciiString::as_str)
+    }
+
+    /// Whether the connection is to end behind the answer.
+    pub fn closes(&self) -> bool
+        ensures { result ≡ self.now.answer.closes }
+    {
+        self.closes
+    }
+
+    /// The length in bytes from which data is sent in chunks: `THRESHOLD`, until another is set.
+    pub fn chunked_threshold(&self) -> usize
+        ensures { result ≡ self.now.answer.threshold }
+    {
+        self.threshold
+    }
+
+    /// Prints head and body for a request of this version with these headers, dated `now` (RFC 9112, sections 4 to 7); for
+    /// an upgrade to a protocol the head alone. The body is withheld for `no_body` (HEAD) and the codes 100 to 199, 204 and
+    /// 304. What the request's `TE` header asks for decides how the body is coded, as `coding::choose` says.
+    ///
+    /// The first fault, of the writer or of the data, is reported, and nothing is written after it. Data that end before
+    /// their length are UnexpectedEof. Data of unknown length that aren't sent in chunks are read whole first: a fault of
+    /// them, or OutOfMemory, leaves nothing written, as InvalidInput does for a protocol that isn't ASCII. It doesn't flush.
+    pub fn raw_print<W: WriteDevice>(
+        self,
+        alloc: Global,
+        writer: &mut W,
+        version: HTTPVersion,
+        request_headers: &[Header],
+        no_body: bool,
+        upgrade: Option<&str>,
+        now: HttpDate,
+    ) -> Result<(), io::Error>
+    where
+        R: ReadDevice + Drop,
+        ensures text { IfSome (R.feed self.data_reader) (λ feed. length feed.bytes < 2 ^ 63 →
+            PrintsAnswer (W.sink writer.old) (W.sink writer.new) result self.answer feed
+            (record {
+              version = version;
+              asked_coding = coding_asked request_headers.now;
+              no_body = no_body;
+              persistence = None;
+              upgrade = option_copied upgrade.entry;
+              date = now;
+            })) }
+        // Whatever the data and the writer state: a fault of the writer's is one that its count has.
+        ensures uses { CountsFaults (W.sink writer.old) (W.sink writer.new) result }
+    {
+        let context = AnswerContext {
+            version,
+            asked_coding: asked_coding(request_headers),
+            no_body,
+            persistence: None,
+        };
+        self.print(alloc, writer, context, upgrade, now)
+    }
+
+    /// Prints head and body as `raw_print` does, for a request of which `context` has what the answer needs. Where the context says
+    /// what becomes of the connection it is printed by the standard: the status line in version 1.1; `Connection` behind the
+    /// date where there is something to say, but for an upgrade and a code below 200; no header of more than one line. No data
+    /// are read for a code below 200, a 204, a 205 and a 304.
+    pub fn print<W: WriteDevice>(
+        self,
+        alloc: Global,
+        writer: &mut W,
+        context: AnswerContext,
+        upgrade: Option<&str>,
+        now: HttpDate,
+    ) -> Result<(), io::Error>
+    where
+        R: ReadDevice + Drop,
+        ensures text { IfSome (R.feed self.data_reader) (λ feed. length feed.bytes < 2 ^ 63 →
+            PrintsAnswer (W.sink writer.old) (W.sink writer.new) result self.answer feed
+            (record {
+              version = context.version;
+              asked_coding = context.asked_coding;
+              no_body = context.no_body;
+              persistence = context.persistence;
+              upgrade = option_copied upgrade.entry;
+              date = now;
+            })) }
+        ensures uses { CountsFaults (W.sink writer.old) (W.sink writer.new) result }
+    {
+        let mut data = self.reader;
+        let headers = self.headers;
+        let offered = self.offered;
+        let top = Top {
+            version: context.version,
+            persistence: context.persistence,
+            status: self.status,
+            headers: &headers,
+            offered: &offered,
+            date: now,
+        };
+        if let Some(protocol) = upgrade {
+            return print_upgrade(writer, &top, protocol);
+        }
+        let (data_length, threshold) = (self.data_length, self.threshold);
+        if let Some(framing) = contentless_framing(
+            context.persistence,
+            self.contentless,
+            self.status,
+            data_length,
+        ) {
+            return put_head(writer, &top, None, framing);
+        }
+        let coding = choose(
+            context.version,
+            context.asked_coding,
+            self.status,
+            data_length,
+            threshold,
+        );
+        let withheld = is_withheld(context.no_body, self.status);
+        match coding {
+            Coding::Chunked => print_in_chunks(&mut data, writer, &top, withheld),
+            Coding::Identity => {
+                print_uncoded(alloc, &mut data, writer, &top, data_length, withheld)
+            }
+        }
+    }
+
+    /// Prints the head alone of an answer whose body comes later, and grows while it is sent: `AnswerContext::streamed_form` says how
+    /// that is to be sent. The head says chunks to a version from 1.1 on, also where no body is asked for, and neither a length nor a
+    /// coding to an earlier one (RFC 9112, section 6). The answer's data, their length and its threshold are passed over. It is printed
+    /// by the standard where `print` would be. The error is the writer's first fault, after which nothing more is written. It doesn't
+    /// flush.
+    pub fn print_head<W: WriteDevice>(
+        &self,
+        writer: &mut W,
+        context: AnswerContext,
+        now: HttpDate,
+    ) -> Result<(), io::Error>
+        ensures { Puts (W.sink writer.old) (W.sink writer.new) result (streamed_head self.now.answer context now) }
+    {
+        let top = Top {
+            version: context.version,
+            persistence: context.persistence,
+            status: self.status,
+            headers: &self.headers,
+            offered: &self.offered,
+            date: now,
+        };
+        put_head(writer, &top, None, context.streamed_framing(self.status))
+    }
+
+    /// Gives the reader of the data.
+    pub fn into_reader(self) -> R
+        ensures { result ≡ self.data_reader }
+    {
+        self.reader
+    }
+}
+
+// Whether the body of an answer with this code is not sent.
+fn is_withheld(no_body: bool, status: StatusCode) -> bool
+    ensures { result ≡ is_withheld no_body status.0 }
+{
+    no_body || has_no_content(status)
+}
+
+// Prints an answer of known length whose body is sent as it is.
+fn print_as_it_is<D: ReadDevice, W: WriteDevice>(
+    source: &mut D,
+    writer: &mut W,
+    top: &Top<'_>,
+    withheld: bool,
+    n: usize,
+) -> Result<(), io::Error>
+    ensures text { IfSome (D.feed source.old) (λ feed.
+        Prints (W.sink writer.old) (W.sink writer.new) result
+        (prepend_text (top_text top.now None (FramingHeader.ContentLength n))
+        (if withheld then whole [] else identity_body n feed))) }
+    ensures unread { withheld ≡ true → source.new ≡ source.old }
+    ensures uses { CountsFaults (W.sink writer.old) (W.sink writer.new) result }
+{
+    put_head(writer, top, None, FramingHeader::ContentLength(n))?;
+    if withheld {
+        return Ok(());
+    }
+    put_exactly(source, writer, n)
+}
+
+// Prints bytes as the body of an answer.
+fn print_bytes<W: WriteDevice>(
+    bytes: &[u8],
+    writer: &mut W,
+    top: &Top<'_>,
+    withheld: bool,
+) -> Result<(), io::Error>
+    ensures { Puts (W.sink writer.old) (W.sink writer.new) result
+        (top_text top.now None (FramingHeader.ContentLength (length bytes.now))
+        ++ (if withheld then [] else bytes.now)) }
+{
+    put_head(writer, top, None, FramingHeader::ContentLength(bytes.len()))?;
+    if withheld {
+        return Ok(());
+    }
+    put(writer, bytes)
+}
+
+// Prints an answer of unknown length whose body is sent as it is: its data is read whole first.
+fn print_gathered<D: ReadDevice, W: WriteDevice>(
+    alloc: Global,
+    source: &mut D,
+    writer: &mut W,
+    top: &Top<'_>,
+    withheld: bool,
+) -> Result<(), io::Error>
+    ensures text { IfSome (D.feed source.old) (λ feed. length feed.bytes < 2 ^ 63 →
+        PrintsGathered (W.sink writer.old) (W.sink writer.new) result
+        (top_text top.now None (FramingHeader.ContentLength (length feed.bytes)))
+        withheld feed) }
+    ensures uses { CountsFaults (W.sink writer.old) (W.sink writer.new) result }
+{
+    let bytes = gather(alloc, source)?;
+    print_bytes(bytes.as_slice(), writer, top, withheld)
+}
+
+// Prints an answer whose body isn't coded, by its length.
+fn print_uncoded<D: ReadDevice, W: WriteDevice>(
+    alloc: Global,
+    source: &mut D,
+    writer: &mut W,
+    top: &Top<'_>,
+    data_length: Option<usize>,
+    withheld: bool,
+) -> Result<(), io::Error>
+    ensures text { IfSome (D.feed source.old) (λ feed. length feed.bytes < 2 ^ 63 →
+        PrintsUncoded (W.sink writer.old) (W.sink writer.new) result data_length
+        (uncoded_text data_length (λ framing. top_text top.now None framing) withheld feed)) }
+    ensures uses { CountsFaults (W.sink writer.old) (W.sink writer.new) result }
+{
+    match data_length {
+        Some(n) => print_as_it_is(source, writer, top, withheld, n),
+        None => print_gathered(alloc, source, writer, top, withheld),
+    }
+}
+
+// Prints an answer whose body is sent in chunks.
+fn print_in_chunks<D: ReadDevice, W: WriteDevice>(
+    source: &mut D,
+    writer: &mut W,
+    top: &Top<'_>,
+    withheld: bool,
+) -> Result<(), io::Error>
+    ensures text { IfSome (D.feed source.old) (λ feed. length feed.bytes < 2 ^ 63 →
+        Prints (W.sink writer.old) (W.sink writer.new) result
+        (prepend_text (top_text top.now None FramingHeader.TransferEncoding)
+        (body_unless_withheld withheld (chunked_body feed)))) }
+    ensures unread { withheld ≡ true → source.new ≡ source.old }
+    ensures uses { CountsFaults (W.sink writer.old) (W.sink writer.new) result }
+{
+    put_head(writer, top, None, FramingHeader::TransferEncoding)?;
+    if withheld {
+        return Ok(());
+    }
+    put_chunked(source, writer)
+}
+
+// Prints an upgrade's answer.
+fn print_upgrade<W: WriteDevice>(
+    writer: &mut W,
+    top: &Top<'_>,
+    protocol: &str,
+) -> Result<(), io::Error>
+    ensures { PrintsText (W.sink writer.old) (W.sink writer.new) result
+        (if list_all is_ascii protocol.now
+        then whole (top_text top.now (Some protocol.now) FramingHeader.Neither)
+        else nothing_sent ErrorKind.InvalidInput) }
+{
+    if !are_ascii(protocol.as_bytes()) {
+        return Err(ErrorKind::InvalidInput.into());
+    }
+    put_head(writer, top, Some(protocol), FramingHeader::Neither)
+}

@@ -1,0 +1,169 @@
+//! An answer on its way out: printed, flushed, and what follows a fault.
+ghost use Rattle.std.specs.Prelude.{◌≡◌, ◌<◌, ◌^◌, ◌==◌, true, [], length, Some, None, Ok, IfErr, OnErr, MatchBool};
+ghost use Rattle.std.specs.IoError.{error_kind};
+ghost use Rattle.std.specs.Option.{option_copied};
+ghost use Rattle.tiny_http_response.specs.Answer.{text_of};
+ghost use Rattle.tiny_http_io.specs.Device.{Feed};
+ghost use Rattle.tiny_http_response.specs.ResponseValue.{printing_in, printing_with, upgrading};
+ghost use Rattle.tiny_http_io.specs.Outlet.{output_of, outlet_ended, outlet_held, SentOn};
+ghost use Rattle.tiny_http_response.specs.Sending.{Sends, SendsText, EndsQuietly, DropsHeld, CanSend, SinkFailsOnce, IsHonest, is_closed_client, reported, FailsOnce, SendsQuietlyOn, SendsAnswer};
+
+use crate::answer_context::AnswerContext;
+use crate::response::Response;
+use httpdate::HttpDate;
+use std::alloc::Global;
+use std::io;
+use std::io::ErrorKind;
+use tiny_http_io::device::{ReadDevice, WriteDevice};
+use tiny_http_io::outlet::Outlet;
+
+// Ends an outlet on which printing met a fault. Where the writer's count is still this one the fault was not the
+// writer's, and what is held is sent.
+fn end_behind_fault<W: WriteDevice>(outlet: &mut Outlet<W>, failures: u64)
+    ensures ends { MatchBool ((output_of outlet.old).failures == failures)
+        (EndsQuietly (output_of outlet.old) (output_of outlet.new))
+        (DropsHeld (output_of outlet.old) (output_of outlet.new)) }
+    ensures ended { outlet_ended outlet.new ≡ true }
+    ensures takes_none { (output_of outlet.new).has_ended ≡ true }
+    ensures flushed { outlet_held outlet.new ≡ [] }
+{
+    if outlet.writer_failures() == failures {
+        let _ = outlet.end();
+    } else {
+        outlet.abandon();
+    }
+}
+
+// Prints an answer, or an upgrade to a protocol, and flushes it, as `send` does.
+fn send_printed<W: WriteDevice, D: ReadDevice + Drop>(
+    alloc: Global,
+    outlet: &mut Outlet<W>,
+    response: Response<D>,
+    answer_context: AnswerContext,
+    upgrade: Option<&str>,
+    now: HttpDate,
+) -> Result<(), io::Error>
+    ensures sends { (content : Feed) → D.feed response.data_reader ≡ Some content → length content.bytes < 2 ^ 63
+        → CanSend (output_of outlet.old)
+        → Sends (output_of outlet.old) (output_of outlet.new) (outlet_ended outlet.new) result response.answer content (printing_with answer_context (option_copied upgrade.entry) now) }
+    ensures fails_once { SinkFailsOnce (output_of outlet.old) (output_of outlet.new) (outlet_ended outlet.new) }
+    ensures honest { IfErr result (λ e.
+        IsHonest (output_of outlet.old) (output_of outlet.new) response.answer (D.feed response.data_reader) (printing_with answer_context (option_copied upgrade.entry) now) (error_kind e)) }
+    ensures ended { OnErr result (outlet_ended outlet.new ≡ true) }
+    ensures flushed { outlet_held outlet.new ≡ [] }
+    ensures sent_on { SentOn outlet.new }
+{
+    let failures = outlet.failures();
+    let printed = response.print(alloc, outlet, answer_context, upgrade, now);
+    if let Err(fault) = printed {
+        end_behind_fault(outlet, failures);
+        return Err(fault);
+    }
+    outlet.flush()
+}
+
+/// Prints an answer and flushes it. The first fault is the error: the data's, or the writer's. After it nothing more is sent
+/// on the connection; what was held before a fault of the data is sent.
+pub fn send<W: WriteDevice, D: ReadDevice + Drop>(
+    alloc: Global,
+    outlet: &mut Outlet<W>,
+    response: Response<D>,
+    answer_context: AnswerContext,
+    now: HttpDate,
+) -> Result<(), io::Error>
+    ensures sends { (content : Feed) → D.feed response.data_reader ≡ Some content → length content.bytes < 2 ^ 63
+        → CanSend (output_of outlet.old)
+        → Sends (output_of outlet.old) (output_of outlet.new) (outlet_ended outlet.new) result response.answer content (printing_in answer_context now) }
+    ensures fails_once { SinkFailsOnce (output_of outlet.old) (output_of outlet.new) (outlet_ended outlet.new) }
+    ensures honest { IfErr result (λ e.
+        IsHonest (output_of outlet.old) (output_of outlet.new) response.answer (D.feed response.data_reader) (printing_in answer_context now) (error_kind e)) }
+    ensures ended { OnErr result (outlet_ended outlet.new ≡ true) }
+    ensures flushed { outlet_held outlet.new ≡ [] }
+    ensures sent_on { SentOn outlet.new }
+{
+    send_printed(alloc, outlet, response, answer_context, None, now)
+}
+
+/// Sends an answer as `send` does, unless the output has ended: then nothing is sent, the data aren't read, and the result is
+/// `Ok`.
+pub fn send_unless_ended<W: WriteDevice, D: ReadDevice + Drop>(
+    alloc: Global,
+    outlet: &mut Outlet<W>,
+    response: Response<D>,
+    answer_context: AnswerContext,
+    now: HttpDate,
+) -> Result<(), io::Error>
+    ensures { SendsAnswer D.feed outlet.old outlet.new result response (printing_in answer_context now) }
+{
+    if outlet.is_ended() {
+        outlet.facts();
+        return Ok(());
+    }
+    send(alloc, outlet, response, answer_context, now)
+}
+
+/// Whether a fault of this kind says that the client has closed the connection: an answer to it is no failure.
+pub fn is_closed_client(kind: ErrorKind) -> bool
+    ensures { result ≡ is_closed_client kind }
+{
+    matches!(
+        kind,
+        ErrorKind::BrokenPipe
+            | ErrorKind::ConnectionAborted
+            | ErrorKind::ConnectionRefused
+            | ErrorKind::ConnectionReset
+    )
+}
+
+/// What is reported of an answer that was sent so: its fault, unless that is of a kind which says that the client has closed the
+/// connection, also where it is one of the data.
+pub fn reported(sent: Result<(), io::Error>) -> Result<(), io::Error>
+    ensures { result ≡ reported sent }
+{
+    match sent {
+        Err(fault) if !is_closed_client(fault.kind()) => Err(fault),
+        _ => Ok(()),
+    }
+}
+
+/// Prints an answer that upgrades the connection to a protocol, and flushes it (RFC 9110, section 7.8): its head alone, with
+/// `Connection: upgrade` and `Upgrade: PROTOCOL` in front of the other headers. The data are let go unread. The writer's first
+/// fault is the error. So is InvalidInput for a protocol that isn't ASCII, of which nothing is sent. After an error nothing
+/// more is sent on the connection. The call takes no memory.
+pub fn send_upgrade<W: WriteDevice, D: Drop>(
+    alloc: Global,
+    outlet: &mut Outlet<W>,
+    response: Response<D>,
+    answer_context: AnswerContext,
+    protocol: &str,
+    now: HttpDate,
+) -> Result<(), io::Error>
+    // Whatever the data are.
+    ensures sends { (content : Feed) → CanSend (output_of outlet.old)
+        → SendsText (output_of outlet.old) (output_of outlet.new) (outlet_ended outlet.new) result (text_of response.answer content (upgrading protocol.now (printing_in answer_context now))) }
+    ensures fails_once { SinkFailsOnce (output_of outlet.old) (output_of outlet.new) (outlet_ended outlet.new) }
+    ensures ended { OnErr result (outlet_ended outlet.new ≡ true) }
+    ensures flushed { outlet_held outlet.new ≡ [] }
+    ensures sent_on { SentOn outlet.new }
+{
+    let answer = response.with_data(io::empty(), Some(0));
+    send_printed(alloc, outlet, answer, answer_context, Some(protocol), now)
+}
+
+/// Writes a text. No reply reports a fault that is met there.
+pub fn write_quietly<W: WriteDevice>(outlet: &mut Outlet<W>, text: &[u8])
+    ensures sends { SendsQuietlyOn outlet.old outlet.new text.now }
+    ensures fails_once { FailsOnce outlet.old outlet.new }
+{
+    let _ = outlet.write(text);
+}
+
+/// Flushes what was written. No reply reports a fault that is met there.
+pub fn flush_quietly<W: WriteDevice>(outlet: &mut Outlet<W>)
+    ensures sends { SendsQuietlyOn outlet.old outlet.new [] }
+    ensures fails_once { FailsOnce outlet.old outlet.new }
+    ensures flushed { outlet_held outlet.new ≡ [] }
+    ensures sent_on { SentOn outlet.new }
+{
+    let _ = outlet.flush();
+}

@@ -1,2 +1,0 @@
-pub mod ResponseValue
-pub mod Sending

@@ -1,0 +1,25 @@
+-- What clauses read of the halves of a corked connection.
+use Rattle.std.specs.Prelude.{◌≡◌, [], Option, Some, None, false, Result, Ok, Err}
+use Rattle.std.specs.IoError.{error_kind}
+use Rattle.std.specs.declared.io.Error.{Error}
+use Rattle.tiny_http_io.specs.Device.{Feed, Sink, next_count}
+use Rattle.tiny_http_socket.specs.ReadAhead.{ahead_feed}
+use Rattle.tiny_http_socket.specs.declared.cork.CorkedReader.{CorkedReader}
+use Rattle.tiny_http_socket.specs.declared.cork.CorkedWriter.{CorkedWriter}
+
+-- the bytes that the half still gives that is read
+abbrev pub reader_feed : {R W : Type 0} → CorkedReader R W → Option Feed
+reader_feed r = ahead_feed r.ahead
+
+-- what the half states that is written: its failures, and no bytes
+abbrev pub writer_sink : {W Rt : Type 0} → CorkedWriter W Rt → Sink
+writer_sink w = record { taken = None; sent = []; failures = w.failures; last_kind = w.last; has_ended = false }
+
+-- what a writer states that has not failed
+abbrev pub fresh_sink : Sink
+fresh_sink = record { taken = None; sent = []; failures = 0; last_kind = None; has_ended = false }
+
+-- a fault was counted, if there was one
+abbrev pub CountsOutcome : {W Rt T : Type 0} → CorkedWriter W Rt → CorkedWriter W Rt → Result T Error → Type 0
+CountsOutcome old new (Ok x) = new ≡ old
+CountsOutcome old new (Err e) = new ≡ record old { failures = next_count old.failures; last = Some (error_kind e) }

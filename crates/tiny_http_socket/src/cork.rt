@@ -1,0 +1,281 @@
+//! The two halves of a connection whose answers may leave together, which threads share.
+ghost use Rattle.std.specs.Prelude.{◌≡◌, ◌<◌, ◌≤◌, ⊤, length, IfOk};
+ghost use Rattle.tiny_http_socket.specs.Cork.{reader_feed, writer_sink, fresh_sink, CountsOutcome};
+
+use crate::corked::Corked;
+use crate::read_ahead::{BeforeRead, ReadAhead};
+use crate::write_both::WriteBoth;
+use std::alloc::{AllocError, Global};
+use std::io;
+use std::io::ErrorKind;
+use std::sync::atomic::{AtomicBool, Ordering};
+use std::sync::{Arc, Mutex, Wait};
+use tiny_http_io::device::{ReadDevice, WriteDevice};
+
+/// Whether a flush of a connection may leave its bytes where they wait. Whoever lets it has them sent soon, by `Cork::send`.
+#[derive(Drop)]
+pub struct FlushPolicy {
+    may_leave: AtomicBool,
+    // Bytes may have been left since `stop_and_take` was last called.
+    may_wait: AtomicBool,
+}
+
+impl FlushPolicy {
+    // Each flush sends.
+    fn new() -> FlushPolicy {
+        FlushPolicy {
+            may_leave: AtomicBool::new(false),
+            may_wait: AtomicBool::new(false),
+        }
+    }
+
+    /// From now on a flush leaves its bytes, and a write may leave what it was given.
+    pub fn leave_at_flush(&self) {
+        self.may_leave.store(true, Ordering::SeqCst);
+    }
+
+    /// From now on each flush sends, what waits included.
+    pub fn send_at_flush(&self) {
+        self.may_leave.store(false, Ordering::SeqCst);
+    }
+
+    // Whether a flush may leave its bytes.
+    fn may_leave(&self) -> bool {
+        self.may_leave.load(Ordering::SeqCst)
+    }
+
+    // From now on each flush sends. Whether bytes may have been left since this was last asked.
+    fn stop_and_take(&self) -> bool {
+        self.send_at_flush();
+        self.may_wait.swap(false, Ordering::SeqCst)
+    }
+
+    // Whether bytes that are written or flushed now are left. It is asked again once they count as left, since `stop_and_take` may
+    // have come between.
+    fn leaves(&self) -> bool {
+        if !self.may_leave() {
+            return false;
+        }
+        self.may_wait.store(true, Ordering::SeqCst);
+        self.may_leave()
+    }
+}
+
+/// What the two halves of a connection share: the writer, and what waits in front of it. Bytes are written under the lock. Only
+/// the thread whose turn it is waits for it; one that sends what waits, so that it may read, asks that thread in its place.
+#[derive(Drop)]
+pub struct Cork<W: WriteBoth + Drop> {
+    flush_policy: Arc<FlushPolicy>,
+    // A thread that found the lock taken wants what waits to be sent.
+    is_asked: AtomicBool,
+    corked: Mutex<Corked<W>>,
+}
+
+impl<W: WriteBoth + Drop> Cork<W> {
+    // Nothing waits in front of this writer. An error where memory was refused.
+    fn new(alloc: Global, writer: W) -> Result<Cork<W>, AllocError> {
+        let corked = Corked::new(alloc, writer)?;
+        let flush_policy = Arc::new(alloc, FlushPolicy::new())?;
+        Ok(Cork {
+            flush_policy,
+            is_asked: AtomicBool::new(false),
+            corked: Mutex::new(corked),
+        })
+    }
+
+    /// Whether a flush may leave its bytes.
+    pub fn flush_policy(&self) -> &Arc<FlushPolicy> {
+        &self.flush_policy
+    }
+
+    /// From now on each flush sends; and what was left is sent. It waits for no other thread, though it may wait for the
+    /// socket: where another thread has the lock, that one is asked to send it. A fault is reported by the next write, or by the
+    /// next flush that sends.
+    pub fn send(&self) {
+        if !self.flush_policy.stop_and_take() {
+            return;
+        }
+        if self.send_if_free() {
+            return;
+        }
+        self.is_asked.store(true, Ordering::SeqCst);
+        // Who had the lock may have left it just before it was asked.
+        self.send_if_free();
+    }
+
+    /// The same, where a flush may not leave its bytes. Where it may, nothing is done.
+    pub fn send_unless_leaving(&self) {
+        if !self.flush_policy.may_leave() {
+            self.send();
+        }
+    }
+
+    // Sends what waits, if the lock is free. Whether it was.
+    fn send_if_free(&self) -> bool {
+        match self.corked.try_lock() {
+            Some(mut corked) => {
+                corked.send_waiting();
+                true
+            }
+            None => false,
+        }
+    }
+
+    // Sends what waits, if a thread asked for it.
+    fn send_if_asked<Rt: Wait>(&self, rt: &Rt) {
+        if self.is_asked.load(Ordering::SeqCst) && self.is_asked.swap(false, Ordering::SeqCst) {
+            self.corked.lock(rt).send_waiting();
+        }
+    }
+
+    // Takes some of these bytes. They wait only where a flush may leave them.
+    fn write<Rt: Wait>(&self, rt: &Rt, buf: &[u8]) -> io::Result<usize>
+        ensures { IfOk result (λ n. (n ≤ length buf.now) × (0 < length buf.now → 0 < n)) }
+    {
+        let mut corked = self.corked.lock(rt);
+        let written = if self.flush_policy.leaves() {
+            corked.write_out(buf)
+        } else {
+            corked.write_past(buf)
+        };
+        drop(corked);
+        self.send_if_asked(rt);
+        written
+    }
+
+    // Sends what waits, unless it may be left.
+    fn flush<Rt: Wait>(&self, rt: &Rt) -> io::Result<()> {
+        if self.flush_policy.leaves() {
+            return Ok(());
+        }
+        let sent = self.corked.lock(rt).flush_out();
+        self.send_if_asked(rt);
+        sent
+    }
+
+    // Sends what waits, also where it may be left, and has the writer say that no byte follows.
+    fn end<Rt: Wait>(&self, rt: &Rt) {
+        let mut corked = self.corked.lock(rt);
+        corked.send_waiting();
+        corked.end_out();
+        drop(corked);
+        self.send_if_asked(rt);
+    }
+}
+
+/// The half of a connection that is written. Bytes wait where a flush may leave them, and are sent at once where it may not. As a
+/// `WriteDevice` it counts its failures and states no bytes, since others may send what waits.
+#[derive(Drop)]
+pub struct CorkedWriter<W: WriteBoth + Drop, Rt: Wait> {
+    rt: Rt,
+    cork: Arc<Cork<W>>,
+    failures: u64,
+    last: Option<ErrorKind>,
+}
+
+impl<W: WriteBoth + Drop, Rt: Wait> CorkedWriter<W, Rt> {
+    /// What it shares with the half that is read.
+    pub fn cork(&self) -> &Arc<Cork<W>> {
+        &self.cork
+    }
+
+    // Counts a fault, if there is one.
+    fn count<T>(&mut self, outcome: &io::Result<T>)
+        ensures { CountsOutcome self.old self.new outcome.now }
+    {
+        if let Err(fault) = outcome {
+            self.failures = self.failures.saturating_add(1);
+            self.last = Some(fault.kind());
+        }
+    }
+}
+
+impl<W: WriteBoth + Drop, Rt: Wait> WriteDevice for CorkedWriter<W, Rt> {
+    ghost use Rattle.tiny_http_socket.specs.Cork.{writer_sink};
+
+    ghost sink = { writer_sink };
+
+    /// The count.
+    fn failures(&self) -> u64 {
+        self.failures
+    }
+
+    /// Takes some of these bytes. They wait where they may and there is room for them; else what waits is sent, and with it some of
+    /// them. A fault that was met as what waits was sent is reported.
+    fn write_out(&mut self, buf: &[u8]) -> Result<usize, io::Error> {
+        let written = self.cork.write(&self.rt, buf);
+        self.count(&written);
+        written
+    }
+
+    /// Sends what waits, unless it may be left. A fault that was met before is reported where it sends.
+    fn flush_out(&mut self) -> Result<(), io::Error> {
+        let sent = self.cork.flush(&self.rt);
+        self.count(&sent);
+        sent
+    }
+
+    /// Sends what waits, also where it may be left, and has the writer say that no byte follows. A fault isn't reported here.
+    fn end_out(&mut self) {
+        self.cork.end(&self.rt);
+    }
+}
+
+// Sends what waits before the socket is read.
+#[derive(Drop)]
+struct Sending<W: WriteBoth + Drop> {
+    cork: Arc<Cork<W>>,
+}
+
+impl<W: WriteBoth + Drop> BeforeRead for Sending<W> {
+    // Nothing is stated of what is sent behind a lock.
+    ghost does = { λ _ _. ⊤ };
+
+    /// Sends it.
+    fn before_read(&mut self) {
+        self.cork.send();
+    }
+}
+
+/// The half of a connection that is read. Before it calls the socket it has what waits sent, and from then on each flush sends.
+#[derive(Drop)]
+pub struct CorkedReader<R: ReadDevice + Drop, W: WriteBoth + Drop> {
+    ahead: ReadAhead<R>,
+    sending: Sending<W>,
+}
+
+impl<R: ReadDevice + Drop, W: WriteBoth + Drop> ReadDevice for CorkedReader<R, W> {
+    ghost use Rattle.tiny_http_socket.specs.Cork.{reader_feed};
+
+    ghost feed = { reader_feed };
+
+    /// Gives bytes that were read before, if there are some; else has what waits sent, and reads a piece.
+    fn read_in(&mut self, buf: &mut [u8]) -> Result<usize, io::Error> {
+        self.ahead.read_after(&mut self.sending, buf)
+    }
+}
+
+/// The two halves of a connection over this reader and this writer. An error where memory was refused.
+pub fn halves<R: ReadDevice + Drop, W: WriteBoth + Drop, Rt: Wait + Drop>(
+    rt: Rt,
+    alloc: Global,
+    reader: R,
+    writer: W,
+) -> Result<(CorkedReader<R, W>, CorkedWriter<W, Rt>), AllocError>
+    ensures feed { IfOk result (λ halves. reader_feed halves.0 ≡ R.feed reader) }
+    ensures sink { IfOk result (λ halves. writer_sink halves.1 ≡ fresh_sink) }
+{
+    let ahead = ReadAhead::new(alloc, reader)?;
+    let cork = Arc::new(alloc, Cork::new(alloc, writer)?)?;
+    let sending = Sending {
+        cork: Arc::try_clone(&cork)?,
+    };
+    let reader = CorkedReader { ahead, sending };
+    let writer = CorkedWriter {
+        rt,
+        cork,
+        failures: 0,
+        last: None,
+    };
+    Ok((reader, writer))
+}

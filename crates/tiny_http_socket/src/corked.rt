@@ -1,0 +1,275 @@
+//! A writer in front of which bytes wait.
+ghost use Rattle.std.specs.Prelude.{◌≡◌, ◌≢◌, ◌≤◌, ◌++◌, false, [], length, vec_len, None, Some, Ok, IfOk, IfErr, IfSome, OnOk, OnErr, IsOk};
+ghost use Rattle.std.specs.IoError.{error_kind};
+ghost use Rattle.tiny_http_io.specs.Device.{BeginsKnown, Failed, Puts, PutsFront, HoldsNothing, next_count};
+ghost use Rattle.tiny_http_socket.specs.declared.corked.TheConstants.{ROOM};
+ghost use Rattle.tiny_http_socket.specs.declared.corked.State.TheVariants.{Open, Ended};
+
+use crate::write_both::WriteBoth;
+use std::alloc::{AllocError, Global};
+use std::io;
+use std::io::ErrorKind;
+use std::marker::Model;
+use tiny_http_io::device::{WriteDevice, put};
+
+/// So many bytes may wait.
+pub const ROOM: usize = 16_384;
+
+// Whether a writer takes bytes.
+#[derive(Clone, Copy, Debug, PartialEq, Eq)]
+enum State {
+    // It does.
+    Open,
+    // It has failed by this kind, and the next call reports it.
+    Broken(ErrorKind),
+    // It has failed, and a call has reported it.
+    Ended,
+}
+
+/// A writer in front of which up to 16,384 bytes wait. They are sent where more come than there is room for, by a flush, by
+/// `write_past`, and by `send_waiting`. After its first fault it sends nothing; the call that meets the fault reports it, or the next one where
+/// `send_waiting` met it. From then on it takes nothing, and answers `Ok`.
+#[derive(Drop)]
+pub struct Corked<W: WriteBoth> {
+    writer: W,
+    waiting: Vec<u8>,
+    state: State,
+    failures: u64,
+    last: Option<ErrorKind>,
+    ghost bound: { vec_len waiting ≤ ROOM },
+    ghost none: { state ≢ Open → waiting.items ≡ [] },
+}
+
+impl<W: WriteBoth> Model for Corked<W> {
+    ghost use Rattle.tiny_http_socket.specs.Corked.{CorkedState};
+
+    ghost Value = { CorkedState W };
+
+    ghost view = { λ c. record { waiting = c.waiting.items; state = c.state; failures = c.failures; last = c.last; writer = c.writer; sink = W.sink c.writer } };
+}
+
+impl<W: WriteBoth + Drop> Corked<W> {
+    ghost use Rattle.tiny_http_socket.specs.Corked.{corked_sink, unreported};
+
+    /// Nothing waits in front of this writer, and no failure is counted. An error where memory was refused.
+    pub fn new(alloc: Global, writer: W) -> Result<Corked<W>, AllocError>
+        ensures writer { IfOk result (λ c. (c.writer ≡ writer) × (c.sink ≡ W.sink writer)) }
+        ensures none { IfOk result (λ c. (c.waiting ≡ []) × (unreported c ≡ None)) }
+        ensures sink { IfOk result (λ c. corked_sink c ≡ record (W.sink writer) { failures = 0; last_kind = None }) }
+    {
+        let waiting = Vec::with_capacity(alloc, ROOM)?;
+        Ok(Corked {
+            writer,
+            waiting,
+            state: State::Open,
+            failures: 0,
+            last: None,
+        })
+    }
+}
+
+impl<W: WriteBoth> Corked<W> {
+    ghost use Rattle.tiny_http_socket.specs.Corked.{corked_sink, unreported, PassesBehind, ReportsFault, SendsWaiting};
+
+    /// What waits.
+    pub fn waiting(&self) -> &[u8]
+        ensures bytes { result.now ≡ self.now.waiting }
+        ensures bound { length result.now ≤ ROOM }
+    {
+        self.waiting.as_slice()
+    }
+
+    /// The writer. What waits is dropped.
+    pub fn into_inner(self) -> W
+        ensures { result ≡ self.writer }
+    {
+        let Corked { writer, .. } = self;
+        writer
+    }
+
+    // Ends it by this fault, which is reported now.
+    fn end(&mut self, fault: io::Error) -> io::Error
+        ensures kind { error_kind result ≡ error_kind fault }
+        ensures begins { BeginsKnown self.old.sink.sent self.old.sink.taken }
+        ensures ended { self.new ≡ record self.old { waiting = []; state = Ended; failures = next_count self.old.failures; last = Some (error_kind fault) } }
+    {
+        let _ = self.writer.failures();
+        self.waiting.clear();
+        self.state = State::Ended;
+        self.failures = self.failures.saturating_add(1);
+        self.last = Some(fault.kind());
+        fault
+    }
+
+    // Sends what waits, and has the writer send it on.
+    fn send(&mut self) -> Result<(), io::Error>
+        ensures puts { Puts self.old.sink self.new.sink result self.old.waiting }
+        ensures sent { OnOk result (self.new.sink.has_ended ≡ false → HoldsNothing self.new.sink) }
+        ensures rest { self.new ≡ record self.old { waiting = []; writer = self.new.writer; sink = self.new.sink } }
+    {
+        let sent = put(&mut self.writer, self.waiting.as_slice());
+        self.waiting.clear();
+        sent?;
+        self.writer.flush_out()
+    }
+
+    // Hands what waits to the writer, with these bytes behind it, and says how many of these it took.
+    fn pass(&mut self, buf: &[u8]) -> Result<usize, io::Error>
+        ensures puts { PassesBehind self.old.sink self.new.sink self.old.waiting result buf.now }
+        ensures rest { self.new ≡ record self.old { waiting = []; writer = self.new.writer; sink = self.new.sink } }
+    {
+        let held = self.waiting.len();
+        let gone = self.writer.write_both(self.waiting.as_slice(), buf);
+        let n = match gone {
+            Ok(n) => n,
+            Err(fault) => {
+                self.waiting.clear();
+                return Err(fault);
+            }
+        };
+        if n > held {
+            self.waiting.clear();
+            return Ok(n - held);
+        }
+        let sent = put(&mut self.writer, &self.waiting[n..]);
+        self.waiting.clear();
+        if let Err(fault) = sent {
+            return Err(fault);
+        }
+        self.writer.write_out(buf)
+    }
+
+    // Sends what waits, and some of these bytes with it, at least one if there is one. A fault is reported.
+    fn take_past(&mut self, buf: &[u8]) -> Result<usize, io::Error>
+        requires open { self.old.state ≡ Open }
+        ensures puts { PutsFront (corked_sink self.old) (corked_sink self.new) result buf.now }
+        ensures fault { IfErr result (λ e. Failed self.old.sink self.new.sink (self.old.waiting ++ buf.now) (error_kind e)) }
+        ensures none { self.new.waiting ≡ [] }
+        ensures ends { OnErr result (self.new.state ≡ Ended) }
+    {
+        match self.pass(buf) {
+            Ok(n) => Ok(n),
+            Err(fault) => Err(self.end(fault)),
+        }
+    }
+
+    // Takes some bytes, at least one if there is one. Where there is no room for them what waits is sent.
+    fn take_some(&mut self, buf: &[u8]) -> Result<usize, io::Error>
+        requires open { self.old.state ≡ Open }
+        ensures puts { PutsFront (corked_sink self.old) (corked_sink self.new) result buf.now }
+        ensures fault { IfErr result (λ e. Failed self.old.sink self.new.sink (self.old.waiting ++ buf.now) (error_kind e)) }
+        ensures ends { OnErr result (self.new.state ≡ Ended) }
+    {
+        let room = ROOM.saturating_sub(self.waiting.len());
+        if buf.len() <= room && self.waiting.extend_from_slice(buf).is_ok() {
+            return Ok(buf.len());
+        }
+        self.take_past(buf)
+    }
+
+    // Sends what waits, and reports a fault.
+    fn flush(&mut self) -> Result<(), io::Error>
+        requires open { self.old.state ≡ Open }
+        ensures fault { IfErr result (λ e. Failed self.old.sink self.new.sink self.old.waiting (error_kind e)) }
+        ensures puts { Puts (corked_sink self.old) (corked_sink self.new) result [] }
+        ensures sent { OnOk result ((corked_sink self.new).has_ended ≡ false → HoldsNothing (corked_sink self.new)) }
+        ensures none { self.new.waiting ≡ [] }
+        ensures ends { OnErr result (self.new.state ≡ Ended) }
+    {
+        match self.send() {
+            Ok(()) => Ok(()),
+            Err(fault) => Err(self.end(fault)),
+        }
+    }
+
+    /// Writes as `write_out`, but leaves nothing that waits: what does is sent, and with it some of these bytes.
+    pub fn write_past(&mut self, buf: &[u8]) -> Result<usize, io::Error>
+        ensures puts { PutsFront (corked_sink self.old) (corked_sink self.new) result buf.now }
+        ensures none { self.new.waiting ≡ [] }
+        ensures fault { self.old.state ≡ Open → IfErr result (λ e. Failed self.old.sink self.new.sink (self.old.waiting ++ buf.now) (error_kind e)) }
+        ensures reported { IfSome (unreported self.old) (λ kind. ReportsFault self.old self.new result kind) }
+        // After a fault nothing more is taken.
+        ensures ends { OnErr result (self.new.state ≡ Ended) }
+        ensures ended { self.old.state ≡ Ended → (result ≡ Ok (length buf.now)) × (self.new ≡ self.old) }
+    {
+        match self.state {
+            State::Open => self.take_past(buf),
+            State::Broken(kind) => Err(self.end(kind.into())),
+            State::Ended => Ok(buf.len()),
+        }
+    }
+
+    /// Sends what waits, and has the writer send it on. Nothing waits then. A fault isn't reported here: the next write or flush
+    /// reports it. After a fault nothing is done.
+    pub fn send_waiting(&mut self)
+        ensures sends { SendsWaiting (corked_sink self.old) (corked_sink self.new) (unreported self.new) }
+        ensures none { self.new.waiting ≡ [] }
+        ensures kept { self.old.state ≢ Open → self.new ≡ self.old }
+        // The fault is the writer's.
+        ensures fault { self.old.state ≡ Open → IfSome (unreported self.new) (λ kind. Failed self.old.sink self.new.sink self.old.waiting kind) }
+    {
+        if self.state != State::Open {
+            return;
+        }
+        if let Err(fault) = self.send() {
+            self.state = State::Broken(fault.kind());
+        }
+    }
+}
+
+impl<W: WriteBoth> WriteDevice for Corked<W> {
+    ghost use Rattle.tiny_http_socket.specs.Corked.{corked_sink, unreported, ReportsFault};
+
+    ghost sink = { corked_sink };
+
+    /// The count of the faults that were reported.
+    fn failures(&self) -> u64 {
+        let _ = self.writer.failures();
+        self.failures
+    }
+
+    /// Takes all the bytes where there is room for them: they wait. Else what waits is sent, and with it some of them. A fault
+    /// that `send_waiting` met is reported, and none is taken.
+    fn write_out(&mut self, buf: &[u8]) -> Result<usize, io::Error>
+        ensures puts { PutsFront (corked_sink self.old) (corked_sink self.new) result buf.now }
+        ensures fault { self.old.state ≡ Open → IfErr result (λ e. Failed self.old.sink self.new.sink (self.old.waiting ++ buf.now) (error_kind e)) }
+        ensures reported { IfSome (unreported self.old) (λ kind. ReportsFault self.old self.new result kind) }
+        // After a fault nothing more is taken.
+        ensures ends { OnErr result (self.new.state ≡ Ended) }
+        ensures ended { self.old.state ≡ Ended → (result ≡ Ok (length buf.now)) × (self.new ≡ self.old) }
+    {
+        match self.state {
+            State::Open => self.take_some(buf),
+            State::Broken(kind) => Err(self.end(kind.into())),
+            State::Ended => Ok(buf.len()),
+        }
+    }
+
+    /// Sends what waits, and has the writer send it on. A fault that `send_waiting` met is reported.
+    fn flush_out(&mut self) -> Result<(), io::Error>
+        ensures puts { Puts (corked_sink self.old) (corked_sink self.new) result [] }
+        ensures sent { OnOk result ((corked_sink self.new).has_ended ≡ false → HoldsNothing (corked_sink self.new)) }
+        ensures none { self.new.waiting ≡ [] }
+        ensures fault { self.old.state ≡ Open → IfErr result (λ e. Failed self.old.sink self.new.sink self.old.waiting (error_kind e)) }
+        ensures reported { IfSome (unreported self.old) (λ kind. ReportsFault self.old self.new result kind) }
+        ensures ends { OnErr result (self.new.state ≡ Ended) }
+        ensures ended { self.old.state ≡ Ended → IsOk result × (self.new ≡ self.old) }
+    {
+        match self.state {
+            State::Open => self.flush(),
+            State::Broken(kind) => Err(self.end(kind.into())),
+            State::Ended => Ok(()),
+        }
+    }
+
+    /// Has the writer say that no byte follows, unless bytes wait: the caller sends them first.
+    fn end_out(&mut self)
+        ensures sink { corked_sink self.new ≡ corked_sink self.old }
+        // What waits stays, and so does whether it takes more.
+        ensures rest { self.new ≡ record self.old { writer = self.new.writer } }
+    {
+        if self.waiting.is_empty() {
+            self.writer.end_out();
+        }
+    }
+}

@@ -1,5 +1,0 @@
-use Rattle.tiny_http_standard.proofs.LawsLemmas.{request-line-once}
-use Rattle.tiny_http_standard.proofs.laws.one_request_line.Goals as goal
-
-pub returns : goal.returns
-returns c = request-line-once

@@ -1,6 +1,0 @@
-use Rattle.std.proofs.Common.{◌≡◌, ◌++◌, drop}
-use Rattle.tiny_http_standard.specs.Lines.{percent_encoded}
-use Rattle.tiny_http_standard.proofs.lines.percent_encoded.Given as goal
-
-abbrev pub invariant-loop-b : goal.invariant-loop-b
-invariant-loop-b l = l.bytes.items ++ percent_encoded (drop l.b-index l.value) ≡ percent_encoded l.value

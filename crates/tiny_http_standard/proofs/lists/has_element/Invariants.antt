@@ -1,6 +1,0 @@
-use Rattle.std.proofs.Common.{◌≡◌, drop}
-use Rattle.tiny_http_standard.specs.Lists.{has_element}
-use Rattle.tiny_http_standard.proofs.lists.has_element.Given as goal
-
-abbrev pub invariant-loop-header : goal.invariant-loop-header
-invariant-loop-header l = has_element l.name l.word (drop l.header-index l.headers) ≡ has_element l.name l.word l.headers

@@ -1,0 +1,44 @@
+use Rattle.std.proofs.Common.{rules, ◌≡◌, ◌∙◌, true, subst, List, arith}
+use Rattle.std.specs.Result.{is_ok}
+use Rattle.tiny_http_head.specs.declared.common.Header.{Header}
+use Rattle.tiny_http_io.proofs.SourceGoesOn.{goes-on_same, goes-on_more}
+use Rattle.tiny_http_standard_head.specs.SourceHeads.{HasReadFields}
+use Rattle.tiny_http_standard_head.proofs.SourceJoining.{fields-none, fields-more}
+use Rattle.tiny_http_standard_head.proofs.source_heads.read_fields.Goals as goal
+
+pub loop-header-init : goal.loop-header-init
+loop-header-init g c =
+    let limit = c.args.left.now in
+    let old = c.args.source.now.feed in
+    record {
+      reads = subst (λ (hs : List Header). HasReadFields limit limit old old hs) (search rules) (fields-none limit old);
+      shorter = omega arith;
+      goes_on = goes-on_same old;
+      stop = search rules;
+      standing = search rules;
+    }
+
+pub loop-header-preserved : goal.loop-header-preserved
+loop-header-preserved g c =
+    let limit = c.args.left.now in
+    let old = c.args.source.now.feed in
+    let new = c.read_field.new in
+    let ok : is_ok c.push.result ≡ true = search rules in
+    let read = rw c.in-Ok-Some.field-0-is at c.in-Ok-Some.ensures.reads in
+    let more = fields-more limit c.loop-header.left new.left old c.loop-header.source.feed new.source.feed c.loop-header.headers.items c.in-Ok-Some.header c.loop-header.invariant.reads read in
+    record {
+      reads = rw (c.push.ensures.items, ok) more;
+      shorter = omega (arith, c.loop-header.invariant.shorter, c.in-Ok-Some.ensures.shorter);
+      goes_on = goes-on_more _ _ _ c.loop-header.invariant.goes_on c.read_field.ensures.goes_on;
+      stop = c.in-Ok-Some.ensures.lazy ∙ c.loop-header.invariant.stop;
+      standing = c.read_field.ensures.standing ∙ c.loop-header.invariant.standing;
+    }
+
+pub returns-then-is_err-clause-goes_on : goal.returns-then-is_err-clause-goes_on
+returns-then-is_err-clause-goes_on g c = goes-on_more _ _ _ c.loop-header.invariant.goes_on c.read_field.ensures.goes_on
+
+pub returns-in-Ok-None-clause-goes_on : goal.returns-in-Ok-None-clause-goes_on
+returns-in-Ok-None-clause-goes_on g c = goes-on_more _ _ _ c.loop-header.invariant.goes_on c.read_field.ensures.goes_on
+
+pub returns-in-Err-clause-goes_on : goal.returns-in-Err-clause-goes_on
+returns-in-Err-clause-goes_on g c = goes-on_more _ _ _ c.loop-header.invariant.goes_on c.read_field.ensures.goes_on

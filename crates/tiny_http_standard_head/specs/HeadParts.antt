@@ -1,0 +1,51 @@
+-- The parts of a head as they are read, line by line.
+use Rattle.std.specs.Prelude.{◌≡◌, ℕ, ◌+◌, ⊤, List, [], length, Ok, Err}
+use Rattle.tiny_http_text.specs.Bytes.{HasNo}
+use Rattle.tiny_http_head.specs.declared.common.Header.{Header}
+use Rattle.tiny_http_head.specs.Heads.{Message}
+use Rattle.tiny_http_standard_head.specs.declared.heads.HeadFault.TheVariants.{Judged}
+use Rattle.tiny_http_standard_head.specs.declared.heads.HeadRead.{HeadRead}
+use Rattle.tiny_http_standard_head.specs.declared.heads.HeadRead.TheVariants.{Whole, Refused}
+use Rattle.tiny_http_standard_head.specs.declared.heads.NoLine.{NoLine}
+use Rattle.tiny_http_standard_head.specs.declared.heads.NoLine.TheVariants as no
+use Rattle.tiny_http_standard_head.specs.declared.heads.Stop.{Stop}
+use Rattle.tiny_http_standard_head.specs.declared.heads.Stop.TheVariants as stop
+use Rattle.tiny_http_standard_head.specs.Lines.{IsNoRequestLine}
+use Rattle.tiny_http_standard_head.specs.Heads.{Line, line_feed, BeginsWithBareLine, behind_empty_line, BeginsWithFieldLines, BeginsWithBadLine, IsNoFieldOrEnd, HasBadLine, HasOpenRequestLine, HasOpenField, BeginsWithHead, HasGoodRequestLine, message_of}
+use Rattle.tiny_http_standard_head.specs.Judging.{Judges}
+
+-- why the bytes don't begin with a line
+abbrev pub HasNoLine : NoLine → List ℕ → Type 0
+HasNoLine no.Bare bytes = BeginsWithBareLine bytes
+HasNoLine no.Open bytes = HasNo line_feed bytes
+
+-- why they don't begin with a request line
+abbrev pub StopsRequest : List ℕ → Stop → Type 0
+StopsRequest bytes stop.Bad = BeginsWithBadLine IsNoRequestLine (behind_empty_line bytes)
+StopsRequest bytes stop.OpenRequest = HasNo line_feed (behind_empty_line bytes)
+StopsRequest bytes stop.OpenField = ⊥
+StopsRequest bytes stop.Memory = HasGoodRequestLine bytes
+
+-- why they don't begin with field lines and an empty line
+abbrev pub StopsFields : List ℕ → Stop → Type 0
+StopsFields bytes stop.Bad = (headers : List Header) × (rest : List ℕ) × BeginsWithFieldLines bytes headers rest × BeginsWithBadLine IsNoFieldOrEnd rest
+StopsFields bytes stop.OpenRequest = ⊥
+StopsFields bytes stop.OpenField = (headers : List Header) × (rest : List ℕ) × BeginsWithFieldLines bytes headers rest × HasNo line_feed rest
+StopsFields bytes stop.Memory = ⊤
+
+-- the bytes are field lines, an empty line, and what is behind them
+abbrev pub EndsFields : List ℕ → List Header → List ℕ → Type 0
+EndsFields bytes headers after = (empty : List ℕ) × BeginsWithFieldLines bytes headers empty × Line empty [] after
+
+-- why a head isn't read to its end
+abbrev pub StopsHead : List ℕ → Stop → Type 0
+StopsHead bytes stop.Bad = HasBadLine bytes
+StopsHead bytes stop.OpenRequest = HasOpenRequestLine bytes
+StopsHead bytes stop.OpenField = HasOpenField bytes
+StopsHead bytes stop.Memory = HasGoodRequestLine bytes
+
+-- a head that has come whole: how many bytes it has, and how it is judged
+abbrev pub ReadsWhole : List ℕ → HeadRead → Type 0
+ReadsWhole bytes (Whole h) = (after : List ℕ) × BeginsWithHead bytes (message_of h) after × (h.length + length after ≡ length bytes) × Judges h.version h.method h.headers.items (Ok h.summary)
+ReadsWhole bytes (Refused (Judged refusal)) = (m : Message) × (after : List ℕ) × BeginsWithHead bytes m after × Judges m.version m.method m.headers (Err refusal)
+ReadsWhole bytes _ = ⊥

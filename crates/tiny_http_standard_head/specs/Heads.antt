@@ -1,0 +1,148 @@
+-- A whole head by the standard (RFC 9112, sections 2.2, 3 and 5), and what is read of the first bytes that a client sends.
+use Rattle.std.specs.Prelude.{◌≡◌, ◌≢◌, ℕ, ◌+◌, ◌<◌, ◌≤◌, ◌⊎◌, Bool, not, ◌&&◌, ◌==◌, List, [], ◌∷◌, ◌++◌, length, take, true, false, Result, Ok, Err, IsTrue, if◌then◌else◌}
+use Rattle.tiny_http_text.specs.Bytes.{HasNo, has_bare_end}
+use Rattle.tiny_http_head.specs.declared.common.Method.{Method}
+use Rattle.tiny_http_head.specs.declared.common.HTTPVersion.{HTTPVersion}
+use Rattle.tiny_http_head.specs.declared.common.Header.{Header}
+use Rattle.tiny_http_head.specs.Heads.{Message}
+use Rattle.tiny_http_standard_head.specs.declared.heads.Head.{Head}
+use Rattle.tiny_http_standard_head.specs.declared.heads.HeadFault.{HeadFault}
+use Rattle.tiny_http_standard_head.specs.declared.heads.HeadFault.TheVariants.{BadLine, RequestLineTooLong, HeaderFieldsTooLarge, Judged}
+use Rattle.tiny_http_standard_head.specs.declared.heads.HeadRead.{HeadRead}
+use Rattle.tiny_http_standard_head.specs.declared.heads.HeadRead.TheVariants.{Whole, Refused, Unfinished}
+use Rattle.tiny_http_standard_head.specs.declared.judging.HeadSummary.{HeadSummary}
+use Rattle.tiny_http_standard_head.specs.declared.judging.Refusal.{Refusal}
+use Rattle.tiny_http_standard_head.specs.declared.judging.Refusal.TheVariants.{UnsupportedVersion, InvalidHead, UnknownCoding, UnknownExpectation}
+use Rattle.tiny_http_standard_head.specs.Lines.{ReadsRequestLine, IsNoRequestLine, ReadsFieldLine, IsNoFieldLine}
+use Rattle.tiny_http_standard_head.specs.Judging.{Judges}
+
+abbrev pub line_feed : ℕ
+line_feed = 10
+
+abbrev pub carriage_return : ℕ
+carriage_return = 13
+
+abbrev pub is_carriage_return : ℕ → Bool
+is_carriage_return b = b == carriage_return
+
+-- the bytes begin with a line, in which no LF stands, and its CR LF; the rest follows
+pub record Line (bytes text rest : List ℕ) : Type 0 where
+  pub joins : bytes ≡ text ++ (carriage_return ∷ line_feed ∷ rest)
+  pub first : HasNo line_feed text
+
+-- the first LF of the bytes has no CR in front
+pub record BeginsWithBareLine (bytes : List ℕ) : Type 0 where
+  pub text : List ℕ
+  pub rest : List ℕ
+  pub joins : bytes ≡ text ++ line_feed ∷ rest
+  pub first : HasNo line_feed text
+  pub bare : IsTrue (has_bare_end is_carriage_return text)
+
+-- the bytes without one empty line in front
+abbrev pub behind_empty_line : List ℕ → List ℕ
+behind_empty_line [] = []
+behind_empty_line (a ∷ []) = a ∷ []
+behind_empty_line (a ∷ b ∷ bs) = if (a == carriage_return && b == line_feed) then bs else a ∷ b ∷ bs
+
+-- the bytes begin with a request line, in front of which one empty line is passed over; the field lines follow
+pub record BeginsWithRequestLine (bytes : List ℕ) (method : Method) (target : List ℕ) (v : HTTPVersion) (fields : List ℕ) : Type 0 where
+  pub text : List ℕ
+  pub line : Line (behind_empty_line bytes) text fields
+  pub reads : ReadsRequestLine text method target v
+
+-- the bytes begin with these field lines; the rest follows
+abbrev pub BeginsWithFieldLines : List ℕ → List Header → List ℕ → Type 0
+BeginsWithFieldLines bytes [] rest = rest ≡ bytes
+BeginsWithFieldLines bytes (h ∷ hs) rest = (text : List ℕ) × (next : List ℕ) × Line bytes text next × ReadsFieldLine text h × BeginsWithFieldLines next hs rest
+
+-- A HEAD: a request line, field lines and an empty line
+pub record BeginsWithHead (bytes : List ℕ) (m : Message) (after : List ℕ) : Type 0 where
+  pub fields : List ℕ
+  pub empty : List ℕ
+  pub request : BeginsWithRequestLine bytes m.method m.path m.version fields
+  pub headers : BeginsWithFieldLines fields m.headers empty
+  pub end : Line empty [] after
+
+-- a good request line has ended, behind an empty line if there is one
+pub record HasGoodRequestLine (bytes : List ℕ) : Type 0 where
+  pub text : List ℕ
+  pub rest : List ℕ
+  pub line : Line (behind_empty_line bytes) text rest
+  pub good : IsNoRequestLine text → ⊥
+
+-- A LINE THAT IS NO GOOD: no CR stands in front of its LF, or it isn't what has to stand there.
+abbrev pub BeginsWithBadLine : (List ℕ → Type 0) → List ℕ → Type 0
+BeginsWithBadLine IsBad bytes = BeginsWithBareLine bytes ⊎ ((text : List ℕ) × (rest : List ℕ) × Line bytes text rest × IsBad text)
+
+-- neither the empty line nor a field line
+abbrev pub IsNoFieldOrEnd : List ℕ → Type 0
+IsNoFieldOrEnd text = (text ≢ []) × IsNoFieldLine text
+
+-- behind a request line and field lines, these bytes follow
+pub record ComesToField (bytes rest : List ℕ) : Type 0 where
+  pub method : Method
+  pub target : List ℕ
+  pub version : HTTPVersion
+  pub fields : List ℕ
+  pub headers : List Header
+  pub request : BeginsWithRequestLine bytes method target version fields
+  pub lines : BeginsWithFieldLines fields headers rest
+
+-- the first bad line of a head
+abbrev pub HasBadLine : List ℕ → Type 0
+HasBadLine bytes = BeginsWithBadLine IsNoRequestLine (behind_empty_line bytes) ⊎ ((rest : List ℕ) × ComesToField bytes rest × BeginsWithBadLine IsNoFieldOrEnd rest)
+
+-- the request line hasn't ended; a line behind it hasn't
+abbrev pub HasOpenRequestLine : List ℕ → Type 0
+HasOpenRequestLine bytes = HasNo line_feed (behind_empty_line bytes)
+
+abbrev pub HasOpenField : List ℕ → Type 0
+HasOpenField bytes = (rest : List ℕ) × ComesToField bytes rest × HasNo line_feed rest
+
+-- what bytes are read as: a whole head, with what follows it and how it is judged; a bad line; or a line that hasn't ended, the
+-- request line or one behind it
+pub data Reading : Type 0 where
+  ReadWhole : (message : Message) (after : List ℕ) (judged : Result HeadSummary Refusal) → Reading
+  ReadBad : Reading
+  ReadOpen : (behind_request_line : Bool) → Reading
+
+-- WHAT BYTES ARE READ AS
+abbrev pub AreReadAs : List ℕ → Reading → Type 0
+AreReadAs bytes (ReadWhole m after judged) = BeginsWithHead bytes m after × Judges m.version m.method m.headers judged
+AreReadAs bytes ReadBad = HasBadLine bytes
+AreReadAs bytes (ReadOpen false) = HasOpenRequestLine bytes
+AreReadAs bytes (ReadOpen true) = HasOpenField bytes
+
+-- the status of a fault
+abbrev pub status_of : HeadFault → ℕ
+status_of BadLine = 400
+status_of RequestLineTooLong = 414
+status_of HeaderFieldsTooLarge = 431
+status_of (Judged UnsupportedVersion) = 505
+status_of (Judged InvalidHead) = 400
+status_of (Judged UnknownCoding) = 501
+status_of (Judged UnknownExpectation) = 417
+
+abbrev pub message_of : Head → Message
+message_of h = record { method = h.method; path = h.target; version = h.version; headers = h.headers.items }
+
+-- a byte of a head has come
+abbrev pub is_begun : List ℕ → Bool
+is_begun bytes = not (length (behind_empty_line bytes) == 0)
+
+-- WHAT IS READ of these bytes, where a head has at most `limit` of them
+abbrev pub Reads : ℕ → List ℕ → HeadRead → Type 0
+Reads limit bytes (Whole h) =
+    (after : List ℕ) × BeginsWithHead (take limit bytes) (message_of h) after × (h.length + length after ≡ length (take limit bytes)) × Judges h.version h.method h.headers.items (Ok h.summary)
+Reads limit bytes (Refused BadLine) = HasBadLine (take limit bytes)
+Reads limit bytes (Refused (Judged refusal)) = (m : Message) × (after : List ℕ) × BeginsWithHead (take limit bytes) m after × Judges m.version m.method m.headers (Err refusal)
+Reads limit bytes (Refused RequestLineTooLong) = (limit ≤ length bytes) × HasOpenRequestLine (take limit bytes)
+Reads limit bytes (Refused HeaderFieldsTooLarge) = (limit ≤ length bytes) × HasOpenField (take limit bytes)
+Reads limit bytes (Unfinished has_begun) = (length bytes < limit) × (HasOpenRequestLine bytes ⊎ HasOpenField bytes) × (has_begun ≡ is_begun bytes)
+
+-- Two readings say the same: the same head, of the same length and judged alike; the same fault; or unfinished, begun alike.
+abbrev pub IsSameRead : HeadRead → HeadRead → Type 0
+IsSameRead (Whole h) (Whole k) = (message_of h ≡ message_of k) × (h.length ≡ k.length) × (h.summary ≡ k.summary)
+IsSameRead (Refused e) (Refused f) = e ≡ f
+IsSameRead (Unfinished b) (Unfinished c) = b ≡ c
+IsSameRead _ _ = ⊥

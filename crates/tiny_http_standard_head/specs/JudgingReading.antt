@@ -1,0 +1,64 @@
+-- What a whole head says, computed from element to element.
+use Rattle.std.specs.Prelude.{ℕ, Bool, true, false, ◌||◌, ◌==◌, List, [], ◌∷◌, Option, Some, None, is_some, Result, Ok, Err, codes, if◌then◌else◌}
+use Rattle.std.specs.Str.{bytes_eq}
+use Rattle.tiny_http_head.specs.declared.common.HTTPVersion.{HTTPVersion}
+use Rattle.tiny_http_head.specs.Common.{same_name}
+use Rattle.tiny_http_head.specs.Heads.{length_of}
+use Rattle.tiny_http_standard_head.specs.declared.judging.Wanted.{Wanted}
+use Rattle.tiny_http_standard_head.specs.declared.judging.Wanted.TheVariants.{Close, KeepAlive, Upgrade, Continue, Protocol, UnknownExpectation, Chunks}
+use Rattle.tiny_http_standard_head.specs.declared.judging.Codings.{Codings}
+use Rattle.tiny_http_standard_head.specs.declared.judging.Codings.TheVariants.{Absent, Others, Chunked, Behind, Bad}
+use Rattle.tiny_http_standard_head.specs.declared.judging.Refusal.{Refusal}
+use Rattle.tiny_http_standard_head.specs.declared.judging.Refusal.TheVariants.{InvalidHead, UnknownCoding}
+use Rattle.tiny_http_standard_head.specs.Judging.{is_chunked, is_unknown_expectation, is_protocol, is_1_0}
+use Rattle.tiny_http_standard_head.specs.Te.{element_asks_chunked}
+
+-- an element is what is wanted
+abbrev pub is_wanted : Wanted → List ℕ → Bool
+is_wanted Close element = same_name element (codes "close")
+is_wanted KeepAlive element = same_name element (codes "keep-alive")
+is_wanted Upgrade element = same_name element (codes "upgrade")
+is_wanted Continue element = same_name element (codes "100-continue")
+is_wanted Protocol element = is_protocol element
+is_wanted UnknownExpectation element = is_unknown_expectation element
+is_wanted Chunks element = element_asks_chunked element
+
+-- the length that a text is, if none was found before, or the same
+abbrev pub same_length : Option ℕ → Option ℕ → Option ℕ
+same_length None found = None
+same_length (Some m) None = Some m
+same_length (Some m) (Some n) = if m == n then Some m else None
+
+abbrev pub if_length : Option ℕ → (ℕ → Result (Option ℕ) Refusal) → Result (Option ℕ) Refusal
+if_length None more = Err InvalidHead
+if_length (Some n) more = more n
+
+abbrev pub lengths_on : Option ℕ → List (List ℕ) → Result (Option ℕ) Refusal
+lengths_on found [] = Ok found
+lengths_on found (length ∷ lengths) = if_length (same_length (length_of length) found) (λ n. lengths_on (Some n) lengths)
+
+-- what the codings are after a further one
+abbrev pub coding_after : Codings → List ℕ → Codings
+coding_after Absent coding = if is_chunked coding then Chunked else if bytes_eq coding [] then Bad else Others
+coding_after Others coding = if is_chunked coding then Behind else if bytes_eq coding [] then Bad else Others
+coding_after Chunked coding = Bad
+coding_after Behind coding = Bad
+coding_after Bad coding = Bad
+
+abbrev pub codings_on : Codings → List (List ℕ) → Codings
+codings_on was [] = was
+codings_on was (coding ∷ codings) = codings_on (coding_after was coding) codings
+
+abbrev pub coded_body : Codings → Result (Option ℕ × Bool) Refusal
+coded_body Chunked = Ok (None, true)
+coded_body Behind = Err UnknownCoding
+coded_body _ = Err InvalidHead
+
+-- the body by the codings, and the length that was found
+abbrev pub body_with : HTTPVersion → Codings → Option ℕ → Result (Option ℕ × Bool) Refusal
+body_with v Absent n = Ok (n, false)
+body_with v codings n = if (is_1_0 v || is_some n) then Err InvalidHead else coded_body codings
+
+abbrev pub body_by : HTTPVersion → Codings → Result (Option ℕ) Refusal → Result (Option ℕ × Bool) Refusal
+body_by v codings (Err fault) = Err fault
+body_by v codings (Ok n) = body_with v codings n

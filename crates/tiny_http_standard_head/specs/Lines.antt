@@ -1,0 +1,113 @@
+-- The lines of a head by the standard (RFC 9112, sections 2.3, 3 and 5; RFC 9110, sections 5.5 and 5.6.2), each a joining of
+-- named parts. A token, a byte of a value and optional white space are those of the crate `httparse`.
+use Rattle.std.specs.Prelude.{◌≡◌, ℕ, ◌+◌, ◌-◌, ◌<◌, Bool, false, not, ◌&&◌, ◌||◌, ◌==◌, nat_lt, ◌/◌, ◌%◌, List, [], ◌∷◌, ◌++◌, length, take, drop, IsTrue, codes, MatchBool, if◌then◌else◌}
+use Rattle.std.specs.List.{list_all, flat_map, starts_with}
+use Rattle.std.specs.Str.{bytes_eq}
+use Rattle.std.specs.Char.{is_ascii_graphic}
+use Rattle.httparse.specs.Grammar.{is_token, is_value_byte, is_ows}
+use Rattle.tiny_http_text.specs.Bytes.{is_ascii, AreAscii, Trims, space, colon, point}
+use Rattle.tiny_http_head.specs.declared.common.HTTPVersion.{HTTPVersion}
+use Rattle.tiny_http_head.specs.declared.common.Method.{Method}
+use Rattle.tiny_http_head.specs.declared.common.Header.{Header}
+use Rattle.tiny_http_head.specs.Common.{same_name}
+use Rattle.tiny_http_head.specs.Heads.{method_of}
+use Rattle.tiny_http_standard_head.specs.Hosts.{percent, slash, IsAuthority}
+
+abbrev pub question_mark : ℕ
+question_mark = 63
+
+abbrev pub number_sign : ℕ
+number_sign = 35
+
+abbrev pub digit_zero : ℕ
+digit_zero = 48
+
+abbrev pub capital_a : ℕ
+capital_a = 65
+
+-- HTTP-version = "HTTP/" DIGIT "." DIGIT
+pub record IsVersion (text : List ℕ) (v : HTTPVersion) : Type 0 where
+  pub joins : text ≡ codes "HTTP/" ++ (digit_zero + v.0) ∷ point ∷ (digit_zero + v.1) ∷ []
+  pub major : v.0 < 10
+  pub minor : v.1 < 10
+
+-- the text is no version
+abbrev pub IsNoVersion : List ℕ → Type 0
+IsNoVersion text = (v : HTTPVersion) → IsVersion text v → ⊥
+
+-- an authority begins here: by a byte that ends none
+abbrev pub begins_authority : List ℕ → Bool
+begins_authority [] = false
+begins_authority (b ∷ bs) = not (b == slash || (b == question_mark || b == number_sign))
+
+-- the scheme stands in front, without case, and an authority begins behind it
+abbrev pub has_scheme : List ℕ → List ℕ → Bool
+has_scheme scheme target = same_name (take (length scheme) target) scheme && begins_authority (drop (length scheme) target)
+
+-- In place of absolute-form: http:// or https://, and a byte that begins an authority, which isn't judged.
+abbrev pub is_absolute_form : List ℕ → Bool
+is_absolute_form target = has_scheme (codes "http://") target || has_scheme (codes "https://") target
+
+-- In place of origin-form: it begins with a slash. What follows isn't judged.
+abbrev pub is_origin_form : List ℕ → Bool
+is_origin_form target = starts_with ◌==◌ target (codes "/")
+
+-- asterisk-form: the target of an OPTIONS alone
+abbrev pub is_asterisk_form : List ℕ → List ℕ → Bool
+is_asterisk_form method target = bytes_eq target (codes "*") && bytes_eq method (codes "OPTIONS")
+
+-- request-target: of the bytes 33 to 126. That of a CONNECT is in authority-form, and that of another method in one of the other
+-- three forms.
+abbrev pub IsTarget : List ℕ → List ℕ → Type 0
+IsTarget method target =
+    IsTrue (list_all is_ascii_graphic target)
+    × MatchBool (bytes_eq method (codes "CONNECT")) (IsAuthority target) (IsTrue (is_origin_form target || (is_asterisk_form method target || is_absolute_form target)))
+
+-- request-line = method SP request-target SP HTTP-version
+pub record RequestLine (text method target : List ℕ) (v : HTTPVersion) : Type 0 where
+  pub version_text : List ℕ
+  pub joins : text ≡ method ++ space ∷ (target ++ space ∷ version_text)
+  pub method_is : IsTrue (is_token method)
+  pub target_is : IsTarget method target
+  pub version_is : IsVersion version_text v
+
+-- the text is a request line with a method of this name
+abbrev pub ReadsRequestLine : List ℕ → Method → List ℕ → HTTPVersion → Type 0
+ReadsRequestLine text method target v = (name : List ℕ) × RequestLine text name target v × (method ≡ method_of name)
+
+-- the text is no request line
+abbrev pub IsNoRequestLine : List ℕ → Type 0
+IsNoRequestLine text = (method : List ℕ) → (target : List ℕ) → (v : HTTPVersion) → RequestLine text method target v → ⊥
+
+-- In these headers a byte from 128 on has to be refused before it is handed out as a percent sign and digits, which are good there.
+abbrev pub must_be_ascii : List ℕ → Bool
+must_be_ascii field = same_name field (codes "Host") || same_name field (codes "Transfer-Encoding")
+
+-- field-line = field-name ":" OWS field-value OWS. A byte of the value from 128 on is good, but in a host or a coding.
+pub record FieldLine (text field value : List ℕ) : Type 0 where
+  pub padded : List ℕ
+  pub joins : text ≡ field ++ colon ∷ padded
+  pub field_is : IsTrue (is_token field)
+  pub bytes : IsTrue (list_all is_value_byte padded)
+  pub trims : Trims is_ows padded value
+  pub ascii : IsTrue (must_be_ascii field) → AreAscii value
+
+-- a hexadecimal digit, with a capital letter
+abbrev pub uppercase_hexadecimal_digit : ℕ → ℕ
+uppercase_hexadecimal_digit d = if nat_lt d 10 then digit_zero + d else capital_a + (d - 10)
+
+-- a byte of a value as it is handed out: one from 128 on as a percent sign and its two hexadecimal digits
+abbrev pub percent_encoded_byte : ℕ → List ℕ
+percent_encoded_byte b = if is_ascii b then b ∷ [] else percent ∷ uppercase_hexadecimal_digit (b / 16) ∷ uppercase_hexadecimal_digit (b % 16) ∷ []
+
+-- a value as it is handed out
+abbrev pub percent_encoded : List ℕ → List ℕ
+percent_encoded value = flat_map percent_encoded_byte value
+
+-- the text is a field line, and this is its header
+abbrev pub ReadsFieldLine : List ℕ → Header → Type 0
+ReadsFieldLine text h = (value : List ℕ) × FieldLine text h.field value × (h.value ≡ percent_encoded value)
+
+-- the text is no field line
+abbrev pub IsNoFieldLine : List ℕ → Type 0
+IsNoFieldLine text = (field : List ℕ) → (value : List ℕ) → FieldLine text field value → ⊥

@@ -1,0 +1,152 @@
+-- A head that is read from a source: what it is, and what is left of the input behind it.
+use Rattle.std.specs.Prelude.{◌≡◌, ◌≢◌, ℕ, ◌+◌, ◌<◌, ◌≤◌, ◌⊎◌, ⊤, Bool, true, ◌||◌, ◌==◌, not, List, [], ◌∷◌, ◌++◌, length, take, drop, Option, Some, None, Result, Ok, Err, IsTrue, IsErr}
+use Rattle.std.specs.Global.{Vec}
+use Rattle.std.specs.declared.alloc.AllocError.{AllocError}
+use Rattle.tiny_http_text.specs.Bytes.{HasNo, has_bare_end}
+use Rattle.tiny_http_io.specs.Device.{Feed}
+use Rattle.tiny_http_io.specs.Source.{feed_from}
+use Rattle.tiny_http_head.specs.declared.common.Method.{Method}
+use Rattle.tiny_http_head.specs.declared.common.HTTPVersion.{HTTPVersion}
+use Rattle.tiny_http_head.specs.declared.common.Header.{Header}
+use Rattle.tiny_http_standard_head.specs.declared.heads.HeadFault.{HeadFault}
+use Rattle.tiny_http_standard_head.specs.declared.heads.HeadFault.TheVariants.{BadLine, RequestLineTooLong, HeaderFieldsTooLarge}
+use Rattle.tiny_http_standard_head.specs.declared.heads.HeadRead.{HeadRead}
+use Rattle.tiny_http_standard_head.specs.declared.heads.HeadRead.TheVariants as read
+use Rattle.tiny_http_standard_head.specs.declared.source_lines.NoLine.{NoLine}
+use Rattle.tiny_http_standard_head.specs.declared.source_lines.NoLine.TheVariants as no_line
+use Rattle.tiny_http_standard_head.specs.declared.source_heads.NoHead.{NoHead}
+use Rattle.tiny_http_standard_head.specs.declared.source_heads.NoHead.TheVariants.{Refused, Unfinished, Memory}
+use Rattle.tiny_http_standard_head.specs.Lines.{ReadsRequestLine, IsNoRequestLine, ReadsFieldLine}
+use Rattle.tiny_http_standard_head.specs.declared.heads.Stop.TheVariants as stop
+use Rattle.tiny_http_standard_head.specs.Judging.{Judges}
+use Rattle.tiny_http_standard_head.specs.HeadParts.{StopsFields, EndsFields}
+use Rattle.tiny_http_standard_head.specs.Heads.{line_feed, carriage_return, is_carriage_return, Line, behind_empty_line, BeginsWithRequestLine, BeginsWithFieldLines, BeginsWithBadLine, IsNoFieldOrEnd, HasOpenRequestLine, is_begun, Reads}
+
+-- a line that is no good: no CR stands at its end, or its text isn't what has to stand there
+abbrev pub IsBadLine : (List ℕ → Type 0) → List ℕ → Type 0
+IsBadLine IsBad line = IsTrue (has_bare_end is_carriage_return line) ⊎ ((text : List ℕ) × (line ≡ text ++ carriage_return ∷ []) × IsBad text)
+
+-- a text of a request line that isn't one, nor the empty line
+abbrev pub IsNoRequestOrEmpty : List ℕ → Type 0
+IsNoRequestOrEmpty text = (text ≢ []) × IsNoRequestLine text
+
+-- what a line is read as: a request line, or the empty line
+abbrev pub RequestIn : List ℕ → Result (Option (Method × List ℕ × HTTPVersion)) NoHead → Type 0
+RequestIn line (Ok None) = line ≡ carriage_return ∷ []
+RequestIn line (Ok (Some r)) = (text : List ℕ) × (line ≡ text ++ carriage_return ∷ []) × ReadsRequestLine text r.0 r.1 r.2
+RequestIn line (Err (Refused BadLine)) = IsBadLine IsNoRequestOrEmpty line
+RequestIn line (Err Memory) = ⊤
+RequestIn line (Err _) = ⊥
+
+-- what a line is read as: a field line, or the empty line
+abbrev pub FieldIn : List ℕ → Result (Option Header) NoHead → Type 0
+FieldIn line (Ok None) = line ≡ carriage_return ∷ []
+FieldIn line (Ok (Some h)) = (text : List ℕ) × (line ≡ text ++ carriage_return ∷ []) × ReadsFieldLine text h
+FieldIn line (Err (Refused BadLine)) = IsBadLine IsNoFieldOrEnd line
+FieldIn line (Err Memory) = ⊤
+FieldIn line (Err _) = ⊥
+
+-- why there is no head where there is no line; later says that a line of the head has come
+abbrev pub no_head : NoLine → HeadFault → Bool → NoHead
+no_head (no_line.Cut has_begun) too_long later = Unfinished (has_begun || later)
+no_head no_line.TooLong too_long later = Refused too_long
+no_head no_line.Memory too_long later = Memory
+
+-- the source stopped before the end of the head
+abbrev pub IsUnfinished : NoHead → Type 0
+IsUnfinished (Unfinished has_begun) = ⊤
+IsUnfinished _ = ⊥
+
+abbrev pub IsUnfinishedRead : HeadRead → Type 0
+IsUnfinishedRead (read.Unfinished has_begun) = ⊤
+IsUnfinishedRead _ = ⊥
+
+-- as much of the limit is left as of the bytes was not taken
+abbrev pub IsSpent : ℕ → List ℕ → ℕ → List ℕ → Type 0
+IsSpent limit bytes left rest = limit + length rest ≡ left + length bytes
+
+-- a line stands at the front of what the limit lets through, and was taken
+pub record TakesText (limit left : ℕ) (f : Feed) (new : Option Feed) (text : List ℕ) : Type 0 where
+  pub rest : List ℕ
+  pub line : Line (take limit f.bytes) text (take left rest)
+  pub goes : new ≡ feed_from f rest
+  pub spent : IsSpent limit f.bytes left rest
+
+-- a line hasn't ended, where the limit was reached
+abbrev pub IsLong : ℕ → List ℕ → Type 0
+IsLong limit bytes = HasNo line_feed (take limit bytes) × (limit ≤ length bytes)
+
+-- nor where the bytes end before it
+abbrev pub IsShort : ℕ → List ℕ → Type 0
+IsShort limit bytes = HasNo line_feed bytes × (length bytes < limit)
+
+-- a request line, or an empty one
+abbrev pub ReadsRequest : ℕ → ℕ → Option Feed → Option Feed → Result (Option (Method × List ℕ × HTTPVersion)) NoHead → Type 0
+ReadsRequest limit left None new r = ⊤
+ReadsRequest limit left (Some f) new (Ok None) = TakesText limit left f new []
+ReadsRequest limit left (Some f) new (Ok (Some r)) = (text : List ℕ) × TakesText limit left f new text × ReadsRequestLine text r.0 r.1 r.2
+ReadsRequest limit left (Some f) new (Err (Refused BadLine)) = BeginsWithBadLine IsNoRequestOrEmpty (take limit f.bytes)
+ReadsRequest limit left (Some f) new (Err (Refused RequestLineTooLong)) = IsLong limit f.bytes
+ReadsRequest limit left (Some f) new (Err (Unfinished has_begun)) = IsShort limit f.bytes × (has_begun ≡ not (length f.bytes == 0))
+ReadsRequest limit left (Some f) new (Err Memory) = ⊤
+ReadsRequest limit left (Some f) new (Err _) = ⊥
+
+-- a field line, or the empty line
+abbrev pub ReadsField : ℕ → ℕ → Option Feed → Option Feed → Result (Option Header) NoHead → Type 0
+ReadsField limit left None new r = ⊤
+ReadsField limit left (Some f) new (Ok None) = TakesText limit left f new []
+ReadsField limit left (Some f) new (Ok (Some h)) = (text : List ℕ) × TakesText limit left f new text × ReadsFieldLine text h
+ReadsField limit left (Some f) new (Err (Refused BadLine)) = BeginsWithBadLine IsNoFieldOrEnd (take limit f.bytes)
+ReadsField limit left (Some f) new (Err (Refused HeaderFieldsTooLarge)) = IsLong limit f.bytes
+ReadsField limit left (Some f) new (Err (Unfinished has_begun)) = IsShort limit f.bytes × (has_begun ≡ true)
+ReadsField limit left (Some f) new (Err Memory) = ⊤
+ReadsField limit left (Some f) new (Err _) = ⊥
+
+-- the request line, and an empty line in front of it if there is one
+abbrev pub ReadsStart : ℕ → ℕ → Option Feed → Option Feed → Result (Method × List ℕ × HTTPVersion) NoHead → Type 0
+ReadsStart limit left None new r = ⊤
+ReadsStart limit left (Some f) new (Ok r) =
+    (rest : List ℕ) × BeginsWithRequestLine (take limit f.bytes) r.0 r.1 r.2 (take left rest) × (new ≡ feed_from f rest) × IsSpent limit f.bytes left rest
+ReadsStart limit left (Some f) new (Err (Refused BadLine)) = BeginsWithBadLine IsNoRequestLine (behind_empty_line (take limit f.bytes))
+ReadsStart limit left (Some f) new (Err (Refused RequestLineTooLong)) = HasOpenRequestLine (take limit f.bytes) × (limit ≤ length f.bytes)
+ReadsStart limit left (Some f) new (Err (Unfinished has_begun)) = HasOpenRequestLine (take limit f.bytes) × (length f.bytes < limit) × (has_begun ≡ is_begun f.bytes)
+ReadsStart limit left (Some f) new (Err Memory) = ⊤
+ReadsStart limit left (Some f) new (Err _) = ⊥
+
+-- these headers were read
+abbrev pub HasReadFields : ℕ → ℕ → Option Feed → Option Feed → List Header → Type 0
+HasReadFields limit left None new headers = ⊤
+HasReadFields limit left (Some f) new headers =
+    (rest : List ℕ) × BeginsWithFieldLines (take limit f.bytes) headers (take left rest) × (new ≡ feed_from f rest) × IsSpent limit f.bytes left rest
+
+-- all headers and the empty line
+abbrev pub ReadsFields : ℕ → ℕ → Option Feed → Option Feed → Result (Vec Header) NoHead → Type 0
+ReadsFields limit left None new r = ⊤
+ReadsFields limit left (Some f) new (Ok headers) =
+    (rest : List ℕ) × EndsFields (take limit f.bytes) headers.items (take left rest) × (new ≡ feed_from f rest) × IsSpent limit f.bytes left rest
+ReadsFields limit left (Some f) new (Err (Refused BadLine)) = StopsFields (take limit f.bytes) stop.Bad
+ReadsFields limit left (Some f) new (Err (Refused HeaderFieldsTooLarge)) = StopsFields (take limit f.bytes) stop.OpenField × (limit ≤ length f.bytes)
+ReadsFields limit left (Some f) new (Err (Unfinished has_begun)) = StopsFields (take limit f.bytes) stop.OpenField × (length f.bytes < limit) × (has_begun ≡ true)
+ReadsFields limit left (Some f) new (Err Memory) = ⊤
+ReadsFields limit left (Some f) new (Err _) = ⊥
+
+-- what is read where there is no head
+abbrev pub IsWithoutHead : NoHead → Result HeadRead AllocError → Type 0
+IsWithoutHead (Refused fault) r = r ≡ Ok (read.Refused fault)
+IsWithoutHead (Unfinished has_begun) r = r ≡ Ok (read.Unfinished has_begun)
+IsWithoutHead Memory r = IsErr r
+
+-- behind a whole head the input goes on
+abbrev pub LeavesBehind : Feed → Option Feed → HeadRead → Type 0
+LeavesBehind f new (read.Whole h) = new ≡ feed_from f (drop h.length f.bytes)
+LeavesBehind f new _ = ⊤
+
+-- A HEAD OF A SOURCE is what all its bytes that are still to come are read as
+abbrev pub ReadsFrom : ℕ → Option Feed → Option Feed → HeadRead → Type 0
+ReadsFrom limit None new r = ⊤
+ReadsFrom limit (Some f) new r = Reads limit f.bytes r × LeavesBehind f new r
+
+-- whatever the source states: a whole head is judged as it says
+abbrev pub IsJudged : HeadRead → Type 0
+IsJudged (read.Whole h) = Judges h.version h.method h.headers.items (Ok h.summary)
+IsJudged _ = ⊤

@@ -1,0 +1,132 @@
+//! Hosts and their ports (RFC 3986, section 3.2; RFC 9112, section 3.2).
+ghost use Rattle.std.specs.Prelude.{◌≡◌, ◌≤◌, ◌<◌, ◌↔◌, ℕ, List, ◌∷◌, ◌++◌, length, drop, take, IsTrue, IfSome, IfNone, slice_index};
+ghost use Rattle.std.specs.List.{list_all};
+ghost use Rattle.std.specs.Char.{is_ascii_digit};
+ghost use Rattle.tiny_http_text.specs.Bytes.{HasNo};
+ghost use Rattle.tiny_http_standard_head.specs.Hosts.{begins_with_two_hexadecimal_digits, is_registered_name_byte, is_registered_name, is_address_byte, IsBracketedAddress, IsHost, IsHostValue, IsAuthority, is_port_number};
+
+use crate::numbers::number_in;
+
+// Whether two hexadecimal digits stand in front.
+fn begins_with_two_hexadecimal_digits(text: &[u8]) -> bool
+    ensures { result ≡ begins_with_two_hexadecimal_digits text.now }
+{
+    text.len() >= 2 && text[0].is_ascii_hexdigit() && text[1].is_ascii_hexdigit()
+}
+
+// Whether the byte stands for itself in a registered name.
+fn is_registered_name_byte(b: u8) -> bool
+    ensures { result ≡ is_registered_name_byte b }
+{
+    b.is_ascii_alphanumeric() || b"-._~!$&'()*+,;=".contains(&b)
+}
+
+// Whether this is a registered name, or nothing.
+fn is_registered_name(text: &[u8]) -> bool
+    ensures { result ≡ is_registered_name text.now }
+{
+    for i in 0..text.len() {
+        if !is_registered_name_byte(text[i])
+            && !(text[i] == b'%' && begins_with_two_hexadecimal_digits(&text[i + 1..]))
+        {
+            return false;
+        }
+    }
+    true
+}
+
+// Whether the byte may stand in an address in brackets.
+fn is_address_byte(b: u8) -> bool
+    ensures { result ≡ is_address_byte b }
+{
+    b.is_ascii_hexdigit() || b == b':' || b == b'.'
+}
+
+// Whether these are bytes of an address.
+fn are_address_bytes(text: &[u8]) -> bool
+    ensures { result ≡ list_all is_address_byte text.now }
+{
+    text.iter().all(|b| is_address_byte(*b))
+}
+
+// Whether this is an address in brackets.
+fn is_bracketed_address(text: &[u8]) -> bool
+    ensures { IsTrue result ↔ IsBracketedAddress text.now }
+{
+    let n = text.len();
+    if n < 3 || text[0] != b'[' || text[n - 1] != b']' {
+        return false;
+    }
+    are_address_bytes(&text[1..n - 1])
+}
+
+/// Whether the text is a host (RFC 3986, section 3.2.2): one or more of hexadecimal digits, `:` and `.` in brackets, which aren't
+/// judged further; or one or more of letters, digits, ``-._~!$&'()*+,;=``, and `%` with two hexadecimal digits behind it.
+pub fn is_host(text: &[u8]) -> bool
+    ensures { IsTrue result ↔ IsHost text.now }
+{
+    if text.is_empty() {
+        return false;
+    }
+    if text[0] == b'[' {
+        return is_bracketed_address(text);
+    }
+    is_registered_name(text)
+}
+
+// What stands before the last such byte, and after it.
+fn cut_last(text: &[u8], c: u8) -> Option<(&[u8], &[u8])>
+    ensures some { IfSome result (λ r. (text.now ≡ r.0.now ++ c ∷ r.1.now) × HasNo c r.1.now) }
+    ensures none { IfNone result (HasNo c text.now) }
+{
+    let mut end = text.len();
+    while end > 0 && text[end - 1] != c {
+        end -= 1;
+    }
+    if end == 0 {
+        return None;
+    }
+    Some((&text[..end - 1], &text[end..]))
+}
+
+// Whether these are digits, or nothing.
+fn are_digits(text: &[u8]) -> bool
+    ensures { result ≡ list_all is_ascii_digit text.now }
+{
+    text.iter().all(|b| b.is_ascii_digit())
+}
+
+/// Whether the text may be the value of a `Host` header: empty, or a host, which may be followed by a colon and any number of
+/// digits, also none (RFC 9110, section 7.2; RFC 9112, section 3.2). `:80` alone isn't one.
+pub fn is_host_value(text: &[u8]) -> bool
+    ensures { IsTrue result ↔ IsHostValue text.now }
+{
+    if text.is_empty() || is_host(text) {
+        return true;
+    }
+    match cut_last(text, b':') {
+        Some((host, port)) => is_host(host) && are_digits(port),
+        None => false,
+    }
+}
+
+// Whether a number is there, and is 1 to 65535.
+fn is_port_number(number: Option<usize>) -> bool
+    ensures { result ≡ is_port_number number }
+{
+    match number {
+        Some(n) => n > 0 && n <= 65_535,
+        None => false,
+    }
+}
+
+/// Whether the text is the target of a `CONNECT`: a host, a colon, and digits whose number is 1 to 65535 (RFC 9112, section
+/// 3.2.3; RFC 9110, section 9.3.6).
+pub fn is_authority(text: &[u8]) -> bool
+    ensures { IsTrue result ↔ IsAuthority text.now }
+{
+    match cut_last(text, b':') {
+        Some((host, port)) => is_port_number(number_in(port)) && is_host(host),
+        None => false,
+    }
+}

@@ -1,0 +1,226 @@
+//! The lines of a head by the standard (RFC 9112, sections 2.3, 3 and 5).
+ghost use Rattle.std.specs.Prelude.{◌≡◌, ◌↔◌, ◌<◌, ◌++◌, IsTrue, IfOk, OnOk, OnErr, IfSome, IfNone, None, Ok};
+ghost use Rattle.std.specs.List.{list_all};
+ghost use Rattle.std.specs.Char.{is_ascii_graphic};
+ghost use Rattle.httparse.specs.Grammar.{is_ows};
+ghost use Rattle.tiny_http_text.specs.Bytes.{skip_while, skip_end_while};
+ghost use Rattle.tiny_http_standard_head.specs.Lines.{IsVersion, IsNoVersion, begins_authority, has_scheme, is_absolute_form, is_asterisk_form, IsTarget, RequestLine, ReadsRequestLine, IsNoRequestLine, must_be_ascii, uppercase_hexadecimal_digit, percent_encoded_byte, percent_encoded, FieldLine, ReadsFieldLine, IsNoFieldLine};
+
+use crate::hosts::is_authority;
+use httparse::{is_header_value, is_space_or_tab, is_token};
+use std::alloc::{AllocError, Global};
+use tiny_http_head::common::{HTTPVersion, Header, HeaderField, Method, method_of};
+use tiny_http_text::ascii::AsciiString;
+use tiny_http_text::bytes::{are_ascii, cut, is};
+use tiny_http_text::copies::owned;
+
+// The version that a text is: `HTTP/`, a digit, a point and a digit.
+fn version_in(text: &[u8]) -> Option<HTTPVersion>
+    ensures some { IfSome result (λ v. IsVersion text.now v) }
+    ensures none { IfNone result (IsNoVersion text.now) }
+{
+    let [b'H', b'T', b'T', b'P', b'/', major, b'.', minor] = text else {
+        return None;
+    };
+    if !major.is_ascii_digit() || !minor.is_ascii_digit() {
+        return None;
+    }
+    Some(HTTPVersion(*major - b'0', *minor - b'0'))
+}
+
+// Whether an authority begins here.
+fn begins_authority(text: &[u8]) -> bool
+    ensures { result ≡ begins_authority text.now }
+{
+    match text.first() {
+        Some(b) => *b != b'/' && *b != b'?' && *b != b'#',
+        None => false,
+    }
+}
+
+// Whether the target is in absolute-form under this scheme.
+fn has_scheme(scheme: &[u8], target: &[u8]) -> bool
+    ensures { result ≡ has_scheme scheme.now target.now }
+{
+    let n = scheme.len();
+    if target.len() <= n {
+        return false;
+    }
+    target[..n].eq_ignore_ascii_case(scheme) && begins_authority(&target[n..])
+}
+
+// Whether the target stands for absolute-form.
+fn is_absolute_form(target: &[u8]) -> bool
+    ensures { result ≡ is_absolute_form target.now }
+{
+    has_scheme(b"http://", target) || has_scheme(b"https://", target)
+}
+
+// Whether the target is in asterisk-form.
+fn is_asterisk_form(method: &[u8], target: &[u8]) -> bool
+    ensures { result ≡ is_asterisk_form method.now target.now }
+{
+    is(target, "*") && is(method, "OPTIONS")
+}
+
+// Whether the bytes are visible.
+fn are_visible(target: &[u8]) -> bool
+    ensures { result ≡ list_all is_ascii_graphic target.now }
+{
+    target.iter().all(|b| b.is_ascii_graphic())
+}
+
+// Whether the text is a target for this method.
+fn is_target(method: &[u8], target: &[u8]) -> bool
+    ensures { IsTrue result ↔ IsTarget method.now target.now }
+{
+    if !are_visible(target) {
+        return false;
+    }
+    if is(method, "CONNECT") {
+        return is_authority(target);
+    }
+    target.starts_with(b"/") || is_asterisk_form(method, target) || is_absolute_form(target)
+}
+
+// The method, the target and the version of a request line.
+fn split_request_line(text: &[u8]) -> Option<(&[u8], &[u8], HTTPVersion)>
+    ensures some { IfSome result (λ r. RequestLine text.now r.0.now r.1.now r.2) }
+    ensures none { IfNone result (IsNoRequestLine text.now) }
+{
+    let Some((method, rest)) = cut(text, b' ') else {
+        return None;
+    };
+    let Some((target, version)) = cut(rest, b' ') else {
+        return None;
+    };
+    let Some(version) = version_in(version) else {
+        return None;
+    };
+    if !is_token(method) || !is_target(method, target) {
+        return None;
+    }
+    Some((method, target, version))
+}
+
+/// Reads a request line: a token, a space, the target, a space and the version, and nothing else (RFC 9112, section 3). The
+/// target has the bytes 33 to 126 alone. That of a `CONNECT` is a host with a port. Another begins with a slash, or is `*` with
+/// `OPTIONS`, or begins with `http://` or `https://`, without case, and a byte that isn't `/`, `?` or `#`: the host itself isn't
+/// judged there. The version is `HTTP/`, a digit, a point and a digit: `judging::judge` says whether it is served. `None` for any
+/// other text. An error where the text is a request line and there is no memory for the answer.
+pub fn parse_request_line(
+    alloc: Global,
+    text: &[u8],
+) -> Result<Option<(Method, AsciiString, HTTPVersion)>, AllocError>
+    ensures some { IfOk result (λ found. IfSome found (λ r. ReadsRequestLine text.now r.0 r.1 r.2)) }
+    ensures none { result ≡ Ok None → IsNoRequestLine text.now }
+    ensures judged { OnErr result (IsNoRequestLine text.now → ⊥) }
+{
+    let Some((method, target, version)) = split_request_line(text) else {
+        return Ok(None);
+    };
+    let method = method_of(alloc, method)?;
+    let target = owned(alloc, target)?;
+    Ok(Some((method, target, version)))
+}
+
+// The text without white space at its end.
+pub(crate) fn trim_end(text: &[u8]) -> &[u8]
+    ensures { result.now ≡ skip_end_while is_ows text.now }
+{
+    let mut end = text.len();
+    while end > 0 && is_space_or_tab(text[end - 1]) {
+        end -= 1;
+    }
+    &text[..end]
+}
+
+// The text without white space at its front.
+pub(crate) fn trim_front(text: &[u8]) -> &[u8]
+    ensures { result.now ≡ skip_while is_ows text.now }
+{
+    let mut start = 0;
+    while start < text.len() && is_space_or_tab(text[start]) {
+        start += 1;
+    }
+    &text[start..]
+}
+
+// A hexadecimal digit, with a capital letter.
+fn uppercase_hexadecimal_digit(d: u8) -> u8
+    requires { d < 16 }
+    ensures { result ≡ uppercase_hexadecimal_digit d }
+{
+    if d < 10 { b'0' + d } else { b'A' + (d - 10) }
+}
+
+// Adds a byte as it is handed out.
+fn push_encoded(bytes: &mut Vec<u8>, b: u8) -> Result<(), AllocError>
+    ensures { OnOk result (bytes.new.items ≡ bytes.old.items ++ percent_encoded_byte b) }
+{
+    if b.is_ascii() {
+        bytes.push(b)?;
+        return Ok(());
+    }
+    bytes.push(b'%')?;
+    bytes.push(uppercase_hexadecimal_digit(b / 16))?;
+    bytes.push(uppercase_hexadecimal_digit(b % 16))?;
+    Ok(())
+}
+
+// A value as it is handed out, which is ASCII.
+fn percent_encoded(alloc: Global, value: &[u8]) -> Result<AsciiString, AllocError>
+    ensures { IfOk result (λ s. s ≡ percent_encoded value.now) }
+{
+    if are_ascii(value) {
+        return owned(alloc, value);
+    }
+    let mut bytes = Vec::new(alloc);
+    for b in value {
+        push_encoded(&mut bytes, *b)?;
+    }
+    owned(alloc, bytes.as_slice())
+}
+
+// Whether a byte from 128 on is refused in this header.
+fn must_be_ascii(field: &[u8]) -> bool
+    ensures { result ≡ must_be_ascii field.now }
+{
+    field.eq_ignore_ascii_case(b"Host") || field.eq_ignore_ascii_case(b"Transfer-Encoding")
+}
+
+// The name and the value of a field line.
+fn split_field_line(text: &[u8]) -> Option<(&[u8], &[u8])>
+    ensures some { IfSome result (λ r. FieldLine text.now r.0.now r.1.now) }
+    ensures none { IfNone result (IsNoFieldLine text.now) }
+{
+    let Some((field, padded)) = cut(text, b':') else {
+        return None;
+    };
+    if !is_token(field) || !is_header_value(padded) {
+        return None;
+    }
+    let value = trim_end(trim_front(padded));
+    if must_be_ascii(field) && !are_ascii(value) {
+        return None;
+    }
+    Some((field, value))
+}
+
+/// Reads a field line: a token, a colon at once, and the value, round which spaces and tabs are left out (RFC 9112, section 5).
+/// The value has no byte 0 to 8, 10 to 31 or 127. A byte from 128 on is handed out as `%` and two hexadecimal digits, in
+/// capitals, so the byte 233 and the three bytes `%E9` give the same text. In a `Host` and a `Transfer-Encoding` such a byte isn't
+/// good, whatever the version of the head. `None` for any other text. An error where the text is a field line and there is no
+/// memory for the answer.
+pub fn parse_field_line(alloc: Global, text: &[u8]) -> Result<Option<Header>, AllocError>
+    ensures some { IfOk result (λ found. IfSome found (λ h. ReadsFieldLine text.now h)) }
+    ensures none { result ≡ Ok None → IsNoFieldLine text.now }
+    ensures judged { OnErr result (IsNoFieldLine text.now → ⊥) }
+{
+    let Some((field, value)) = split_field_line(text) else {
+        return Ok(None);
+    };
+    let field = HeaderField::from_text(owned(alloc, field)?);
+    let value = percent_encoded(alloc, value)?;
+    Ok(Some(Header { field, value }))
+}

@@ -1,0 +1,251 @@
+//! Whole heads by the standard, read from a source (RFC 9112, sections 2.2, 3 and 5).
+ghost use Rattle.std.specs.Prelude.{◌≡◌, ◌<◌, ◌≤◌, ◌++◌, ◌∷◌, [], IsTrue, IfSome, IfNone, IfOk, IfErr, OnOk};
+ghost use Rattle.tiny_http_text.specs.Bytes.{has_bare_end};
+ghost use Rattle.tiny_http_io.specs.Source.{GoesOn, IsCutOff};
+ghost use Rattle.tiny_http_standard_head.specs.Heads.{carriage_return, is_carriage_return};
+ghost use Rattle.tiny_http_standard_head.specs.SourceHeads.{RequestIn, FieldIn, ReadsRequest, ReadsField, ReadsStart, ReadsFields, ReadsFrom, IsJudged, no_head, IsWithoutHead, IsUnfinished, IsUnfinishedRead};
+
+use crate::heads::{Head, HeadFault, HeadRead};
+use crate::judging::judge;
+use crate::lines::{parse_field_line, parse_request_line};
+use crate::source_lines::{FoundLine, NoLine, find_line};
+use std::alloc::{AllocError, Global};
+use tiny_http_head::common::{HTTPVersion, Header, Method};
+use tiny_http_io::device::ReadDevice;
+use tiny_http_io::source::Source;
+use tiny_http_text::ascii::AsciiString;
+
+// Why there is no head.
+#[derive(Clone, Copy, Debug, PartialEq, Eq)]
+enum NoHead {
+    // It is refused.
+    Refused(HeadFault),
+    // The source stopped before its end.
+    Unfinished { has_begun: bool },
+    // Memory was refused.
+    Memory,
+}
+
+// A line's text: the CR at its end is left out; `None` where there is none.
+fn text_of(line: &[u8]) -> Option<&[u8]>
+    ensures some { IfSome result (λ text. line.now ≡ text.now ++ carriage_return ∷ []) }
+    ensures none { IfNone result (IsTrue (has_bare_end is_carriage_return line.now)) }
+{
+    let n = line.len();
+    if n == 0 || line[n - 1] != b'\r' {
+        return None;
+    }
+    Some(&line[..n - 1])
+}
+
+// What a request line says, or `None` where the line is empty.
+fn request_in(
+    alloc: Global,
+    line: &[u8],
+) -> Result<Option<(Method, AsciiString, HTTPVersion)>, NoHead>
+    ensures { RequestIn line.now result }
+{
+    let Some(text) = text_of(line) else {
+        return Err(NoHead::Refused(HeadFault::BadLine));
+    };
+    if text.is_empty() {
+        return Ok(None);
+    }
+    match parse_request_line(alloc, text) {
+        Ok(Some(start)) => Ok(Some(start)),
+        Ok(None) => Err(NoHead::Refused(HeadFault::BadLine)),
+        Err(_) => Err(NoHead::Memory),
+    }
+}
+
+// The header of a line, or `None` where the line is empty.
+fn field_in(alloc: Global, line: &[u8]) -> Result<Option<Header>, NoHead>
+    ensures { FieldIn line.now result }
+{
+    let Some(text) = text_of(line) else {
+        return Err(NoHead::Refused(HeadFault::BadLine));
+    };
+    if text.is_empty() {
+        return Ok(None);
+    }
+    match parse_field_line(alloc, text) {
+        Ok(Some(header)) => Ok(Some(header)),
+        Ok(None) => Err(NoHead::Refused(HeadFault::BadLine)),
+        Err(_) => Err(NoHead::Memory),
+    }
+}
+
+// Why there is no head where there is no line, which is too long by this fault.
+fn no_head(why: NoLine, too_long: HeadFault, later: bool) -> NoHead
+    ensures { result ≡ no_head why too_long later }
+{
+    match why {
+        NoLine::Cut { has_begun } => NoHead::Unfinished {
+            has_begun: has_begun || later,
+        },
+        NoLine::TooLong => NoHead::Refused(too_long),
+        NoLine::Memory => NoHead::Memory,
+    }
+}
+
+// Reads a request line, or an empty one, of which so many bytes may come.
+fn read_request<R: ReadDevice>(
+    alloc: Global,
+    source: &mut Source<R>,
+    left: &mut usize,
+) -> Result<Option<(Method, AsciiString, HTTPVersion)>, NoHead>
+    ensures reads { ReadsRequest left.old left.new source.old.feed source.new.feed result }
+    ensures shorter { OnOk result (left.new ≤ left.old) }
+    ensures goes_on { GoesOn source.old.feed source.new.feed }
+    ensures cut { IfErr result (λ why. IsUnfinished why → IsCutOff source.old source.new) }
+    ensures lazy { OnOk result (source.new.stop ≡ source.old.stop) }
+    ensures passed { IfErr result (λ why. (IsUnfinished why → ⊥) → source.new.stop ≡ source.old.stop) }
+    ensures standing { source.new.standing ≡ source.old.standing }
+{
+    match find_line(alloc, source, *left) {
+        Ok(FoundLine::Taken(line)) => {
+            *left -= line.len() + 1;
+            request_in(alloc, line.as_slice())
+        }
+        Ok(FoundLine::Held(n)) => {
+            *left -= n + 1;
+            let request = request_in(alloc, &source.held()[..n]);
+            source.consume(n + 1);
+            request
+        }
+        Err(why) => Err(no_head(why, HeadFault::RequestLineTooLong, false)),
+    }
+}
+
+// Reads a header, or the empty line, of which so many bytes may come.
+fn read_field<R: ReadDevice>(
+    alloc: Global,
+    source: &mut Source<R>,
+    left: &mut usize,
+) -> Result<Option<Header>, NoHead>
+    ensures reads { ReadsField left.old left.new source.old.feed source.new.feed result }
+    ensures shorter { OnOk result (left.new < left.old) }
+    ensures goes_on { GoesOn source.old.feed source.new.feed }
+    ensures cut { IfErr result (λ why. IsUnfinished why → IsCutOff source.old source.new) }
+    ensures lazy { OnOk result (source.new.stop ≡ source.old.stop) }
+    ensures passed { IfErr result (λ why. (IsUnfinished why → ⊥) → source.new.stop ≡ source.old.stop) }
+    ensures standing { source.new.standing ≡ source.old.standing }
+{
+    match find_line(alloc, source, *left) {
+        Ok(FoundLine::Taken(line)) => {
+            *left -= line.len() + 1;
+            field_in(alloc, line.as_slice())
+        }
+        Ok(FoundLine::Held(n)) => {
+            *left -= n + 1;
+            let field = field_in(alloc, &source.held()[..n]);
+            source.consume(n + 1);
+            field
+        }
+        Err(why) => Err(no_head(why, HeadFault::HeaderFieldsTooLarge, true)),
+    }
+}
+
+// Reads the request line, and an empty line in front of it if there is one.
+fn read_start<R: ReadDevice>(
+    alloc: Global,
+    source: &mut Source<R>,
+    left: &mut usize,
+) -> Result<(Method, AsciiString, HTTPVersion), NoHead>
+    ensures reads { ReadsStart left.old left.new source.old.feed source.new.feed result }
+    ensures shorter { OnOk result (left.new ≤ left.old) }
+    ensures goes_on { GoesOn source.old.feed source.new.feed }
+    ensures cut { IfErr result (λ why. IsUnfinished why → IsCutOff source.old source.new) }
+    ensures lazy { OnOk result (source.new.stop ≡ source.old.stop) }
+    ensures passed { IfErr result (λ why. (IsUnfinished why → ⊥) → source.new.stop ≡ source.old.stop) }
+    ensures standing { source.new.standing ≡ source.old.standing }
+{
+    match read_request(alloc, source, left) {
+        Ok(Some(start)) => return Ok(start),
+        Ok(None) => {}
+        Err(why) => return Err(why),
+    }
+    match read_request(alloc, source, left) {
+        Ok(Some(start)) => Ok(start),
+        Ok(None) => Err(NoHead::Refused(HeadFault::BadLine)),
+        Err(why) => Err(why),
+    }
+}
+
+// Reads the headers and the empty line behind them.
+fn read_fields<R: ReadDevice>(
+    alloc: Global,
+    source: &mut Source<R>,
+    left: &mut usize,
+) -> Result<Vec<Header>, NoHead>
+    ensures reads { ReadsFields left.old left.new source.old.feed source.new.feed result }
+    ensures shorter { OnOk result (left.new ≤ left.old) }
+    ensures goes_on { GoesOn source.old.feed source.new.feed }
+    ensures cut { IfErr result (λ why. IsUnfinished why → IsCutOff source.old source.new) }
+    ensures lazy { OnOk result (source.new.stop ≡ source.old.stop) }
+    ensures passed { IfErr result (λ why. (IsUnfinished why → ⊥) → source.new.stop ≡ source.old.stop) }
+    ensures standing { source.new.standing ≡ source.old.standing }
+{
+    let mut headers = Vec::new(alloc);
+    loop {
+        match read_field(alloc, source, left) {
+            Ok(Some(header)) => {
+                if headers.push(header).is_err() {
+                    return Err(NoHead::Memory);
+                }
+            }
+            Ok(None) => return Ok(headers),
+            Err(why) => return Err(why),
+        }
+    }
+}
+
+// What is read where there is no head.
+fn without_head(why: NoHead) -> Result<HeadRead, AllocError>
+    ensures { IsWithoutHead why result }
+{
+    match why {
+        NoHead::Refused(fault) => Ok(HeadRead::Refused(fault)),
+        NoHead::Unfinished { has_begun } => Ok(HeadRead::Unfinished { has_begun }),
+        NoHead::Memory => Err(AllocError),
+    }
+}
+
+/// Reads the next head of a source. A head has at most `limit` bytes, its empty lines included. What is read is what
+/// `heads::read_head` makes of all the bytes that the source still gives. No byte behind the head is taken off, and none is read
+/// ahead but what one call of the reader gives. A line that lies whole in the buffer of the source is parsed there. A bad line is
+/// refused as soon as its LF has come. `Unfinished` says that the source has stopped, which then is over. An error where memory
+/// was refused; then the source may stand within the head.
+pub fn read_head_from<R: ReadDevice>(
+    alloc: Global,
+    source: &mut Source<R>,
+    limit: usize,
+) -> Result<HeadRead, AllocError>
+    ensures reads { IfOk result (λ read. ReadsFrom limit source.old.feed source.new.feed read) }
+    ensures judged { IfOk result IsJudged }
+    ensures goes_on { GoesOn source.old.feed source.new.feed }
+    ensures cut { IfOk result (λ read. IsUnfinishedRead read → IsCutOff source.old source.new) }
+    ensures lazy { IfOk result (λ read. (IsUnfinishedRead read → ⊥) → source.new.stop ≡ source.old.stop) }
+    ensures standing { source.new.standing ≡ source.old.standing }
+{
+    let mut left = limit;
+    let (method, target, version) = match read_start(alloc, source, &mut left) {
+        Ok(start) => start,
+        Err(why) => return without_head(why),
+    };
+    let headers = match read_fields(alloc, source, &mut left) {
+        Ok(headers) => headers,
+        Err(why) => return without_head(why),
+    };
+    match judge(version, &method, headers.as_slice()) {
+        Ok(summary) => Ok(HeadRead::Whole(Head {
+            method,
+            target,
+            version,
+            headers,
+            summary,
+            length: limit - left,
+        })),
+        Err(refusal) => Ok(HeadRead::Refused(HeadFault::Judged(refusal))),
+    }
+}

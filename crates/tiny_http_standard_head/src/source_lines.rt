@@ -1,0 +1,120 @@
+//! Lines of the bytes that a source still gives, each up to its first LF (RFC 9112, section 2.2).
+ghost use Rattle.std.specs.Prelude.{◌≡◌, IfSome, IfNone, IfOk, IfErr, OnOk, true, take};
+ghost use Rattle.tiny_http_text.specs.Bytes.{HasNo};
+ghost use Rattle.tiny_http_io.specs.Source.{GoesOn, IsCutOff};
+ghost use Rattle.tiny_http_standard_head.specs.Heads.{line_feed};
+ghost use Rattle.tiny_http_standard_head.specs.SourceLines.{EndsLine, TakesLine, FindsLine, HasNoLine, IsCut};
+
+use memchr::memchr;
+use std::alloc::Global;
+use tiny_http_io::device::ReadDevice;
+use tiny_http_io::source::Source;
+
+/// A line in front of its LF.
+#[derive(Drop)]
+pub(crate) enum FoundLine {
+    /// It lies whole in the buffer of the source: so many bytes, and an LF behind them. It isn't taken off yet.
+    Held(usize),
+    /// It was taken off, with its LF.
+    Taken(Vec<u8>),
+}
+
+/// Why there is no line.
+#[derive(Clone, Copy, Debug, PartialEq, Eq)]
+pub(crate) enum NoLine {
+    /// The source stopped in front of an LF and of the limit.
+    Cut {
+        /// Whether a byte came.
+        has_begun: bool,
+    },
+    /// As many bytes came as the limit allows.
+    TooLong,
+    /// Memory for the line was refused.
+    Memory,
+}
+
+// Where the first LF stands.
+fn find_line_feed(bytes: &[u8]) -> Option<usize>
+    ensures some { IfSome result (EndsLine bytes.now) }
+    ensures none { IfNone result (HasNo line_feed bytes.now) }
+{
+    memchr(b'\n', bytes)
+}
+
+// The bytes that the limit lets through.
+fn within(bytes: &[u8], limit: usize) -> &[u8]
+    ensures { result.now ≡ take limit bytes.now }
+{
+    &bytes[..bytes.len().min(limit)]
+}
+
+// Takes a line off, wherever its pieces come.
+fn take_line<R: ReadDevice>(
+    alloc: Global,
+    source: &mut Source<R>,
+    limit: usize,
+) -> Result<Vec<u8>, NoLine>
+    ensures takes { IfOk result (λ line. TakesLine limit source.old.feed source.new.feed line.items) }
+    ensures none { IfErr result (λ why. HasNoLine limit source.old.feed source.new.feed why) }
+    ensures cut { IfErr result (λ why. IsCut why → source.new.is_over ≡ true) }
+    ensures lazy { OnOk result (source.new.stop ≡ source.old.stop) }
+    ensures passed { IfErr result (λ why. (IsCut why → ⊥) → source.new.stop ≡ source.old.stop) }
+    ensures standing { source.new.standing ≡ source.old.standing }
+{
+    let mut line = Vec::new(alloc);
+    while line.len() < limit {
+        if !source.has_byte() {
+            return Err(NoLine::Cut {
+                has_begun: !line.is_empty(),
+            });
+        }
+        let held = within(source.held(), limit - line.len());
+        match find_line_feed(held) {
+            Some(n) => {
+                if line.extend_from_slice(&held[..n]).is_err() {
+                    return Err(NoLine::Memory);
+                }
+                source.consume(n + 1);
+                return Ok(line);
+            }
+            None => {
+                let n = held.len();
+                if line.extend_from_slice(held).is_err() {
+                    return Err(NoLine::Memory);
+                }
+                source.consume(n);
+            }
+        }
+    }
+    Err(NoLine::TooLong)
+}
+
+/// Finds the next line, within so many bytes with its LF. A line that lies whole in the buffer stays there, to be parsed in its
+/// place, and takes no memory.
+pub(crate) fn find_line<R: ReadDevice>(
+    alloc: Global,
+    source: &mut Source<R>,
+    limit: usize,
+) -> Result<FoundLine, NoLine>
+    ensures finds { IfOk result (λ line. FindsLine limit source.old.feed source.new.feed source.new.held source.new.skip line) }
+    ensures none { IfErr result (λ why. HasNoLine limit source.old.feed source.new.feed why) }
+    ensures goes_on { GoesOn source.old.feed source.new.feed }
+    ensures cut { IfErr result (λ why. IsCut why → IsCutOff source.old source.new) }
+    ensures lazy { OnOk result (source.new.stop ≡ source.old.stop) }
+    ensures passed { IfErr result (λ why. (IsCut why → ⊥) → source.new.stop ≡ source.old.stop) }
+    ensures standing { source.new.standing ≡ source.old.standing }
+{
+    if limit == 0 {
+        return Err(NoLine::TooLong);
+    }
+    if !source.has_byte() {
+        return Err(NoLine::Cut { has_begun: false });
+    }
+    if let Some(n) = find_line_feed(within(source.held(), limit)) {
+        return Ok(FoundLine::Held(n));
+    }
+    match take_line(alloc, source, limit) {
+        Ok(line) => Ok(FoundLine::Taken(line)),
+        Err(why) => Err(why),
+    }
+}

@@ -1,5 +1,0 @@
-use Rattle.tiny_http_wire.proofs.ChunkLineLemmas.{LineSoFar}
-use Rattle.tiny_http_wire.proofs.chunked.line.next_line.Given as goal
-
-abbrev pub invariant-loop-taken : goal.invariant-loop-taken
-invariant-loop-taken g l = LineSoFar l.fn.rules (g.R.ReadDevice.feed l.fn.reader) (g.R.ReadDevice.feed l.reader) l.scan l.taken

@@ -1,5 +1,0 @@
-use Rattle.tiny_http_wire.proofs.HeaderTextsReadable.{header-readable, header-kept}
-use Rattle.tiny_http_wire.proofs.laws.header_of_texts.Goals as goal
-
-pub returns : goal.returns
-returns c = record { readable = header-readable; kept = header-kept }
