@@ -1,9 +1,9 @@
-//! Reads the bodies of requests and sends long ones: `bodies recv|serve ADDRESS FILE`. It stands on `tiny_http`. By `recv` four
-//! threads receive requests; by `serve` each connection's worker answers its own.
+//! Reads the bodies of requests and sends long ones: `bodies recv|serve ADDRESS FILE`. It stands on `tiny_http`. By
+//! `recv` four threads receive requests; by `serve` each connection's worker answers its own.
 //!
-//! A `PUT` or a `POST` is answered by the length of its body. `GET /identity` is answered by the bytes that the file had at the
-//! start, from memory, and `GET /chunked` by the same in chunks; `GET /file` and `GET /file/chunked` by those of the file. Any other
-//! request is answered 404.
+//! A `PUT` or a `POST` is answered by the length of its body. `GET /identity` is answered by the bytes that the file
+//! had at the start, from memory, and `GET /chunked` by the same in chunks; `GET /file` and `GET /file/chunked` by
+//! those of the file. Any other request is answered 404.
 #![tactic(auto)]
 
 use std::alloc::Global;
@@ -108,7 +108,8 @@ impl Data {
 }
 
 impl<R: DataFiles + Clock + Wait + Drop> Handler<R, ServerRequest<R>> for Data {
-    /// Answers the request. One whose body is cut or broken, or for whose answer there is no memory or no file, is dropped.
+    /// Answers the request. One whose body is cut or broken, or for whose answer there is no memory or no file, is
+    /// dropped.
     fn handle(&self, rt: &R, alloc: Global, request: ServerRequest<R>) -> io::Result<()> {
         match (request.method(), request.url()) {
             (Method::Put | Method::Post, _) => answer_length(rt, alloc, request),

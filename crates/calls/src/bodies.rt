@@ -53,7 +53,8 @@ fn read_one(
     Ok(None)
 }
 
-/// The answers to requests of these methods, one after another, up to the first that isn't one; and the bytes that are left.
+/// The answers to requests of these methods, one after another, up to the first that isn't one; and the bytes that
+/// are left.
 pub fn read_answers(
     alloc: Global,
     methods: &[Method],
@@ -137,7 +138,8 @@ fn read_body(
     Ok(())
 }
 
-/// What a reader that gives so many bytes a call gives under a decoder of these rules, how it stops, and what is left in it.
+/// What a reader that gives so many bytes a call gives under a decoder of these rules, how it stops, and what is left
+/// in it.
 pub fn decode(
     alloc: Global,
     rules: ChunkRules,

@@ -1,5 +1,5 @@
-//! Makes the calls of rows in files, and compares what comes of them with what the rows say: `calls FILE..`. docs/CASES.md
-//! describes the files.
+//! Makes the calls of rows in files, and compares what comes of them with what the rows say: `calls FILE..`.
+//! docs/CASES.md describes the files.
 #![tactic(auto)]
 
 mod bodies;

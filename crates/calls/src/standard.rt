@@ -83,8 +83,8 @@ pub fn judge_head(
     }
 }
 
-/// What is read of the first bytes of a client, where a head has at most so many: a whole head, how many bytes it has and what it
-/// says; or the status by which it is refused; or that it is unfinished, and whether it has begun.
+/// What is read of the first bytes of a client, where a head has at most so many: a whole head, how many bytes it has
+/// and what it says; or the status by which it is refused; or that it is unfinished, and whether it has begun.
 pub fn read_first_head(
     alloc: Global,
     limit: usize,

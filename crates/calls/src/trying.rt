@@ -177,7 +177,8 @@ fn output_of(row: &Row) -> &[u8] {
     b""
 }
 
-// Tries a call with a writer that takes so many bytes, and then fails: it is given the front of the output, and no more.
+// Tries a call with a writer that takes so many bytes, and then fails: it is given the front of the output, and no
+// more.
 fn try_room(alloc: Global, row: &Row, bytes: usize) -> Result<Option<Difference>, AllocError> {
     let output = output_of(row);
     let mut wanted = Vec::new(alloc);

@@ -7,8 +7,8 @@ use tiny_http_wire::device::{ByPieces, Canned, FailsAt};
 /// The reader of a trial: a client's bytes, so many a call at most, and one call that may fail.
 pub type Reader = FailsAt<ByPieces<Canned>>;
 
-/// A writer that keeps what it takes. It takes so many bytes, and then fails; or one of its calls fails. Writes and flushes
-/// count alike.
+/// A writer that keeps what it takes. It takes so many bytes, and then fails; or one of its calls fails. Writes and
+/// flushes count alike.
 #[derive(Drop)]
 pub struct Trier {
     taken: Vec<u8>,

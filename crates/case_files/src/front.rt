@@ -98,8 +98,8 @@ fn given_differs(
     Ok(None)
 }
 
-// The first reply that differs and isn't that of an `ask` or a `read`, by which alone the client is read; or a reply that is
-// missing.
+// The first reply that differs and isn't that of an `ask` or a `read`, by which alone the client is read; or a reply
+// that is missing.
 fn first_reply_differs(
     alloc: Global,
     case: &Case,
@@ -183,8 +183,8 @@ fn last_close(output: &[u8]) -> Option<usize> {
         .starts_with(CLOSE))
 }
 
-// An output without what its last answer says by the standard of a body that was cut: that the connection ends, which the
-// case doesn't say there. None where it says nothing else than the case.
+// An output without what its last answer says by the standard of a body that was cut: that the connection ends, which
+// the case doesn't say there. None where it says nothing else than the case.
 fn without_close(alloc: Global, case: &Case, output: &[u8]) -> Result<Option<Vec<u8>>, AllocError> {
     if case.profile != Profile::Standard || case.output.starts_with(output) {
         return Ok(None);
@@ -199,11 +199,11 @@ fn without_close(alloc: Global, case: &Case, output: &[u8]) -> Result<Option<Vec
     Ok(Some(front))
 }
 
-/// Where an outcome is no prefix of its case, whose client's bytes were cut, with this fault of the reader or an end behind
-/// them. The requests that are handed out are the first of the case's. What their bodies give is a prefix of what they give
-/// there. The first reply that is another one is that of an `ask` or a `read`. The output is whole answers, a prefix of the
-/// case's, behind which a 408 may stand where a time-out cut the bytes, and whose last answer may say by the standard that
-/// the connection ends. The writer doesn't fail.
+/// Where an outcome is no prefix of its case, whose client's bytes were cut, with this fault of the reader or an end
+/// behind them. The requests that are handed out are the first of the case's. What their bodies give is a prefix of
+/// what they give there. The first reply that is another one is that of an `ask` or a `read`. The output is whole
+/// answers, a prefix of the case's, behind which a 408 may stand where a time-out cut the bytes, and whose last
+/// answer may say by the standard that the connection ends. The writer doesn't fail.
 pub fn cut_difference(
     alloc: Global,
     case: &Case,
@@ -233,8 +233,8 @@ pub fn cut_difference(
     count_differs(alloc, "failures", outcome.failures, 0)
 }
 
-/// Where the requests that are handed out of these bytes are not those that a plain reading of them finds, by the case's profile.
-/// The strict profile has none: no case of it has its bytes replaced.
+/// Where the requests that are handed out of these bytes are not those that a plain reading of them finds, by the
+/// case's profile. The strict profile has none: no case of it has its bytes replaced.
 pub fn plain_difference(
     alloc: Global,
     case: &Case,

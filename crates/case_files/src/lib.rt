@@ -1,6 +1,7 @@
-//! Files of cases: what a client sends, the steps of a server, what they are answered, and the output. This library reads
-//! such files, and tries each case by all readers and with each call of the writer failing, in whatever way a program runs
-//! its steps. docs/CASES.md describes the language. It stands on `replay_script`, whose lines are steps here.
+//! Files of cases: what a client sends, the steps of a server, what they are answered, and the output. This library
+//! reads such files, and tries each case by all readers and with each call of the writer failing, in whatever way a
+//! program runs its steps. docs/CASES.md describes the language. It stands on `replay_script`, whose lines are steps
+//! here.
 #![tactic(auto)]
 
 pub mod case;

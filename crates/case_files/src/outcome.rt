@@ -42,8 +42,8 @@ pub fn differing(
     }))
 }
 
-// Whether a reply is one that a failing writer leads to in place of the case's: the answer's data were not read, as the output
-// had ended, so that their fault wasn't met.
+// Whether a reply is one that a failing writer leads to in place of the case's: the answer's data were not read, as
+// the output had ended, so that their fault wasn't met.
 fn is_unmet(step: &CaseStep, found: &[u8]) -> bool {
     step.is_answer() && found == b"done".as_slice() && step.reply.starts_with(b"fault ")
 }
@@ -53,7 +53,8 @@ fn is_reported(step: &CaseStep, found: &[u8]) -> bool {
     step.may_report() && found == b"fault Interrupted".as_slice()
 }
 
-// The first reply that differs, of the steps that have replies. Where a call was made to fail, one of them may report that.
+// The first reply that differs, of the steps that have replies. Where a call was made to fail, one of them may report
+// that.
 fn replies_differ(
     alloc: Global,
     case: &Case,
@@ -198,9 +199,10 @@ fn end_differs(
     differing(alloc, what, found.as_slice(), wanted.as_slice())
 }
 
-/// Where the outcome of a trial first differs from what its case says, if it does. Where a call of the writer failed that was
-/// made to, the output is a front of the case's, one failure is counted, and the replies are those of the case but for one that
-/// reports it, and for faults of data that were not read after it. After a failure the writer is never called again.
+/// Where the outcome of a trial first differs from what its case says, if it does. Where a call of the writer failed
+/// that was made to, the output is a front of the case's, one failure is counted, and the replies are those of the
+/// case but for one that reports it, and for faults of data that were not read after it. After a failure the writer
+/// is never called again.
 pub fn first_difference(
     alloc: Global,
     case: &Case,

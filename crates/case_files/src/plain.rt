@@ -1,5 +1,5 @@
-//! A plain reading of what a client sends, by the lenient profile: all of its bytes at once, line by line, without a buffer. What
-//! connections hand out is compared with it.
+//! A plain reading of what a client sends, by the lenient profile: all of its bytes at once, line by line, without a
+//! buffer. What connections hand out is compared with it.
 use crate::plain_parts::{RequestWords, SHORT, add_header, decimal};
 use std::alloc::{AllocError, Global};
 
@@ -179,8 +179,8 @@ impl<'a> PlainHead<'a> {
     }
 }
 
-/// The lines of the requests that these bytes have by the lenient profile, `most` at most, where each request is dropped before
-/// the next is asked for.
+/// The lines of the requests that these bytes have by the lenient profile, `most` at most, where each request is
+/// dropped before the next is asked for.
 pub fn plain_lines(alloc: Global, bytes: &[u8], most: usize) -> Result<Vec<Vec<u8>>, AllocError> {
     let mut lines = Vec::new(alloc);
     let mut rest = bytes;

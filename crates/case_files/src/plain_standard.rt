@@ -1,6 +1,6 @@
-//! A plain reading of what a client sends, by the standard profile: all of its bytes at once, line by line, without a buffer.
-//! What connections hand out is compared with it. It is written from docs/RULES.md, and shares no code with the server.
-//! It knows no limit of a head: a client that it reads sends fewer than 65,536 bytes.
+//! A plain reading of what a client sends, by the standard profile: all of its bytes at once, line by line, without a
+//! buffer. What connections hand out is compared with it. It is written from docs/RULES.md, and shares no code with
+//! the server. It knows no limit of a head: a client that it reads sends fewer than 65,536 bytes.
 use crate::plain_parts::{RequestWords, SHORT, add_header, decimal};
 use std::alloc::{AllocError, Global};
 use std::fmt::Write;
@@ -370,8 +370,8 @@ impl<'a> StandardHead<'a> {
     }
 }
 
-/// The lines of the requests that these bytes have by the standard profile, `most` at most, where each request is dropped before
-/// the next is asked for.
+/// The lines of the requests that these bytes have by the standard profile, `most` at most, where each request is
+/// dropped before the next is asked for.
 pub fn standard_lines(
     alloc: Global,
     bytes: &[u8],

@@ -68,9 +68,9 @@ fn report<E: Write>(program: &str, fault: &FilesFault<'_>, err: &mut E) -> u8 {
     }
 }
 
-/// Checks the files that the command line names, and gives the exit status: 0 where nothing differs, and 3 where something does;
-/// 2 with one line on `err` for a wrong use and for a file that isn't of the format, before anything is tried; 1 with one line
-/// for a file that can't be read, for no memory, and where `out` can't be written.
+/// Checks the files that the command line names, and gives the exit status: 0 where nothing differs, and 3 where
+/// something does; 2 with one line on `err` for a wrong use and for a file that isn't of the format, before anything
+/// is tried; 1 with one line for a file that can't be read, for no memory, and where `out` can't be written.
 pub fn run_program<R: Env + Files + AllocGlobal, C: Checker, O: Write, E: Write>(
     rt: &R,
     program: &str,

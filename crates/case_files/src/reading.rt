@@ -256,8 +256,8 @@ fn read_line(alloc: Global, cases: &mut Vec<Case>, line: &[u8]) -> Result<(), Li
     }
 }
 
-/// The cases of a file of this name and these bytes; or its first line that isn't of the format, and why. A file without a case
-/// isn't of the format.
+/// The cases of a file of this name and these bytes; or its first line that isn't of the format, and why. A file
+/// without a case isn't of the format.
 pub fn read_cases<'a>(
     alloc: Global,
     name: &'a str,

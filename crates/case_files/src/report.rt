@@ -82,8 +82,8 @@ pub const PIECES: [usize; 4] = [1, 2, 1023, 1024];
 // The most calls of the writer that are made to fail.
 const MOST_CALLS: u64 = 10_000;
 
-// Where the outcome of a trial differs from what it should be. A fault of the reader ends its bytes for good: what it leads to
-// is what comes where the bytes are cut there.
+// Where the outcome of a trial differs from what it should be. A fault of the reader ends its bytes for good: what it
+// leads to is what comes where the bytes are cut there.
 fn difference_of<'a, F: Runner>(
     (alloc, runner): (Global, &mut F),
     case: &Case,
@@ -171,13 +171,14 @@ fn try_failing<'a, F: Runner, O: Write>(
     }
 }
 
-// Whether the bytes of a client are cut behind this many: at each place, but of a long one in its middle, where it is at some.
+// Whether the bytes of a client are cut behind this many: at each place, but of a long one in its middle, where it is
+// at some.
 fn is_cut_at(count: usize, length: usize) -> bool {
     count < 1200 || length.saturating_sub(count) <= 50 || count % 997 == 0
 }
 
-// Tries a case with the client's bytes cut, by an end, by a time-out, and by the other kinds of fault in turn; and with the
-// reader failing once there.
+// Tries a case with the client's bytes cut, by an end, by a time-out, and by the other kinds of fault in turn; and
+// with the reader failing once there.
 fn try_cuts<'a, F: Runner, O: Write>(
     (alloc, runner): (Global, &mut F),
     out: &mut O,
@@ -253,8 +254,8 @@ fn try_case<'a, F: Runner, O: Write>(
     }
 }
 
-// Tries the cases of a file that the runner takes, but for those at the left out places, and reports each run that differs by
-// a line. What came of them, and the places of the cases that differ.
+// Tries the cases of a file that the runner takes, but for those at the left out places, and reports each run that
+// differs by a line. What came of them, and the places of the cases that differ.
 fn try_cases<'a, F: Runner, O: Write>(
     (alloc, runner): (Global, &mut F),
     out: &mut O,
@@ -282,8 +283,8 @@ fn try_cases<'a, F: Runner, O: Write>(
     Ok((tally, places))
 }
 
-/// Tries the cases of a file that the runner takes, but for those at the left out places, reports each run that differs by a
-/// line, and then the file by a line. The places of the cases that differ.
+/// Tries the cases of a file that the runner takes, but for those at the left out places, reports each run that
+/// differs by a line, and then the file by a line. The places of the cases that differ.
 pub fn try_file<'a, F: Runner, O: Write>(
     alloc: Global,
     runner: &mut F,
@@ -313,8 +314,8 @@ pub fn try_file<'a, F: Runner, O: Write>(
     Ok(places)
 }
 
-/// Tries the cases of all files in the first way, and those that did not differ in each of the others, where a case with a wrong
-/// reply might wait for ever. Whether no run differed.
+/// Tries the cases of all files in the first way, and those that did not differ in each of the others, where a case
+/// with a wrong reply might wait for ever. Whether no run differed.
 pub fn try_files<'a, F: Runner, G: Runner, O: Write>(
     alloc: Global,
     (first, others): (&mut F, &mut [G]),

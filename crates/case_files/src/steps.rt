@@ -38,7 +38,8 @@ fn with_header(
     }
 }
 
-/// The response of an answer: its data and what is stated of their length, and then its headers, each added to those before.
+/// The response of an answer: its data and what is stated of their length, and then its headers, each added to those
+/// before.
 pub fn response_of(alloc: Global, answer: &Answer) -> Result<Response<ScriptData>, StepsFault> {
     let data = ScriptData::from_bytes(answer.data.as_slice().to_vec(alloc)?, answer.fault);
     let status = StatusCode(answer.status);

@@ -135,8 +135,9 @@ fn add_repeated<'a>(
     Ok(behind)
 }
 
-/// Adds the bytes that a text stands for: each byte itself, `\r`, `\n`, `\t`, `\\`, `\xHH`, the short names `\S`, `\Z` and
-/// `\T`, and `\{N TEXT}`, which is a text so many times, in which none is repeated. After an error some may have been added.
+/// Adds the bytes that a text stands for: each byte itself, `\r`, `\n`, `\t`, `\\`, `\xHH`, the short names `\S`,
+/// `\Z` and `\T`, and `\{N TEXT}`, which is a text so many times, in which none is repeated. After an error some may
+/// have been added.
 pub fn add_text(alloc: Global, text: &str, to: &mut Vec<u8>) -> Result<(), TextFault> {
     let mut rest = text.as_bytes();
     for _ in 0..text.len() {

@@ -13,7 +13,8 @@ pub enum Harm {
     Call(u64),
     /// So many of the client's bytes come. Then the reader fails by this kind, or ends.
     Cut(usize, Option<ErrorKind>),
-    /// The reader's call behind so many of the client's bytes fails once, by this kind. The reader gives one byte a call.
+    /// The reader's call behind so many of the client's bytes fails once, by this kind. The reader gives one byte a
+    /// call.
     Once(usize, ErrorKind),
     /// The client's byte at this place is this one.
     Byte(usize, u8),

@@ -74,8 +74,8 @@ impl<R: Wait + Copy> Runner for ByRequests<R> {
         false
     }
 
-    /// In one thread no call waits: a case with a step that is put off is left out. Where answers wait, a fault is reported by
-    /// a later step than the case's.
+    /// In one thread no call waits: a case with a step that is put off is left out. Where answers wait, a fault is
+    /// reported by a later step than the case's.
     fn takes(&self, case: &Case) -> bool {
         if self.leaving == Leaving::Together && case.room.is_some() {
             return false;

@@ -58,8 +58,8 @@ fn ask<R: Wait + Copy>(
     Ok(line)
 }
 
-// Reads at least once, until so many bytes are there, the end is reported, or a fault. The bytes, or the fault where there are
-// none.
+// Reads at least once, until so many bytes are there, the end is reported, or a fault. The bytes, or the fault where
+// there are none.
 fn read_up_to<B: Read>(alloc: Global, body: &mut B, count: u16) -> Result<Vec<u8>, AllocError> {
     let mut bytes = Vec::new(alloc);
     let mut buf = [0u8; 1024];
@@ -225,8 +225,9 @@ fn number_in(step: &Step<ScriptData>) -> Option<u64> {
     }
 }
 
-/// Makes the call that a step names, and gives the line that reports it. `wanted` is the case's own reply: it says under which
-/// number a request is held, and that no call fits a step, as where a request is read that expects a 100 first.
+/// Makes the call that a step names, and gives the line that reports it. `wanted` is the case's own reply: it says
+/// under which number a request is held, and that no call fits a step, as where a request is read that expects a 100
+/// first.
 pub(crate) fn treat<R: Wait + Copy>(
     alloc: Global,
     holding: &mut Holding<R>,

@@ -235,7 +235,8 @@ const DIFFERENCES: &[(Found, bool, &str)] = &[
         false,
         "failures: 1, 0",
     ),
-    // A front of the output is left where a call was made to fail, and no reply but that of a write or an answer reports it.
+    // A front of the output is left where a call was made to fail, and no reply but that of a write or an answer
+    // reports it.
     (
         Found {
             failures: 1,
@@ -302,7 +303,8 @@ const READ: &str =
     "case a\nclient GG\nask\n  handed 0 G\nread 0 3\n  given abc\ndrop 0\n  done\noutput HTTP/xHTTP/y\n";
 
 const TIMED_OUT: &str =
-    "HTTP/xHTTP/1.1 408 Request Timeout\r\nServer: tiny-http (Rust)\r\nDate: Wed, 04 May 1983 11:17:00 GMT\r\nContent-Length: 0\r\n\r\n";
+    "HTTP/xHTTP/1.1 408 Request Timeout\r\nServer: tiny-http (Rust)\r\nDate: Wed, 04 May 1983 11:17:00 GMT\r\n\
+        Content-Length: 0\r\n\r\n";
 
 // Replies and an output of which the client's bytes were cut, by this fault or an end, and what differs first.
 type CutRow = (
@@ -362,7 +364,8 @@ const CUTS: &[CutRow] = &[
         &["handed 0 G", "given", "done"],
         TIMED_OUT,
         Some(ErrorKind::Other),
-        "output from byte 11: 1.1 408 Request Timeout\\r\\nServer: tiny-http (Rust)\\r\\nDate: Wed, 04 May 1983 11:17:00 GMT\\r\\nContent-Length: 0\\r\\n\\r\\n, y",
+        "output from byte 11: 1.1 408 Request Timeout\\r\\nServer: tiny-http (Rust)\\r\\nDate: Wed, \
+            04 May 1983 11:17:00 GMT\\r\\nContent-Length: 0\\r\\n\\r\\n, y",
     ),
     (
         &["handed 0 G", "handed 1 G", "done"],
@@ -715,7 +718,8 @@ fn a_fault_that_is_no_cut_is_reported(rt: HostRuntime) -> Result<(), Fail> {
     Ok(())
 }
 
-// Writes twice and flushes: what each call took, and then what was taken, how often it failed, and the calls after that.
+// Writes twice and flushes: what each call took, and then what was taken, how often it failed, and the calls after
+// that.
 fn write_by(writer: &mut Trier) -> ([Option<usize>; 3], (u64, u64)) {
     let calls = [
         writer.write(b"hello").ok(),

@@ -13,7 +13,8 @@ type Wanted = (bool, HTTPVersion, u16, &'static str);
 
 // A GET, a HEAD, a version above 1.1, a request that takes chunks, and a head that is none.
 const CLIENT: &[u8] =
-    b"GET / HTTP/1.1\r\n\r\nHEAD /a HTTP/1.1\r\n\r\nGET / HTTP/2.0\r\n\r\nPOST /b HTTP/1.1\r\nTE: chunked\r\n\r\nqsd\r\n";
+    b"GET / HTTP/1.1\r\n\r\nHEAD /a HTTP/1.1\r\n\r\nGET / HTTP/2.0\r\n\r\nPOST /b HTTP/1.1\r\nTE: chunked\r\n\r\n\
+        qsd\r\n";
 
 const V1_1: HTTPVersion = HTTPVersion(1, 1);
 

@@ -227,8 +227,8 @@ fn a_writer_that_fails_ends_the_outlet(rt: HostRuntime) -> Result<(), Fail> {
     assert_output(&rt, rt.alloc(), outlet, &["HTTP/1.1 2"])
 }
 
-// What the data have before they fail, and the fault that is reported where the writer fails after ten bytes: the one that is
-// met first. Five bytes and the head are still held as the data fail.
+// What the data have before they fail, and the fault that is reported where the writer fails after ten bytes: the one
+// that is met first. Five bytes and the head are still held as the data fail.
 const TWO_FAULTS: &[(usize, ErrorKind)] = &[(5, ErrorKind::Other), (20_000, ErrorKind::TimedOut)];
 
 // Of the writer's fault and the data's, which have so many bytes, this one is reported.

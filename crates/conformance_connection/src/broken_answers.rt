@@ -18,7 +18,8 @@ pub(crate) const THREE: &[u8] =
     b"GET /a HTTP/1.1\r\n\r\nGET /b HTTP/1.1\r\n\r\nGET /c HTTP/1.1\r\n\r\n";
 
 pub(crate) const THREE_OLDER: &[u8] =
-    b"GET /a HTTP/1.0\r\nConnection: keep-alive\r\n\r\nGET /b HTTP/1.0\r\nConnection: keep-alive\r\n\r\nGET /c HTTP/1.0\r\nConnection: keep-alive\r\n\r\n";
+    b"GET /a HTTP/1.0\r\nConnection: keep-alive\r\n\r\nGET /b HTTP/1.0\r\nConnection: keep-alive\r\n\r\n\
+        GET /c HTTP/1.0\r\nConnection: keep-alive\r\n\r\n";
 
 /// Data whose reads are counted, but for those into no room.
 #[derive(Drop)]
@@ -100,7 +101,9 @@ fn talk(
 
 // A whole answer, and the head of one that broke before its first chunk.
 const WHOLE_AND_BROKEN: &str =
-    "HTTP/1.1 200 OK\r\nServer: tiny-http (Rust)\r\nDate: Wed, 04 May 1983 11:17:00 GMT\r\nTransfer-Encoding: chunked\r\n\r\n5\r\nhello\r\n0\r\n\r\nHTTP/1.1 200 OK\r\nServer: tiny-http (Rust)\r\nDate: Wed, 04 May 1983 11:17:00 GMT\r\nTransfer-Encoding: chunked\r\n\r\n";
+    "HTTP/1.1 200 OK\r\nServer: tiny-http (Rust)\r\nDate: Wed, 04 May 1983 11:17:00 GMT\r\n\
+        Transfer-Encoding: chunked\r\n\r\n5\r\nhello\r\n0\r\n\r\nHTTP/1.1 200 OK\r\nServer: tiny-http (Rust)\r\n\
+        Date: Wed, 04 May 1983 11:17:00 GMT\r\nTransfer-Encoding: chunked\r\n\r\n";
 
 // Answers that aren't sent, by data of which nothing is read.
 fn assert_not_read(

@@ -8,7 +8,8 @@ use std::test::Fail;
 use tiny_http_core::custom_stream::CustomStream;
 use tiny_http_wire::device::{Budget, Canned, ReadDevice, WriteDevice};
 
-// A stream whose reader gives `hello` and then ends or fails so, and whose writer takes so many bytes and then fails so.
+// A stream whose reader gives `hello` and then ends or fails so, and whose writer takes so many bytes and then fails
+// so.
 fn stream_of(
     alloc: Global,
     reader: Option<ErrorKind>,

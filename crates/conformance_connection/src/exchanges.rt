@@ -114,7 +114,8 @@ fn assert_body(
 }
 
 const WHOLE: &[u8] =
-    b"GET / HTTP/1.1\r\n\r\nPOST /p HTTP/1.1\r\nContent-Length: 2\r\n\r\nokPOST /c HTTP/1.1\r\nTransfer-Encoding: chunked\r\n\r\n2\r\nhi\r\n0\r\n\r\n";
+    b"GET / HTTP/1.1\r\n\r\nPOST /p HTTP/1.1\r\nContent-Length: 2\r\n\r\nokPOST /c HTTP/1.1\r\n\
+        Transfer-Encoding: chunked\r\n\r\n2\r\nhi\r\n0\r\n\r\n";
 
 // A request without a body.
 fn assert_no_body(rt: &impl Abort, alloc: Global, source: &mut Source<Pieces>) -> Result<(), Fail> {

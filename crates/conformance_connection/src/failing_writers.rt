@@ -25,7 +25,8 @@ impl ReadDevice for Million {
     }
 }
 
-// The reply to an answer by a million bytes of known length that are sent to this writer, and how many of them were read.
+// The reply to an answer by a million bytes of known length that are sent to this writer, and how many of them were
+// read.
 fn answer_by<W: WriteDevice + Drop>(alloc: Global, writer: W) -> Result<(String, usize), Fail> {
     let reader = Canned::new(b"GET / HTTP/1.1\r\n\r\n".to_vec(alloc)?, None);
     let mut connection = Connection::new(alloc, reader, writer);

@@ -165,8 +165,8 @@ fn a_head_that_is_no_request_waits_for_no_more(rt: HostRuntime) -> Result<(), Fa
 // A request line of 64 bytes, and a header line too. 1,024 of them are as many bytes as a strict head may have.
 const LINE: &[u8] = b"A:b ccccccccccccccccccccccccccccccccccccccccccccccccc HTTP/1.1\r\n";
 
-// Heads that are refused under the strict profile alone, in one piece; and as many bytes as a head may have, within one line, and
-// up to the end of one.
+// Heads that are refused under the strict profile alone, in one piece; and as many bytes as a head may have, within
+// one line, and up to the end of one.
 const STRICT: &[(&[&[u8]], usize)] = &[
     (
         &[b"POST / HTTP/1.1\r\nContent-Length: 5\r\nContent-Length: 6\r\n\r\n"],
@@ -186,7 +186,8 @@ fn a_strict_refusal_waits_for_no_more(rt: HostRuntime) -> Result<(), Fail> {
     Ok(())
 }
 
-// Heads that are refused under the standard profile, in one piece; and as many bytes as a head may have, within one line.
+// Heads that are refused under the standard profile, in one piece; and as many bytes as a head may have, within one
+// line.
 const STANDARD: &[(&[&[u8]], usize)] = &[
     (&[b"\n"], 1),
     (&[b"GET / HTTP/1.1\n"], 1),

@@ -61,8 +61,8 @@ fn the_rest_of_a_part_is_read_away(rt: HostRuntime) -> Result<(), Fail> {
     Ok(())
 }
 
-// What stands behind a part of five bytes, of which so many reads took one byte each, where a call of the reader gives so many
-// bytes at most.
+// What stands behind a part of five bytes, of which so many reads took one byte each, where a call of the reader
+// gives so many bytes at most.
 fn behind_a_part(alloc: Global, most: usize, reads: usize) -> Result<Vec<u8>, Fail> {
     let mut source = exchanges::source_of(alloc, b"hello world", None, most)?;
     {

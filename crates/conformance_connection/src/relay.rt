@@ -7,7 +7,8 @@ use std::test::Fail;
 use tiny_http_core::driver::run;
 use tiny_http_wire::device::{Canned, Metered, WriteDevice};
 
-/// A writer that takes all bytes, but for one call, which fails. Writes and flushes count alike. A flush sends on what it took.
+/// A writer that takes all bytes, but for one call, which fails. Writes and flushes count alike. A flush sends on
+/// what it took.
 #[derive(Drop)]
 pub(crate) struct Relay {
     pub taken: Vec<u8>,

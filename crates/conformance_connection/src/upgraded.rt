@@ -24,8 +24,8 @@ fn upgrade(
     connection.upgrade(alloc, now, number, protocol, lent(alloc, data))
 }
 
-// Upgrades of three requests, each with its reply: before its turn, of no request, refused before its turn, of a dropped
-// request, in its turn, of an upgraded request, and before its turn again.
+// Upgrades of three requests, each with its reply: before its turn, of no request, refused before its turn, of a
+// dropped request, in its turn, of an upgraded request, and before its turn again.
 const UPGRADES: &[((u64, &str), &str)] = &[
     ((1, "a"), "not yet"),
     ((3, "a"), "no such"),
@@ -74,7 +74,8 @@ fn assert_upgrades(
     assert_output(rt, alloc, outlet, wanted)
 }
 
-// The length of the data isn't known. In any other answer to a client of version 1.0 such data are read before the head.
+// The length of the data isn't known. In any other answer to a client of version 1.0 such data are read before the
+// head.
 #[test]
 fn the_data_of_an_upgrade_are_not_read(rt: HostRuntime) -> Result<(), Fail> {
     let lines = " 200 OK\r\nConnection: upgrade\r\nUpgrade: a\r\n";

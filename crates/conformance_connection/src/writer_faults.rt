@@ -171,7 +171,8 @@ fn replies_to(
     Ok(replies)
 }
 
-// Where this call of the writer fails, in the last of so many steps, what was taken then is all, and a front of the whole.
+// Where this call of the writer fails, in the last of so many steps, what was taken then is all, and a front of the
+// whole.
 fn assert_fault(
     rt: &impl Abort,
     alloc: Global,

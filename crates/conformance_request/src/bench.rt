@@ -20,11 +20,13 @@ pub(crate) const DATED: &str =
 
 /// An empty 500 in version 1.1.
 pub(crate) const DROPPED: &str =
-    "HTTP/1.1 500 Internal Server Error\r\nServer: tiny-http (Rust)\r\nDate: Wed, 04 May 1983 11:17:00 GMT\r\nContent-Length: 0\r\n\r\n";
+    "HTTP/1.1 500 Internal Server Error\r\nServer: tiny-http (Rust)\r\nDate: Wed, 04 May 1983 11:17:00 GMT\r\n\
+        Content-Length: 0\r\n\r\n";
 
 /// The head of an answer 200 with a text, but for the length.
 pub(crate) const TEXT: &str =
-    "HTTP/1.1 200 OK\r\nServer: tiny-http (Rust)\r\nDate: Wed, 04 May 1983 11:17:00 GMT\r\nContent-Type: text/plain; charset=UTF-8\r\n";
+    "HTTP/1.1 200 OK\r\nServer: tiny-http (Rust)\r\nDate: Wed, 04 May 1983 11:17:00 GMT\r\n\
+        Content-Type: text/plain; charset=UTF-8\r\n";
 
 /// More bytes than any test writes.
 pub(crate) const AMPLE: usize = 10_000_000;
@@ -39,8 +41,8 @@ pub(crate) fn after(seconds: u64) -> Result<HttpDate, Fail> {
     Ok(HttpDate::from_unix_secs(seconds.saturating_add(420_895_020))?)
 }
 
-/// A writer that keeps what it takes where a test can look, and counts the calls. After so many bytes it fails by this kind.
-/// While its gate is 0 it waits.
+/// A writer that keeps what it takes where a test can look, and counts the calls. After so many bytes it fails by
+/// this kind. While its gate is 0 it waits.
 #[derive(Drop)]
 pub(crate) struct Recorder<R: Wait + Clock> {
     rt: R,
@@ -62,7 +64,8 @@ pub(crate) fn is_reached<R: Clock>(rt: &R, count: &AtomicU64, want: u64) -> bool
     false
 }
 
-/// Waits until a thread is about to make its call, which it says by this count, and then for 20 ms more. Whether it was.
+/// Waits until a thread is about to make its call, which it says by this count, and then for 20 ms more. Whether it
+/// was.
 pub(crate) fn is_about_to_call<R: Clock>(rt: &R, begun: &AtomicU64) -> bool {
     let is_begun = is_reached(rt, begun, 1);
     thread::sleep(rt, Duration::from_millis(20));

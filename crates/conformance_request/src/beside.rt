@@ -105,8 +105,8 @@ fn respond_behind<R: Wait + Clock + Copy>(
     sent.is_ok()
 }
 
-// An answer waits behind one that its writer holds, and then doesn't take: the first reports that, and nothing is written of the
-// second.
+// An answer waits behind one that its writer holds, and then doesn't take: the first reports that, and nothing is
+// written of the second.
 #[test]
 fn an_answer_waits_behind_one_that_fails(rt: HostRuntime) -> Result<(), Fail> {
     let alloc = rt.alloc();

@@ -118,7 +118,8 @@ const ASKED: &[u8] =
     b"GET / HTTP/1.1\r\nHost: h\r\nConnection: upgrade\r\nUpgrade: h2c\r\n\r\nGET /b HTTP/1.1\r\nHost: h\r\n\r\n";
 
 const ASKED_BY_CHUNKS: &[u8] =
-    b"POST / HTTP/1.1\r\nHost: h\r\nConnection: upgrade\r\nUpgrade: h2c\r\nTransfer-Encoding: chunked\r\n\r\n5\r\nhello\r\n0\r\n\r\nGET /b HTTP/1.1\r\nHost: h\r\n\r\n";
+    b"POST / HTTP/1.1\r\nHost: h\r\nConnection: upgrade\r\nUpgrade: h2c\r\nTransfer-Encoding: chunked\r\n\r\n5\r\n\
+        hello\r\n0\r\n\r\nGET /b HTTP/1.1\r\nHost: h\r\n\r\n";
 
 // What becomes of a request that asks for an upgrade.
 #[derive(Clone, Copy, PartialEq, Eq)]
@@ -127,8 +128,8 @@ enum Ending {
     Upgraded,
 }
 
-// The first request's body is read to its end. The next one comes once the first is answered, and not before; or none comes, as the
-// first is upgraded, and its stream dropped unread.
+// The first request's body is read to its end. The next one comes once the first is answered, and not before; or none
+// comes, as the first is upgraded, and its stream dropped unread.
 fn waits_for_the_answer<R: Threads + Wait + Clock + Copy + Abort + Send + Sync + 'static>(
     rt: R,
     alloc: Global,

@@ -19,7 +19,8 @@ use tiny_http_wire::device::Metered;
 
 const HEAD: &[u8] = b"GET / HTTP/1.1\r\nHost: h\r\n\r\n";
 
-// Gives these heads one after another, the last first. Before the other it counts that it waits, and waits for its gate.
+// Gives these heads one after another, the last first. Before the other it counts that it waits, and waits for its
+// gate.
 #[derive(Drop)]
 struct Halting<R: Clock> {
     rt: R,
@@ -50,7 +51,8 @@ fn has_no_next<R: Wait + Clock + Copy>(client: &mut Client<R>, date: HttpDate) -
     matches!(client.next(date), Ok(None))
 }
 
-// The first of two requests is answered so while a thread waits for this head: it gets no request, and nothing more is sent.
+// The first of two requests is answered so while a thread waits for this head: it gets no request, and nothing more
+// is sent.
 fn ends_before<R: Threads + Wait + Clock + Copy + Abort + Send + Sync + 'static>(
     rt: R,
     alloc: Global,

@@ -113,12 +113,14 @@ fn an_upgrade_that_was_asked_for_is_a_stream(rt: HostRuntime) -> Result<(), Fail
     )
 }
 
-// By the standard a body that is left unread refuses it, too; then the request is handed back, and can be read and upgraded.
+// By the standard a body that is left unread refuses it, too; then the request is handed back, and can be read and
+// upgraded.
 #[test]
 fn an_upgrade_by_the_standard_waits_for_the_body(rt: HostRuntime) -> Result<(), Fail> {
     let alloc = rt.alloc();
     let client =
-        b"POST / HTTP/1.1\r\nHost: a\r\nConnection: Upgrade\r\nUpgrade: chat\r\nTransfer-Encoding: chunked\r\n\r\n1\r\nx\r\n0\r\n\r\nhi";
+        b"POST / HTTP/1.1\r\nHost: a\r\nConnection: Upgrade\r\nUpgrade: chat\r\nTransfer-Encoding: chunked\r\n\r\n\
+            1\r\nx\r\n0\r\n\r\nhi";
     let mut bench = connect_standard(rt, alloc, client)?;
     let request = next(&mut bench)?;
     let switched = Response::empty(alloc, StatusCode(101));

@@ -8,7 +8,8 @@ use std::test::Fail;
 fn a_header_is_found_by_its_name(rt: HostRuntime) -> Result<(), Fail> {
     let alloc = rt.alloc();
     let client =
-        b"GET /hello.txt HTTP/1.1\r\nUser-Agent: curl/7.64.1\r\nHost: www.example.com\r\nAccept-Language: en, mi\r\naccept-language: de\r\n\r\n";
+        b"GET /hello.txt HTTP/1.1\r\nUser-Agent: curl/7.64.1\r\nHost: www.example.com\r\nAccept-Language: en, mi\r\n\
+            accept-language: de\r\n\r\n";
     let mut bench = connect(rt, alloc, client)?;
     let request = next(&mut bench)?;
     for (name, want) in [
@@ -26,7 +27,8 @@ fn a_header_is_found_by_its_name(rt: HostRuntime) -> Result<(), Fail> {
 fn lists_are_joined(rt: HostRuntime) -> Result<(), Fail> {
     let alloc = rt.alloc();
     let client =
-        b"GET / HTTP/1.1\r\nHost: h\r\nAccept-Encoding: compress, gzip;q=0.5\r\nVia: 1.0 fred\r\naccept-encoding:identity\t ,, BR\r\n\r\n";
+        b"GET / HTTP/1.1\r\nHost: h\r\nAccept-Encoding: compress, gzip;q=0.5\r\nVia: 1.0 fred\r\n\
+            accept-encoding:identity\t ,, BR\r\n\r\n";
     let mut bench = connect(rt, alloc, client)?;
     let request = next(&mut bench)?;
     for (token, want) in [

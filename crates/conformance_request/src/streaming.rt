@@ -117,8 +117,8 @@ fn nothing_follows_a_body_that_was_dropped(rt: HostRuntime) -> Result<(), Fail> 
     assert_output(&rt, alloc, &bench.output, &sent)
 }
 
-// Where two requests were handed out, one that is answered up to the connection's end is its last; so is one that is answered by
-// `with_close`, and one whose 100 is owed, by the standard.
+// Where two requests were handed out, one that is answered up to the connection's end is its last; so is one that is
+// answered by `with_close`, and one whose 100 is owed, by the standard.
 #[test]
 fn nothing_follows_the_last_body(rt: HostRuntime) -> Result<(), Fail> {
     let alloc = rt.alloc();
@@ -139,7 +139,8 @@ fn nothing_follows_the_last_body(rt: HostRuntime) -> Result<(), Fail> {
     next(&mut bench)?.respond_streaming(head, now()?)?.finish()?;
     assert!(rt; bench.client.next(now()?)?.is_none());
     let expects =
-        b"POST / HTTP/1.1\r\nHost: a\r\nExpect: 100-continue\r\nContent-Length: 5000\r\n\r\nGET / HTTP/1.1\r\nHost: a\r\n\r\n";
+        b"POST / HTTP/1.1\r\nHost: a\r\nExpect: 100-continue\r\nContent-Length: 5000\r\n\r\nGET / HTTP/1.1\r\n\
+            Host: a\r\n\r\n";
     let mut bench = connect_standard(rt, alloc, expects)?;
     let request = next(&mut bench)?;
     begin(alloc, request, 200)?.finish()?;

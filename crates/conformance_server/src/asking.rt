@@ -18,8 +18,8 @@ const ROUNDS: usize = 1_000;
 // So many bytes the second piece has.
 const LENGTH: usize = 8_000;
 
-// Writes a byte, which is left, and a long piece while the other thread has the byte sent. Then all is sent. In every other round
-// a flush leaves the byte too.
+// Writes a byte, which is left, and a long piece while the other thread has the byte sent. Then all is sent. In every
+// other round a flush leaves the byte too.
 fn write_rounds<R: Host>(rt: &R, mut writer: HalfWriter<R>, barrier: &Barrier) {
     let piece = [b'b'; LENGTH];
     for round in 0..ROUNDS {

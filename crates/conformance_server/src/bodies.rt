@@ -30,7 +30,8 @@ fn send_after_100(rt: &impl Abort, alloc: Global, client: &mut TcpStream) {
 
 // A head of a request that waits for a 100.
 const EXPECTING: &str =
-    "GET / HTTP/1.1\r\nHost: localhost\r\nConnection: close\r\nExpect: 100-continue\r\nContent-Type: text/plain; charset=utf8\r\nContent-Length: 5\r\n\r\n";
+    "GET / HTTP/1.1\r\nHost: localhost\r\nConnection: close\r\nExpect: 100-continue\r\n\
+        Content-Type: text/plain; charset=utf8\r\nContent-Length: 5\r\n\r\n";
 
 // The body of a request that waits for a 100 is read by a thread, which then drops the request.
 fn assert_100_comes<R: Host>(rt: &R, alloc: Global) {
@@ -71,8 +72,8 @@ const ANSWERED: &[&str] = &[
     "Content-Type: text/plain; charset=UTF-8\r\nContent-Length: 1\r\n\r\nb",
 ];
 
-// The client sends a head alone and takes the whole answer. Where the connection goes on it then sends the body and a further
-// request.
+// The client sends a head alone and takes the whole answer. Where the connection goes on it then sends the body and a
+// further request.
 const HEADS: [&[Step]; 5] = [
     &[
         Step::Send("GET / HTTP/1.1\r\nContent-Length: 5000\r\n\r\n"),

@@ -69,8 +69,8 @@ fn answer_to_close<R: Wait + Clock + Drop>(
 }
 
 impl<R: Wait + Clock + Drop> Handler<R, ServerRequest<R>> for ByPath<R> {
-    /// Keeps a request for `/keep`, drops one for `/drop`, answers one for `/echo` by its body, upgrades one for `/greet`, and
-    /// answers each other one by its path. Behind the answer for `/close` the connection is to end.
+    /// Keeps a request for `/keep`, drops one for `/drop`, answers one for `/echo` by its body, upgrades one for
+    /// `/greet`, and answers each other one by its path. Behind the answer for `/close` the connection is to end.
     fn handle(&self, rt: &R, alloc: Global, request: ServerRequest<R>) -> io::Result<()> {
         let path = request.url();
         if self.keeps_all || path == "/keep" {

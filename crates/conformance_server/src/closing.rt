@@ -87,8 +87,8 @@ const DROPPED: &[&str] = &[
 
 const GET: &str = "GET / HTTP/1.1\r\n\r\n";
 
-// Each request that waits in the queue of a server that is dropped is answered 500. A client that sends nothing doesn't keep
-// them from that.
+// Each request that waits in the queue of a server that is dropped is answered 500. A client that sends nothing
+// doesn't keep them from that.
 const WAITING: [&[Step]; 2] = [
     &[
         Step::Come,
@@ -180,8 +180,8 @@ const REFUSED_AND_DROPPED: &[&str] = &[
     "Content-Length: 0\r\n\r\n",
 ];
 
-// A client that stays open, of whose requests the first one's answer asks that the connection ends, sees the end behind its last
-// answer, though a thread waits for its next head.
+// A client that stays open, of whose requests the first one's answer asks that the connection ends, sees the end
+// behind its last answer, though a thread waits for its next head.
 const ASKED_TO_CLOSE: [&[Step]; 6] = [
     &[
         Step::Send(GET),

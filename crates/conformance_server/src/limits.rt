@@ -214,7 +214,8 @@ fn assert_is_answered<R: Host>(rt: &R, alloc: Global, server: &Server<R>, client
     assert_reads_next(rt, alloc, client, EMPTY);
 }
 
-// A newcomer beyond those that its address may have is closed at once; and once one of them has gone the next is served.
+// A newcomer beyond those that its address may have is closed at once; and once one of them has gone the next is
+// served.
 fn assert_address_is_full<R: Host>(rt: &R, alloc: Global) {
     let mut limits = Limits::new();
     limits.connections_of_address = 1;
@@ -286,8 +287,8 @@ fn answer_late<R: Host>(
     next.is_err()
 }
 
-// A server that is stopped closes who is idle, and waits for the answer to what was handed out. Then nobody gets a request, and
-// nobody is accepted.
+// A server that is stopped closes who is idle, and waits for the answer to what was handed out. Then nobody gets a
+// request, and nobody is accepted.
 fn assert_stops<R: Host>(rt: &R, alloc: Global) {
     let server = serve_within(rt, alloc, Limits::new());
     let mut idle = ask(rt, &server);

@@ -76,7 +76,8 @@ const ROWS: [&[Step]; 16] = [
     ],
     &[
         Step::Send(
-            "GET / HTTP/1.1\r\nHost: localhost\r\n\r\nGET /hello HTTP/1.1\r\nHost: localhost\r\n\r\nGET /world HTTP/1.1\r\nHost: localhost\r\nConnection: close\r\n\r\n",
+            "GET / HTTP/1.1\r\nHost: localhost\r\n\r\nGET /hello HTTP/1.1\r\nHost: localhost\r\n\r\n\
+                GET /world HTTP/1.1\r\nHost: localhost\r\nConnection: close\r\n\r\n",
         ),
         Step::Receive("/"),
         Step::Respond("hello world"),
@@ -88,7 +89,8 @@ const ROWS: [&[Step]; 16] = [
     ],
     &[
         Step::Send(
-            "GET / HTTP/1.1\r\nHost: localhost\r\nConnection: close\r\nExpect: 189-dummy\r\nContent-Type: text/plain; charset=utf8\r\n\r\n",
+            "GET / HTTP/1.1\r\nHost: localhost\r\nConnection: close\r\nExpect: 189-dummy\r\n\
+                Content-Type: text/plain; charset=utf8\r\n\r\n",
         ),
         Step::Rest(&["HTTP/1.1 417 Expectation Failed\r\n", DATED, NOTHING]),
         Step::NoRequest,
@@ -96,7 +98,8 @@ const ROWS: [&[Step]; 16] = [
     // White space in front of a header's colon.
     &[
         Step::Send(
-            "GET / HTTP/1.1\r\nHost: localhost\r\nConnection: close\r\nContent-Type: text/plain; charset=utf8\r\nContent-Length : 5\r\n\r\nhello",
+            "GET / HTTP/1.1\r\nHost: localhost\r\nConnection: close\r\nContent-Type: text/plain; charset=utf8\r\n\
+                Content-Length : 5\r\n\r\nhello",
         ),
         Step::Rest(&["HTTP/1.1 400 Bad Request\r\n", DATED, NOTHING]),
         Step::NoRequest,
@@ -172,7 +175,8 @@ const ROWS: [&[Step]; 16] = [
     // The body of a client that has gone is read.
     &[
         Step::Send(
-            "GET / HTTP/1.1\r\nHost: localhost\r\nContent-Type: text/plain; charset=utf8\r\nContent-Length: 5\r\n\r\nhello",
+            "GET / HTTP/1.1\r\nHost: localhost\r\nContent-Type: text/plain; charset=utf8\r\nContent-Length: 5\r\n\r\n\
+                hello",
         ),
         Step::Leave,
         Step::Receive("/"),
@@ -180,7 +184,8 @@ const ROWS: [&[Step]; 16] = [
     ],
     &[
         Step::Send(
-            "GET / HTTP/1.1\r\nHost: localhost\r\nContent-Type: text/plain; charset=utf8\r\nContent-Length: 3\r\n\r\nhello",
+            "GET / HTTP/1.1\r\nHost: localhost\r\nContent-Type: text/plain; charset=utf8\r\nContent-Length: 3\r\n\r\n\
+                hello",
         ),
         Step::Leave,
         Step::Receive("/"),

@@ -74,8 +74,8 @@ fn assert_five_are_read<R: Host>(rt: &R, alloc: Global, way: Way, form: Form) {
     act_all(rt, alloc, &mut stage, &ANSWERED);
 }
 
-// Five requests of each form are handed out and their bodies read, while none of them has been answered. They are then answered
-// one after another.
+// Five requests of each form are handed out and their bodies read, while none of them has been answered. They are
+// then answered one after another.
 fn assert_each_form_is_read<R: Host>(rt: &R, alloc: Global) {
     for form in FORMS {
         assert_five_are_read(rt, alloc, Way::Recv, form);

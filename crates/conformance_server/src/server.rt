@@ -408,8 +408,8 @@ const TOO_LARGE: &[&str] = &[
     "Content-Length: 0\r\n\r\n",
 ];
 
-// A strict server refuses a head of which as many bytes came as it may have, though the client sends no more and goes on
-// waiting.
+// A strict server refuses a head of which as many bytes came as it may have, though the client sends no more and goes
+// on waiting.
 fn assert_long_is_refused<R: Host>(rt: &R, alloc: Global, server: &Server<R>) {
     let mut client = connect(rt, server);
     send_body(rt, alloc, &mut client, 65536);

@@ -26,8 +26,8 @@ const KEPT: &[Step] = &[
     Step::Rest(&[OK, DATED, ONE, "/b", OK, DATED, ONE, "/c"]),
 ];
 
-// A request whose body is read from the connection is kept, behind one that was answered. The client waits for that answer before it
-// sends the body.
+// A request whose body is read from the connection is kept, behind one that was answered. The client waits for that
+// answer before it sends the body.
 const KEPT_BODY: &[Step] = &[
     Step::Send(
         "GET /a HTTP/1.1\r\n\r\nPOST /keep HTTP/1.1\r\nContent-Length: 5000\r\nConnection: close\r\n\r\n",
@@ -51,7 +51,8 @@ const HALF: &[Step] = &[
 // A 100 is owed while an answer waits, and the client waits for both.
 const OWED: &[Step] = &[
     Step::Send(
-        "GET /a HTTP/1.1\r\n\r\nPOST /echo HTTP/1.1\r\nExpect: 100-continue\r\nContent-Length: 5\r\nConnection: close\r\n\r\n",
+        "GET /a HTTP/1.1\r\n\r\nPOST /echo HTTP/1.1\r\nExpect: 100-continue\r\nContent-Length: 5\r\n\
+            Connection: close\r\n\r\n",
     ),
     Step::Next(&[OK, DATED, ONE, "/a"]),
     Step::Next(&[GO_ON, DATED, NOTHING]),
@@ -62,7 +63,8 @@ const OWED: &[Step] = &[
 // An upgrade behind three requests in one piece.
 const UPGRADED: &[Step] = &[
     Step::Send(
-        "GET /a HTTP/1.1\r\n\r\nGET /b HTTP/1.1\r\n\r\nGET /c HTTP/1.1\r\n\r\nGET /greet HTTP/1.1\r\nConnection: upgrade\r\nUpgrade: greet\r\n\r\n",
+        "GET /a HTTP/1.1\r\n\r\nGET /b HTTP/1.1\r\n\r\nGET /c HTTP/1.1\r\n\r\nGET /greet HTTP/1.1\r\n\
+            Connection: upgrade\r\nUpgrade: greet\r\n\r\n",
     ),
     Step::Next(&[OK, DATED, ONE, "/a"]),
     Step::Next(&[OK, DATED, ONE, "/b"]),

@@ -72,7 +72,9 @@ fn three_threads<L: Ledger + Send + Sync, R: Threads + Wait + Sync>(
         move || enters(rt, shared, first, 2),
         move || -> (Share<L>, u64)
             requires { (0 < second.parts) × (0 < third.parts) }
-            ensures { (result.0.amount ≡ second.amount + third.amount + result.1) × (result.0.parts ≡ second.parts + third.parts) × (result.1 ≤ 4) }
+            ensures { (result.0.amount ≡ second.amount + third.amount + result.1)
+                × (result.0.parts ≡ second.parts + third.parts)
+                × (result.1 ≤ 4) }
         { two_threads(rt, shared, second, third) },
     );
     all.merge(others);

@@ -1,5 +1,5 @@
-//! Tests of the types and calls of `tiny_http_wire` and the crates beneath it. What a call makes of bytes stands in the rows of
-//! the program `calls`. The tests stand apart because a crate with tests is proved once more with them.
+//! Tests of the types and calls of `tiny_http_wire` and the crates beneath it. What a call makes of bytes stands in
+//! the rows of the program `calls`. The tests stand apart because a crate with tests is proved once more with them.
 #![tactic(auto)]
 
 #[cfg(test)]

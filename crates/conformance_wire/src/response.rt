@@ -162,7 +162,8 @@ fn with_header<R: Drop>(
 }
 
 const CHAINED: &str =
-    "HTTP/1.1 201 Created\r\nServer: tiny-http (Rust)\r\nDate: Wed, 04 May 1983 11:17:00 GMT\r\nContent-Type: a/b\r\nX: 1\r\nContent-Length: 2\r\n\r\nhi";
+    "HTTP/1.1 201 Created\r\nServer: tiny-http (Rust)\r\nDate: Wed, 04 May 1983 11:17:00 GMT\r\nContent-Type: a/b\r\n\
+        X: 1\r\nContent-Length: 2\r\n\r\nhi";
 
 #[test]
 fn builders_in_a_chain(rt: HostRuntime) -> Result<(), Fail> {

@@ -1,5 +1,5 @@
-//! What reading a folder needs of the machine. It is a trait of its own, since code that is generic over `Files` can't be shared among
-//! threads.
+//! What reading a folder needs of the machine. It is a trait of its own, since code that is generic over `Files`
+//! can't be shared among threads.
 use std::alloc::{AllocGlobal, Global};
 use std::fs::{File, Files, OpenFile};
 use std::time::SystemTime;

@@ -1,10 +1,10 @@
 //! Serves the files of a folder: `files ADDRESS FOLDER`.
 //!
-//! `GET` and `HEAD` alone. A folder is answered by its `index.html`, or else by a list of its files. The program shows a path that stays
-//! within the folder (`below_folder`), a file that is sent with its length however long it is (`with_chunked_threshold`), a 304 without
-//! content (`contentless`), and headers that are added by `with`. A file that shrinks while it is sent breaks the answer off: its length
-//! was said. What can't be read, or is no file or folder, is a 404. Where memory is refused the request is dropped, and answered by an
-//! empty 500.
+//! `GET` and `HEAD` alone. A folder is answered by its `index.html`, or else by a list of its files. The program
+//! shows a path that stays within the folder (`below_folder`), a file that is sent with its length however long it is
+//! (`with_chunked_threshold`), a 304 without content (`contentless`), and headers that are added by `with`. A file
+//! that shrinks while it is sent breaks the answer off: its length was said. What can't be read, or is no file or
+//! folder, is a 404. Where memory is refused the request is dropped, and answered by an empty 500.
 #![tactic(auto)]
 
 mod disk;

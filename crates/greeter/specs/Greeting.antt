@@ -33,12 +33,14 @@ AreByPath (g ∷ greetings) = IsStatus g.head.path g.status × AreByPath greetin
 -- the steps of these greetings: an Ask and a Respond each, by an empty response of this status
 abbrev pub steps_of : HttpDate → List Greeting → List TimedValue
 steps_of now [] = []
-steps_of now (g ∷ greetings) = (now, Ask) ∷ (now, Respond g.number (response_of g.status [] [])) ∷ steps_of now greetings
+steps_of now (g ∷ greetings) =
+    (now, Ask) ∷ (now, Respond g.number (response_of g.status [] [])) ∷ steps_of now greetings
 
 -- and their replies
 abbrev pub replies_of : List Greeting → List ReplyValue
 replies_of [] = []
-replies_of (g ∷ greetings) = Handed g.number (head_message g.head) (head_framing g.head) ∷ g.reply ∷ replies_of greetings
+replies_of (g ∷ greetings) =
+    Handed g.number (head_message g.head) (head_framing g.head) ∷ g.reply ∷ replies_of greetings
 
 abbrev pub is_handed : ReplyValue → Bool
 is_handed (Handed number message framing) = true
@@ -54,19 +56,23 @@ abbrev pub EndsGreetings : List Greeting → Option Reply → Type 0
 EndsGreetings greetings None = length greetings ≡ 2 ^ 64 - 1
 EndsGreetings greetings (Some r) = is_handed (seen r) ≡ false
 
--- Some greetings by the path, and after them an Ask with this reply, are a conversation with this client: the writer took what
--- is its output, but for what is held.
-pub record Greets (client : Feed) (before : Sink) (now : HttpDate) (after : Sink) (held : List ℕ) (ended : Bool) (unread : Option Feed) (last : Option Reply) : Type 0 where
+-- Some greetings by the path, and after them an Ask with this reply, are a conversation with this client: the writer
+-- took what is its output, but for what is held.
+pub record Greets (client : Feed) (before : Sink) (now : HttpDate) (after : Sink) (held : List ℕ) (ended : Bool)
+    (unread : Option Feed) (last : Option Reply) : Type 0 where
   pub greetings : List Greeting
   pub by_path : AreByPath greetings
   pub ends : EndsGreetings greetings last
-  pub conversation : IsConversation Lenient client before (steps_of now greetings ++ map (λ _. (now, Ask)) (last_reply last)) (replies_of greetings ++ last_reply last) after held ended unread
+  pub conversation : IsConversation Lenient client before
+      (steps_of now greetings ++ map (λ _. (now, Ask)) (last_reply last)) (replies_of greetings ++ last_reply last)
+      after held ended unread
 
 -- a writer that took nothing
 abbrev pub nothing_taken : Sink
 nothing_taken = record { taken = Some []; sent = []; failures = 0; last_kind = None; has_ended = false }
 
 -- The same with a client that sends these bytes and ends, over a writer in memory that took nothing before.
-pub record GreetsClient (client : List ℕ) (now : HttpDate) (writer : Budget) (held : List ℕ) (ended : Bool) (last : Option Reply) : Type 0 where
+pub record GreetsClient (client : List ℕ) (now : HttpDate) (writer : Budget) (held : List ℕ) (ended : Bool)
+    (last : Option Reply) : Type 0 where
   pub unread : Option Feed
   pub greets : Greets (whole_feed client) nothing_taken now (budget_sink writer) held ended unread last

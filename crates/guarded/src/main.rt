@@ -1,7 +1,8 @@
-//! Answers every request by `hello world`, as a server on an open port: `guarded [--lenient|--strict|--standard] ADDRESS`. It answers
-//! as `hello`, by a handler: each connection's worker answers that connection's requests itself. Heads are read under the profile that is
-//! named, or else under `Standard`, and clients have the default limits. Once a minute, and when it stops, it prints what it has
-//! counted. It stops once a line `stop` comes on standard input, and waits then for what is open, for 10 seconds at most.
+//! Answers every request by `hello world`, as a server on an open port: `guarded [--lenient|--strict|--standard]
+//! ADDRESS`. It answers as `hello`, by a handler: each connection's worker answers that connection's requests itself.
+//! Heads are read under the profile that is named, or else under `Standard`, and clients have the default limits.
+//! Once a minute, and when it stops, it prints what it has counted. It stops once a line `stop` comes on standard
+//! input, and waits then for what is open, for 10 seconds at most.
 #![tactic(auto)]
 
 ghost use Rattle.std.specs.Prelude.{◌≡◌};
@@ -185,8 +186,8 @@ fn answer_all<R: ServerRuntime>(
     served
 }
 
-// Listens at the address that the words name, and answers all requests. The input is a value of its own: a thread can't be given a bound
-// whose associated type isn't `Send`.
+// Listens at the address that the words name, and answers all requests. The input is a value of its own: a thread
+// can't be given a bound whose associated type isn't `Send`.
 fn serve<R: ServerRuntime + Sync, I: BufRead + Send + Drop + 'static, O: Write>(
     rt: R,
     alloc: Global,
@@ -213,7 +214,8 @@ fn serve<R: ServerRuntime + Sync, I: BufRead + Send + Drop + 'static, O: Write>(
     served
 }
 
-// Reports a fault by a line, and gives the exit status: 2 for what was asked wrongly, and 1 for what the system refused.
+// Reports a fault by a line, and gives the exit status: 2 for what was asked wrongly, and 1 for what the system
+// refused.
 fn report<E: Write>(fault: &GuardedFault, err: &mut E) -> u8 {
     let _ = writeln!(err, "guarded: {fault}");
     if matches!(fault, GuardedFault::Usage) {
@@ -222,9 +224,10 @@ fn report<E: Write>(fault: &GuardedFault, err: &mut E) -> u8 {
     1
 }
 
-/// Listens at the address that the words name, says so on `out`, and answers every request by `hello world` until a line `stop`
-/// comes on `input`, or there are no more. Gives the exit status: 0; or 2 where the words aren't `[--lenient|--strict|--standard]
-/// ADDRESS`, and 1 where it can't listen there or serving ends by a fault, which a line on `err` says.
+/// Listens at the address that the words name, says so on `out`, and answers every request by `hello world` until a
+/// line `stop` comes on `input`, or there are no more. Gives the exit status: 0; or 2 where the words aren't
+/// `[--lenient|--strict|--standard] ADDRESS`, and 1 where it can't listen there or serving ends by a fault, which a
+/// line on `err` says.
 pub fn guarded_on<R: ServerRuntime + Sync, I: BufRead + Send + Drop + 'static, O: Write, E: Write>(
     rt: R,
     alloc: Global,

@@ -67,9 +67,9 @@ fn report<E: Write>(fault: &HelloFault<'_>, err: &mut E) -> u8
     fault.status()
 }
 
-/// Listens at the address that the one word names, says so on `out`, and answers every request by `hello world` until there
-/// are no more. Gives the exit status: 0; or 2 where there isn't one word, and 1 where it can't listen there, which a line on
-/// `err` says.
+/// Listens at the address that the one word names, says so on `out`, and answers every request by `hello world` until
+/// there are no more. Gives the exit status: 0; or 2 where there isn't one word, and 1 where it can't listen there,
+/// which a line on `err` says.
 pub fn hello_on<R: Host, O: Write, E: Write>(
     rt: R,
     alloc: Global,

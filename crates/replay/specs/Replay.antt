@@ -9,9 +9,10 @@ use Rattle.tiny_http_core.specs.Conversation.{TimedValue, IsFresh, IsConversatio
 use Rattle.replay_script.specs.Reply.{reply_line}
 use Rattle.replay_script.specs.Script.{IsScript}
 
--- The client sends these bytes and ends: under this profile the steps have these replies, and this is the output, all of it taken
--- or held.
-pub record HasRun (p : Profile) (client : List ℕ) (steps : List TimedValue) (replies : List ReplyValue) (output : List ℕ) : Type 0 where
+-- The client sends these bytes and ends: under this profile the steps have these replies, and this is the output, all
+-- of it taken or held.
+pub record HasRun (p : Profile) (client : List ℕ) (steps : List TimedValue) (replies : List ReplyValue)
+    (output : List ℕ) : Type 0 where
   pub before : Sink
   pub after : Sink
   pub taken : List ℕ
@@ -26,10 +27,12 @@ pub record HasRun (p : Profile) (client : List ℕ) (steps : List TimedValue) (r
 
 -- a replay of a script over a client's bytes, under a profile, has these replies and this output
 abbrev pub IsReplay : Profile → List ℕ → List ℕ → List ReplyValue → List ℕ → Type 0
-IsReplay p client script replies output = (steps : List TimedValue) × IsScript script steps × HasRun p client steps replies output
+IsReplay p client script replies output =
+    (steps : List TimedValue) × IsScript script steps × HasRun p client steps replies output
 
 -- Of such a replay one writer's known bytes grow by the output, and the other's by the lines of the replies.
-pub record WritesReplay (p : Profile) (client script : List ℕ) (out_old out_new err_old err_new : Option (List ℕ)) : Type 0 where
+pub record WritesReplay (p : Profile) (client script : List ℕ)
+    (out_old out_new err_old err_new : Option (List ℕ)) : Type 0 where
   pub replies : List ReplyValue
   pub output : List ℕ
   pub replay : IsReplay p client script replies output

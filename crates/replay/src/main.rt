@@ -1,7 +1,7 @@
-//! Runs the steps of a script over a client's bytes: `replay [--strict | --standard] BYTES SCRIPT`. The output of the connection goes to
-//! standard output, a line for each step's reply to standard error. `--strict` and `--standard` have heads read under these profiles. The
-//! program stands on `replay_script`, which reads the script, on `tiny_http_core`, whose `run_with` it calls, and on
-//! `tiny_http_wire`.
+//! Runs the steps of a script over a client's bytes: `replay [--strict | --standard] BYTES SCRIPT`. The output of the
+//! connection goes to standard output, a line for each step's reply to standard error. `--strict` and `--standard`
+//! have heads read under these profiles. The program stands on `replay_script`, which reads the script, on
+//! `tiny_http_core`, whose `run_with` it calls, and on `tiny_http_wire`.
 #![tactic(auto)]
 
 ghost use Rattle.std.specs.Prelude.{◌≡◌, ◌<◌, ◌≤◌, ◌⊎◌, ℕ, ◌++◌, map, Err, IsErrAnd, IfOk, IfErr, OnOk};
@@ -40,7 +40,8 @@ struct Replayed {
     replies: Vec<Reply>,
 }
 
-// Runs the steps over the client's bytes, which then end. The writer is in memory, so only lack of memory makes it fail.
+// Runs the steps over the client's bytes, which then end. The writer is in memory, so only lack of memory makes it
+// fail.
 fn run_steps(
     alloc: Global,
     profile: Profile,
@@ -132,9 +133,9 @@ fn report<E: Write>(fault: &ReplayFault<'_>, err: &mut E) -> u8
     }
 }
 
-/// Runs the steps of a script over a client's bytes, whose heads are read under this profile. Writes the output to `out`, then
-/// a line for each reply to `err`, and gives the exit status: 0, or that of a fault, which is reported by a line on `err`.
-/// After a bad line of the script nothing is run.
+/// Runs the steps of a script over a client's bytes, whose heads are read under this profile. Writes the output to
+/// `out`, then a line for each reply to `err`, and gives the exit status: 0, or that of a fault, which is reported by
+/// a line on `err`. After a bad line of the script nothing is run.
 pub fn replay_on<O: Write, E: Write>(
     alloc: Global,
     profile: Profile,
@@ -156,8 +157,8 @@ pub fn replay_on<O: Write, E: Write>(
     }
 }
 
-// All bytes of a file. There is room for them at once where the system knows its length, and for one more, so that its end is met
-// without room for others.
+// All bytes of a file. There is room for them at once where the system knows its length, and for one more, so that
+// its end is met without room for others.
 fn read_whole<R: Files + AllocGlobal>(rt: &R, name: &str) -> io::Result<Vec<u8>> {
     let mut file = fs::open(rt, name)?;
     let length = file.metadata().map_or(0, |of| of.len());

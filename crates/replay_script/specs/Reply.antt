@@ -1,5 +1,6 @@
 -- The lines that report what the steps were answered.
-use Rattle.std.specs.Prelude.{ℕ, ◌/◌, ◌%◌, List, [], ◌∷◌, ◌++◌, length, get_or, flat_map, Option, Some, None, codes, decimal}
+use Rattle.std.specs.Prelude.{ℕ, ◌/◌, ◌%◌, List, [], ◌∷◌, ◌++◌, length, get_or, flat_map, Option, Some, None, codes}
+use Rattle.std.specs.Prelude.{decimal}
 use Rattle.std.specs.declared.io.ErrorKind.{ErrorKind}
 use Rattle.std.specs.declared.io.ErrorKind.TheVariants.{InvalidData, UnexpectedEof, OutOfMemory}
 use Rattle.tiny_http_wire.specs.Common.{version_text, method_text}
@@ -21,7 +22,8 @@ length_text (Some n) = decimal n
 -- a request's number, method, target, version, number of headers, and length
 abbrev pub handed_text : ℕ → Message → Option ℕ → List ℕ
 handed_text k m said =
-    codes "handed " ++ decimal k ++ codes " " ++ method_text m.method ++ codes " " ++ m.path ++ codes " " ++ version_text m.version
+    codes "handed " ++ decimal k ++ codes " " ++ method_text m.method ++ codes " " ++ m.path ++ codes " "
+    ++ version_text m.version
     ++ codes " " ++ decimal (length m.headers) ++ codes " " ++ length_text said
 
 -- a byte as two hexadecimal digits

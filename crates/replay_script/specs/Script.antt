@@ -8,15 +8,25 @@ use Rattle.tiny_http_wire.specs.Answer.{ResponseState, text_plain}
 use Rattle.tiny_http_wire.specs.declared.device.Stop.{Stop}
 use Rattle.tiny_http_wire.specs.declared.device.Stop.TheVariants.{End, Fault}
 use Rattle.tiny_http_core.specs.ResponseValue.{ResponseValue, response_of}
-use Rattle.tiny_http_core.specs.Steps.{StepValue, Ask, AsReader, Read, Respond, IntoWriter, Write, Flush, Upgrade, Finish, Drop}
+use Rattle.tiny_http_core.specs.Steps.{StepValue, Ask, AsReader, Read, Respond, IntoWriter, Write, Flush, Upgrade}
+use Rattle.tiny_http_core.specs.Steps.{Finish, Drop}
 use Rattle.tiny_http_core.specs.Conversation.{TimedValue}
 use Rattle.tiny_http_core.specs.declared.driver.Step.{Step}
-use Rattle.tiny_http_core.specs.declared.driver.Step.TheVariants.{Ask as AskStep, AsReader as AsReaderStep, Read as ReadStep, Respond as RespondStep, IntoWriter as IntoWriterStep, Write as WriteStep, Flush as FlushStep, Upgrade as UpgradeStep, Finish as FinishStep, Drop as DropStep}
+use Rattle.tiny_http_core.specs.declared.driver.Step.TheVariants.{Ask as AskStep, AsReader as AsReaderStep}
+use Rattle.tiny_http_core.specs.declared.driver.Step.TheVariants.{Read as ReadStep, Respond as RespondStep}
+use Rattle.tiny_http_core.specs.declared.driver.Step.TheVariants.{IntoWriter as IntoWriterStep, Write as WriteStep}
+use Rattle.tiny_http_core.specs.declared.driver.Step.TheVariants.{Flush as FlushStep, Upgrade as UpgradeStep}
+use Rattle.tiny_http_core.specs.declared.driver.Step.TheVariants.{Finish as FinishStep, Drop as DropStep}
 use Rattle.tiny_http_core.specs.declared.driver.Timed.{Timed}
 use Rattle.replay_script.specs.ScriptData.{data_feed, xs}
 use Rattle.replay_script.specs.ScriptLine.{IsLine, IsGood}
 use Rattle.replay_script.specs.declared.line.ScriptLine.{ScriptLine}
-use Rattle.replay_script.specs.declared.line.ScriptLine.TheVariants.{Blank, Now, Ask as AskLine, AsReader as AsReaderLine, Read as ReadLine, Respond as RespondLine, Writer as WriterLine, Write as WriteLine, Flush as FlushLine, Upgrade as UpgradeLine, Finish as FinishLine, Drop as DropLine}
+use Rattle.replay_script.specs.declared.line.ScriptLine.TheVariants.{Blank, Now, Ask as AskLine}
+use Rattle.replay_script.specs.declared.line.ScriptLine.TheVariants.{AsReader as AsReaderLine, Read as ReadLine}
+use Rattle.replay_script.specs.declared.line.ScriptLine.TheVariants.{Respond as RespondLine, Writer as WriterLine}
+use Rattle.replay_script.specs.declared.line.ScriptLine.TheVariants.{Write as WriteLine, Flush as FlushLine}
+use Rattle.replay_script.specs.declared.line.ScriptLine.TheVariants.{Upgrade as UpgradeLine, Finish as FinishLine}
+use Rattle.replay_script.specs.declared.line.ScriptLine.TheVariants.{Drop as DropLine}
 use Rattle.replay_script.specs.declared.line.Content.{Content}
 use Rattle.replay_script.specs.declared.line.Content.TheVariants.{Text, Empty, Stream, Broken}
 use Rattle.replay_script.specs.declared.script_data.ScriptData.{ScriptData}
@@ -33,7 +43,19 @@ IsFirstBadLine lines n =
 
 -- an answer without headers, whose data are so many bytes `x` and this stop, of this length, if it is known
 abbrev pub xs_response : ℕ → ℕ → Stop → Option ℕ → ResponseValue
-xs_response status count stop length = record { answer = record { status = status; headers = []; data_length = length; threshold = 32768; closes = false; offered = None; contentless = false }; content = xs count stop }
+xs_response status count stop length =
+    record {
+      answer = record {
+        status = status;
+        headers = [];
+        data_length = length;
+        threshold = 32768;
+        closes = false;
+        offered = None;
+        contentless = false;
+      };
+      content = xs count stop;
+    }
 
 -- the answer by a code with this content
 abbrev pub response_with : ℕ → Content → ResponseValue
@@ -80,7 +102,8 @@ on_date now (Some step) = (now, step) ∷ []
 -- the steps of lines, from a date on
 abbrev pub steps_from : HttpDate → List ScriptLine → List TimedValue
 steps_from now [] = []
-steps_from now (line ∷ lines) = on_date (date_behind now line) (said_step line) ++ steps_from (date_behind now line) lines
+steps_from now (line ∷ lines) =
+    on_date (date_behind now line) (said_step line) ++ steps_from (date_behind now line) lines
 
 -- these are the steps of a script; until a date is set it is second 420895020
 abbrev pub IsScript : List ℕ → List TimedValue → Type 0

@@ -4,7 +4,8 @@ use Rattle.std.specs.Str.Parse.{IsNumeral, digits_value}
 use Rattle.httpdate.specs.Date.{unix_secs}
 use Rattle.httpdate.specs.declared.date.HttpDate.{HttpDate}
 use Rattle.replay_script.specs.declared.line.ScriptLine.{ScriptLine}
-use Rattle.replay_script.specs.declared.line.ScriptLine.TheVariants.{Blank, Now, Ask, AsReader, Read, Respond, Writer, Write, Flush, Upgrade, Finish, Drop}
+use Rattle.replay_script.specs.declared.line.ScriptLine.TheVariants.{Blank, Now, Ask, AsReader, Read, Respond, Writer}
+use Rattle.replay_script.specs.declared.line.ScriptLine.TheVariants.{Write, Flush, Upgrade, Finish, Drop}
 use Rattle.replay_script.specs.declared.line.Content.{Content}
 use Rattle.replay_script.specs.declared.line.Content.TheVariants.{Text, Empty, Stream, Broken}
 
@@ -19,7 +20,11 @@ BeginsByNumber text n rest = (digits : List ℕ) × (text ≡ digits ++ 32 ∷ r
 -- the text is a number of 64 bits, a space, a code of 16 bits, a space, and the rest
 abbrev pub BeginsByNumbers : List ℕ → ℕ → ℕ → List ℕ → Type 0
 BeginsByNumbers text number status rest =
-    (behind : List ℕ) × BeginsByNumber text number behind × BeginsByNumber behind status rest × (number < 2 ^ 64) × (status < 2 ^ 16)
+    (behind : List ℕ)
+    × BeginsByNumber text number behind
+    × BeginsByNumber behind status rest
+    × (number < 2 ^ 64)
+    × (status < 2 ^ 16)
 
 -- the text is the seconds of a date, up to the end of the year 9999
 abbrev pub WritesDate : List ℕ → HttpDate → Type 0
@@ -46,7 +51,8 @@ IsContent text = (content : Content) × WritesContent text content
 
 -- the grammar of what stands after `respond`: a number, a code, and the content
 abbrev pub WritesAnswer : List ℕ → ℕ → ℕ → Content → Type 0
-WritesAnswer words number status content = (text : List ℕ) × BeginsByNumbers words number status text × WritesContent text content
+WritesAnswer words number status content =
+    (text : List ℕ) × BeginsByNumbers words number status text × WritesContent text content
 
 -- the words are some answer
 abbrev pub IsAnswer : List ℕ → Type 0
@@ -62,15 +68,23 @@ abbrev pub SaysLine : List ℕ → ScriptLine → Type 0
 SaysLine text Blank = (text ≡ []) ⊎ ((comment : List ℕ) × (text ≡ codes "#" ++ comment))
 SaysLine text (Now date) = (digits : List ℕ) × (text ≡ codes "now " ++ digits) × WritesDate digits date
 SaysLine text Ask = text ≡ codes "ask"
-SaysLine text (AsReader number) = (digits : List ℕ) × (text ≡ codes "asreader " ++ digits) × WritesNumber digits number × (number < 2 ^ 64)
+SaysLine text (AsReader number) =
+    (digits : List ℕ) × (text ≡ codes "asreader " ++ digits) × WritesNumber digits number × (number < 2 ^ 64)
 SaysLine text (Read number count) = (words : List ℕ) × (text ≡ codes "read " ++ words) × WritesRead words number count
-SaysLine text (Respond number status content) = (words : List ℕ) × (text ≡ codes "respond " ++ words) × WritesAnswer words number status content
-SaysLine text (Writer number) = (digits : List ℕ) × (text ≡ codes "writer " ++ digits) × WritesNumber digits number × (number < 2 ^ 64)
-SaysLine text (Write number written) = (words : List ℕ) × (text ≡ codes "write " ++ words) × BeginsByNumber words number written.now × (number < 2 ^ 64)
-SaysLine text (Flush number) = (digits : List ℕ) × (text ≡ codes "flush " ++ digits) × WritesNumber digits number × (number < 2 ^ 64)
-SaysLine text (Upgrade number status protocol) = (words : List ℕ) × (text ≡ codes "upgrade " ++ words) × BeginsByNumbers words number status protocol.now
-SaysLine text (Finish number) = (digits : List ℕ) × (text ≡ codes "finish " ++ digits) × WritesNumber digits number × (number < 2 ^ 64)
-SaysLine text (Drop number) = (digits : List ℕ) × (text ≡ codes "drop " ++ digits) × WritesNumber digits number × (number < 2 ^ 64)
+SaysLine text (Respond number status content) =
+    (words : List ℕ) × (text ≡ codes "respond " ++ words) × WritesAnswer words number status content
+SaysLine text (Writer number) =
+    (digits : List ℕ) × (text ≡ codes "writer " ++ digits) × WritesNumber digits number × (number < 2 ^ 64)
+SaysLine text (Write number written) =
+    (words : List ℕ) × (text ≡ codes "write " ++ words) × BeginsByNumber words number written.now × (number < 2 ^ 64)
+SaysLine text (Flush number) =
+    (digits : List ℕ) × (text ≡ codes "flush " ++ digits) × WritesNumber digits number × (number < 2 ^ 64)
+SaysLine text (Upgrade number status protocol) =
+    (words : List ℕ) × (text ≡ codes "upgrade " ++ words) × BeginsByNumbers words number status protocol.now
+SaysLine text (Finish number) =
+    (digits : List ℕ) × (text ≡ codes "finish " ++ digits) × WritesNumber digits number × (number < 2 ^ 64)
+SaysLine text (Drop number) =
+    (digits : List ℕ) × (text ≡ codes "drop " ++ digits) × WritesNumber digits number × (number < 2 ^ 64)
 
 -- the text says something
 abbrev pub SaysSome : List ℕ → Type 0

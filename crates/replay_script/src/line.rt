@@ -2,7 +2,9 @@
 ghost use Rattle.std.specs.Prelude.{◌≡◌, ◌<◌, ◌^◌, ℕ, List, ◌↔◌, IfSome, IsSomeAnd, IsSome};
 ghost use Rattle.std.specs.Option.{SomeIff};
 ghost use Rattle.std.specs.Str.Parse.{IsNumeral, digits_value};
-ghost use Rattle.replay_script.specs.ScriptLine.{BeginsByNumber, BeginsByNumbers, WritesDate, IsDate, WritesContent, IsContent, WritesAnswer, IsAnswer, WritesRead, SaysLine, SaysSome, IsLine, IsGood};
+ghost use Rattle.replay_script.specs.ScriptLine.{BeginsByNumber, BeginsByNumbers, WritesDate, IsDate, WritesContent};
+ghost use Rattle.replay_script.specs.ScriptLine.{IsContent, WritesAnswer, IsAnswer, WritesRead, SaysLine, SaysSome};
+ghost use Rattle.replay_script.specs.ScriptLine.{IsLine, IsGood};
 
 use httpdate::HttpDate;
 

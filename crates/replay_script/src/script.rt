@@ -6,7 +6,9 @@ ghost use Rattle.httpdate.specs.Date.{unix_secs};
 ghost use Rattle.tiny_http_wire.specs.Answer.{text_plain};
 ghost use Rattle.tiny_http_core.specs.ResponseValue.{response_of};
 ghost use Rattle.replay_script.specs.ScriptLine.{IsLine};
-ghost use Rattle.replay_script.specs.Script.{script_lines, IsFirstBadLine, xs_response, response_with, said_step, date_behind, on_date, steps_from, IsScript, response_value, step_value, timed_value};
+ghost use Rattle.replay_script.specs.Script.{script_lines, IsFirstBadLine, xs_response, response_with, said_step};
+ghost use Rattle.replay_script.specs.Script.{date_behind, on_date, steps_from, IsScript, response_value, step_value};
+ghost use Rattle.replay_script.specs.Script.{timed_value};
 
 use crate::line::{Content, ScriptLine, line_in};
 use crate::script_data::ScriptData;

@@ -1,12 +1,14 @@
 //! Gives recorded answers to recorded requests, for the tests of HTTP clients: `testserver ADDRESS FOLDER`.
 //!
-//! The folder has pairs of files: `NAME.request` with the bytes that a client sends, and `NAME.response` with those that it is to get,
-//! which may be no HTTP at all. A request is a recorded one if its method, its target and its body are. Each answer is given once, in the
-//! order of the names; a request that isn't there is answered 501, and one whose body isn't read, or has more than 2^20 bytes, 413.
-//! `GET /unused` lists the names that are left. Requests are read by the standard, recorded ones too.
+//! The folder has pairs of files: `NAME.request` with the bytes that a client sends, and `NAME.response` with those
+//! that it is to get, which may be no HTTP at all. A request is a recorded one if its method, its target and its body
+//! are. Each answer is given once, in the order of the names; a request that isn't there is answered 501, and one
+//! whose body isn't read, or has more than 2^20 bytes, 413. `GET /unused` lists the names that are left. Requests are
+//! read by the standard, recorded ones too.
 //!
-//! The program shows requests that are read from bytes (`ClientConnection`), raw answers (`into_writer`), and how one that states no
-//! length ends with its connection (`close`). The connection is closed, too, behind an answer that `read_answer` doesn't read whole.
+//! The program shows requests that are read from bytes (`ClientConnection`), raw answers (`into_writer`), and how one
+//! that states no length ends with its connection (`close`). The connection is closed, too, behind an answer that
+//! `read_answer` doesn't read whole.
 #![tactic(auto)]
 
 use std::alloc::{AllocGlobal, Global};

@@ -6,4 +6,5 @@ use Rattle.std.specs.declared.time.Duration.{Duration}
 -- the whole seconds of a time since 1970 before the year 10000; else 0
 abbrev pub seconds_of : Option Duration → ℕ
 seconds_of None = 0
-seconds_of (Some time) = let seconds = as_nanos time / 1_000_000_000 in if nat_lt seconds 253_402_300_800 then seconds else 0
+seconds_of (Some time) =
+    let seconds = as_nanos time / 1_000_000_000 in if nat_lt seconds 253_402_300_800 then seconds else 0

@@ -11,7 +11,10 @@ use Rattle.tiny_http.specs.declared.accepting.Message.{Message}
 use Rattle.tiny_http.specs.declared.accepting.Message.TheVariants.{Error, NewRequest, NewClient}
 
 -- the request or the fault that was popped; nothing of a mark, of an empty queue, or of a client that is to be served
-abbrev pub received : {R : Type 0} → Option (Message R) → Result (Option (Request (PacedReader (CorkedReader RefinedTcpStream PacedWriter) R) (CorkedWriter PacedWriter R) R)) IoError
+abbrev pub received : {R : Type 0} → Option (Message R)
+    → Result
+    (Option (Request (PacedReader (CorkedReader RefinedTcpStream PacedWriter) R) (CorkedWriter PacedWriter R) R))
+    IoError
 received (Some (Error fault)) = Err fault
 received (Some (NewRequest request)) = Ok (Some request)
 received (Some (NewClient client)) = Ok None

@@ -1,5 +1,6 @@
-//! Accepting of clients. Each is a job of the pool of workers, which reads its requests and puts them into the server's queue. Once
-//! the server serves by a handler, clients go into the queue themselves, and `serve` takes them out.
+//! Accepting of clients. Each is a job of the pool of workers, which reads its requests and puts them into the
+//! server's queue. Once the server serves by a handler, clients go into the queue themselves, and `serve` takes them
+//! out.
 ghost use Rattle.std.specs.Prelude.{◌≡◌};
 ghost use Rattle.tiny_http.specs.Message.{received};
 
@@ -52,8 +53,9 @@ pub(crate) enum Message<R: Wait + Clock + Drop> {
 }
 
 impl<R: Wait + Clock + Drop> Message<R> {
-    /// What a pop of the queue is reported as: the request, or the fault. None where nothing but a mark was popped. A client that
-    /// is to be served goes back into the queue, and there is no request either; it is closed where the queue has no room.
+    /// What a pop of the queue is reported as: the request, or the fault. None where nothing but a mark was popped. A
+    /// client that is to be served goes back into the queue, and there is no request either; it is closed where the
+    /// queue has no room.
     pub fn received(
         messages: &Messages<R>,
         rt: &R,
@@ -76,7 +78,8 @@ impl<R: Wait + Clock + Drop> Message<R> {
 /// The queue of a server.
 pub(crate) type Messages<R> = MessagesQueue<Message<R>>;
 
-// Drops what waits in the queue of a closed server. Once that was stopped a mark stays there, so that each call that waits returns.
+// Drops what waits in the queue of a closed server. Once that was stopped a mark stays there, so that each call that
+// waits returns.
 fn drop_waiting<R: Wait + Clock + Drop>(rt: &R, messages: &Messages<R>, ending: &Ending) {
     messages.clear(rt);
     if ending.has_stopped() {
@@ -84,9 +87,9 @@ fn drop_waiting<R: Wait + Clock + Drop>(rt: &R, messages: &Messages<R>, ending: 
     }
 }
 
-// Closes a connection in stages, once all is answered (RFC 9112, section 9.6): sends the end, and then reads away what the
-// client still sends, until it closes, waits for too long or sends too much; under limits for 5 seconds at most. A connection
-// that is closed while bytes are unread is reset, and the client may lose the last answer.
+// Closes a connection in stages, once all is answered (RFC 9112, section 9.6): sends the end, and then reads away
+// what the client still sends, until it closes, waits for too long or sends too much; under limits for 5 seconds at
+// most. A connection that is closed while bytes are unread is reset, and the client may lose the last answer.
 fn close_in_stages<R: Clock>(rt: &R, socket: &Connection, has_limits: bool) {
     let begun = time_of(rt);
     let most = Duration::from_secs(LINGER_SECS);
@@ -123,9 +126,9 @@ pub(crate) struct Client<R: Wait + Clock + Drop> {
 }
 
 impl<R: Wait + Clock + Copy> Client<R> {
-    // Puts its requests into the queue, until it has no further one, or the server serves: then the request that came is given.
-    // One for which the queue has no room is dropped. Once the server was closed nobody takes them, so whoever puts one there
-    // then empties the queue.
+    // Puts its requests into the queue, until it has no further one, or the server serves: then the request that came
+    // is given. One for which the queue has no room is dropped. Once the server was closed nobody takes them, so
+    // whoever puts one there then empties the queue.
     fn read_requests(
         &mut self,
         messages: &Messages<R>,
@@ -149,8 +152,8 @@ impl<R: Wait + Clock + Copy> Client<R> {
         None
     }
 
-    // Hands its requests to a handler, until it has no further one. Answers leave together. Once the server was closed the next
-    // request is dropped, and is the last.
+    // Hands its requests to a handler, until it has no further one. Answers leave together. Once the server was
+    // closed the next request is dropped, and is the last.
     fn answer_requests<H: Handler<R, ServerRequest<R>>>(&mut self, alloc: Global, handler: &H) {
         let Ok(flush_policy) = Arc::try_clone(self.cork.flush_policy()) else {
             return;
@@ -195,8 +198,8 @@ impl<R: Wait + Clock + Copy> Arrival<R> {
         }
     }
 
-    /// Hands its requests to a handler, waits until all are answered, and closes the connection. Once the server was closed the
-    /// next request is dropped, and is the last.
+    /// Hands its requests to a handler, waits until all are answered, and closes the connection. Once the server was
+    /// closed the next request is dropped, and is the last.
     pub fn answer_by<H: Handler<R, ServerRequest<R>>>(&mut self, alloc: Global, handler: &H) {
         let next = self.next.take();
         if self.client.ending.is_closed() {
@@ -222,8 +225,8 @@ pub(crate) struct Reading<R: Wait + Clock + Drop> {
 }
 
 impl<R: Wait + Clock + Copy> Job for Reading<R> {
-    /// Puts the client's requests into the queue, waits until all are answered, and closes the connection. Where the server serves
-    /// by then the client is put there itself, to be served.
+    /// Puts the client's requests into the queue, waits until all are answered, and closes the connection. Where the
+    /// server serves by then the client is put there itself, to be served.
     fn run(&mut self) {
         let Some(mut client) = self.client.take() else {
             return;
@@ -316,8 +319,8 @@ impl<R: Wait + Clock + Threads + Copy + Send + 'static> Accepting<R> {
         }
     }
 
-    // The client of this connection. None where memory was refused, or as many of its address are connected as may be. That its small
-    // answers are sent at once (TCP_NODELAY) is asked for, but not needed.
+    // The client of this connection. None where memory was refused, or as many of its address are connected as may
+    // be. That its small answers are sent at once (TCP_NODELAY) is asked for, but not needed.
     fn client(&self, connection: Connection, remote_addr: Option<SocketAddr>) -> Option<Client<R>> {
         let _ = connection.set_nodelay(true);
         let (rt, alloc) = (self.rt, self.alloc);

@@ -1,8 +1,9 @@
 //! A small HTTP server: it accepts clients, and hands out their requests, which any thread may read and answer.
 //!
-//! `Server::http` listens at an address. `recv` waits for a request, and `respond` answers it. Answers leave in the order of the
-//! requests of their connection, so `respond` waits until those before are answered; a request that is dropped is answered by an
-//! empty 500. Threads may share a server, and each may ask for requests. A loop over `incoming_requests` is a whole program:
+//! `Server::http` listens at an address. `recv` waits for a request, and `respond` answers it. Answers leave in the
+//! order of the requests of their connection, so `respond` waits until those before are answered; a request that is
+//! dropped is answered by an empty 500. Threads may share a server, and each may ask for requests. A loop over
+//! `incoming_requests` is a whole program:
 //!
 //! ```text
 //! let server = Server::http(rt, alloc, "0.0.0.0:8000")?;
@@ -16,13 +17,13 @@
 //!
 //! `Request::respond_streaming` begins an answer whose body grows while it is sent, as that of server-sent events.
 //!
-//! `Server::serve_by` is this loop on some threads, with a `Handler`. `Server::serve` has the worker of each connection answer that
-//! connection's requests itself.
+//! `Server::serve_by` is this loop on some threads, with a `Handler`. `Server::serve` has the worker of each
+//! connection answer that connection's requests itself.
 //!
-//! Calls are passed the runtime, which locks, waits and opens sockets, and the allocator: none is taken silently. The crate names
-//! the modules of the crates beneath again, so a program lists this crate; `httpdate` where it makes dates of its own; and where `?`
-//! makes an `io::Error` the crate of the error: `tiny_http_head` for a `ParseError`, as behind `Response::with`, and
-//! `tiny_http_request` for a `BodyError`.
+//! Calls are passed the runtime, which locks, waits and opens sockets, and the allocator: none is taken silently. The
+//! crate names the modules of the crates beneath again, so a program lists this crate; `httpdate` where it makes
+//! dates of its own; and where `?` makes an `io::Error` the crate of the error: `tiny_http_head` for a `ParseError`,
+//! as behind `Response::with`, and `tiny_http_request` for a `BodyError`.
 #![tactic(auto)]
 
 mod accepting;

@@ -39,8 +39,9 @@ const QUEUE_ROOM: usize = 8;
 // So many seconds a server that is dropped tries to connect to itself.
 const SELF_CONNECT_SECS: u64 = 1;
 
-/// What is needed of the runtime to make a server: sockets, the files of Unix sockets, a clock, threads that wait, and that it can
-/// be copied and sent to them. Any runtime with these has it. Threads that share a server need `Sync` besides.
+/// What is needed of the runtime to make a server: sockets, the files of Unix sockets, a clock, threads that wait,
+/// and that it can be copied and sent to them. Any runtime with these has it. Threads that share a server need `Sync`
+/// besides.
 pub trait ServerRuntime: Net<Listener = TcpListener, Stream = TcpStream>
     + SocketFiles
     + Clock
@@ -62,8 +63,8 @@ where
         + 'static,
 {}
 
-/// What a program needs of the runtime whose threads share a server: what the server itself needs, and `Sync`. Any runtime with
-/// these has it.
+/// What a program needs of the runtime whose threads share a server: what the server itself needs, and `Sync`. Any
+/// runtime with these has it.
 pub trait Host: ServerRuntime + Sync {}
 
 impl<R: ServerRuntime + Sync> Host for R {}
@@ -192,13 +193,13 @@ impl SslConfig {
 
 /// A server. Threads may share it, and each may ask for requests.
 ///
-/// Where it is dropped it accepts no further client, and the file of its Unix socket is removed; the accepting thread ends soon
-/// after. Requests that were handed out can still be answered. Each other request, one that waits or comes later, is answered by
-/// an empty 500. The connection of one that comes later ends with it; that of one that waited ends with its next request, or when
-/// the client ends it.
+/// Where it is dropped it accepts no further client, and the file of its Unix socket is removed; the accepting thread
+/// ends soon after. Requests that were handed out can still be answered. Each other request, one that waits or comes
+/// later, is answered by an empty 500. The connection of one that comes later ends with it; that of one that waited
+/// ends with its next request, or when the client ends it.
 ///
-/// A request's date, that of its 500 if it is dropped, is read before the wait for its head: on a connection that was idle
-/// it is older than the request.
+/// A request's date, that of its 500 if it is dropped, is read before the wait for its head: on a connection that was
+/// idle it is older than the request.
 pub struct Server<R: Net + SocketFiles + Wait + Clock + Drop> {
     pub(crate) rt: R,
     ending: Arc<Ending>,
@@ -210,8 +211,8 @@ pub struct Server<R: Net + SocketFiles + Wait + Clock + Drop> {
 }
 
 impl<R: ServerRuntime> Server<R> {
-    /// A server at the first of these addresses that can be bound. Errors as `new`, and where a host's name isn't found or the
-    /// text is no address.
+    /// A server at the first of these addresses that can be bound. Errors as `new`, and where a host's name isn't
+    /// found or the text is no address.
     pub fn http<A: ToSocketAddrs>(rt: R, alloc: Global, addr: A) -> Result<Server<R>, ServerError> {
         Server::http_with(rt, alloc, addr, Profile::Lenient)
     }
@@ -234,8 +235,8 @@ impl<R: ServerRuntime> Server<R> {
         Server::new(rt, alloc, ServerConfig { addr, ssl: None })
     }
 
-    /// A server that listens as this says. `Io` where it can't listen there, and else as `from_listener`. Where no server is
-    /// made, no file of a Unix socket is left that this call made.
+    /// A server that listens as this says. `Io` where it can't listen there, and else as `from_listener`. Where no
+    /// server is made, no file of a Unix socket is left that this call made.
     pub fn new(rt: R, alloc: Global, config: ServerConfig) -> Result<Server<R>, ServerError>
         ensures ssl { IsSome config.ssl → IsErr result }
         ensures refused { result ≡ Err ServerError.Ssl → IsSome config.ssl }
@@ -256,9 +257,9 @@ impl<R: ServerRuntime> Server<R> {
         Server::bound(rt, alloc, config, profile, None)
     }
 
-    /// A server for an open port: the same, with these limits for its clients. After a temporary fault of accepting, such as no
-    /// descriptor or a connection that its client has reset, it waits and tries again. A Unix socket's file on which nobody listens
-    /// is taken over.
+    /// A server for an open port: the same, with these limits for its clients. After a temporary fault of accepting,
+    /// such as no descriptor or a connection that its client has reset, it waits and tries again. A Unix socket's
+    /// file on which nobody listens is taken over.
     pub fn with(
         rt: R,
         alloc: Global,
@@ -297,10 +298,10 @@ impl<R: ServerRuntime> Server<R> {
         made
     }
 
-    /// A server over this listening socket, which has to wait for clients: one that doesn't ends accepting by `WouldBlock`. Heads
-    /// are read under `Lenient`. The file of a Unix socket is removed where the server is dropped. `Ssl` where it is to encrypt;
-    /// `Io` where the socket has no address, or the system has no thread for the server; `Memory` where memory was refused. Then
-    /// such a file stays.
+    /// A server over this listening socket, which has to wait for clients: one that doesn't ends accepting by
+    /// `WouldBlock`. Heads are read under `Lenient`. The file of a Unix socket is removed where the server is
+    /// dropped. `Ssl` where it is to encrypt; `Io` where the socket has no address, or the system has no thread for
+    /// the server; `Memory` where memory was refused. Then such a file stays.
     pub fn from_listener(
         rt: R,
         alloc: Global,
@@ -413,8 +414,8 @@ impl<R: Net + SocketFiles + Wait + Clock + Drop> Server<R> {
         }
     }
 
-    /// How many clients that were accepted are connected. One counts until all its requests are answered and its connection is
-    /// closed.
+    /// How many clients that were accepted are connected. One counts until all its requests are answered and its
+    /// connection is closed.
     pub fn num_connections(&self) -> usize {
         self.lobby.count(&self.rt)
     }
@@ -429,11 +430,12 @@ impl<R: Net + SocketFiles + Wait + Clock + Drop> Server<R> {
         self.lobby.accept_faults(&self.rt)
     }
 
-    /// Waits for a request. An error is the fault by which accepting ended, which one call reports, or of kind `Other` where
-    /// `unblock` was called. After such a fault no further client is accepted, and requests come only from those that were.
+    /// Waits for a request. An error is the fault by which accepting ended, which one call reports, or of kind
+    /// `Other` where `unblock` was called. After such a fault no further client is accepted, and requests come only
+    /// from those that were.
     ///
-    /// A server that serves by a handler has none to give, but those of clients that came before. Where a client waits for `serve` to
-    /// be called again the error is at once of kind `Other`, as if `unblock` had been called.
+    /// A server that serves by a handler has none to give, but those of clients that came before. Where a client
+    /// waits for `serve` to be called again the error is at once of kind `Other`, as if `unblock` had been called.
     ///
     /// Once the server was stopped the error is of kind `Other` at each call.
     pub fn recv(&self) -> io::Result<ServerRequest<R>> {
@@ -444,14 +446,15 @@ impl<R: Net + SocketFiles + Wait + Clock + Drop> Server<R> {
         }
     }
 
-    /// A request, if one has come; it waits for none. None too where `recv` reports an error of kind `Other`. An error is the fault
-    /// by which accepting ended, which one call reports.
+    /// A request, if one has come; it waits for none. None too where `recv` reports an error of kind `Other`. An
+    /// error is the fault by which accepting ended, which one call reports.
     pub fn try_recv(&self) -> io::Result<Option<ServerRequest<R>>> {
         let popped = self.messages.try_pop(&self.rt);
         self.received(popped)
     }
 
-    // What a pop of the queue is reported as. Once the server was stopped it is nothing, and another call that waits goes on, too.
+    // What a pop of the queue is reported as. Once the server was stopped it is nothing, and another call that waits
+    // goes on, too.
     fn received(&self, popped: Option<Message<R>>) -> io::Result<Option<ServerRequest<R>>> {
         if self.has_stopped() {
             let _ = self.messages.unblock(&self.rt);
@@ -469,12 +472,12 @@ impl<R: Net + SocketFiles + Wait + Clock + Drop> Server<R> {
 impl<R: Net<Listener = TcpListener, Stream = TcpStream> + SocketFiles + Wait + Clock + Drop> Server<
     R,
 > {
-    /// Stops the server, from any thread: no further client is accepted, connections that wait for a head are closed, and requests that
-    /// wait in the queue are dropped, so that they are answered by 500. It waits until all that was handed out is answered and
-    /// each connection is closed, or for so long; and then has each call that waits for a request, and `serve`, return. A
-    /// connection whose request is answered is closed behind its answer. A later call waits again for what is left. A handler that
-    /// makes this call is waited for, too, so the call lasts the whole time. It lasts longer where a client doesn't take a 500
-    /// that is sent here.
+    /// Stops the server, from any thread: no further client is accepted, connections that wait for a head are closed,
+    /// and requests that wait in the queue are dropped, so that they are answered by 500. It waits until all that was
+    /// handed out is answered and each connection is closed, or for so long; and then has each call that waits for a
+    /// request, and `serve`, return. A connection whose request is answered is closed behind its answer. A later call
+    /// waits again for what is left. A handler that makes this call is waited for, too, so the call lasts the whole
+    /// time. It lasts longer where a client doesn't take a 500 that is sent here.
     pub fn stop(&self, time: Duration) -> Stopped {
         let begun = time_of(&self.rt);
         self.close_down();
@@ -494,8 +497,8 @@ impl<R: Net<Listener = TcpListener, Stream = TcpStream> + SocketFiles + Wait + C
 }
 
 impl<R: Net + SocketFiles + Wait + Clock + Drop> Server<R> {
-    /// Waits for a request, for so long at most, and then reports none; less than a millisecond counts as nothing. Else as
-    /// `try_recv`.
+    /// Waits for a request, for so long at most, and then reports none; less than a millisecond counts as nothing.
+    /// Else as `try_recv`.
     pub fn recv_timeout(&self, timeout: Duration) -> io::Result<Option<ServerRequest<R>>> {
         let popped = self.messages.pop_timeout(&self.rt, timeout);
         self.received(popped)
@@ -503,8 +506,8 @@ impl<R: Net + SocketFiles + Wait + Clock + Drop> Server<R> {
 }
 
 impl<R: Net + SocketFiles + Wait + Clock + Drop> Server<R> {
-    // Ends accepting, for which it connects to itself once, drops the requests that wait, and removes the file of a Unix socket. Once
-    // that is done it does nothing.
+    // Ends accepting, for which it connects to itself once, drops the requests that wait, and removes the file of a
+    // Unix socket. Once that is done it does nothing.
     fn close_down(&self) {
         if !self.ending.close() {
             return;
@@ -539,8 +542,8 @@ impl<R: Net + SocketFiles + Wait + Clock + Drop> Server<R> {
 }
 
 impl<R: Net + SocketFiles + Wait + Clock + Drop> Drop for Server<R> {
-    /// Ends accepting, for which it connects to itself once, drops the requests that wait, and removes the file of a Unix
-    /// socket.
+    /// Ends accepting, for which it connects to itself once, drops the requests that wait, and removes the file of a
+    /// Unix socket.
     fn drop(self) {
         self.close_down();
         let Server {
@@ -576,15 +579,16 @@ pub struct IncomingRequests<'a, R: Net + SocketFiles + Wait + Clock + Drop> {
 }
 
 impl<R: Net + SocketFiles + Wait + Clock + Drop> IncomingRequests<'_, R> {
-    /// Waits for the next request. None where `recv` reports an error: once for the fault by which accepting ended, once for
-    /// each `unblock`, and where a client waits for `serve`. A later call waits again, unless the server was stopped.
+    /// Waits for the next request. None where `recv` reports an error: once for the fault by which accepting ended,
+    /// once for each `unblock`, and where a client waits for `serve`. A later call waits again, unless the server was
+    /// stopped.
     pub fn next(&mut self) -> Option<ServerRequest<R>> {
         self.server.recv().ok()
     }
 }
 
-/// The date of the machine's clock, in whole seconds; that of second 0 where the clock can't be read, or stands before 1970 or
-/// after 9999.
+/// The date of the machine's clock, in whole seconds; that of second 0 where the clock can't be read, or stands
+/// before 1970 or after 9999.
 pub fn current_date<R: Clock>(rt: &R) -> HttpDate {
     date_of(rt.since_1970().ok())
 }

@@ -1,5 +1,7 @@
 -- What is still to come of a request's body, and where the input stands after it.
-use Rattle.std.specs.Prelude.{◌≡◌, ℕ, ◌+◌, ◌-◌, ◌^◌, ◌<◌, ◌≤◌, Bool, true, false, ◌||◌, ◌==◌, nat_lt, List, [], length, take, Option, Some, None, Result, Ok, Err, IfOk, IfErr, OnErr, IfSome, MatchBool, ⊤, if◌then◌else◌}
+use Rattle.std.specs.Prelude.{◌≡◌, ℕ, ◌+◌, ◌-◌, ◌^◌, ◌<◌, ◌≤◌, Bool, true, false, ◌||◌, ◌==◌, nat_lt, List, []}
+use Rattle.std.specs.Prelude.{length, take, Option, Some, None, Result, Ok, Err, IfOk, IfErr, OnErr, IfSome}
+use Rattle.std.specs.Prelude.{MatchBool, ⊤, if◌then◌else◌}
 use Rattle.std.specs.Option.{option_map}
 use Rattle.std.specs.IoError.{error_kind}
 use Rattle.std.specs.declared.io.Error.{Error}
@@ -45,7 +47,8 @@ abbrev pub chunk_rules : Bool → ChunkRules
 chunk_rules true = chunks.Standard
 chunk_rules false = chunks.Lenient
 
--- how a body stops that the input's stop cuts: as the input does; by the standard its end is a fault, too (RFC 9112, section 8)
+-- how a body stops that the input's stop cuts: as the input does; by the standard its end is a fault, too (RFC 9112,
+-- section 8)
 abbrev pub cut_stop : Bool → Stop → Stop
 cut_stop false stop = stop
 cut_stop true stop = Fault (fault_of stop)
@@ -56,7 +59,8 @@ cut_feed by_standard feed = record { bytes = feed.bytes; stop = cut_stop by_stan
 
 -- so many bytes of the input; where there are fewer no head follows
 abbrev pub counted_remaining : Bool → ℕ → Feed → Remaining
-counted_remaining by_standard n feed = record { body = feed_front n (cut_feed by_standard feed); behind = skipped n feed }
+counted_remaining by_standard n feed =
+    record { body = feed_front n (cut_feed by_standard feed); behind = skipped n feed }
 
 -- the input stands after the body already
 abbrev pub taken_remaining : Feed → Feed → Remaining
@@ -74,14 +78,17 @@ remaining (Counted n by_standard) feed = option_map (counted_remaining by_standa
 remaining (Chunked decoding) feed = option_map coming_remaining (decoding_coming decoding feed)
 remaining Rest feed = option_map rest_remaining feed
 
--- A body in chunks of which nothing was read: one that is whole gives its data, and leaves the rest; another one gives the data that
--- stand, and then the fault.
+-- A body in chunks of which nothing was read: one that is whole gives its data, and leaves the rest; another one
+-- gives the data that stand, and then the fault.
 pub record IsNewDecoding (by_standard : Bool) (d : Decoding) : Type 0 where
   pub rules : decoding_rules d ≡ chunk_rules by_standard
   pub whole : (bytes body rest : List ℕ) (stop : Stop) → WholeChunksBy (chunk_rules by_standard) bytes body rest
-      → decoding_coming d (Some (record { bytes = bytes; stop = stop })) ≡ Some (record { bytes = body; behind = Ok (record { bytes = rest; stop = stop }) })
-  pub front : (bytes body : List ℕ) (stop : Stop) (kind : ErrorKind) → CutChunksBy (chunk_rules by_standard) bytes stop body kind
-      → decoding_coming d (Some (record { bytes = bytes; stop = stop })) ≡ Some (record { bytes = body; behind = Err kind })
+      → decoding_coming d (Some (record { bytes = bytes; stop = stop }))
+      ≡ Some (record { bytes = body; behind = Ok (record { bytes = rest; stop = stop }) })
+  pub front : (bytes body : List ℕ) (stop : Stop) (kind : ErrorKind)
+      → CutChunksBy (chunk_rules by_standard) bytes stop body kind
+      → decoding_coming d (Some (record { bytes = bytes; stop = stop }))
+      ≡ Some (record { bytes = body; behind = Err kind })
 
 abbrev pub IsNewChunked : Bool → Body → Type 0
 IsNewChunked by_standard b = (d : Decoding) × (b ≡ Chunked d) × IsNewDecoding by_standard d
@@ -171,13 +178,15 @@ abbrev pub IsChunkedBy : ChunkRules → Body → Type 0
 IsChunkedBy rules (Chunked decoding) = decoding_rules decoding ≡ rules
 IsChunkedBy rules _ = ⊥
 
--- So many bytes were read, and the end or the fault was reported or not. A counted body is over with its last byte, another
--- one that is read from the input once its end or fault was reported.
+-- So many bytes were read, and the end or the fault was reported or not. A counted body is over with its last byte,
+-- another one that is read from the input once its end or fault was reported.
 abbrev pub ReadsOn : Body → ℕ → Bool → Body → Type 0
 ReadsOn (Over stop) n end_reported new = (new ≡ Over stop) × (n ≡ 0)
 ReadsOn (WithHead bytes) n end_reported new = IsWithHead new
-ReadsOn (Counted left by_standard) n end_reported new = MatchBool (end_reported || n == left) (IsBodyOver new) ((new ≡ Counted (left - n) by_standard) × (n < left))
-ReadsOn (Chunked decoding) n end_reported new = MatchBool end_reported (IsBodyOver new) (IsChunkedBy (decoding_rules decoding) new)
+ReadsOn (Counted left by_standard) n end_reported new =
+    MatchBool (end_reported || n == left) (IsBodyOver new) ((new ≡ Counted (left - n) by_standard) × (n < left))
+ReadsOn (Chunked decoding) n end_reported new =
+    MatchBool end_reported (IsBodyOver new) (IsChunkedBy (decoding_rules decoding) new)
 ReadsOn Rest n end_reported new = MatchBool end_reported (IsBodyOver new) (new ≡ Rest)
 
 -- the body is finished: it is nothing or held, or all its bytes were given out, or its end or fault was reported
@@ -194,13 +203,16 @@ Fits standard (Over stop) shape n given end_reported = body_finished shape n giv
 Fits standard (WithHead bytes) shape n given end_reported = shape ≡ form.WithHead
 Fits standard (Counted left by_standard) shape n given end_reported =
     (shape ≡ form.Counted) × (given + left ≡ n) × (0 < left) × (end_reported ≡ false) × (by_standard ≡ standard)
-Fits standard (Chunked decoding) shape n given end_reported = (shape ≡ form.Chunked) × (end_reported ≡ false) × (decoding_rules decoding ≡ chunk_rules standard)
+Fits standard (Chunked decoding) shape n given end_reported =
+    (shape ≡ form.Chunked) × (end_reported ≡ false) × (decoding_rules decoding ≡ chunk_rules standard)
 Fits standard Rest shape n given end_reported = (shape ≡ form.Rest) × (end_reported ≡ false)
 
--- A buffer was filled from the body: with all its bytes; or with fewer, and none is left; or a fault came before any byte.
+-- A buffer was filled from the body: with all its bytes; or with fewer, and none is left; or a fault came before any
+-- byte.
 abbrev pub FillsFromBody : Body → Option Feed → Body → Option Feed → Result ℕ ErrorKind → List ℕ → Type 0
 FillsFromBody old from new to (Ok n) buf =
-    (remaining old from ≡ prepended_body (take n buf) (remaining new to)) × (0 < length buf → ReadsOn old n (nat_lt n (length buf)) new)
+    (remaining old from ≡ prepended_body (take n buf) (remaining new to))
+    × (0 < length buf → ReadsOn old n (nat_lt n (length buf)) new)
     × (n < length buf → NoneRemains (remaining new to)) × (n ≡ 0 → 0 < length buf → BodyStops End (remaining old from))
 FillsFromBody old from new to (Err kind) buf =
     (remaining new to ≡ remaining old from) × ReadsOn old 0 true new × BodyStops (Fault kind) (remaining old from)
@@ -214,11 +226,12 @@ body_standing (Counted n by_standard) standing = standing
 body_standing (Chunked decoding) standing = standing
 body_standing Rest standing = standing
 
--- WHAT A READ GIVES of a body, and what it leaves: the bytes that came are the next of the body, no more than the buffer has
--- room for; no byte into a buffer with room is the end of the body, and a fault is its own. A counted body is over with its last
--- byte, another one that is read from the input once its end or fault was reported. After the first fault the source has ended. The
--- input goes on, or stays.
-pub record ReadsRemaining {R : Type 0} (old new : Body) (from to : SourceState R) (r : Result ℕ Error) (buf : List ℕ) : Type 0 where
+-- WHAT A READ GIVES of a body, and what it leaves: the bytes that came are the next of the body, no more than the
+-- buffer has room for; no byte into a buffer with room is the end of the body, and a fault is its own. A counted body
+-- is over with its last byte, another one that is read from the input once its end or fault was reported. After the
+-- first fault the source has ended. The input goes on, or stays.
+pub record ReadsRemaining {R : Type 0} (old new : Body) (from to : SourceState R) (r : Result ℕ Error)
+    (buf : List ℕ) : Type 0 where
   pub bound : IfOk r (λ n. n ≤ length buf)
   pub bytes : IfOk r (λ n. remaining old from.feed ≡ prepended_body (take n buf) (remaining new to.feed))
   pub end : IfOk r (λ n. n ≡ 0 → 0 < length buf → BodyStops End (remaining old from.feed))
@@ -229,10 +242,11 @@ pub record ReadsRemaining {R : Type 0} (old new : Body) (from to : SourceState R
   pub at_end : OnErr r (body_stop old ≡ None → IsAtEnd to)
   pub goes_on : GoesOn from.feed to.feed
 
--- ONE READ of a body. Into an empty buffer it changes nothing. A body that isn't read from the source leaves it alone, and one
--- that is over reports its end or fault again. Else the source stands by what is left of the body: at the next head once that is
--- over.
-pub record ReadsBody {R : Type 0} (old new : Body) (from to : SourceState R) (r : Result ℕ Error) (buf : List ℕ) : Type 0 where
+-- ONE READ of a body. Into an empty buffer it changes nothing. A body that isn't read from the source leaves it
+-- alone, and one that is over reports its end or fault again. Else the source stands by what is left of the body: at
+-- the next head once that is over.
+pub record ReadsBody {R : Type 0} (old new : Body) (from to : SourceState R) (r : Result ℕ Error)
+    (buf : List ℕ) : Type 0 where
   pub reads : ReadsRemaining old new from to r buf
   pub empty : length buf ≡ 0 → (r ≡ Ok 0) × (new ≡ old) × (to ≡ from)
   pub broken : OnErr r (ReadsOn old 0 true new)
@@ -251,17 +265,20 @@ pub record ReadsHeld (old new : Body) (r : Result ℕ Error) (buf : List ℕ) : 
   pub reports_stop : IfSome (body_stop old) (λ stop. AnswersStop stop r × (new ≡ old))
   pub stays_held : is_streaming new ≡ false
 
--- A body of which nothing was read is passed over: the bytes of a counted one are skipped before the next head. Else nothing
--- changes: they were read with the head, or there are none.
+-- A body of which nothing was read is passed over: the bytes of a counted one are skipped before the next head. Else
+-- nothing changes: they were read with the head, or there are none.
 abbrev pub PassesOver : {R : Type 0} → Body → SourceState R → SourceState R → Type 0
-PassesOver (Counted left by_standard) old new = (new.feed ≡ option_map (skipped left) old.feed) × (new.standing ≡ old.standing) × (old.skip + left < 2 ^ 64 → (new.reader ≡ old.reader) × (new.stop ≡ old.stop))
+PassesOver (Counted left by_standard) old new =
+    (new.feed ≡ option_map (skipped left) old.feed)
+    × (new.standing ≡ old.standing)
+    × (old.skip + left < 2 ^ 64 → (new.reader ≡ old.reader) × (new.stop ≡ old.stop))
 PassesOver (Over stop) old new = new ≡ old
 PassesOver (WithHead bytes) old new = new ≡ old
 PassesOver (Chunked decoding) old new = new ≡ old
 PassesOver Rest old new = new ≡ old
 
--- A body is given up: the rest of a counted one is skipped, and the reader isn't called for it; after a chunked one no head
--- follows; else nothing changes, and the rest of the input is left to the source.
+-- A body is given up: the rest of a counted one is skipped, and the reader isn't called for it; after a chunked one
+-- no head follows; else nothing changes, and the rest of the input is left to the source.
 abbrev pub GivesUp : {R : Type 0} → Body → SourceState R → SourceState R → Type 0
 GivesUp (Over stop) old new = new ≡ old
 GivesUp (WithHead bytes) old new = new ≡ old
@@ -270,4 +287,7 @@ GivesUp (Counted left by_standard) old new =
     (new.feed ≡ option_map (skipped left) old.feed) × (new.standing ≡ after_body old.standing)
     × (old.skip + left < 2 ^ 64 → (new.reader ≡ old.reader) × (new.stop ≡ old.stop))
 GivesUp (Chunked decoding) old new =
-    (new.feed ≡ option_map (λ _. stopped End) old.feed) × IsAtEnd new × (new.standing ≡ after_abandoned old.standing) × (new.reader ≡ old.reader)
+    (new.feed ≡ option_map (λ _. stopped End) old.feed)
+    × IsAtEnd new
+    × (new.standing ≡ after_abandoned old.standing)
+    × (new.reader ≡ old.reader)

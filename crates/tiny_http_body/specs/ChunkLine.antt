@@ -60,7 +60,11 @@ pub record OneLine (rules : ChunkRules) (old new : Option Feed) (line : ChunkLin
 
 -- Each of the bytes was needed: with fewer of them their stop would stand in the line's place.
 abbrev pub AreNeeded : ChunkRules → List ℕ → Type 0
-AreNeeded rules gone = (front more : List ℕ) (stop : Stop) → gone ≡ front ++ more → 0 < length more → ChunkLineFaultBy rules front stop (fault_of stop)
+AreNeeded rules gone =
+    (front more : List ℕ) (stop : Stop)
+    → gone ≡ front ++ more
+    → 0 < length more
+    → ChunkLineFaultBy rules front stop (fault_of stop)
 
 -- no line stands there, and some bytes of what does were taken
 pub record NoLine (rules : ChunkRules) (old new : Option Feed) (kind : ErrorKind) : Type 0 where

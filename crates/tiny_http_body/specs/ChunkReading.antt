@@ -1,5 +1,6 @@
 -- The same chunked bodies, computed: one plain reading.
-use Rattle.std.specs.Prelude.{ℕ, zero, suc, ◌+◌, Bool, true, false, not, ◌&&◌, ◌||◌, ◌==◌, nat_lt, nat_le, List, [], ◌∷◌, ◌++◌, length, take, drop, Option, Some, None, Result, Ok, Err, if◌then◌else◌}
+use Rattle.std.specs.Prelude.{ℕ, zero, suc, ◌+◌, Bool, true, false, not, ◌&&◌, ◌||◌, ◌==◌, nat_lt, nat_le, List, []}
+use Rattle.std.specs.Prelude.{◌∷◌, ◌++◌, length, take, drop, Option, Some, None, Result, Ok, Err, if◌then◌else◌}
 use Rattle.std.specs.List.{list_all}
 use Rattle.std.specs.Str.Parse.{digits_value}
 use Rattle.std.specs.declared.io.ErrorKind.{ErrorKind}
@@ -18,7 +19,9 @@ abbrev pub digits_of : List ℕ → List ℕ
 digits_of text = trimmed is_bws (front_while (λ b. not (b == semicolon)) text)
 
 abbrev pub size_said : List ℕ → Option ℕ
-size_said digits = if (nat_lt 0 (length digits) && (nat_le (length digits) 16 && list_all is_hex digits)) then Some (digits_value 16 digits) else None
+size_said digits =
+    if (nat_lt 0 (length digits) && (nat_le (length digits) 16 && list_all is_hex digits)) then Some
+    (digits_value 16 digits) else None
 
 abbrev pub size_of : List ℕ → Option ℕ
 size_of text = size_said (digits_of text)
@@ -30,7 +33,8 @@ size_by Standard text = if (has_bare_front is_bws text && list_all is_value_byte
 -- whether the text is a field line, behind some bytes of its name or none
 abbrev pub is_field_behind : Bool → List ℕ → Bool
 is_field_behind some [] = false
-is_field_behind some (b ∷ bs) = if is_token_byte b then is_field_behind true bs else (some && (b == colon && list_all is_value_byte bs))
+is_field_behind some (b ∷ bs) =
+    if is_token_byte b then is_field_behind true bs else (some && (b == colon && list_all is_value_byte bs))
 
 -- whether a line of one byte or more is a trailer line
 abbrev pub is_trailer_by : ChunkRules → List ℕ → Bool
@@ -65,7 +69,8 @@ short_line stop bytes = short_in stop bytes (line (take (longest_line + 2) bytes
 -- by the standard an LF alone is a fault
 abbrev pub line_by : ChunkRules → Stop → List ℕ → LineRead
 line_by Lenient stop bytes = short_line stop bytes
-line_by Standard stop bytes = if (has_lone_feed (take (longest_line + 2) bytes)) then Err InvalidData else short_line stop bytes
+line_by Standard stop bytes =
+    if (has_lone_feed (take (longest_line + 2) bytes)) then Err InvalidData else short_line stop bytes
 
 abbrev pub trailer_at : ChunkRules → (List ℕ → Decoded) → List ℕ → List ℕ → Decoded
 trailer_at rules go [] rest = record { body = []; ends = Ok rest }
@@ -77,7 +82,8 @@ trailer_in rules go (Ok l) = trailer_at rules go l.0 l.1
 
 abbrev pub trailer_section : ChunkRules → ℕ → Stop → List ℕ → Decoded
 trailer_section rules zero stop bytes = trailer_in rules (λ rest. broken [] InvalidData) (line_by rules stop bytes)
-trailer_section rules (suc more) stop bytes = trailer_in rules (trailer_section rules more stop) (line_by rules stop bytes)
+trailer_section rules (suc more) stop bytes =
+    trailer_in rules (trailer_section rules more stop) (line_by rules stop bytes)
 
 abbrev pub after_data : Stop → List ℕ → Result (List ℕ) ErrorKind
 after_data stop [] = Err (fault_of stop)

@@ -1,5 +1,6 @@
 -- The size that a size line gives, read byte by byte (RFC 9112, section 7.1).
-use Rattle.std.specs.Prelude.{ℕ, ◌+◌, ◌*◌, ◌^◌, ◌<◌, ◌≤◌, Bool, not, ◌&&◌, ◌==◌, nat_lt, List, [], ◌∷◌, Option, Some, None, if◌then◌else◌, ⊤}
+use Rattle.std.specs.Prelude.{ℕ, ◌+◌, ◌*◌, ◌^◌, ◌<◌, ◌≤◌, Bool, not, ◌&&◌, ◌==◌, nat_lt, List, [], ◌∷◌, Option, Some}
+use Rattle.std.specs.Prelude.{None, if◌then◌else◌, ⊤}
 use Rattle.std.specs.Char.{digit_value}
 use Rattle.httparse.specs.Grammar.{is_value_byte}
 use Rattle.tiny_http_text.specs.Bytes.{semicolon}

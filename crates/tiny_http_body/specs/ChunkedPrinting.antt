@@ -1,5 +1,6 @@
 -- Bytes in chunks (RFC 9112, section 7.1), of `CHUNK` bytes each.
-use Rattle.std.specs.Prelude.{ℕ, zero, suc, ◌*◌, ◌/◌, false, List, [], ◌++◌, length, take, drop, codes, ◌==◌, if◌then◌else◌}
+use Rattle.std.specs.Prelude.{ℕ, zero, suc, ◌*◌, ◌/◌, false, List, [], ◌++◌, length, take, drop, codes, ◌==◌}
+use Rattle.std.specs.Prelude.{if◌then◌else◌}
 use Rattle.std.specs.Fmt.{digits}
 use Rattle.tiny_http_body.specs.declared.chunks.TheConstants.{CHUNK}
 

@@ -1,5 +1,6 @@
 -- A chunked body (RFC 9112, section 7.1), and what stands of one that is cut or broken, by each of the two rules.
-use Rattle.std.specs.Prelude.{◌≡◌, ℕ, ◌+◌, ◌<◌, ◌≤◌, ◌⊎◌, Bool, false, ◌||◌, ◌==◌, nat_lt, List, [], ◌∷◌, ◌++◌, length, take, flat_map, IsTrue}
+use Rattle.std.specs.Prelude.{◌≡◌, ℕ, ◌+◌, ◌<◌, ◌≤◌, ◌⊎◌, Bool, false, ◌||◌, ◌==◌, nat_lt, List, [], ◌∷◌, ◌++◌}
+use Rattle.std.specs.Prelude.{length, take, flat_map, IsTrue}
 use Rattle.std.specs.List.{AllByRecursion, list_all}
 use Rattle.std.specs.Char.{digit_value}
 use Rattle.std.specs.Str.Parse.{digits_value}
@@ -47,7 +48,8 @@ pub record SizeText (text : List ℕ) (size : ℕ) : Type 0 where
 -- By the standard the text begins with its digits, and no byte of it is a control byte but the tab.
 abbrev pub SizeTextBy : ChunkRules → List ℕ → ℕ → Type 0
 SizeTextBy Lenient text size = SizeText text size
-SizeTextBy Standard text size = SizeText text size × IsTrue (has_bare_front is_bws text) × IsTrue (list_all is_value_byte text)
+SizeTextBy Standard text size =
+    SizeText text size × IsTrue (has_bare_front is_bws text) × IsTrue (list_all is_value_byte text)
 
 abbrev pub line_feed : ℕ
 line_feed = 10
@@ -120,7 +122,9 @@ HasNoShortLine bytes = has_crlf (take (longest_line + 2) bytes) ≡ false
 -- where a line has to stand, none does: there is room for the longest one, or the bytes end
 abbrev pub ChunkLineFault : List ℕ → Stop → ErrorKind → Type 0
 ChunkLineFault bytes stop kind =
-    HasNoShortLine bytes × (((longest_line + 2 ≤ length bytes) × (kind ≡ InvalidData)) ⊎ ((length bytes < longest_line + 2) × (kind ≡ fault_of stop)))
+    HasNoShortLine bytes
+    × (((longest_line + 2 ≤ length bytes) × (kind ≡ InvalidData))
+    ⊎ ((length bytes < longest_line + 2) × (kind ≡ fault_of stop)))
 
 -- An LF stands before the first CR LF, behind at most so many bytes that a line could still end there.
 pub record LoneFeed (bytes : List ℕ) : Type 0 where
@@ -134,7 +138,8 @@ pub record LoneFeed (bytes : List ℕ) : Type 0 where
 abbrev pub ChunkLineFaultBy : ChunkRules → List ℕ → Stop → ErrorKind → Type 0
 ChunkLineFaultBy Lenient bytes stop kind = ChunkLineFault bytes stop kind
 ChunkLineFaultBy Standard bytes stop kind =
-    (LoneFeed bytes × (kind ≡ InvalidData)) ⊎ (HasNo line_feed (take (longest_line + 2) bytes) × ChunkLineFault bytes stop kind)
+    (LoneFeed bytes × (kind ≡ InvalidData))
+    ⊎ (HasNo line_feed (take (longest_line + 2) bytes) × ChunkLineFault bytes stop kind)
 
 -- a line of one byte or more that is no field line
 pub record NoField (bytes : List ℕ) : Type 0 where
@@ -148,7 +153,8 @@ pub record NoField (bytes : List ℕ) : Type 0 where
 -- where a trailer line has to stand, none does
 abbrev pub TrailerFaultBy : ChunkRules → List ℕ → Stop → ErrorKind → Type 0
 TrailerFaultBy Lenient bytes stop kind = ChunkLineFault bytes stop kind
-TrailerFaultBy Standard bytes stop kind = ChunkLineFaultBy Standard bytes stop kind ⊎ (NoField bytes × (kind ≡ InvalidData))
+TrailerFaultBy Standard bytes stop kind =
+    ChunkLineFaultBy Standard bytes stop kind ⊎ (NoField bytes × (kind ≡ InvalidData))
 
 -- what stands where the CR LF after a chunk's data has to
 abbrev pub CloseFault : List ℕ → Stop → ErrorKind → Type 0
@@ -170,24 +176,43 @@ abbrev pub RemainderBreaksBy : ChunkRules → Remainder → List ℕ → Stop �
 RemainderBreaksBy rules NoSizeLine bytes stop part kind = (part ≡ []) × ChunkLineFaultBy rules bytes stop kind
 -- a size line whose text is no size
 RemainderBreaksBy rules (BadSize text rest) bytes stop part kind =
-    (bytes ≡ text ++ crlf ++ rest) × IsShortLineBy rules text × ((size : ℕ) → SizeTextBy rules text size → ⊥) × (part ≡ []) × (kind ≡ InvalidData)
+    (bytes ≡ text ++ crlf ++ rest)
+    × IsShortLineBy rules text
+    × ((size : ℕ) → SizeTextBy rules text size → ⊥)
+    × (part ≡ [])
+    × (kind ≡ InvalidData)
 -- the bytes end within the data
 RemainderBreaksBy rules (CutData text size) bytes stop part kind =
-    (bytes ≡ text ++ crlf ++ part) × IsShortLineBy rules text × SizeTextBy rules text size × (length part < size) × (kind ≡ fault_of stop)
+    (bytes ≡ text ++ crlf ++ part)
+    × IsShortLineBy rules text
+    × SizeTextBy rules text size
+    × (length part < size)
+    × (kind ≡ fault_of stop)
 -- all the data stand, and no CR LF after them
 RemainderBreaksBy rules (NoClose text close) bytes stop part kind =
-    (bytes ≡ text ++ crlf ++ part ++ close) × IsShortLineBy rules text × SizeTextBy rules text (length part) × (0 < length part) × CloseFault close stop kind
+    (bytes ≡ text ++ crlf ++ part ++ close)
+    × IsShortLineBy rules text
+    × SizeTextBy rules text (length part)
+    × (0 < length part)
+    × CloseFault close stop kind
 -- a last chunk, and the trailer part breaks off
 RemainderBreaksBy rules (CutTrailer last trailers next) bytes stop part kind =
-    (bytes ≡ lines_text (last ∷ trailers) ++ next) × IsLastLineBy rules last × AllByRecursion (IsTrailerLineBy rules) trailers × (length trailers ≤ most_trailers)
+    (bytes ≡ lines_text (last ∷ trailers) ++ next)
+    × IsLastLineBy rules last
+    × AllByRecursion (IsTrailerLineBy rules) trailers
+    × (length trailers ≤ most_trailers)
     × TrailerFaultBy rules next stop kind × (part ≡ [])
 -- a last chunk, and a trailer line too many
 RemainderBreaksBy rules (LongTrailer last trailers next) bytes stop part kind =
-    (bytes ≡ lines_text (last ∷ trailers) ++ next) × IsLastLineBy rules last × AllByRecursion (IsTrailerLineBy rules) trailers × (length trailers ≡ most_trailers + 1)
+    (bytes ≡ lines_text (last ∷ trailers) ++ next)
+    × IsLastLineBy rules last
+    × AllByRecursion (IsTrailerLineBy rules) trailers
+    × (length trailers ≡ most_trailers + 1)
     × (part ≡ []) × (kind ≡ InvalidData)
 
 -- the bytes are whole chunks and a remainder; the data are the whole chunks' and what stands of the next
-pub record CutChunksBy (rules : ChunkRules) (bytes : List ℕ) (stop : Stop) (body : List ℕ) (kind : ErrorKind) : Type 0 where
+pub record CutChunksBy (rules : ChunkRules) (bytes : List ℕ) (stop : Stop) (body : List ℕ)
+    (kind : ErrorKind) : Type 0 where
   pub chunks : List Chunk
   pub rest : List ℕ
   pub part : List ℕ

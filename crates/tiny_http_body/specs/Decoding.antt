@@ -1,5 +1,6 @@
 -- What a decoder of a chunked body still gives (RFC 9112, section 7.1).
-use Rattle.std.specs.Prelude.{◌≡◌, ℕ, ◌+◌, ◌<◌, ◌≤◌, nat_lt, List, [], ◌++◌, length, take, Option, Some, None, Result, Ok, Err, IfOk, IfErr, OnErr, IsSome, IfSome, ⊤}
+use Rattle.std.specs.Prelude.{◌≡◌, ℕ, ◌+◌, ◌<◌, ◌≤◌, nat_lt, List, [], ◌++◌, length, take, Option, Some, None, Result}
+use Rattle.std.specs.Prelude.{Ok, Err, IfOk, IfErr, OnErr, IsSome, IfSome, ⊤}
 use Rattle.std.specs.Option.{option_map}
 use Rattle.std.specs.IoError.{error_kind}
 use Rattle.std.specs.declared.io.Error.{Error}
@@ -26,7 +27,8 @@ body_by rules stop bytes = decoded_by rules (length bytes + 1) stop bytes
 -- what is read of the body from here on
 unfoldable pub decoded_from_by : ChunkRules → Next → Feed → Decoded
 decoded_from_by rules Line feed = body_by rules feed.stop feed.bytes
-decoded_from_by rules (Data left) feed = data_at (body_by rules feed.stop) feed.stop left feed.bytes (nat_lt (length feed.bytes) left)
+decoded_from_by rules (Data left) feed =
+    data_at (body_by rules feed.stop) feed.stop left feed.bytes (nat_lt (length feed.bytes) left)
 decoded_from_by rules Over feed = record { body = []; ends = Ok feed.bytes }
 decoded_from_by rules (Broken kind) feed = broken [] kind
 
@@ -63,11 +65,13 @@ decoding_rules d = d.rules
 abbrev pub decoding_reads : Decoding → Feed → Decoded
 decoding_reads d feed = decoded_from_by d.rules d.next feed
 
--- THE BYTES THAT WERE TAKEN WERE NEEDED: had the reader stopped before the last of them, its stop would be the body's fault.
+-- THE BYTES THAT WERE TAKEN WERE NEEDED: had the reader stopped before the last of them, its stop would be the body's
+-- fault.
 pub record TakesNeeded (reads : Feed → Decoded) (old new : Option Feed) : Type 0 where
   pub taken : List ℕ
   pub gives : old ≡ prepended taken new
-  pub needed : (front more : List ℕ) (stop : Stop) → taken ≡ front ++ more → 0 < length more → (reads (record { bytes = front; stop = stop })).ends ≡ Err (fault_of stop)
+  pub needed : (front more : List ℕ) (stop : Stop) → taken ≡ front ++ more → 0 < length more
+      → (reads (record { bytes = front; stop = stop })).ends ≡ Err (fault_of stop)
 
 -- no line has to be read before the next byte of data, the end or the fault
 abbrev pub IsReady : Next → Type 0
@@ -133,14 +137,16 @@ feed_of c = record { bytes = c.bytes; stop = stop_behind c.behind }
 abbrev pub decoder_feed : {R : Type 0} → (R → Option Feed) → Decoder R → Option Feed
 decoder_feed feed d = option_map feed_of (decoder_coming feed d)
 
--- ONE READ. The bytes that came are the next of the body's data; none of some only at the body's end, after which the reader
--- inside stands after it; an error only where the data break off, and it takes none. And whatever the reader states: into an
--- empty buffer nothing changes, what was reported once is reported from then on, of the reader's bytes a front is taken, and up
--- to a fault no byte more than shows it.
-pub record ReadsData {R : Type 0} (feed : R → Option Feed) (old new : Decoder R) (r : Result ℕ Error) (buf : List ℕ) : Type 0 where
+-- ONE READ. The bytes that came are the next of the body's data; none of some only at the body's end, after which the
+-- reader inside stands after it; an error only where the data break off, and it takes none. And whatever the reader
+-- states: into an empty buffer nothing changes, what was reported once is reported from then on, of the reader's
+-- bytes a front is taken, and up to a fault no byte more than shows it.
+pub record ReadsData {R : Type 0} (feed : R → Option Feed) (old new : Decoder R) (r : Result ℕ Error)
+    (buf : List ℕ) : Type 0 where
   pub bound : IfOk r (λ n. n ≤ length buf)
   pub bytes : IfOk r (λ n. decoder_coming feed old ≡ prepended_data (take n buf) (decoder_coming feed new))
-  pub end : IfOk r (λ n. n ≡ 0 → 0 < length buf → decoder_coming feed old ≡ option_map over_at (feed (decoder_inner new)))
+  pub end : IfOk r (λ n. n ≡ 0 → 0 < length buf
+      → decoder_coming feed old ≡ option_map over_at (feed (decoder_inner new)))
   pub fault : IfErr r (λ e. BreaksBy (error_kind e) (decoder_coming feed old))
   pub again : OnErr r (decoder_coming feed new ≡ decoder_coming feed old)
   pub empty : length buf ≡ 0 → (r ≡ Ok 0) × (new ≡ old)

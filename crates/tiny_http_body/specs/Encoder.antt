@@ -31,10 +31,14 @@ pub record Encoded (start now : Sink) (given held : List ℕ) : Type 0 where
 abbrev pub HasEncoded : {W : Type 0} → Sink → List ℕ → EncoderState W → Type 0
 HasEncoded start given e = (e.failed ≡ false) × Encoded start e.sink given e.held
 
--- A call took bytes from the front of a text: with those that were held before them they are written as full chunks, and
--- the rest is held. Or the writer failed within the full chunks of all of them.
+-- A call took bytes from the front of a text: with those that were held before them they are written as full chunks,
+-- and the rest is held. Or the writer failed within the full chunks of all of them.
 abbrev pub Encodes : Sink → Sink → List ℕ → List ℕ → Result ℕ Error → List ℕ → Type 0
-Encodes old new was held (Ok n) text = (n ≤ length text) × (0 < length text → 0 < n) × Took old new (full_chunks (was ++ take n text)) × (held ≡ left_over (was ++ take n text))
+Encodes old new was held (Ok n) text =
+    (n ≤ length text)
+    × (0 < length text → 0 < n)
+    × Took old new (full_chunks (was ++ take n text))
+    × (held ≡ left_over (was ++ take n text))
 Encodes old new was held (Err e) text = Failed old new (full_chunks (was ++ text)) (error_kind e)
 
 -- the answer after the writer's first fault

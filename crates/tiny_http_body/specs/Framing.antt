@@ -1,5 +1,6 @@
 -- How a message is framed, and whether the connection goes on (RFC 9112, sections 6.3 and 9.3; RFC 9110, 10.1.1).
-use Rattle.std.specs.Prelude.{◌≡◌, ℕ, ◌<◌, ◌≤◌, ◌⊎◌, ⊤, Bool, true, false, not, ◌&&◌, ◌||◌, ◌==◌, List, [], ◌∷◌, ◌++◌, map, Option, Some, None, is_some, Result, Ok, Err, IsTrue, codes, if◌then◌else◌}
+use Rattle.std.specs.Prelude.{◌≡◌, ℕ, ◌<◌, ◌≤◌, ◌⊎◌, ⊤, Bool, true, false, not, ◌&&◌, ◌||◌, ◌==◌, List, [], ◌∷◌, ◌++◌}
+use Rattle.std.specs.Prelude.{map, Option, Some, None, is_some, Result, Ok, Err, IsTrue, codes, if◌then◌else◌}
 use Rattle.tiny_http_head.specs.declared.common.Header.{Header}
 use Rattle.tiny_http_head.specs.declared.common.HTTPVersion.{HTTPVersion}
 use Rattle.tiny_http_head.specs.Common.{same_name, lowercase}
@@ -24,11 +25,13 @@ abbrev pub value_of : List ℕ → List Header → Option (List ℕ)
 value_of name [] = None
 value_of name (h ∷ hs) = if same_name h.field name then Some h.value else value_of name hs
 
--- the elements of all headers of that name, in their order: each value is split at its commas, and white space (bytes 9 to 13,
--- and 32) is left out round its parts; an empty value is one empty element
+-- the elements of all headers of that name, in their order: each value is split at its commas, and white space (bytes
+-- 9 to 13, and 32) is left out round its parts; an empty value is one empty element
 abbrev pub elements_of : List ℕ → List Header → List (List ℕ)
 elements_of name [] = []
-elements_of name (h ∷ hs) = if same_name h.field name then map (trimmed is_blank) (parts comma h.value) ++ elements_of name hs else elements_of name hs
+elements_of name (h ∷ hs) =
+    if same_name h.field name then map (trimmed is_blank) (parts comma h.value) ++ elements_of name hs
+    else elements_of name hs
 
 -- the word stands in the value somewhere, case-insensitively
 abbrev pub mentions : List ℕ → Option (List ℕ) → Bool
@@ -40,9 +43,12 @@ abbrev pub length_in_value : Option (List ℕ) → Option ℕ
 length_in_value None = None
 length_in_value (Some value) = length_in value
 
--- THE LENGTH UNDER LENIENT: the first Content-Length says it, if it can be read, and a Transfer-Encoding of any value hides it.
+-- THE LENGTH UNDER LENIENT: the first Content-Length says it, if it can be read, and a Transfer-Encoding of any value
+-- hides it.
 abbrev pub lenient_length : List Header → Option ℕ
-lenient_length headers = if is_some (value_of (codes "Transfer-Encoding") headers) then None else length_in_value (value_of (codes "Content-Length") headers)
+lenient_length headers =
+    if is_some (value_of (codes "Transfer-Encoding") headers) then None
+    else length_in_value (value_of (codes "Content-Length") headers)
 
 -- each of these is this length: digits alone, one or more, below 2^64
 abbrev pub EachIs : ℕ → List (List ℕ) → Type 0
@@ -51,11 +57,15 @@ EachIs n (length ∷ lengths) = (length_of length ≡ Some n) × EachIs n length
 
 -- the last of these is chunked, case-insensitively
 abbrev pub EndsWithChunked : List (List ℕ) → Type 0
-EndsWithChunked codings = (before : List (List ℕ)) × (last : List ℕ) × (codings ≡ before ++ last ∷ []) × IsTrue (same_name last (codes "chunked"))
+EndsWithChunked codings =
+    (before : List (List ℕ))
+    × (last : List ℕ)
+    × (codings ≡ before ++ last ∷ [])
+    × IsTrue (same_name last (codes "chunked"))
 
--- THE LENGTH UNDER STRICT (RFC 9112, sections 6.1 to 6.3), by the elements of Content-Length and those of Transfer-Encoding:
--- neither stands there; or lengths alone, all the same one; or codings alone, the last of which is chunked. With elements of
--- both there is none that holds.
+-- THE LENGTH UNDER STRICT (RFC 9112, sections 6.1 to 6.3), by the elements of Content-Length and those of
+-- Transfer-Encoding: neither stands there; or lengths alone, all the same one; or codings alone, the last of which is
+-- chunked. With elements of both there is none that holds.
 abbrev pub IsStrictLength : List (List ℕ) → List (List ℕ) → Option ℕ → Type 0
 IsStrictLength [] [] n = n ≡ None
 IsStrictLength (length ∷ lengths) [] n = (m : ℕ) × (n ≡ Some m) × EachIs m (length ∷ lengths)
@@ -65,7 +75,8 @@ IsStrictLength (length ∷ lengths) (coding ∷ codings) n = ⊥
 -- the length of the body by its headers, or that they give none
 abbrev pub IsBodyLength : HeadRules → List Header → Option ℕ → Type 0
 IsBodyLength Lenient headers n = n ≡ lenient_length headers
-IsBodyLength Strict headers n = IsStrictLength (elements_of (codes "Content-Length") headers) (elements_of (codes "Transfer-Encoding") headers) n
+IsBodyLength Strict headers n =
+    IsStrictLength (elements_of (codes "Content-Length") headers) (elements_of (codes "Transfer-Encoding") headers) n
 
 -- whether a 100 is owed; or None: an expectation that can't be met
 abbrev pub expectation : Option (List ℕ) → Option Bool
@@ -80,14 +91,16 @@ names_upgrade headers = mentions (codes "upgrade") (value_of (codes "Connection"
 abbrev pub names_coding : List Header → Bool
 names_coding headers = is_some (value_of (codes "Transfer-Encoding") headers)
 
--- HOW THE BODY IS READ: an upgrade comes before a coding, and a coding before a length. A body of 1 to `LONGEST_WITH_HEAD` bytes
--- is read with its head, unless a 100 is owed.
+-- HOW THE BODY IS READ: an upgrade comes before a coding, and a coding before a length. A body of 1 to
+-- `LONGEST_WITH_HEAD` bytes is read with its head, unless a 100 is owed.
 abbrev pub IsForm : Form → Bool → Bool → Bool → Option ℕ → Type 0
 IsForm Rest upgrade coded owed n = upgrade ≡ true
 IsForm Chunked upgrade coded owed n = (upgrade ≡ false) × (coded ≡ true)
 IsForm Nothing upgrade coded owed n = (upgrade ≡ false) × (coded ≡ false) × ((n ≡ None) ⊎ (n ≡ Some 0))
-IsForm WithHead upgrade coded owed n = (upgrade ≡ false) × (coded ≡ false) × (m : ℕ) × (n ≡ Some m) × (0 < m) × (m ≤ LONGEST_WITH_HEAD) × (owed ≡ false)
-IsForm Counted upgrade coded owed n = (upgrade ≡ false) × (coded ≡ false) × (m : ℕ) × (n ≡ Some m) × (0 < m) × ((LONGEST_WITH_HEAD < m) ⊎ (owed ≡ true))
+IsForm WithHead upgrade coded owed n =
+    (upgrade ≡ false) × (coded ≡ false) × (m : ℕ) × (n ≡ Some m) × (0 < m) × (m ≤ LONGEST_WITH_HEAD) × (owed ≡ false)
+IsForm Counted upgrade coded owed n =
+    (upgrade ≡ false) × (coded ≡ false) × (m : ℕ) × (n ≡ Some m) × (0 < m) × ((LONGEST_WITH_HEAD < m) ⊎ (owed ≡ true))
 
 -- whether the connection ends after the request
 abbrev pub is_last : HTTPVersion → Option (List ℕ) → Bool
@@ -95,12 +108,14 @@ is_last v connection =
     (mentions (codes "close") connection || mentions (codes "upgrade") connection)
     || ((v.0 == 1 && v.1 == 0) && not (mentions (codes "keep-alive") connection))
 
--- HOW A HEAD FRAMES ITS MESSAGE, or why it is refused: its framing is invalid, which is judged first, or it expects what can't be
--- met.
+-- HOW A HEAD FRAMES ITS MESSAGE, or why it is refused: its framing is invalid, which is judged first, or it expects
+-- what can't be met.
 abbrev pub Frames : HeadRules → HTTPVersion → List Header → Result Framing FramingFault → Type 0
 Frames p v headers (Err Invalid) = (n : Option ℕ) → IsBodyLength p headers n → ⊥
-Frames p v headers (Err Expectation) = (n : Option ℕ) × IsBodyLength p headers n × (expectation (value_of (codes "Expect") headers) ≡ None)
+Frames p v headers (Err Expectation) =
+    (n : Option ℕ) × IsBodyLength p headers n × (expectation (value_of (codes "Expect") headers) ≡ None)
 Frames p v headers (Ok f) =
     IsBodyLength p headers f.body_length × (expectation (value_of (codes "Expect") headers) ≡ Some f.owes_continue)
-    × IsForm f.form (names_upgrade headers) (names_coding headers) f.owes_continue f.body_length × (f.is_last ≡ is_last v (value_of (codes "Connection") headers))
+    × IsForm f.form (names_upgrade headers) (names_coding headers) f.owes_continue f.body_length
+    × (f.is_last ≡ is_last v (value_of (codes "Connection") headers))
     × (f.asks_upgrade ≡ false) × (f.by_standard ≡ false)

@@ -1,5 +1,6 @@
 -- How a head frames its message, computed: one plain reading, by which the law of framing is proved.
-use Rattle.std.specs.Prelude.{ℕ, Bool, true, false, not, ◌&&◌, ◌==◌, nat_le, List, [], ◌∷◌, Option, Some, None, Result, Ok, Err, codes, if◌then◌else◌}
+use Rattle.std.specs.Prelude.{ℕ, Bool, true, false, not, ◌&&◌, ◌==◌, nat_le, List, [], ◌∷◌, Option, Some, None}
+use Rattle.std.specs.Prelude.{Result, Ok, Err, codes, if◌then◌else◌}
 use Rattle.std.specs.List.{list_all}
 use Rattle.tiny_http_head.specs.declared.common.Header.{Header}
 use Rattle.tiny_http_head.specs.declared.common.HTTPVersion.{HTTPVersion}
@@ -13,7 +14,8 @@ use Rattle.tiny_http_body.specs.declared.framing.FramingFault.TheVariants.{Inval
 use Rattle.tiny_http_body.specs.declared.framing.Form.{Form}
 use Rattle.tiny_http_body.specs.declared.framing.Form.TheVariants.{Rest, Nothing, WithHead, Counted, Chunked}
 use Rattle.tiny_http_body.specs.declared.framing.Framing.{Framing}
-use Rattle.tiny_http_body.specs.Framing.{value_of, elements_of, lenient_length, expectation, names_upgrade, names_coding, is_last}
+use Rattle.tiny_http_body.specs.Framing.{value_of, elements_of, lenient_length, expectation, names_upgrade}
+use Rattle.tiny_http_body.specs.Framing.{names_coding, is_last}
 
 -- the value that was found before, or else that of the first header of that name
 abbrev pub first_value : Option (List ℕ) → List ℕ → List Header → Option (List ℕ)
@@ -22,7 +24,8 @@ first_value (Some value) name headers = Some value
 
 abbrev pub sized_form : Bool → Option ℕ → Form
 sized_form owed None = Nothing
-sized_form owed (Some n) = if n == 0 then Nothing else if (nat_le n LONGEST_WITH_HEAD && not owed) then WithHead else Counted
+sized_form owed (Some n) =
+    if n == 0 then Nothing else if (nat_le n LONGEST_WITH_HEAD && not owed) then WithHead else Counted
 
 abbrev pub form_by : Bool → Bool → Bool → Option ℕ → Form
 form_by true coded owed n = Rest
@@ -63,7 +66,8 @@ if_length (Some n) more = more n
 
 abbrev pub lengths_on : Option ℕ → List (List ℕ) → Result (Option ℕ) FramingFault
 lengths_on found [] = Ok found
-lengths_on found (length ∷ lengths) = if_length (same_length (length_of length) found) (λ n. lengths_on (Some n) lengths)
+lengths_on found (length ∷ lengths) =
+    if_length (same_length (length_of length) found) (λ n. lengths_on (Some n) lengths)
 
 abbrev pub chunked_on : Bool → List (List ℕ) → Bool
 chunked_on was [] = was
@@ -72,12 +76,21 @@ chunked_on was (coding ∷ codings) = chunked_on (same_name coding (codes "chunk
 -- the length of the body by its headers
 abbrev pub body_length : HeadRules → List Header → Result (Option ℕ) FramingFault
 body_length Lenient headers = Ok (lenient_length headers)
-body_length Strict headers = strict_length (elements_of (codes "Content-Length") headers) (elements_of (codes "Transfer-Encoding") headers)
+body_length Strict headers =
+    strict_length (elements_of (codes "Content-Length") headers) (elements_of (codes "Transfer-Encoding") headers)
 
 abbrev pub framed_by : HTTPVersion → List Header → Option ℕ → Option Bool → Result Framing FramingFault
 framed_by v headers n None = Err Expectation
 framed_by v headers n (Some owed) =
-    Ok (record { form = form_by (names_upgrade headers) (names_coding headers) owed n; owes_continue = owed; body_length = n; asks_upgrade = false; by_standard = false; is_last = is_last v (value_of (codes "Connection") headers) })
+    Ok
+    (record {
+      form = form_by (names_upgrade headers) (names_coding headers) owed n;
+      owes_continue = owed;
+      body_length = n;
+      asks_upgrade = false;
+      by_standard = false;
+      is_last = is_last v (value_of (codes "Connection") headers);
+    })
 
 abbrev pub framed_if : HTTPVersion → List Header → Result (Option ℕ) FramingFault → Result Framing FramingFault
 framed_if v headers (Err fault) = Err fault

@@ -1,5 +1,6 @@
 -- What a contract sees of a body that grows.
-use Rattle.std.specs.Prelude.{◌≡◌, ◌⊎◌, ℕ, ◌<◌, ◌≤◌, Bool, false, List, [], ◌++◌, length, take, Result, Ok, Err, IfErr, IsErr, codes}
+use Rattle.std.specs.Prelude.{◌≡◌, ◌⊎◌, ℕ, ◌<◌, ◌≤◌, Bool, false, List, [], ◌++◌, length, take, Result, Ok, Err}
+use Rattle.std.specs.Prelude.{IfErr, IsErr, codes}
 use Rattle.std.specs.List.{flat_map, AllByRecursion}
 use Rattle.std.specs.IoError.{error_kind}
 use Rattle.std.specs.declared.io.Error.{Error}
@@ -45,8 +46,8 @@ joined pieces = flat_map (λ piece. piece) pieces
 abbrev pub IsPiece : List ℕ → Type 0
 IsPiece bytes = length bytes ≤ CHUNK
 
--- From one state of a writer to another a body was given these bytes: all but those that are held, which are less than a chunk, were sent
--- in pieces.
+-- From one state of a writer to another a body was given these bytes: all but those that are held, which are less
+-- than a chunk, were sent in pieces.
 pub record SentPieces (form : StreamedForm) (start now : Sink) (given held : List ℕ) : Type 0 where
   pub pieces : List (List ℕ)
   pub sent : Took start now (pieces_text form pieces)
@@ -71,11 +72,13 @@ Holds form old new held bytes =
     ((length bytes < CHUNK) × (new ≡ old) × (held ≡ bytes))
     ⊎ ((length bytes ≡ CHUNK) × Took old new (piece_text form bytes) × (held ≡ []))
 
--- ONE WRITE takes bytes from the front of a text, at least one if there is one, behind those that are held. Or the writer failed
--- within the piece that they fill.
+-- ONE WRITE takes bytes from the front of a text, at least one if there is one, behind those that are held. Or the
+-- writer failed within the piece that they fill.
 abbrev pub Gathers : StreamedForm → Sink → Sink → List ℕ → List ℕ → Result ℕ Error → List ℕ → Type 0
-Gathers form old new was held (Ok n) text = (n ≤ length text) × (0 < length text → 0 < n) × Holds form old new held (was ++ take n text)
-Gathers form old new was held (Err e) text = (CHUNK ≤ length (was ++ text)) × Failed old new (piece_text form (take CHUNK (was ++ text))) (error_kind e)
+Gathers form old new was held (Ok n) text =
+    (n ≤ length text) × (0 < length text → 0 < n) × Holds form old new held (was ++ take n text)
+Gathers form old new was held (Err e) text =
+    (CHUNK ≤ length (was ++ text)) × Failed old new (piece_text form (take CHUNK (was ++ text))) (error_kind e)
 
 -- the answer after the writer's first fault
 abbrev pub IsBroken : {T : Type 0} → Result T Error → Type 0

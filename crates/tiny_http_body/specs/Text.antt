@@ -31,7 +31,11 @@ nothing_sent kind = record { bytes = []; ending = Broken kind }
 
 -- a body that is sent as it is, cut at its length (RFC 9112, section 6.2): whole if there are so many bytes
 abbrev pub identity_body : ℕ → Feed → Text
-identity_body n feed = record { bytes = take n feed.bytes; ending = if nat_le n (length feed.bytes) then Whole else Broken (fault_of feed.stop) }
+identity_body n feed =
+    record {
+      bytes = take n feed.bytes;
+      ending = if nat_le n (length feed.bytes) then Whole else Broken (fault_of feed.stop);
+    }
 
 -- a body that is sent in chunks, up to its last full one where its data fails
 abbrev pub chunked_until : Stop → List ℕ → Text
@@ -45,4 +49,5 @@ chunked_body feed = chunked_until feed.stop feed.bytes
 -- its fault as the answer, or the writer failed within it.
 abbrev pub Prints : {T : Type 0} → Sink → Sink → Result T Error → Text → Type 0
 Prints old new (Ok x) text = (text.ending ≡ Whole) × Took old new text.bytes
-Prints old new (Err e) text = ((text.ending ≡ Broken (error_kind e)) × Took old new text.bytes) ⊎ Failed old new text.bytes (error_kind e)
+Prints old new (Err e) text =
+    ((text.ending ≡ Broken (error_kind e)) × Took old new text.bytes) ⊎ Failed old new text.bytes (error_kind e)

@@ -4,7 +4,9 @@ ghost use Rattle.std.specs.Option.{option_map};
 ghost use Rattle.tiny_http_io.specs.Device.{AnswersStop, Feed};
 ghost use Rattle.tiny_http_io.specs.Source.{GoesOn};
 ghost use Rattle.tiny_http_io.specs.ToCome.{skipped};
-ghost use Rattle.tiny_http_body.specs.Body.{remaining, IsNewChunked, counted_remaining, is_whole, bytes_left, remainder, stream_body, is_streaming, body_standing, ReadsOn, ReadsRemaining, ReadsBody, ReadsHeld, FillsFromBody, GivesUp};
+ghost use Rattle.tiny_http_body.specs.Body.{remaining, IsNewChunked, counted_remaining, is_whole, bytes_left};
+ghost use Rattle.tiny_http_body.specs.Body.{remainder, stream_body, is_streaming, body_standing, ReadsOn};
+ghost use Rattle.tiny_http_body.specs.Body.{ReadsRemaining, ReadsBody, ReadsHeld, FillsFromBody, GivesUp};
 
 use crate::chunked::{ChunkRules, Decoding};
 use std::io;
@@ -58,7 +60,8 @@ fn report(stop: Stop) -> Result<usize, io::Error>
 
 /// The body of which so many bytes of the input are left. By the standard an end of the input among them is a fault.
 pub fn counted(left: usize, by_standard: bool) -> Body
-    ensures remaining { (feed : Option Feed) → remaining result feed ≡ option_map (counted_remaining by_standard left) feed }
+    ensures remaining { (feed : Option Feed)
+        → remaining result feed ≡ option_map (counted_remaining by_standard left) feed }
     ensures moves { ReadsOn (Body.Counted left by_standard) 0 false result }
 {
     if left == 0 {
@@ -172,8 +175,8 @@ impl Body {
         }
     }
 
-    /// Reads some bytes of the body into the front of `buf`, and says how many. After the last byte each call answers the
-    /// end, or the fault by which the body is cut or broken; after a fault no head follows on the source.
+    /// Reads some bytes of the body into the front of `buf`, and says how many. After the last byte each call answers
+    /// the end, or the fault by which the body is cut or broken; after a fault no head follows on the source.
     pub fn read<R: ReadDevice>(
         &mut self,
         source: &mut Source<R>,
@@ -241,8 +244,8 @@ impl Body {
         self.read(source, &mut buf[at..])
     }
 
-    /// Reads until `buf` is full or no byte is left, and says how many bytes there are. A fault is reported where it comes
-    /// before any byte, else by the next read.
+    /// Reads until `buf` is full or no byte is left, and says how many bytes there are. A fault is reported where it
+    /// comes before any byte, else by the next read.
     pub fn fill<R: ReadDevice>(
         &mut self,
         source: &mut Source<R>,
@@ -252,7 +255,8 @@ impl Body {
         ensures fills { FillsFromBody self.old source.old.feed self.new source.new.feed result buf.new }
         ensures settled { is_streaming self.old ≡ false → source.new ≡ source.old }
         ensures goes_on { GoesOn source.old.feed source.new.feed }
-        ensures standing { is_streaming self.old ≡ true → source.new.standing ≡ body_standing self.new source.old.standing }
+        ensures standing { is_streaming self.old ≡ true
+            → source.new.standing ≡ body_standing self.new source.old.standing }
     {
         let mut at = 0;
         while at < buf.len() {
@@ -288,8 +292,8 @@ impl Body {
         }
     }
 
-    /// How many bytes of it are left to be read, where a length says so: of a body of a known length, and of one that is over by its
-    /// end. If the client's bytes end early fewer come.
+    /// How many bytes of it are left to be read, where a length says so: of a body of a known length, and of one that
+    /// is over by its end. If the client's bytes end early fewer come.
     pub fn left(&self) -> Option<usize>
         ensures { result ≡ bytes_left self.now }
     {
@@ -311,7 +315,8 @@ impl Body {
         matches!(self, Body::Over(Stop::End) | Body::WithHead(_))
     }
 
-    /// The connection was upgraded: by the standard all that comes is read from now on, else still the body of the request.
+    /// The connection was upgraded: by the standard all that comes is read from now on, else still the body of the
+    /// request.
     pub fn become_stream(&mut self, by_standard: bool)
         ensures { self.new ≡ stream_body by_standard self.old }
     {
@@ -320,8 +325,8 @@ impl Body {
         }
     }
 
-    /// Gives the body up: what is left of a counted one is skipped by the next head; after a chunked one of which the end
-    /// wasn't reported no head follows; one that is all the rest of the input is left to the source.
+    /// Gives the body up: what is left of a counted one is skipped by the next head; after a chunked one of which the
+    /// end wasn't reported no head follows; one that is all the rest of the input is left to the source.
     pub fn give_up<R: ReadDevice>(&mut self, source: &mut Source<R>)
         ensures over { self.new ≡ Body.Over Stop.End }
         ensures gives_up { GivesUp self.old source.old source.new }

@@ -1,12 +1,15 @@
 //! The decoder of chunked bodies (RFC 9112, section 7.1).
-ghost use Rattle.std.specs.Prelude.{◌≡◌, ℕ, ◌<◌, ◌≤◌, List, length, take, Option, None, Some, Ok, Err, IfOk, IfErr, OnOk, OnErr, IsSome, IfSome};
+ghost use Rattle.std.specs.Prelude.{◌≡◌, ℕ, ◌<◌, ◌≤◌, List, length, take, Option, None, Some, Ok, Err, IfOk, IfErr};
+ghost use Rattle.std.specs.Prelude.{OnOk, OnErr, IsSome, IfSome};
 ghost use Rattle.std.specs.Option.{option_map};
 ghost use Rattle.std.specs.IoError.{error_kind};
 ghost use Rattle.tiny_http_io.specs.Device.{AnswersStop, prepended, Reads, TakesFront};
 ghost use Rattle.tiny_http_text.specs.Bytes.{crlf};
 ghost use Rattle.tiny_http_body.specs.Chunks.{WholeChunks, CutChunks, WholeChunksBy, CutChunksBy};
 ghost use Rattle.tiny_http_body.specs.ChunkLine.{CutBy};
-ghost use Rattle.tiny_http_body.specs.Decoding.{comes, trails, decoded_from_by, trailers_from, decoding_reads, TakesNeeded, IsReady, next_stop, decoding_coming, decoding_rules, decoding_stop, prepended_data, over_at, BreaksBy};
+ghost use Rattle.tiny_http_body.specs.Decoding.{comes, trails, decoded_from_by, trailers_from, decoding_reads};
+ghost use Rattle.tiny_http_body.specs.Decoding.{TakesNeeded, IsReady, next_stop, decoding_coming, decoding_rules};
+ghost use Rattle.tiny_http_body.specs.Decoding.{decoding_stop, prepended_data, over_at, BreaksBy};
 
 mod field;
 mod line;
@@ -17,23 +20,24 @@ use std::io;
 use std::io::{ErrorKind, Read};
 use tiny_http_io::device::{ReadDevice, Stop, read_front};
 
-/// How many bytes a size line or a trailer line has at most, without its CR LF. (RFC 9112, section 7.1.1, asks for such a limit.)
+/// How many bytes a size line or a trailer line has at most, without its CR LF. (RFC 9112, section 7.1.1, asks for
+/// such a limit.)
 pub const LONGEST_LINE: usize = 8192;
 
 /// How many lines the trailer section has at most, its empty line left out.
 pub const MOST_TRAILERS: usize = 128;
 
-/// How the lines of a chunked body are read: its size lines, and the lines of its trailer part. By both rules a CR LF stands
-/// after a chunk's data.
+/// How the lines of a chunked body are read: its size lines, and the lines of its trailer part. By both rules a CR LF
+/// stands after a chunk's data.
 #[derive(Clone, Copy, Debug, PartialEq, Eq)]
 pub enum ChunkRules {
-    /// A line ends at its first CR LF. The size is what stands before the first `;` of a size line, without bytes 9 and 32 round
-    /// it. Of an extension and of a trailer line the length alone is checked.
+    /// A line ends at its first CR LF. The size is what stands before the first `;` of a size line, without bytes 9
+    /// and 32 round it. Of an extension and of a trailer line the length alone is checked.
     Lenient,
-    /// By the standard (RFC 9112, sections 2.2 and 7.1 to 7.1.2). A line ends at its first LF, which is InvalidData as soon as it
-    /// was read if the byte before it is no CR. A size line begins with its digits; bytes 9 and 32 may follow, and then an
-    /// extension, which begins with `;`. A trailer line is a field line: a token, a colon at once, and a value. An extension and
-    /// a value have no byte 0 to 8, 10 to 31 or 127.
+    /// By the standard (RFC 9112, sections 2.2 and 7.1 to 7.1.2). A line ends at its first LF, which is InvalidData
+    /// as soon as it was read if the byte before it is no CR. A size line begins with its digits; bytes 9 and 32 may
+    /// follow, and then an extension, which begins with `;`. A trailer line is a field line: a token, a colon at
+    /// once, and a value. An extension and a value have no byte 0 to 8, 10 to 31 or 127.
     Standard,
 }
 
@@ -52,10 +56,15 @@ enum Next {
 
 // Takes the CR LF after a chunk's data.
 fn close_chunk<R: ReadDevice>(reader: &mut R) -> Result<(), ErrorKind>
-    ensures closed { (rules : ChunkRules) → OnOk result (comes rules Next.Line (R.feed reader.new) ≡ comes rules (Next.Data 0) (R.feed reader.old)) }
-    ensures broken { (rules : ChunkRules) → IfErr result (λ kind. comes rules (Next.Broken kind) (R.feed reader.new) ≡ comes rules (Next.Data 0) (R.feed reader.old)) }
+    ensures closed { (rules : ChunkRules)
+        → OnOk result (comes rules Next.Line (R.feed reader.new) ≡ comes rules (Next.Data 0) (R.feed reader.old)) }
+    ensures broken { (rules : ChunkRules)
+        → IfErr result
+        (λ kind. comes rules (Next.Broken kind) (R.feed reader.new)
+        ≡ comes rules (Next.Data 0) (R.feed reader.old)) }
     ensures takes { OnOk result (R.feed reader.old ≡ prepended crlf (R.feed reader.new)) }
-    ensures needed { (rules : ChunkRules) → OnErr result (TakesNeeded (decoded_from_by rules (Next.Data 0)) (R.feed reader.old) (R.feed reader.new)) }
+    ensures needed { (rules : ChunkRules)
+        → OnErr result (TakesNeeded (decoded_from_by rules (Next.Data 0)) (R.feed reader.old) (R.feed reader.new)) }
 {
     match next_byte(reader) {
         Err(kind) => return Err(kind),
@@ -183,10 +192,12 @@ impl Decoding {
     pub fn new() -> Decoding
         // A body that is whole gives its data, and leaves the rest.
         ensures whole { (bytes body rest : List ℕ) (stop : Stop) → WholeChunks bytes body rest
-            → decoding_coming result (Some (record { bytes = bytes; stop = stop })) ≡ Some (record { bytes = body; behind = Ok (record { bytes = rest; stop = stop }) }) }
+            → decoding_coming result (Some (record { bytes = bytes; stop = stop }))
+            ≡ Some (record { bytes = body; behind = Ok (record { bytes = rest; stop = stop }) }) }
         // Another one gives the data that stand, and then the fault.
         ensures front { (bytes body : List ℕ) (stop : Stop) (kind : ErrorKind) → CutChunks bytes stop body kind
-            → decoding_coming result (Some (record { bytes = bytes; stop = stop })) ≡ Some (record { bytes = body; behind = Err kind }) }
+            → decoding_coming result (Some (record { bytes = bytes; stop = stop }))
+            ≡ Some (record { bytes = body; behind = Err kind }) }
         ensures stop { decoding_stop result ≡ None }
         ensures rules { decoding_rules result ≡ ChunkRules.Lenient }
     {
@@ -197,10 +208,12 @@ impl Decoding {
     pub fn new_with(rules: ChunkRules) -> Decoding
         // A body that is whole by the rules gives its data, and leaves the rest.
         ensures whole { (bytes body rest : List ℕ) (stop : Stop) → WholeChunksBy rules bytes body rest
-            → decoding_coming result (Some (record { bytes = bytes; stop = stop })) ≡ Some (record { bytes = body; behind = Ok (record { bytes = rest; stop = stop }) }) }
+            → decoding_coming result (Some (record { bytes = bytes; stop = stop }))
+            ≡ Some (record { bytes = body; behind = Ok (record { bytes = rest; stop = stop }) }) }
         // Another one gives the data that stand, and then the fault.
         ensures front { (bytes body : List ℕ) (stop : Stop) (kind : ErrorKind) → CutChunksBy rules bytes stop body kind
-            → decoding_coming result (Some (record { bytes = bytes; stop = stop })) ≡ Some (record { bytes = body; behind = Err kind }) }
+            → decoding_coming result (Some (record { bytes = bytes; stop = stop }))
+            ≡ Some (record { bytes = body; behind = Err kind }) }
         ensures stop { decoding_stop result ≡ None }
         ensures rules { decoding_rules result ≡ rules }
     {
@@ -233,11 +246,16 @@ impl Decoding {
         ensures bound { IfOk result (λ n. n ≤ length buf.new) }
         ensures rules { decoding_rules self.new ≡ decoding_rules self.old }
         // The bytes that came are the next of the data.
-        ensures data { IfOk result (λ n. decoding_coming self.old (R.feed reader.old) ≡ prepended_data (take n buf.new) (decoding_coming self.new (R.feed reader.new))) }
+        ensures data { IfOk result
+            (λ n. decoding_coming self.old (R.feed reader.old)
+            ≡ prepended_data (take n buf.new) (decoding_coming self.new (R.feed reader.new))) }
         // The end is reported where the reader stands after the body.
-        ensures end { IfOk result (λ n. n ≡ 0 → 0 < length buf.new → decoding_coming self.old (R.feed reader.old) ≡ option_map over_at (R.feed reader.new)) }
+        ensures end { IfOk result (λ n. n ≡ 0
+            → 0 < length buf.new
+            → decoding_coming self.old (R.feed reader.old) ≡ option_map over_at (R.feed reader.new)) }
         ensures fault { IfErr result (λ e. BreaksBy (error_kind e) (decoding_coming self.old (R.feed reader.old))) }
-        ensures again { OnErr result (decoding_coming self.new (R.feed reader.new) ≡ decoding_coming self.old (R.feed reader.old)) }
+        ensures again { OnErr result
+            (decoding_coming self.new (R.feed reader.new) ≡ decoding_coming self.old (R.feed reader.old)) }
         ensures empty { length buf.new ≡ 0 → (result ≡ Ok 0) × (self.new ≡ self.old) × (reader.new ≡ reader.old) }
         // Whatever the reader states, after the end or a fault it isn't called again, and the same is answered.
         ensures zero_is_end { IfOk result (λ n. n ≡ 0 → 0 < length buf.new → decoding_stop self.new ≡ Some Stop.End) }
@@ -298,9 +316,12 @@ impl<R: ReadDevice> Decoder<R> {
         ensures inner { decoder_inner result ≡ inner }
         // A body that is whole gives its data, and leaves the rest.
         ensures whole { (feed : Feed) (body rest : List ℕ) → R.feed inner ≡ Some feed → WholeChunks feed.bytes body rest
-            → decoder_coming R.feed result ≡ Some (record { bytes = body; behind = Ok (record { bytes = rest; stop = feed.stop }) }) }
+            → decoder_coming R.feed result
+            ≡ Some (record { bytes = body; behind = Ok (record { bytes = rest; stop = feed.stop }) }) }
         // Another one gives the data that stand, and then the fault.
-        ensures front { (feed : Feed) (body : List ℕ) (kind : ErrorKind) → R.feed inner ≡ Some feed → CutChunks feed.bytes feed.stop body kind
+        ensures front { (feed : Feed) (body : List ℕ) (kind : ErrorKind)
+            → R.feed inner ≡ Some feed
+            → CutChunks feed.bytes feed.stop body kind
             → decoder_coming R.feed result ≡ Some (record { bytes = body; behind = Err kind }) }
         ensures stop { decoder_stop result ≡ None }
     {
@@ -311,10 +332,15 @@ impl<R: ReadDevice> Decoder<R> {
     pub fn new_with(inner: R, rules: ChunkRules) -> Decoder<R>
         ensures inner { decoder_inner result ≡ inner }
         // A body that is whole by the rules gives its data, and leaves the rest.
-        ensures whole { (feed : Feed) (body rest : List ℕ) → R.feed inner ≡ Some feed → WholeChunksBy rules feed.bytes body rest
-            → decoder_coming R.feed result ≡ Some (record { bytes = body; behind = Ok (record { bytes = rest; stop = feed.stop }) }) }
+        ensures whole { (feed : Feed) (body rest : List ℕ)
+            → R.feed inner ≡ Some feed
+            → WholeChunksBy rules feed.bytes body rest
+            → decoder_coming R.feed result
+            ≡ Some (record { bytes = body; behind = Ok (record { bytes = rest; stop = feed.stop }) }) }
         // Another one gives the data that stand, and then the fault.
-        ensures front { (feed : Feed) (body : List ℕ) (kind : ErrorKind) → R.feed inner ≡ Some feed → CutChunksBy rules feed.bytes feed.stop body kind
+        ensures front { (feed : Feed) (body : List ℕ) (kind : ErrorKind)
+            → R.feed inner ≡ Some feed
+            → CutChunksBy rules feed.bytes feed.stop body kind
             → decoder_coming R.feed result ≡ Some (record { bytes = body; behind = Err kind }) }
         ensures stop { decoder_stop result ≡ None }
     {
@@ -365,7 +391,8 @@ impl<R: ReadDevice> Read for Decoder<R> {
     /// Reads some data.
     fn read(&mut self, buf: &mut [u8]) -> io::Result<usize>
         ensures bound { ReadsAtMost result buf.new }
-        ensures bytes { ReadConsumes (bytes_of (decoder_feed R.feed self.old)) (bytes_of (decoder_feed R.feed self.new)) result buf.new }
+        ensures bytes { ReadConsumes (bytes_of (decoder_feed R.feed self.old))
+            (bytes_of (decoder_feed R.feed self.new)) result buf.new }
         ensures reads { ReadsData R.feed self.old self.new result buf.new }
     {
         Decoder::read(self, buf)

@@ -1,5 +1,6 @@
 //! A writer whose bytes are sent in chunks (RFC 9112, section 7.1).
-ghost use Rattle.std.specs.Prelude.{◌≡◌, ◌+◌, ◌<◌, ◌≤◌, ◌++◌, List, ℕ, [], true, false, length, take, Ok, IfOk, IfErr, OnOk, OnErr};
+ghost use Rattle.std.specs.Prelude.{◌≡◌, ◌+◌, ◌<◌, ◌≤◌, ◌++◌, List, ℕ, [], true, false, length, take, Ok, IfOk};
+ghost use Rattle.std.specs.Prelude.{IfErr, OnOk, OnErr};
 ghost use Rattle.std.specs.IoError.{error_kind};
 ghost use Rattle.tiny_http_io.specs.Device.{Sink, Took, Failed, CountsFaults, HoldsNothing};
 ghost use Rattle.tiny_http_body.specs.ChunkedPrinting.{full_chunks, chunked};
@@ -31,7 +32,8 @@ impl<W: WriteDevice> Model for Encoder<W> {
 
     ghost Value = { EncoderState W };
 
-    ghost view = { λ e. record { writer = e.inner; sink = W.sink e.inner; held = take e.len e.held; failed = e.failed } };
+    ghost view = { λ e. record
+        { writer = e.inner; sink = W.sink e.inner; held = take e.len e.held; failed = e.failed } };
 
     ghost use Rattle.tiny_http_body.specs.declared.chunks.TheConstants.{CHUNK};
 
@@ -56,7 +58,8 @@ fn encode<W: WriteDevice>(
     bytes: &[u8],
 ) -> Result<usize, io::Error>
     requires { len.old < CHUNK }
-    ensures encodes { Encodes (W.sink writer.old) (W.sink writer.new) (take len.old held.old) (take len.new held.new) result bytes.now }
+    ensures encodes { Encodes (W.sink writer.old) (W.sink writer.new) (take len.old held.old) (take len.new held.new)
+        result bytes.now }
     ensures bound { len.new < CHUNK }
 {
     gather(writer, StreamedForm::Chunks, held, len, bytes)
@@ -93,7 +96,9 @@ impl<W: WriteDevice> Encoder<W> {
     pub fn finish(mut self) -> Result<W, io::Error>
     where
         W: Drop,
-        ensures body { IfOk result (λ w. (start : Sink) (given : List ℕ) → HasEncoded start given self → Took start (W.sink w) (chunked given)) }
+        ensures body { IfOk result (λ w. (start : Sink) (given : List ℕ)
+            → HasEncoded start given self
+            → Took start (W.sink w) (chunked given)) }
         ensures open { OnOk result (encoder_failed self ≡ false) }
         ensures after { encoder_failed self ≡ true → IsBroken result }
     {
@@ -115,8 +120,12 @@ impl<W: WriteDevice> Write for Encoder<W> {
     fn write(&mut self, buf: &[u8]) -> io::Result<usize>
         ensures bound { WritesAtMost result buf.now }
         ensures some { IfOk result (λ n. 0 < length buf.now → 0 < n) }
-        ensures body { IfOk result (λ n. (start : Sink) (given : List ℕ) → HasEncoded start given self.old → HasEncoded start (given ++ take n buf.now) self.new) }
-        ensures fault { IfErr result (λ e. (start : Sink) (given : List ℕ) → HasEncoded start given self.old → Failed start self.new.sink (full_chunks (given ++ buf.now)) (error_kind e)) }
+        ensures body { IfOk result (λ n. (start : Sink) (given : List ℕ)
+            → HasEncoded start given self.old
+            → HasEncoded start (given ++ take n buf.now) self.new) }
+        ensures fault { IfErr result (λ e. (start : Sink) (given : List ℕ)
+            → HasEncoded start given self.old
+            → Failed start self.new.sink (full_chunks (given ++ buf.now)) (error_kind e)) }
         ensures open { OnOk result (encoder_failed self.old ≡ false) }
         ensures ended { OnErr result (encoder_failed self.new ≡ true) }
         ensures after { encoder_failed self.old ≡ true → IsBroken result × (self.new ≡ self.old) }
@@ -140,8 +149,12 @@ impl<W: WriteDevice> Write for Encoder<W> {
 
     /// Flushes the writer. What is held stays: it doesn't become a chunk. Errors as `write`.
     fn flush(&mut self) -> io::Result<()>
-        ensures body { OnOk result ((start : Sink) (given : List ℕ) → HasEncoded start given self.old → HasEncoded start given self.new) }
-        ensures fault { IfErr result (λ e. (start : Sink) (given : List ℕ) → HasEncoded start given self.old → Failed start self.new.sink (full_chunks given) (error_kind e)) }
+        ensures body { OnOk result ((start : Sink) (given : List ℕ)
+            → HasEncoded start given self.old
+            → HasEncoded start given self.new) }
+        ensures fault { IfErr result (λ e. (start : Sink) (given : List ℕ)
+            → HasEncoded start given self.old
+            → Failed start self.new.sink (full_chunks given) (error_kind e)) }
         ensures sent { OnOk result (self.new.sink.has_ended ≡ false → HoldsNothing self.new.sink) }
         ensures open { OnOk result (encoder_failed self.old ≡ false) }
         ensures ended { OnErr result (encoder_failed self.new ≡ true) }

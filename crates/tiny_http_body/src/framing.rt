@@ -6,7 +6,8 @@ ghost use Rattle.tiny_http_text.specs.Bytes.{contains_word, is_blank, trimmed, p
 ghost use Rattle.tiny_http_head.specs.Common.{lowercase};
 ghost use Rattle.tiny_http_head.specs.Heads.{is_too_new, length_of};
 ghost use Rattle.tiny_http_body.specs.Framing.{value_of, elements_of, mentions, length_in_value, expectation, is_last};
-ghost use Rattle.tiny_http_body.specs.FramingReading.{first_value, same_length, lengths_on, chunked_on, strict_length, body_length, sized_form, form_by, framing};
+ghost use Rattle.tiny_http_body.specs.FramingReading.{first_value, same_length, lengths_on, chunked_on};
+ghost use Rattle.tiny_http_body.specs.FramingReading.{strict_length, body_length, sized_form, form_by, framing};
 
 use tiny_http_head::common::{HTTPVersion, Header};
 use tiny_http_head::grammar::parse_content_length;
@@ -16,27 +17,29 @@ use tiny_http_text::text::trim;
 /// The most bytes of a body that is read with its head (as tiny_http).
 pub const LONGEST_WITH_HEAD: usize = 1024;
 
-/// The most bytes of a head under `Strict`, the CR LF of its empty line included (RFC 6585, section 5, names no number).
+/// The most bytes of a head under `Strict`, the CR LF of its empty line included (RFC 6585, section 5, names no
+/// number).
 pub const STRICT_HEAD: usize = 65_536;
 
-/// The most bytes of a head under `Standard`, its empty lines included (RFC 9112, section 3, and RFC 6585, section 5, name no
-/// number).
+/// The most bytes of a head under `Standard`, its empty lines included (RFC 9112, section 3, and RFC 6585, section 5,
+/// name no number).
 pub const STANDARD_HEAD: usize = 65_536;
 
 /// How strictly a head is judged.
 #[derive(Clone, Copy, Debug, PartialEq, Eq)]
 pub enum Profile {
-    /// As tiny_http 0.12: the first `Content-Length` counts, a `Transfer-Encoding` of any value means chunked and hides it, and
-    /// a head may be of any size.
+    /// As tiny_http 0.12: the first `Content-Length` counts, a `Transfer-Encoding` of any value means chunked and
+    /// hides it, and a head may be of any size.
     Lenient,
-    /// For a server behind a proxy. Refused as well are `Content-Length` values that aren't one number, `Content-Length` beside
-    /// `Transfer-Encoding`, a `Transfer-Encoding` that doesn't end in `chunked` (RFC 9112, sections 6.1 to 6.3), and a head of
-    /// more than `STRICT_HEAD` bytes (RFC 6585, section 5).
+    /// For a server behind a proxy. Refused as well are `Content-Length` values that aren't one number,
+    /// `Content-Length` beside `Transfer-Encoding`, a `Transfer-Encoding` that doesn't end in `chunked` (RFC 9112,
+    /// sections 6.1 to 6.3), and a head of more than `STRICT_HEAD` bytes (RFC 6585, section 5).
     Strict,
-    /// By the standard (RFC 9110 and RFC 9112): heads have its grammar, and are judged by `tiny_http_standard_head`. Lengths and sizes
-    /// are refused as under `Strict`, and of codings only `chunked` is served. The lines of a chunked body have its grammar, a body that
-    /// is cut is a fault, and a connection is upgraded only as its request asks. An answer is printed in version 1.1, says what becomes
-    /// of the connection, and is refused where its code isn't final.
+    /// By the standard (RFC 9110 and RFC 9112): heads have its grammar, and are judged by `tiny_http_standard_head`.
+    /// Lengths and sizes are refused as under `Strict`, and of codings only `chunked` is served. The lines of a
+    /// chunked body have its grammar, a body that is cut is a fault, and a connection is upgraded only as its request
+    /// asks. An answer is printed in version 1.1, says what becomes of the connection, and is refused where its code
+    /// isn't final.
     Standard,
 }
 
@@ -52,8 +55,8 @@ pub enum HeadRules {
 impl HeadRules {
     ghost use Rattle.tiny_http_body.specs.Framing.{head_limit};
 
-    /// The most bytes that a head may have, the CR LF of its empty line included: `STRICT_HEAD` under `Strict`, and any number
-    /// under `Lenient`.
+    /// The most bytes that a head may have, the CR LF of its empty line included: `STRICT_HEAD` under `Strict`, and
+    /// any number under `Lenient`.
     pub fn head_limit(self) -> Option<usize>
         ensures { result ≡ head_limit self }
     {
@@ -67,8 +70,8 @@ impl HeadRules {
 /// Why the framing that a head asks for is refused.
 #[derive(Clone, Copy, Debug, PartialEq, Eq)]
 pub enum FramingFault {
-    /// It is invalid: lengths that aren't one number, a length beside a coding, or codings that don't end in `chunked`. Of these
-    /// rules only `Strict` refuses such a head, by 400 (RFC 9112, section 6.3).
+    /// It is invalid: lengths that aren't one number, a length beside a coding, or codings that don't end in
+    /// `chunked`. Of these rules only `Strict` refuses such a head, by 400 (RFC 9112, section 6.3).
     Invalid,
     /// The head expects what can't be met: 417 (RFC 9110, section 10.1.1).
     Expectation,
@@ -89,8 +92,8 @@ pub enum Form {
     Chunked,
 }
 
-/// How a message is framed: its body's form, whether a 100 is owed, the length that it says, whether it asks for an upgrade, by which
-/// rules that was judged, and whether the connection ends after it.
+/// How a message is framed: its body's form, whether a 100 is owed, the length that it says, whether it asks for an
+/// upgrade, by which rules that was judged, and whether the connection ends after it.
 #[derive(Clone, Copy, Debug, PartialEq, Eq)]
 pub struct Framing {
     /// How the body is read.
@@ -171,9 +174,11 @@ fn mentions(value: Option<&AsciiString>, word: &str) -> bool
     }
 }
 
-// The length under `Lenient`, by the first values of `Transfer-Encoding` and `Content-Length`: the coding hides the length.
+// The length under `Lenient`, by the first values of `Transfer-Encoding` and `Content-Length`: the coding hides the
+// length.
 fn lenient_length(coding: Option<&AsciiString>, length: Option<&AsciiString>) -> Option<usize>
-    ensures { result ≡ (if is_some (option_copied coding.entry) then None else length_in_value (option_copied length.entry)) }
+    ensures { result
+        ≡ (if is_some (option_copied coding.entry) then None else length_in_value (option_copied length.entry)) }
 {
     match (coding, length) {
         (None, Some(value)) => parse_content_length(value.as_str()),
@@ -268,8 +273,10 @@ fn strict_length(
     is_sized: bool,
     headers: &[Header],
 ) -> Result<Option<usize>, FramingFault>
-    ensures { is_coded ≡ is_some (value_of (codes "Transfer-Encoding") headers.now) → is_sized ≡ is_some (value_of (codes "Content-Length") headers.now)
-        → result ≡ strict_length (elements_of (codes "Content-Length") headers.now) (elements_of (codes "Transfer-Encoding") headers.now) }
+    ensures { is_coded ≡ is_some (value_of (codes "Transfer-Encoding") headers.now)
+        → is_sized ≡ is_some (value_of (codes "Content-Length") headers.now)
+        → result ≡ strict_length (elements_of (codes "Content-Length") headers.now)
+        (elements_of (codes "Transfer-Encoding") headers.now) }
 {
     if !is_coded {
         return one_length(headers);
@@ -283,14 +290,16 @@ fn strict_length(
     Err(FramingFault::Invalid)
 }
 
-// The length that the headers say, if any, where these are the first values of `Transfer-Encoding` and `Content-Length`.
+// The length that the headers say, if any, where these are the first values of `Transfer-Encoding` and
+// `Content-Length`.
 fn body_length(
     rules: HeadRules,
     coding: Option<&AsciiString>,
     length: Option<&AsciiString>,
     headers: &[Header],
 ) -> Result<Option<usize>, FramingFault>
-    ensures { option_copied coding.entry ≡ value_of (codes "Transfer-Encoding") headers.now → option_copied length.entry ≡ value_of (codes "Content-Length") headers.now
+    ensures { option_copied coding.entry ≡ value_of (codes "Transfer-Encoding") headers.now
+        → option_copied length.entry ≡ value_of (codes "Content-Length") headers.now
         → result ≡ body_length rules headers.now }
 {
     match rules {
@@ -310,8 +319,8 @@ fn expectation(value: Option<&AsciiString>) -> Option<bool>
     }
 }
 
-/// The form of a body of a known length, or of none: read with its head where it is short and no 100 is owed (RFC 9112, section
-/// 6.3).
+/// The form of a body of a known length, or of none: read with its head where it is short and no 100 is owed (RFC
+/// 9112, section 6.3).
 pub fn sized_form(owed: bool, length: Option<usize>) -> Form
     ensures { result ≡ sized_form owed length }
 {
@@ -343,8 +352,8 @@ fn is_last(version: HTTPVersion, connection: Option<&AsciiString>) -> bool
         || (version.0 == 1 && version.1 == 0 && !mentions(connection, "keep-alive"))
 }
 
-/// The framing that version and headers give by these rules. It is an error where it is invalid, which is judged first, or
-/// where an expectation can't be met.
+/// The framing that version and headers give by these rules. It is an error where it is invalid, which is judged
+/// first, or where an expectation can't be met.
 #[tactic(auto, unfolding(crate::specs::FramingReading::framing))]
 pub fn framing_of(
     rules: HeadRules,

@@ -30,7 +30,8 @@ fn put_piece<D: ReadDevice, W: WriteDevice>(
 ) -> Result<usize, io::Error>
     requires some { 0 < left }
     requires room { 0 < length buf.old }
-    ensures copies { CopiesPiece (D.feed source.old) (D.feed source.new) (W.sink writer.old) (W.sink writer.new) left result }
+    ensures copies { CopiesPiece (D.feed source.old) (D.feed source.new) (W.sink writer.old) (W.sink writer.new) left
+        result }
     ensures uses { CountsFaults (W.sink writer.old) (W.sink writer.new) result }
     ensures len { length buf.new ≡ length buf.old }
 {

@@ -10,19 +10,35 @@ ghost use Rattle.tiny_http_body.specs.declared.chunked.ChunkRules.{ChunkRules};
 use crate::framing::{Framing, FramingFault, HeadRules};
 use tiny_http_head::common::{HTTPVersion, Header};
 
-/// By each of the two rules all bytes with their stop are a chunked body and a rest, or a cut one: one of the two, in one way
-/// (RFC 9112, section 7.1).
+/// By each of the two rules all bytes with their stop are a chunked body and a rest, or a cut one: one of the two, in
+/// one way (RFC 9112, section 7.1).
 pub fn one_chunked_body()
-    ensures some { (rules : ChunkRules) (bytes : List ℕ) (stop : Stop) → ((body : List ℕ) × (rest : List ℕ) × WholeChunksBy rules bytes body rest) ⊎ ((body : List ℕ) × (kind : ErrorKind) × CutChunksBy rules bytes stop body kind) }
-    ensures one_whole { (rules : ChunkRules) (bytes body rest other remainder : List ℕ) → WholeChunksBy rules bytes body rest → WholeChunksBy rules bytes other remainder → (body ≡ other) × (rest ≡ remainder) }
-    ensures one_front { (rules : ChunkRules) (bytes body other : List ℕ) (stop : Stop) (kind sort : ErrorKind) → CutChunksBy rules bytes stop body kind → CutChunksBy rules bytes stop other sort → (body ≡ other) × (kind ≡ sort) }
-    ensures not_both { (rules : ChunkRules) (bytes body rest other : List ℕ) (stop : Stop) (kind : ErrorKind) → WholeChunksBy rules bytes body rest → CutChunksBy rules bytes stop other kind → ⊥ }
+    ensures some { (rules : ChunkRules) (bytes : List ℕ) (stop : Stop)
+        → ((body : List ℕ) × (rest : List ℕ) × WholeChunksBy rules bytes body rest)
+        ⊎ ((body : List ℕ) × (kind : ErrorKind) × CutChunksBy rules bytes stop body kind) }
+    ensures one_whole { (rules : ChunkRules) (bytes body rest other remainder : List ℕ)
+        → WholeChunksBy rules bytes body rest
+        → WholeChunksBy rules bytes other remainder
+        → (body ≡ other) × (rest ≡ remainder) }
+    ensures one_front { (rules : ChunkRules) (bytes body other : List ℕ) (stop : Stop) (kind sort : ErrorKind)
+        → CutChunksBy rules bytes stop body kind
+        → CutChunksBy rules bytes stop other sort
+        → (body ≡ other) × (kind ≡ sort) }
+    ensures not_both { (rules : ChunkRules) (bytes body rest other : List ℕ) (stop : Stop) (kind : ErrorKind)
+        → WholeChunksBy rules bytes body rest
+        → CutChunksBy rules bytes stop other kind
+        → ⊥ }
 {}
 
-/// By the rules of tiny_http `framing` computes the one result that version and headers have by the cases of `Frames`. Under `Lenient`
-/// no framing is invalid.
+/// By the rules of tiny_http `framing` computes the one result that version and headers have by the cases of
+/// `Frames`. Under `Lenient` no framing is invalid.
 pub fn one_framing()
-    ensures some { (p : HeadRules) (v : HTTPVersion) (headers : List Header) → Frames p v headers (framing p v headers) }
-    ensures one { (p : HeadRules) (v : HTTPVersion) (headers : List Header) (r : Result Framing FramingFault) → Frames p v headers r → r ≡ framing p v headers }
-    ensures lenient { (v : HTTPVersion) (headers : List Header) → Frames HeadRules.Lenient v headers (Err FramingFault.Invalid) → ⊥ }
+    ensures some { (p : HeadRules) (v : HTTPVersion) (headers : List Header)
+        → Frames p v headers (framing p v headers) }
+    ensures one { (p : HeadRules) (v : HTTPVersion) (headers : List Header) (r : Result Framing FramingFault)
+        → Frames p v headers r
+        → r ≡ framing p v headers }
+    ensures lenient { (v : HTTPVersion) (headers : List Header)
+        → Frames HeadRules.Lenient v headers (Err FramingFault.Invalid)
+        → ⊥ }
 {}

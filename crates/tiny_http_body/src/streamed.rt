@@ -1,5 +1,6 @@
 //! A body that grows while it is sent.
-ghost use Rattle.std.specs.Prelude.{◌≡◌, List, ℕ, ◌+◌, ◌<◌, ◌≤◌, ◌++◌, [], true, false, length, take, IfOk, IfErr, OnOk, OnErr};
+ghost use Rattle.std.specs.Prelude.{◌≡◌, List, ℕ, ◌+◌, ◌<◌, ◌≤◌, ◌++◌, [], true, false, length, take, IfOk, IfErr};
+ghost use Rattle.std.specs.Prelude.{OnOk, OnErr};
 ghost use Rattle.tiny_http_io.specs.Device.{Sink, Puts, Took, HoldsNothing};
 ghost use Rattle.tiny_http_body.specs.Streamed.{piece_text, end_text, Gathers};
 
@@ -21,9 +22,9 @@ pub enum StreamedForm {
     Absent,
 }
 
-/// A writer of a body of which more may come at any time. It holds up to 8191 bytes. They are sent by
-/// `flush`, and once they are 8192; where the body comes in chunks, as one chunk. `finish` sends what is held, and the end of the body. Where it is dropped
-/// instead it sends nothing more, so that a body in chunks is visibly cut.
+/// A writer of a body of which more may come at any time. It holds up to 8191 bytes. They are sent by `flush`, and
+/// once they are 8192; where the body comes in chunks, as one chunk. `finish` sends what is held, and the end of the
+/// body. Where it is dropped instead it sends nothing more, so that a body in chunks is visibly cut.
 ///
 /// After the writer's first fault it writes nothing more: each later call is an error of kind `BrokenPipe`.
 #[derive(Drop)]
@@ -41,7 +42,8 @@ impl<W: WriteDevice> Model for Streamed<W> {
 
     ghost Value = { StreamedState W };
 
-    ghost view = { λ s. record { writer = s.inner; sink = W.sink s.inner; form = s.form; held = take s.len s.held; failed = s.failed } };
+    ghost view = { λ s. record
+        { writer = s.inner; sink = W.sink s.inner; form = s.form; held = take s.len s.held; failed = s.failed } };
 
     ghost use Rattle.tiny_http_body.specs.declared.chunks.TheConstants.{CHUNK};
 
@@ -73,8 +75,8 @@ fn put_end<W: WriteDevice>(writer: &mut W, form: StreamedForm) -> Result<(), io:
     }
 }
 
-/// Takes bytes from the front of a text, at least one if there is one, behind the first `len` of the buffer. Where they fill it they
-/// are sent.
+/// Takes bytes from the front of a text, at least one if there is one, behind the first `len` of the buffer. Where
+/// they fill it they are sent.
 pub(crate) fn gather<W: WriteDevice>(
     writer: &mut W,
     form: StreamedForm,
@@ -83,7 +85,8 @@ pub(crate) fn gather<W: WriteDevice>(
     bytes: &[u8],
 ) -> Result<usize, io::Error>
     requires { len.old < CHUNK }
-    ensures gathers { Gathers form (W.sink writer.old) (W.sink writer.new) (take len.old held.old) (take len.new held.new) result bytes.now }
+    ensures gathers { Gathers form (W.sink writer.old) (W.sink writer.new) (take len.old held.old)
+        (take len.new held.new) result bytes.now }
     ensures bound { len.new < CHUNK }
 {
     if *len == 0 && bytes.len() >= CHUNK {
@@ -141,13 +144,16 @@ impl<W: WriteDevice> Streamed<W> {
         self.inner
     }
 
-    /// Sends what is held, and the end of the body, and gives the writer back. It doesn't flush. The error is the writer's fault; or of
-    /// kind `BrokenPipe` after an earlier one, and then nothing is written.
+    /// Sends what is held, and the end of the body, and gives the writer back. It doesn't flush. The error is the
+    /// writer's fault; or of kind `BrokenPipe` after an earlier one, and then nothing is written.
     pub fn finish(mut self) -> Result<W, io::Error>
     where
         W: Drop,
-        ensures rest { IfOk result (λ w. Took self.sink (W.sink w) (piece_text self.form self.held ++ end_text self.form)) }
-        ensures body { IfOk result (λ w. (start : Sink) (given : List ℕ) → HasStreamed start given self → EndsStreamed self.form start (W.sink w) given) }
+        ensures rest { IfOk result
+            (λ w. Took self.sink (W.sink w) (piece_text self.form self.held ++ end_text self.form)) }
+        ensures body { IfOk result (λ w. (start : Sink) (given : List ℕ)
+            → HasStreamed start given self
+            → EndsStreamed self.form start (W.sink w) given) }
         ensures open { OnOk result (self.failed ≡ false) }
         ensures after { self.failed ≡ true → IsBroken result }
     {
@@ -177,13 +183,16 @@ impl<W: WriteDevice> Write for Streamed<W> {
     ghost use Rattle.std.specs.Io.{WritesAtMost};
     ghost use Rattle.tiny_http_body.specs.Streamed.{HasStreamed, IsBroken};
 
-    /// Takes some of the bytes, at least one if there is one, and says how many. Where they fill a piece of 8192 bytes it is sent; else
-    /// they are held. The error is the writer's first fault, or of kind `BrokenPipe` after it.
+    /// Takes some of the bytes, at least one if there is one, and says how many. Where they fill a piece of 8192
+    /// bytes it is sent; else they are held. The error is the writer's first fault, or of kind `BrokenPipe` after it.
     fn write(&mut self, buf: &[u8]) -> io::Result<usize>
         ensures bound { WritesAtMost result buf.now }
-        ensures gathers { self.old.failed ≡ false → Gathers self.old.form self.old.sink self.new.sink self.old.held self.new.held result buf.now }
+        ensures gathers { self.old.failed ≡ false
+            → Gathers self.old.form self.old.sink self.new.sink self.old.held self.new.held result buf.now }
         ensures form { self.new.form ≡ self.old.form }
-        ensures body { IfOk result (λ n. (start : Sink) (given : List ℕ) → HasStreamed start given self.old → HasStreamed start (given ++ take n buf.now) self.new) }
+        ensures body { IfOk result (λ n. (start : Sink) (given : List ℕ)
+            → HasStreamed start given self.old
+            → HasStreamed start (given ++ take n buf.now) self.new) }
         ensures open { OnOk result (self.new.failed ≡ false) }
         ensures ended { OnErr result (self.new.failed ≡ true) }
         ensures after { self.old.failed ≡ true → IsBroken result × (self.new ≡ self.old) }
@@ -208,11 +217,14 @@ impl<W: WriteDevice> Write for Streamed<W> {
 
     /// Sends what is held as one piece, and flushes the writer. Errors as `write`.
     fn flush(&mut self) -> io::Result<()>
-        ensures puts { self.old.failed ≡ false → Puts self.old.sink self.new.sink result (piece_text self.old.form self.old.held) }
+        ensures puts { self.old.failed ≡ false
+            → Puts self.old.sink self.new.sink result (piece_text self.old.form self.old.held) }
         ensures held { OnOk result (self.new.held ≡ []) }
         ensures sent { OnOk result (self.new.sink.has_ended ≡ false → HoldsNothing self.new.sink) }
         ensures form { self.new.form ≡ self.old.form }
-        ensures body { OnOk result ((start : Sink) (given : List ℕ) → HasStreamed start given self.old → HasStreamed start given self.new) }
+        ensures body { OnOk result ((start : Sink) (given : List ℕ)
+            → HasStreamed start given self.old
+            → HasStreamed start given self.new) }
         ensures open { OnOk result (self.new.failed ≡ false) }
         ensures ended { OnErr result (self.new.failed ≡ true) }
         ensures after { self.old.failed ≡ true → IsBroken result × (self.new ≡ self.old) }

@@ -8,17 +8,22 @@ use Rattle.tiny_http_head.specs.declared.common.Header.{Header}
 use Rattle.tiny_http_text.specs.Bytes.{AreAscii}
 use Rattle.tiny_http_text.specs.Lines.{Line}
 use Rattle.tiny_http_client.specs.declared.head.Fault.{Fault}
-use Rattle.tiny_http_client.specs.declared.head.Fault.TheVariants.{Unfinished as IsCut, Malformed as IsBad, Memory as IsMemory}
+use Rattle.tiny_http_client.specs.declared.head.Fault.TheVariants.{Unfinished as IsCut, Malformed as IsBad}
+use Rattle.tiny_http_client.specs.declared.head.Fault.TheVariants.{Memory as IsMemory}
 use Rattle.tiny_http_client.specs.declared.head.Head.{Head}
 use Rattle.tiny_http_client.specs.declared.answer.Answer.{Answer}
-use Rattle.tiny_http_client.specs.ClientAnswer.{AnswerHead, ClientAnswer, FieldLine, BeginsWithFieldLines, BeginsWithAnswerHead, PassesOver, is_interim, Lack, Unfinished, Invalid, LacksLine, IsFieldLineOrEmpty, LacksHead}
+use Rattle.tiny_http_client.specs.ClientAnswer.{AnswerHead, ClientAnswer, FieldLine, BeginsWithFieldLines}
+use Rattle.tiny_http_client.specs.ClientAnswer.{BeginsWithAnswerHead, PassesOver, is_interim, Lack, Unfinished}
+use Rattle.tiny_http_client.specs.ClientAnswer.{Invalid, LacksLine, IsFieldLineOrEmpty, LacksHead}
 
 -- a head, and an answer, as the grammar sees them
 abbrev pub head_of : Head → AnswerHead
 head_of h = record { version = h.version; status = h.status.0; headers = h.headers.items }
 
 abbrev pub answer_of : Answer → ClientAnswer
-answer_of a = record { head = record { version = a.version; status = a.status.0; headers = a.headers.items }; body = a.body.items }
+answer_of a =
+    record
+    { head = record { version = a.version; status = a.status.0; headers = a.headers.items }; body = a.body.items }
 
 -- the version and the status that a line says
 abbrev pub status_line_of : HTTPVersion × StatusCode → HTTPVersion × ℕ
@@ -43,17 +48,27 @@ ReadsFieldLine old new (Err fault) = LacksBy (LacksLine IsFieldLineOrEmpty old) 
 
 -- the bytes begin with field-lines and an empty line, and the rest follows
 abbrev pub BeginsWithAllFieldLines : List ℕ → List Header → List ℕ → Type 0
-BeginsWithAllFieldLines bytes headers rest = (empty : List ℕ) × BeginsWithFieldLines bytes headers empty × Line empty [] rest
+BeginsWithAllFieldLines bytes headers rest =
+    (empty : List ℕ) × BeginsWithFieldLines bytes headers empty × Line empty [] rest
 
 -- after some field-lines the next line is no good
 abbrev pub LacksFieldLines : List ℕ → Lack → Type 0
-LacksFieldLines bytes lack = (headers : List Header) × (rest : List ℕ) × BeginsWithFieldLines bytes headers rest × LacksLine IsFieldLineOrEmpty rest lack
+LacksFieldLines bytes lack =
+    (headers : List Header)
+    × (rest : List ℕ)
+    × BeginsWithFieldLines bytes headers rest
+    × LacksLine IsFieldLineOrEmpty rest lack
 
 -- the bytes begin with heads that are passed over and one that isn't, and the rest follows
 abbrev pub BeginsWithFinalHead : List ℕ → AnswerHead → List ℕ → Type 0
 BeginsWithFinalHead bytes head rest =
-    (interim : List AnswerHead) × (start : List ℕ) × PassesOver bytes interim start × BeginsWithAnswerHead start head rest × (is_interim head.status ≡ false)
+    (interim : List AnswerHead)
+    × (start : List ℕ)
+    × PassesOver bytes interim start
+    × BeginsWithAnswerHead start head rest
+    × (is_interim head.status ≡ false)
 
 -- after heads that are passed over no head stands
 abbrev pub LacksFinalHead : List ℕ → Lack → Type 0
-LacksFinalHead bytes lack = (interim : List AnswerHead) × (start : List ℕ) × PassesOver bytes interim start × LacksHead start lack
+LacksFinalHead bytes lack =
+    (interim : List AnswerHead) × (start : List ℕ) × PassesOver bytes interim start × LacksHead start lack

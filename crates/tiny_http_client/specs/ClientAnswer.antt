@@ -1,9 +1,11 @@
 -- What a client reads that knows only the method of its request (RFC 9112, sections 2.2, 4, 5, 6.3 and 7.1; RFC 9110,
--- section 15.2). Chosen where the RFCs leave it open, or where the server never sends it: a 101 is passed over like any other
--- head below 200; there is no rule for CONNECT, none for a body that ends with the connection, and none for transfer codings
--- but `chunked`; of two Content-Length the first is read; a status may have any number of digits, up to 65535; and a field's name may be
--- empty.
-use Rattle.std.specs.Prelude.{◌≡◌, ℕ, ◌<◌, ◌≤◌, ◌⊎◌, Bool, true, false, ◌&&◌, ◌||◌, ◌==◌, nat_lt, nat_le, List, [], ◌∷◌, ◌++◌, length, Option, Some, None, option_and_then, if◌then◌else◌, codes, decimal, IsTrue}
+-- section 15.2). Chosen where the RFCs leave it open, or where the server never sends it: a 101 is passed over like
+-- any other head below 200; there is no rule for CONNECT, none for a body that ends with the connection, and none for
+-- transfer codings but `chunked`; of two Content-Length the first is read; a status may have any number of digits, up
+-- to 65535; and a field's name may be empty.
+use Rattle.std.specs.Prelude.{◌≡◌, ℕ, ◌<◌, ◌≤◌, ◌⊎◌, Bool, true, false, ◌&&◌, ◌||◌, ◌==◌, nat_lt, nat_le, List, []}
+use Rattle.std.specs.Prelude.{◌∷◌, ◌++◌, length, Option, Some, None, option_and_then, if◌then◌else◌, codes, decimal}
+use Rattle.std.specs.Prelude.{IsTrue}
 use Rattle.std.specs.List.{list_any}
 use Rattle.std.specs.declared.io.ErrorKind.TheVariants.{InvalidData, UnexpectedEof}
 use Rattle.tiny_http_head.specs.declared.common.Method.{Method}
@@ -20,7 +22,8 @@ use Rattle.tiny_http_body.specs.Chunks.{WholeChunks, CutChunks}
 -- status-line: HTTP/, the version, the status and any phrase; the numbers are decimal, without leading zeros
 pub record StatusLine (text : List ℕ) (version : HTTPVersion) (status : ℕ) : Type 0 where
   pub phrase : List ℕ
-  pub joins : text ≡ codes "HTTP/" ++ (decimal version.0 ++ point ∷ (decimal version.1 ++ space ∷ (decimal status ++ space ∷ phrase)))
+  pub joins : text ≡ codes "HTTP/" ++
+      (decimal version.0 ++ point ∷ (decimal version.1 ++ space ∷ (decimal status ++ space ∷ phrase)))
   pub major_fits : version.0 ≤ 255
   pub minor_fits : version.1 ≤ 255
   pub status_fits : status ≤ 65535
@@ -43,12 +46,19 @@ pub record AnswerHead : Type 0 where
 
 -- the bytes begin with a status-line, and the rest follows
 abbrev pub BeginsWithStatusLine : List ℕ → HTTPVersion → ℕ → List ℕ → Type 0
-BeginsWithStatusLine bytes version status rest = (text : List ℕ) × Line bytes text rest × AreAscii text × StatusLine text version status
+BeginsWithStatusLine bytes version status rest =
+    (text : List ℕ) × Line bytes text rest × AreAscii text × StatusLine text version status
 
 -- the bytes begin with these field-lines, and the rest follows
 abbrev pub BeginsWithFieldLines : List ℕ → List Header → List ℕ → Type 0
 BeginsWithFieldLines bytes [] rest = rest ≡ bytes
-BeginsWithFieldLines bytes (h ∷ hs) rest = (text : List ℕ) × (next : List ℕ) × Line bytes text next × AreAscii text × FieldLine text h × BeginsWithFieldLines next hs rest
+BeginsWithFieldLines bytes (h ∷ hs) rest =
+    (text : List ℕ)
+    × (next : List ℕ)
+    × Line bytes text next
+    × AreAscii text
+    × FieldLine text h
+    × BeginsWithFieldLines next hs rest
 
 -- the bytes begin with a head: a status-line, field-lines and an empty line; what follows it is after
 pub record BeginsWithAnswerHead (bytes : List ℕ) (head : AnswerHead) (after : List ℕ) : Type 0 where
@@ -65,7 +75,8 @@ is_interim status = nat_le 100 status && nat_lt status 200
 -- the bytes begin with these heads that are passed over, and the rest follows
 abbrev pub PassesOver : List ℕ → List AnswerHead → List ℕ → Type 0
 PassesOver bytes [] rest = rest ≡ bytes
-PassesOver bytes (h ∷ hs) rest = (next : List ℕ) × BeginsWithAnswerHead bytes h next × (is_interim h.status ≡ true) × PassesOver next hs rest
+PassesOver bytes (h ∷ hs) rest =
+    (next : List ℕ) × BeginsWithAnswerHead bytes h next × (is_interim h.status ≡ true) × PassesOver next hs rest
 
 -- how far the body after a head reaches
 pub data Extent : Type 0 where
@@ -84,7 +95,8 @@ has_no_body method status = is_head method || (status == 204 || status == 304)
 
 -- some header Transfer-Encoding says chunked
 unfoldable pub says_chunked : List Header → Bool
-says_chunked headers = list_any (λ h. same_name h.field (codes "Transfer-Encoding") && same_name h.value (codes "chunked")) headers
+says_chunked headers =
+    list_any (λ h. same_name h.field (codes "Transfer-Encoding") && same_name h.value (codes "chunked")) headers
 
 -- the value of the first header of that name
 abbrev pub first_value : List ℕ → List Header → Option (List ℕ)
@@ -100,7 +112,9 @@ extent_of_length None = OfUnknownLength
 extent_of_length (Some n) = OfLength n
 
 abbrev pub extent : Method → AnswerHead → Extent
-extent method head = if has_no_body method head.status then NoBody else if says_chunked head.headers then OfChunks else extent_of_length (content_length head.headers)
+extent method head =
+    if has_no_body method head.status then NoBody else if says_chunked head.headers then OfChunks
+    else extent_of_length (content_length head.headers)
 
 -- the bytes begin with a body of this extent, and the rest follows
 abbrev pub BeginsWithBody : Extent → List ℕ → List ℕ → List ℕ → Type 0
@@ -132,7 +146,8 @@ pub data Lack : Type 0 where
 -- the next line isn't finished; or it is, and isn't what has to stand there
 abbrev pub LacksLine : (List ℕ → Type 0) → List ℕ → Lack → Type 0
 LacksLine IsGood bytes Unfinished = IsUnfinished bytes
-LacksLine IsGood bytes Invalid = (text : List ℕ) × (rest : List ℕ) × Line bytes text rest × (AreAscii text → IsGood text → ⊥)
+LacksLine IsGood bytes Invalid =
+    (text : List ℕ) × (rest : List ℕ) × Line bytes text rest × (AreAscii text → IsGood text → ⊥)
 
 abbrev pub IsStatusLine : List ℕ → Type 0
 IsStatusLine text = (version : HTTPVersion) × (status : ℕ) × StatusLine text version status
@@ -145,7 +160,9 @@ abbrev pub LacksHead : List ℕ → Lack → Type 0
 LacksHead bytes lack =
     LacksLine IsStatusLine bytes lack
     ⊎ ((version : HTTPVersion) × (status : ℕ) × (fields : List ℕ) × (headers : List Header) × (rest : List ℕ)
-    × BeginsWithStatusLine bytes version status fields × BeginsWithFieldLines fields headers rest × LacksLine IsFieldLineOrEmpty rest lack)
+    × BeginsWithStatusLine bytes version status fields
+    × BeginsWithFieldLines fields headers rest
+    × LacksLine IsFieldLineOrEmpty rest lack)
 
 -- the chunked body is cut or breaks a rule, there are fewer bytes than the length, or no length is said
 abbrev pub LacksBody : Extent → List ℕ → Lack → Type 0
@@ -159,13 +176,19 @@ LacksBody _ bytes _ = ⊥
 abbrev pub LacksAnswer : Method → List ℕ → Lack → Type 0
 LacksAnswer method bytes lack =
     (interim : List AnswerHead) × (start : List ℕ) × PassesOver bytes interim start
-    × (LacksHead start lack ⊎ ((head : AnswerHead) × (after : List ℕ) × BeginsWithAnswerHead start head after × (is_interim head.status ≡ false) × LacksBody (extent method head) after lack))
+    × (LacksHead start lack
+    ⊎ ((head : AnswerHead)
+    × (after : List ℕ)
+    × BeginsWithAnswerHead start head after
+    × (is_interim head.status ≡ false)
+    × LacksBody (extent method head) after lack))
 
 -- THE BYTES END BEFORE AN ANSWER DOES. A line that isn't finished breaks no rule yet.
 abbrev pub UnfinishedAnswer : Method → List ℕ → Type 0
 UnfinishedAnswer method bytes = LacksAnswer method bytes Unfinished
 
--- THE BYTES BREAK A RULE: in a finished line of a head, in a chunked body, or by a head that doesn't state the body's length.
+-- THE BYTES BREAK A RULE: in a finished line of a head, in a chunked body, or by a head that doesn't state the body's
+-- length.
 abbrev pub MalformedAnswer : Method → List ℕ → Type 0
 MalformedAnswer method bytes = LacksAnswer method bytes Invalid
 
@@ -173,5 +196,7 @@ MalformedAnswer method bytes = LacksAnswer method bytes Invalid
 abbrev pub ReadsAnswers : List Method → List ℕ → List ClientAnswer → List ℕ → Type 0
 ReadsAnswers [] bytes [] rest = rest ≡ bytes
 ReadsAnswers [] bytes (a ∷ answers) rest = ⊥
-ReadsAnswers (m ∷ methods) bytes [] rest = (rest ≡ bytes) × ((a : ClientAnswer) (next : List ℕ) → ReadsAnswer m bytes a next → ⊥)
-ReadsAnswers (m ∷ methods) bytes (a ∷ answers) rest = (next : List ℕ) × ReadsAnswer m bytes a next × ReadsAnswers methods next answers rest
+ReadsAnswers (m ∷ methods) bytes [] rest =
+    (rest ≡ bytes) × ((a : ClientAnswer) (next : List ℕ) → ReadsAnswer m bytes a next → ⊥)
+ReadsAnswers (m ∷ methods) bytes (a ∷ answers) rest =
+    (next : List ℕ) × ReadsAnswer m bytes a next × ReadsAnswers methods next answers rest

@@ -1,5 +1,6 @@
 -- The same answers of a client, computed: one plain reading.
-use Rattle.std.specs.Prelude.{ℕ, zero, suc, ◌+◌, Bool, true, false, not, ◌&&◌, ◌==◌, nat_lt, nat_le, List, [], ◌∷◌, length, take, drop, Option, Some, None, Result, Ok, Err, if◌then◌else◌, codes, decimal}
+use Rattle.std.specs.Prelude.{ℕ, zero, suc, ◌+◌, Bool, true, false, not, ◌&&◌, ◌==◌, nat_lt, nat_le, List, [], ◌∷◌}
+use Rattle.std.specs.Prelude.{length, take, drop, Option, Some, None, Result, Ok, Err, if◌then◌else◌, codes, decimal}
 use Rattle.std.specs.List.{list_all}
 use Rattle.std.specs.Str.{bytes_eq}
 use Rattle.std.specs.Str.Parse.{digits_value}
@@ -13,11 +14,15 @@ use Rattle.tiny_http_text.specs.Bytes.{is_ascii, is_blank, has_bare_front, space
 use Rattle.tiny_http_head.specs.HeadReading.{line}
 use Rattle.tiny_http_text.specs.QualityReading.{cut}
 use Rattle.tiny_http_body.specs.ChunkReading.{decoded}
-use Rattle.tiny_http_client.specs.ClientAnswer.{is_space, AnswerHead, ClientAnswer, is_interim, Extent, NoBody, OfChunks, OfLength, OfUnknownLength, extent, Lack, Unfinished, Invalid}
+use Rattle.tiny_http_client.specs.ClientAnswer.{is_space, AnswerHead, ClientAnswer, is_interim, Extent, NoBody}
+use Rattle.tiny_http_client.specs.ClientAnswer.{OfChunks, OfLength, OfUnknownLength, extent, Lack, Unfinished}
+use Rattle.tiny_http_client.specs.ClientAnswer.{Invalid}
 
 -- a number up to the greatest, in decimal without leading zeros
 unfoldable pub decimal_read : ℕ → List ℕ → Option ℕ
-decimal_read most text = if bytes_eq text (decimal (digits_value 10 text)) && nat_le (digits_value 10 text) most then Some (digits_value 10 text) else None
+decimal_read most text =
+    if bytes_eq text (decimal (digits_value 10 text))
+    && nat_le (digits_value 10 text) most then Some (digits_value 10 text) else None
 
 abbrev pub with_rest : List ℕ → Option ℕ → Option (ℕ × List ℕ)
 with_rest rest None = None

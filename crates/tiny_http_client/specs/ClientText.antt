@@ -1,5 +1,6 @@
 -- What a client is to read of an answer's text: its printed headers and its sent body.
-use Rattle.std.specs.Prelude.{◌≡◌, ℕ, ◌<◌, ◌≤◌, ◌^◌, Bool, false, List, [], ◌∷◌, ◌++◌, length, take, Option, Some, None, codes, decimal, if◌then◌else◌}
+use Rattle.std.specs.Prelude.{◌≡◌, ℕ, ◌<◌, ◌≤◌, ◌^◌, Bool, false, List, [], ◌∷◌, ◌++◌, length, take, Option, Some}
+use Rattle.std.specs.Prelude.{None, codes, decimal, if◌then◌else◌}
 use Rattle.std.specs.List.{AllByRecursion}
 use Rattle.httpdate.specs.Date.{date_text}
 use Rattle.httpdate.specs.declared.date.HttpDate.{HttpDate}
@@ -17,10 +18,13 @@ use Rattle.tiny_http_client.specs.ClientAnswer.{ClientAnswer, is_head}
 
 -- the headers of an answer without upgrade, in their printed order: `listed` are those behind the date
 abbrev pub server_header : List Header → List Header
-server_header headers = if has_header headers (codes "Server") then [] else record { field = codes "Server"; value = codes "tiny-http (Rust)" } ∷ []
+server_header headers =
+    if has_header headers (codes "Server") then []
+    else record { field = codes "Server"; value = codes "tiny-http (Rust)" } ∷ []
 
 abbrev pub date_header : List Header → HttpDate → List Header
-date_header headers date = if has_header headers (codes "Date") then [] else record { field = codes "Date"; value = date_text date } ∷ []
+date_header headers date =
+    if has_header headers (codes "Date") then [] else record { field = codes "Date"; value = date_text date } ∷ []
 
 abbrev pub framing_header : FramingHeader → List Header
 framing_header Neither = []
@@ -28,7 +32,8 @@ framing_header TransferEncoding = record { field = codes "Transfer-Encoding"; va
 framing_header (ContentLength n) = record { field = codes "Content-Length"; value = decimal n } ∷ []
 
 unfoldable pub printed_headers : List Header → List Header → HttpDate → FramingHeader → List Header
-printed_headers headers listed date framing = server_header headers ++ (date_header headers date ++ (listed ++ framing_header framing))
+printed_headers headers listed date framing =
+    server_header headers ++ (date_header headers date ++ (listed ++ framing_header framing))
 
 -- the length that the head of an answer without upgrade states, where it states one
 abbrev pub stated_length : Option ℕ → Feed → ℕ
@@ -68,7 +73,12 @@ alone_by_code a p = contentless_framing p.persistence a.contentless a.status a.d
 abbrev pub received_answer : Answer → Feed → Printing → ClientAnswer
 received_answer a feed p =
     record {
-      head = record { version = status_version p.persistence p.version; status = a.status; headers = printed_headers a.headers (listed_of a p) p.date (framing_said (alone_by_code a p) (answer_coding a p) a.data_length feed) };
+      head = record {
+        version = status_version p.persistence p.version;
+        status = a.status;
+        headers = printed_headers a.headers (listed_of a p) p.date
+            (framing_said (alone_by_code a p) (answer_coding a p) a.data_length feed);
+      };
       body = body_said (alone_by_code a p) (answer_coding a p) a.data_length feed (is_withheld p.no_body a.status);
     }
 

@@ -4,8 +4,8 @@ use Rattle.tiny_http_head.specs.declared.common.Method.{Method}
 use Rattle.tiny_http_io.specs.Device.{IsFront}
 use Rattle.tiny_http_client.specs.ClientAnswer.{ClientAnswer, ReadsAnswer, UnfinishedAnswer}
 
--- the text under one number: for which method it counts, and the answer that it is, or None where it breaks off or isn't
--- answered yet
+-- the text under one number: for which method it counts, and the answer that it is, or None where it breaks off or
+-- isn't answered yet
 pub record SentText : Type 0 where
   pub method : Method
   pub text : List ℕ
@@ -47,10 +47,16 @@ abbrev pub remains : List SentText → List ℕ
 remains [] = []
 remains (x ∷ xs) = remains_by x.answer x.text (remains xs)
 
--- Of a front of what was sent: the answers that stand in it to their end, and what remains is nothing, or an unfinished front
--- of the next text.
+-- Of a front of what was sent: the answers that stand in it to their end, and what remains is nothing, or an
+-- unfinished front of the next text.
 abbrev pub StandIn : List SentText → List ℕ → List ClientAnswer → List ℕ → Type 0
 StandIn [] out answers rest = (out ≡ []) × (answers ≡ []) × (rest ≡ [])
 StandIn (x ∷ xs) out answers rest =
-    ((a : ClientAnswer) × (next : List ℕ) × (more : List ClientAnswer) × (x.answer ≡ Some a) × (out ≡ x.text ++ next) × (answers ≡ a ∷ more) × StandIn xs next more rest)
+    ((a : ClientAnswer)
+    × (next : List ℕ)
+    × (more : List ClientAnswer)
+    × (x.answer ≡ Some a)
+    × (out ≡ x.text ++ next)
+    × (answers ≡ a ∷ more)
+    × StandIn xs next more rest)
     ⊎ ((answers ≡ []) × (rest ≡ out) × IsFront rest x.text × UnfinishedAnswer x.method rest)

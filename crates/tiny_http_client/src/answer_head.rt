@@ -64,21 +64,22 @@ fn headers_at(alloc: Global, bytes: &[u8], spans: &[HeaderSpan]) -> Result<Vec<H
     Ok(headers)
 }
 
-/// Reads the head of an answer from the front of the bytes, and says how many bytes it took (RFC 9112, sections 2.2, 4 and 5): a
-/// status-line in version 1.0 or 1.1 with a status of three digits, and field-lines up to an empty line. White space is optional round a
-/// value, a line may end by LF alone, and empty lines may stand in front. What follows the head is the body, as its headers and the
-/// request's method say (section 6.3).
+/// Reads the head of an answer from the front of the bytes, and says how many bytes it took (RFC 9112, sections 2.2,
+/// 4 and 5): a status-line in version 1.0 or 1.1 with a status of three digits, and field-lines up to an empty line.
+/// White space is optional round a value, a line may end by LF alone, and empty lines may stand in front. What
+/// follows the head is the body, as its headers and the request's method say (section 6.3).
 ///
 /// `None` where the bytes end before the head does, and more can complete it.
 ///
 /// # Errors
-/// `Malformed` where no bytes that follow make it a head, where a value has a byte that isn't ASCII, and where there are more than 64
-/// headers. `Memory` where there is no memory for the headers.
+/// `Malformed` where no bytes that follow make it a head, where a value has a byte that isn't ASCII, and where there
+/// are more than 64 headers. `Memory` where there is no memory for the headers.
 pub fn read_answer_head(
     alloc: Global,
     bytes: &[u8],
 ) -> Result<Option<(AnswerHead, usize)>, HeadFault>
-    ensures head { IfOk result (λ found. IfSome found (λ a. (a.1 ≤ length bytes.now) × ((h : ResponseHead) × ReadsResponse bytes.now h (drop a.1 bytes.now) × IsHeadOf h a.0))) }
+    ensures head { IfOk result (λ found. IfSome found (λ a. (a.1 ≤ length bytes.now)
+        × ((h : ResponseHead) × ReadsResponse bytes.now h (drop a.1 bytes.now) × IsHeadOf h a.0))) }
     ensures unfinished { result ≡ Ok None → HasNoResponse bytes.now × MayBecomeResponse bytes.now }
 {
     let mut spans = [EMPTY_HEADER_SPAN; MOST_HEADERS];

@@ -2,7 +2,8 @@
 ghost use Rattle.std.specs.Prelude.{◌≡◌, ◌&&◌, codes, IfOk, IfErr};
 ghost use Rattle.std.specs.Option.{option_copied};
 ghost use Rattle.tiny_http_head.specs.Common.{same_name};
-ghost use Rattle.tiny_http_client.specs.ClientAnswer.{has_no_body, says_chunked, content_length, first_value, extent, BeginsWithBody, LacksBody, OfChunks, OfLength};
+ghost use Rattle.tiny_http_client.specs.ClientAnswer.{has_no_body, says_chunked, content_length, first_value, extent};
+ghost use Rattle.tiny_http_client.specs.ClientAnswer.{BeginsWithBody, LacksBody, OfChunks, OfLength};
 ghost use Rattle.tiny_http_client.specs.AnswerParts.{head_of, LacksBy, chunk_fault};
 
 use crate::head::{Fault, Head};
@@ -29,7 +30,8 @@ fn has_no_body(method: &Method, status: StatusCode) -> bool
 
 // Whether the header says that the body is chunked.
 fn is_chunked(header: &Header) -> bool
-    ensures { result ≡ (same_name header.now.field (codes "Transfer-Encoding") && same_name header.now.value (codes "chunked")) }
+    ensures { result
+        ≡ (same_name header.now.field (codes "Transfer-Encoding") && same_name header.now.value (codes "chunked")) }
 {
     header.field.equiv("Transfer-Encoding") && header.value.eq_ignore_ascii_case("chunked")
 }
@@ -106,7 +108,8 @@ pub(crate) fn read_body(
     head: &Head,
     rest: &mut Rest<'_>,
 ) -> Result<Vec<u8>, Fault>
-    ensures read { IfOk result (λ body. BeginsWithBody (extent method.now (head_of head.now)) rest.old body.items rest.new) }
+    ensures read { IfOk result
+        (λ body. BeginsWithBody (extent method.now (head_of head.now)) rest.old body.items rest.new) }
     ensures lacks { IfErr result (LacksBy (LacksBody (extent method.now (head_of head.now)) rest.old)) }
 {
     if has_no_body(method, head.status) {

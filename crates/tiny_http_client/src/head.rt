@@ -2,8 +2,10 @@
 ghost use Rattle.std.specs.Prelude.{◌≡◌, ◌≤◌, IfOk, IfErr, IfSome, IfNone, None, Some, option_map};
 ghost use Rattle.tiny_http_text.specs.Bytes.{AreAscii};
 ghost use Rattle.tiny_http_client.specs.ClientReading.{decimal_until, status_line_read, field_line_read, value_read};
-ghost use Rattle.tiny_http_client.specs.AnswerParts.{status_line_of, LacksBy, head_of, ReadsFieldLine, BeginsWithAllFieldLines, LacksFieldLines};
-ghost use Rattle.tiny_http_client.specs.ClientAnswer.{BeginsWithStatusLine, BeginsWithAnswerHead, LacksLine, LacksHead, IsStatusLine};
+ghost use Rattle.tiny_http_client.specs.AnswerParts.{status_line_of, LacksBy, head_of, ReadsFieldLine};
+ghost use Rattle.tiny_http_client.specs.AnswerParts.{BeginsWithAllFieldLines, LacksFieldLines};
+ghost use Rattle.tiny_http_client.specs.ClientAnswer.{BeginsWithStatusLine, BeginsWithAnswerHead, LacksLine};
+ghost use Rattle.tiny_http_client.specs.ClientAnswer.{LacksHead, IsStatusLine};
 
 use crate::number::decimal;
 use crate::rest::Rest;

@@ -1,12 +1,14 @@
 //! Laws of the definitions, each the contract of a function that does nothing.
 ghost use Rattle.std.specs.Prelude.{◌≡◌, ◌<◌, ◌⊎◌, ◌++◌, ℕ, List, [], length, MatchResult};
 ghost use Rattle.tiny_http_head.specs.declared.common.Method.{Method};
-ghost use Rattle.tiny_http_client.specs.ClientAnswer.{ClientAnswer, ReadsAnswer, LacksAnswer, UnfinishedAnswer, MalformedAnswer, ReadsAnswers};
+ghost use Rattle.tiny_http_client.specs.ClientAnswer.{ClientAnswer, ReadsAnswer, LacksAnswer, UnfinishedAnswer};
+ghost use Rattle.tiny_http_client.specs.ClientAnswer.{MalformedAnswer, ReadsAnswers};
 ghost use Rattle.tiny_http_client.specs.ClientReading.{answer_read};
 ghost use Rattle.tiny_http_client.specs.ClientText.{IsReadableAnswer, received_answer};
 ghost use Rattle.tiny_http_response.specs.Answer.{Answer, Printing, text_of};
 ghost use Rattle.tiny_http_io.specs.Device.{Feed, IsFront};
-ghost use Rattle.tiny_http_client.specs.SentTexts.{SentText, IsSentText, BreaksOff, StandIn, joined_texts, methods, whole_answers, remains};
+ghost use Rattle.tiny_http_client.specs.SentTexts.{SentText, IsSentText, BreaksOff, StandIn, joined_texts, methods};
+ghost use Rattle.tiny_http_client.specs.SentTexts.{whole_answers, remains};
 ghost use Rattle.tiny_http_body.specs.Text.{Whole, Broken};
 ghost use Rattle.tiny_http_body.specs.Chunks.{WholeChunks};
 ghost use Rattle.tiny_http_body.specs.declared.streamed.StreamedForm.TheVariants.{Chunks};
@@ -18,43 +20,84 @@ ghost use Rattle.std.specs.declared.io.ErrorKind.{ErrorKind};
 /// of the client's grammar: one of the three. There is one answer, and one rest after it. The plain
 /// reading finds which.
 pub fn one_client_answer()
-    ensures some { (method : Method) (bytes : List ℕ) → ((answer : ClientAnswer) × (rest : List ℕ) × ReadsAnswer method bytes answer rest) ⊎ (UnfinishedAnswer method bytes ⊎ MalformedAnswer method bytes) }
-    ensures one { (method : Method) (bytes : List ℕ) (answer other : ClientAnswer) (rest remainder : List ℕ) → ReadsAnswer method bytes answer rest → ReadsAnswer method bytes other remainder → (answer ≡ other) × (rest ≡ remainder) }
-    ensures not_unfinished { (method : Method) (bytes : List ℕ) (answer : ClientAnswer) (rest : List ℕ) → ReadsAnswer method bytes answer rest → UnfinishedAnswer method bytes → ⊥ }
-    ensures not_malformed { (method : Method) (bytes : List ℕ) (answer : ClientAnswer) (rest : List ℕ) → ReadsAnswer method bytes answer rest → MalformedAnswer method bytes → ⊥ }
-    ensures not_both { (method : Method) (bytes : List ℕ) → UnfinishedAnswer method bytes → MalformedAnswer method bytes → ⊥ }
-    ensures computed { (method : Method) (bytes : List ℕ) → MatchResult (answer_read method bytes) (λ a. ReadsAnswer method bytes a.0 a.1) (LacksAnswer method bytes) }
+    ensures some { (method : Method) (bytes : List ℕ)
+        → ((answer : ClientAnswer) × (rest : List ℕ) × ReadsAnswer method bytes answer rest)
+        ⊎ (UnfinishedAnswer method bytes ⊎ MalformedAnswer method bytes) }
+    ensures one { (method : Method) (bytes : List ℕ) (answer other : ClientAnswer) (rest remainder : List ℕ)
+        → ReadsAnswer method bytes answer rest
+        → ReadsAnswer method bytes other remainder
+        → (answer ≡ other) × (rest ≡ remainder) }
+    ensures not_unfinished { (method : Method) (bytes : List ℕ) (answer : ClientAnswer) (rest : List ℕ)
+        → ReadsAnswer method bytes answer rest
+        → UnfinishedAnswer method bytes
+        → ⊥ }
+    ensures not_malformed { (method : Method) (bytes : List ℕ) (answer : ClientAnswer) (rest : List ℕ)
+        → ReadsAnswer method bytes answer rest
+        → MalformedAnswer method bytes
+        → ⊥ }
+    ensures not_both { (method : Method) (bytes : List ℕ)
+        → UnfinishedAnswer method bytes
+        → MalformedAnswer method bytes
+        → ⊥ }
+    ensures computed { (method : Method) (bytes : List ℕ)
+        → MatchResult (answer_read method bytes) (λ a. ReadsAnswer method bytes a.0 a.1) (LacksAnswer method bytes) }
 {}
 
 /// All bytes are one list of answers to requests of these methods, in their order, and one rest.
 pub fn one_list_of_client_answers()
-    ensures some { (methods : List Method) (bytes : List ℕ) → (answers : List ClientAnswer) × (rest : List ℕ) × ReadsAnswers methods bytes answers rest }
-    ensures one { (methods : List Method) (bytes : List ℕ) (answers others : List ClientAnswer) (rest remainder : List ℕ) → ReadsAnswers methods bytes answers rest → ReadsAnswers methods bytes others remainder → (answers ≡ others) × (rest ≡ remainder) }
+    ensures some { (methods : List Method) (bytes : List ℕ)
+        → (answers : List ClientAnswer) × (rest : List ℕ) × ReadsAnswers methods bytes answers rest }
+    ensures one { (methods : List Method) (bytes : List ℕ) (answers others : List ClientAnswer)
+        (rest remainder : List ℕ)
+        → ReadsAnswers methods bytes answers rest
+        → ReadsAnswers methods bytes others remainder
+        → (answers ≡ others) × (rest ≡ remainder) }
 {}
 
-/// The whole text of an answer without upgrade, of a status from 200 on, is read back as the answer to the method that it was
-/// printed for, whatever follows it: its version, status, printed headers and sent body, and exactly the text is taken. The
-/// names and values of its headers have to be readable, and its numbers to fit their types (`IsReadableAnswer`).
+/// The whole text of an answer without upgrade, of a status from 200 on, is read back as the answer to the method
+/// that it was printed for, whatever follows it: its version, status, printed headers and sent body, and exactly the
+/// text is taken. The names and values of its headers have to be readable, and its numbers to fit their types
+/// (`IsReadableAnswer`).
 pub fn text_is_read_back()
-    ensures { (method : Method) (answer : Answer) (feed : Feed) (printing : Printing) (rest : List ℕ) → IsReadableAnswer method answer feed printing → (text_of answer feed printing).ending ≡ Whole
-        → ReadsAnswer method ((text_of answer feed printing).bytes ++ rest) (received_answer answer feed printing) rest }
+    ensures { (method : Method) (answer : Answer) (feed : Feed) (printing : Printing) (rest : List ℕ)
+        → IsReadableAnswer method answer feed printing
+        → (text_of answer feed printing).ending ≡ Whole
+        → ReadsAnswer method ((text_of answer feed printing).bytes ++ rest) (received_answer answer feed printing)
+        rest }
 {}
 
-/// More bytes after an answer change nothing of it. A proper front of an answer is unfinished, and so is the text of an answer
-/// that breaks off: it is a proper front of one.
+/// More bytes after an answer change nothing of it. A proper front of an answer is unfinished, and so is the text of
+/// an answer that breaks off: it is a proper front of one.
 pub fn fronts_are_unfinished()
-    ensures stays { (method : Method) (bytes more : List ℕ) (answer : ClientAnswer) (rest : List ℕ) → ReadsAnswer method bytes answer rest → ReadsAnswer method (bytes ++ more) answer (rest ++ more) }
-    ensures front { (method : Method) (front more : List ℕ) (answer : ClientAnswer) → 0 < length more → ReadsAnswer method (front ++ more) answer [] → UnfinishedAnswer method front }
-    ensures broken { (method : Method) (answer : Answer) (feed : Feed) (printing : Printing) (kind : ErrorKind) → IsReadableAnswer method answer feed printing → (text_of answer feed printing).ending ≡ Broken kind → BreaksOff method (text_of answer feed printing).bytes }
+    ensures stays { (method : Method) (bytes more : List ℕ) (answer : ClientAnswer) (rest : List ℕ)
+        → ReadsAnswer method bytes answer rest
+        → ReadsAnswer method (bytes ++ more) answer (rest ++ more) }
+    ensures front { (method : Method) (front more : List ℕ) (answer : ClientAnswer)
+        → 0 < length more
+        → ReadsAnswer method (front ++ more) answer []
+        → UnfinishedAnswer method front }
+    ensures broken { (method : Method) (answer : Answer) (feed : Feed) (printing : Printing) (kind : ErrorKind)
+        → IsReadableAnswer method answer feed printing
+        → (text_of answer feed printing).ending ≡ Broken kind
+        → BreaksOff method (text_of answer feed printing).bytes }
 {}
 
 /// What is sent answer by answer is read so: whole, or cut anywhere.
 pub fn sent_texts_are_read()
-    ensures whole { (texts : List SentText) → AllByRecursion IsSentText texts → ReadsAnswers (methods texts) (joined_texts texts) (whole_answers texts) (remains texts) }
-    ensures cut { (texts : List SentText) (out : List ℕ) → AllByRecursion IsSentText texts → IsFront out (joined_texts texts) → (answers : List ClientAnswer) × (rest : List ℕ) × ReadsAnswers (methods texts) out answers rest × StandIn texts out answers rest }
+    ensures whole { (texts : List SentText)
+        → AllByRecursion IsSentText texts
+        → ReadsAnswers (methods texts) (joined_texts texts) (whole_answers texts) (remains texts) }
+    ensures cut { (texts : List SentText) (out : List ℕ)
+        → AllByRecursion IsSentText texts
+        → IsFront out (joined_texts texts)
+        → (answers : List ClientAnswer)
+        × (rest : List ℕ)
+        × ReadsAnswers (methods texts) out answers rest
+        × StandIn texts out answers rest }
 {}
 
-/// A body that grew while it was sent in chunks is read as its pieces joined, however it was cut into them (RFC 9112, section 7.1).
+/// A body that grew while it was sent in chunks is read as its pieces joined, however it was cut into them (RFC 9112,
+/// section 7.1).
 pub fn streamed_chunks_are_read()
     ensures { (pieces : List (List ℕ)) (rest : List ℕ) → AllByRecursion IsPiece pieces
         → WholeChunks ((pieces_text Chunks pieces ++ end_text Chunks) ++ rest) (joined pieces) rest }

@@ -1,5 +1,6 @@
 -- What a client reads of a connection's output.
-use Rattle.std.specs.Prelude.{◌≡◌, ℕ, ◌<◌, ◌≤◌, ◌^◌, Bool, true, false, List, [], ◌∷◌, ◌++◌, map, Option, Some, None, option_map, if◌then◌else◌, codes, ⊤}
+use Rattle.std.specs.Prelude.{◌≡◌, ℕ, ◌<◌, ◌≤◌, ◌^◌, Bool, true, false, List, [], ◌∷◌, ◌++◌, map, Option, Some, None}
+use Rattle.std.specs.Prelude.{option_map, if◌then◌else◌, codes, ⊤}
 use Rattle.std.specs.List.{AllByRecursion, list_all}
 use Rattle.tiny_http_head.specs.declared.common.Method.{Method}
 use Rattle.tiny_http_head.specs.declared.common.Method.TheVariants.{Get, Head}
@@ -14,15 +15,16 @@ use Rattle.tiny_http_body.specs.Text.{Ending, Whole, Broken}
 use Rattle.tiny_http_response.specs.Readable.{IsReadable}
 use Rattle.tiny_http_open_request.specs.Pipeline.{Item, Asks, Refuses}
 use Rattle.tiny_http_response.specs.ResponseValue.{ResponseValue}
-use Rattle.tiny_http_connection.specs.Slots.{Slot, Stage, Unanswered, Answered, ByServer, Raw, Upgraded, printing_for, server_response, stage_text, segment}
+use Rattle.tiny_http_connection.specs.Slots.{Slot, Stage, Unanswered, Answered, ByServer, Raw, Upgraded, printing_for}
+use Rattle.tiny_http_connection.specs.Slots.{server_response, stage_text, segment}
 use Rattle.tiny_http_connection.specs.Steps.{StepValue, Respond, IntoWriter, Upgrade}
 use Rattle.tiny_http_connection.specs.Conversation.{TimedValue}
 use Rattle.tiny_http_client.specs.ClientAnswer.{ClientAnswer, ReadsAnswers}
 use Rattle.tiny_http_client.specs.ClientText.{stated_length, received_answer}
 use Rattle.tiny_http_client.specs.SentTexts.{SentText, methods, StandIn}
 
--- The method as whose answer a number's text is read: that of the request. A refused head counts as a GET, the 505 of a HEAD as
--- a HEAD.
+-- The method as whose answer a number's text is read: that of the request. A refused head counts as a GET, the 505 of
+-- a HEAD as a HEAD.
 abbrev pub counts_as : Item → Method
 counts_as (Asks r) = r.message.method
 counts_as (Refuses refusal manner no_body last) = if no_body then Head else Get
@@ -36,14 +38,15 @@ abbrev pub offer_headers : Option (List ℕ) → List Header
 offer_headers None = []
 offer_headers (Some protocols) = upgrade_header protocols ∷ []
 
--- The headers of an answer that are printed: its own; or, by the standard, the protocols that it offers, and its own as safe ones.
+-- The headers of an answer that are printed: its own; or, by the standard, the protocols that it offers, and its own
+-- as safe ones.
 abbrev pub headers_printed : Bool → Answer → List Header
 headers_printed false a = a.headers
 headers_printed true a = offer_headers (option_map safe_value a.offered) ++ safe_headers a.headers
 
--- A response that a client can read, by the standard or not: its status is 200 or more, and its headers are readable as they are
--- printed. The other facts hold of each response of the program whose data are fewer than 2^63 bytes: status and length fit their
--- types, and its list holds no Transfer-Encoding and no Content-Length.
+-- A response that a client can read, by the standard or not: its status is 200 or more, and its headers are readable
+-- as they are printed. The other facts hold of each response of the program whose data are fewer than 2^63 bytes:
+-- status and length fit their types, and its list holds no Transfer-Encoding and no Content-Length.
 pub record CanBeRead (by_standard : Bool) (r : ResponseValue) : Type 0 where
   pub final : 200 ≤ r.answer.status
   pub readable : AllByRecursion IsReadable (headers_printed by_standard r.answer)
@@ -52,8 +55,8 @@ pub record CanBeRead (by_standard : Bool) (r : ResponseValue) : Type 0 where
   pub no_coding : has_header r.answer.headers (codes "Transfer-Encoding") ≡ false
   pub no_length : has_header r.answer.headers (codes "Content-Length") ≡ false
 
--- A step that leaves an output that can be read: it takes no raw writer, and an upgrade is refused, since its protocol isn't
--- ASCII. The response of a Respond can be read, also where it is answered NotYet or NoSuch.
+-- A step that leaves an output that can be read: it takes no raw writer, and an upgrade is refused, since its
+-- protocol isn't ASCII. The response of a Respond can be read, also where it is answered NotYet or NoSuch.
 abbrev pub IsReadableStep : Bool → StepValue → Type 0
 IsReadableStep by_standard (Respond k response) = CanBeRead by_standard response
 IsReadableStep by_standard (IntoWriter k) = ⊥
@@ -63,8 +66,8 @@ IsReadableStep by_standard _ = ⊤
 abbrev pub AreReadable : Profile → List TimedValue → Type 0
 AreReadable p steps = AllByRecursion (λ t. IsReadableStep (goes_by_standard p) t.1) steps
 
--- The number was finished by a response that can be read, or by the server: a refused head, a drop, a refused upgrade. Or it
--- isn't answered yet.
+-- The number was finished by a response that can be read, or by the server: a refused head, a drop, a refused
+-- upgrade. Or it isn't answered yet.
 abbrev pub IsReadableStage : Bool → Stage → Type 0
 IsReadableStage by_standard Unanswered = ⊤
 IsReadableStage by_standard (Answered response date found) = CanBeRead by_standard response
@@ -83,8 +86,11 @@ answer_if_whole (Broken kind) r p = None
 -- the response that answers a number, and how it is printed
 abbrev pub stage_answer : Slot → Stage → Option ClientAnswer
 stage_answer s Unanswered = None
-stage_answer s (Answered response date found) = answer_if_whole (stage_text s.closes s.item s.date s.stage).ending response (printing_for s.closes s.item date)
-stage_answer s ByServer = answer_if_whole (stage_text s.closes s.item s.date s.stage).ending (server_response s.item) (printing_for s.closes s.item s.date)
+stage_answer s (Answered response date found) =
+    answer_if_whole (stage_text s.closes s.item s.date s.stage).ending response (printing_for s.closes s.item date)
+stage_answer s ByServer =
+    answer_if_whole (stage_text s.closes s.item s.date s.stage).ending (server_response s.item)
+    (printing_for s.closes s.item s.date)
 stage_answer s (Raw written closed) = None
 stage_answer s (Upgraded protocol response date written closed) = None
 
@@ -99,8 +105,8 @@ sent_texts slots = map sent_text slots
 abbrev pub IsOutputOf : Sink → List ℕ → List ℕ → Type 0
 IsOutputOf sink held out = (taken : List ℕ) × (sink.taken ≡ Some taken) × (out ≡ taken ++ held)
 
--- A CLIENT READS the output as the answers of these numbers, in their order: those whose text stands in it to its end. What
--- remains is nothing, or an unfinished front of the next number's text.
+-- A CLIENT READS the output as the answers of these numbers, in their order: those whose text stands in it to its
+-- end. What remains is nothing, or an unfinished front of the next number's text.
 pub record ReadsNumbers (slots : List Slot) (out : List ℕ) : Type 0 where
   pub answers : List ClientAnswer
   pub rest : List ℕ

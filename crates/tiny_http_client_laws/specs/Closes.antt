@@ -41,4 +41,9 @@ OwnsNoConnection _ = ⊤
 
 -- A CLIENT READS of the number's answer that the connection ends exactly if it says so, where the answer can be read.
 abbrev pub IsReadAsSaid : Slot → Type 0
-IsReadAsSaid s = CanBeReadAt Standard s → OwnsNoConnection s.stage → (a : ClientAnswer) → stage_answer s s.stage ≡ Some a → reads_close a ≡ says_close s
+IsReadAsSaid s =
+    CanBeReadAt Standard s
+    → OwnsNoConnection s.stage
+    → (a : ClientAnswer)
+    → stage_answer s s.stage ≡ Some a
+    → reads_close a ≡ says_close s

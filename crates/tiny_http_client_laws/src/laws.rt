@@ -10,86 +10,132 @@ ghost use Rattle.tiny_http_client.specs.ClientAnswer.{ClientAnswer, ReadsAnswers
 ghost use Rattle.tiny_http_client.specs.SentTexts.{methods, whole_answers, remains};
 ghost use Rattle.tiny_http_response.specs.Readable.{IsReadable};
 ghost use Rattle.tiny_http_client_laws.specs.Closes.{NoneFollowsClose, IsReadAsSaid};
-ghost use Rattle.tiny_http_client_laws.specs.ClientReads.{headers_printed, CanBeRead, AreReadable, CanBeReadAt, IsOutputOf, HaveAnswers, ReadsNumbers, sent_texts};
+ghost use Rattle.tiny_http_client_laws.specs.ClientReads.{headers_printed, CanBeRead, AreReadable, CanBeReadAt};
+ghost use Rattle.tiny_http_client_laws.specs.ClientReads.{IsOutputOf, HaveAnswers, ReadsNumbers, sent_texts};
 
 use tiny_http_response::response::Response;
 
-/// THE CLIENT THEOREM, of the contract of `tiny_http_connection::driver::run` alone: a client that knows only the methods reads the
-/// output as one answer after another, in the order of the numbers.
+/// THE CLIENT THEOREM, of the contract of `tiny_http_connection::driver::run` alone: a client that knows only the
+/// methods reads the output as one answer after another, in the order of the numbers.
 ///
-/// The premise is on the steps. Each `Respond` has a status of 200 or more and readable headers. Each `Upgrade` names a
-/// protocol that isn't ASCII, and so is refused. There is no `IntoWriter`. So each number that was reached is a refused head,
-/// or is finished by such a `Respond`, by a `Drop` or by a refused `Upgrade`, or isn't answered yet. Raw writers and upgrades
-/// that were done are excluded: their bytes may be anything.
+/// The premise is on the steps. Each `Respond` has a status of 200 or more and readable headers. Each `Upgrade` names
+/// a protocol that isn't ASCII, and so is refused. There is no `IntoWriter`. So each number that was reached is a
+/// refused head, or is finished by such a `Respond`, by a `Drop` or by a refused `Upgrade`, or isn't answered yet.
+/// Raw writers and upgrades that were done are excluded: their bytes may be anything.
 ///
-/// A header is readable if its name and its value are ASCII, its name has no white space and no colon, and its value is
-/// trimmed and has no CR LF. By the standard that is asked of headers as they are printed, and of the protocols that are
-/// offered: without those whose name isn't a token, and with a space in place of each byte that may not stand in a value. So a
-/// value whose first or last byte is replaced isn't trimmed.
+/// A header is readable if its name and its value are ASCII, its name has no white space and no colon, and its value
+/// is trimmed and has no CR LF. By the standard that is asked of headers as they are printed, and of the protocols
+/// that are offered: without those whose name isn't a token, and with a space in place of each byte that may not
+/// stand in a value. So a value whose first or last byte is replaced isn't trimmed.
 ///
-/// The answer to a refused head is read as one to a GET, but the 505 of a HEAD as one to a HEAD. What is read of an answer is
-/// its version, which by the standard is 1.1, its status, its headers as they are printed (with `Server`, `Date`, by the standard
-/// `Connection` and `Upgrade`, and the one that frames the body), and the body that is sent. A 100 in front of it is passed
-/// over. What remains behind the last answer is nothing, or an unfinished front of the next number's text.
+/// The answer to a refused head is read as one to a GET, but the 505 of a HEAD as one to a HEAD. What is read of an
+/// answer is its version, which by the standard is 1.1, its status, its headers as they are printed (with `Server`,
+/// `Date`, by the standard `Connection` and `Upgrade`, and the one that frames the body), and the body that is sent.
+/// A 100 in front of it is passed over. What remains behind the last answer is nothing, or an unfinished front of the
+/// next number's text.
 pub fn conversation_is_read()
     // All that was sent and is held, however the writer failed: the answers of the first numbers, and what remains.
-    ensures output { (p : Profile) (feed : Feed) (before after : Sink) (steps : List TimedValue) (replies : List ReplyValue) (held out : List ℕ) (ended : Bool) (unread : Option Feed)
-        → (c : IsConversation p feed before steps replies after held ended unread) → AreReadable p steps → IsOutputOf after held out → ReadsNumbers c.end.reached.slots out }
-    // Where the writer's count did not rise, these are the answers of all the numbers up to the first whose text breaks off, or
-    // that isn't answered yet.
-    ensures whole { (p : Profile) (feed : Feed) (before after : Sink) (steps : List TimedValue) (replies : List ReplyValue) (held out : List ℕ) (ended : Bool) (unread : Option Feed)
-        → (c : IsConversation p feed before steps replies after held ended unread) → AreReadable p steps → IsOutputOf after held out → after.failures ≡ before.failures
-        → (let texts = sent_texts c.end.reached.slots in ReadsAnswers (methods texts) out (whole_answers texts) (remains texts)) }
+    ensures output { (p : Profile) (feed : Feed) (before after : Sink) (steps : List TimedValue)
+        (replies : List ReplyValue) (held out : List ℕ) (ended : Bool) (unread : Option Feed)
+        → (c : IsConversation p feed before steps replies after held ended unread)
+        → AreReadable p steps
+        → IsOutputOf after held out
+        → ReadsNumbers c.end.reached.slots out }
+    // Where the writer's count did not rise, these are the answers of all the numbers up to the first whose text
+    // breaks off, or that isn't answered yet.
+    ensures whole { (p : Profile) (feed : Feed) (before after : Sink) (steps : List TimedValue)
+        (replies : List ReplyValue) (held out : List ℕ) (ended : Bool) (unread : Option Feed)
+        → (c : IsConversation p feed before steps replies after held ended unread)
+        → AreReadable p steps
+        → IsOutputOf after held out
+        → after.failures ≡ before.failures
+        → (let texts = sent_texts c.end.reached.slots in
+        ReadsAnswers (methods texts) out (whole_answers texts) (remains texts)) }
     // Where the output has not ended, and each number is finished, each has its answer, and nothing remains.
-    ensures complete { (p : Profile) (feed : Feed) (before after : Sink) (steps : List TimedValue) (replies : List ReplyValue) (held out : List ℕ) (unread : Option Feed)
-        → (c : IsConversation p feed before steps replies after held false unread) → AreReadable p steps → IsOutputOf after held out → IsTrue (list_all is_finished c.end.reached.slots)
-        → (answers : List ClientAnswer) × HaveAnswers c.end.reached.slots answers × ReadsAnswers (methods (sent_texts c.end.reached.slots)) out answers [] }
+    ensures complete { (p : Profile) (feed : Feed) (before after : Sink) (steps : List TimedValue)
+        (replies : List ReplyValue) (held out : List ℕ) (unread : Option Feed)
+        → (c : IsConversation p feed before steps replies after held false unread)
+        → AreReadable p steps
+        → IsOutputOf after held out
+        → IsTrue (list_all is_finished c.end.reached.slots)
+        → (answers : List ClientAnswer)
+        × HaveAnswers c.end.reached.slots answers
+        × ReadsAnswers (methods (sent_texts c.end.reached.slots)) out answers [] }
 {}
 
-/// CLOSE IS THE LAST: by the standard, no number follows one whose answer says `Connection: close`, in each conversation, whatever its
-/// steps (RFC 9112, section 9.6). An answer says it if it is a refusal, or if it was decided as it was made: by the request's head,
-/// by an answer that asked for it, by a 100 that is owed, or by what is left of the body. Of an answer that can be read, a client
-/// reads it exactly if it is said: as an element of `Connection`, which no response has of its own. So the client knows from the
-/// answer that none follows, and sends nothing more.
+/// CLOSE IS THE LAST: by the standard, no number follows one whose answer says `Connection: close`, in each
+/// conversation, whatever its steps (RFC 9112, section 9.6). An answer says it if it is a refusal, or if it was
+/// decided as it was made: by the request's head, by an answer that asked for it, by a 100 that is owed, or by what
+/// is left of the body. Of an answer that can be read, a client reads it exactly if it is said: as an element of
+/// `Connection`, which no response has of its own. So the client knows from the answer that none follows, and sends
+/// nothing more.
 pub fn close_is_the_last()
-    ensures none { (feed : Feed) (before after : Sink) (steps : List TimedValue) (replies : List ReplyValue) (held : List ℕ) (ended : Bool) (unread : Option Feed)
-        → (c : IsConversation Profile.Standard feed before steps replies after held ended unread) → NoneFollowsClose c.end.reached.slots }
-    ensures read { (feed : Feed) (before after : Sink) (steps : List TimedValue) (replies : List ReplyValue) (held : List ℕ) (ended : Bool) (unread : Option Feed)
-        → (c : IsConversation Profile.Standard feed before steps replies after held ended unread) → AllByRecursion IsReadAsSaid c.end.reached.slots }
+    ensures none { (feed : Feed) (before after : Sink) (steps : List TimedValue) (replies : List ReplyValue)
+        (held : List ℕ) (ended : Bool) (unread : Option Feed)
+        → (c : IsConversation Profile.Standard feed before steps replies after held ended unread)
+        → NoneFollowsClose c.end.reached.slots }
+    ensures read { (feed : Feed) (before after : Sink) (steps : List TimedValue) (replies : List ReplyValue)
+        (held : List ℕ) (ended : Bool) (unread : Option Feed)
+        → (c : IsConversation Profile.Standard feed before steps replies after held ended unread)
+        → AllByRecursion IsReadAsSaid c.end.reached.slots }
 {}
 
 /// The premise of `conversation_is_read` gives that of `slots_are_read`.
 pub fn steps_can_be_read()
     // No number that was reached has a raw writer or was upgraded, and each response that answers one can be read.
-    ensures slots { (p : Profile) (feed : Feed) (before after : Sink) (steps : List TimedValue) (replies : List ReplyValue) (held : List ℕ) (ended : Bool) (unread : Option Feed)
-        → (c : IsConversation p feed before steps replies after held ended unread) → AreReadable p steps → AllByRecursion (CanBeReadAt p) c.end.reached.slots }
+    ensures slots { (p : Profile) (feed : Feed) (before after : Sink) (steps : List TimedValue)
+        (replies : List ReplyValue) (held : List ℕ) (ended : Bool) (unread : Option Feed)
+        → (c : IsConversation p feed before steps replies after held ended unread)
+        → AreReadable p steps
+        → AllByRecursion (CanBeReadAt p) c.end.reached.slots }
     // Where the writer's count did not rise, the writer did not fail.
-    ensures unfailed { (p : Profile) (feed : Feed) (before after : Sink) (steps : List TimedValue) (replies : List ReplyValue) (held : List ℕ) (ended : Bool) (unread : Option Feed)
-        → (c : IsConversation p feed before steps replies after held ended unread) → after.failures ≡ before.failures → c.end.failure ≡ None }
+    ensures unfailed { (p : Profile) (feed : Feed) (before after : Sink) (steps : List TimedValue)
+        (replies : List ReplyValue) (held : List ℕ) (ended : Bool) (unread : Option Feed)
+        → (c : IsConversation p feed before steps replies after held ended unread)
+        → after.failures ≡ before.failures
+        → c.end.failure ≡ None }
 {}
 
-/// The client theorem with its premise on the numbers that were reached. It says more than `conversation_is_read`: a step that
-/// was answered `NotYet` or `NoSuch` may be any.
+/// The client theorem with its premise on the numbers that were reached. It says more than `conversation_is_read`: a
+/// step that was answered `NotYet` or `NoSuch` may be any.
 pub fn slots_are_read()
     // All that was sent and is held, however the writer failed: the answers of the first numbers, and what remains.
-    ensures output { (p : Profile) (feed : Feed) (before after : Sink) (steps : List TimedValue) (replies : List ReplyValue) (held out : List ℕ) (ended : Bool) (unread : Option Feed)
-        → (c : IsConversation p feed before steps replies after held ended unread) → AllByRecursion (CanBeReadAt p) c.end.reached.slots → IsOutputOf after held out → ReadsNumbers c.end.reached.slots out }
-    // Where the writer did not fail, these are the answers of all the numbers up to the first whose text breaks off, or that
-    // isn't answered yet.
-    ensures whole { (p : Profile) (feed : Feed) (before after : Sink) (steps : List TimedValue) (replies : List ReplyValue) (held out : List ℕ) (ended : Bool) (unread : Option Feed)
-        → (c : IsConversation p feed before steps replies after held ended unread) → AllByRecursion (CanBeReadAt p) c.end.reached.slots → IsOutputOf after held out → c.end.failure ≡ None
-        → (let texts = sent_texts c.end.reached.slots in ReadsAnswers (methods texts) out (whole_answers texts) (remains texts)) }
+    ensures output { (p : Profile) (feed : Feed) (before after : Sink) (steps : List TimedValue)
+        (replies : List ReplyValue) (held out : List ℕ) (ended : Bool) (unread : Option Feed)
+        → (c : IsConversation p feed before steps replies after held ended unread)
+        → AllByRecursion (CanBeReadAt p) c.end.reached.slots
+        → IsOutputOf after held out
+        → ReadsNumbers c.end.reached.slots out }
+    // Where the writer did not fail, these are the answers of all the numbers up to the first whose text breaks off,
+    // or that isn't answered yet.
+    ensures whole { (p : Profile) (feed : Feed) (before after : Sink) (steps : List TimedValue)
+        (replies : List ReplyValue) (held out : List ℕ) (ended : Bool) (unread : Option Feed)
+        → (c : IsConversation p feed before steps replies after held ended unread)
+        → AllByRecursion (CanBeReadAt p) c.end.reached.slots
+        → IsOutputOf after held out
+        → c.end.failure ≡ None
+        → (let texts = sent_texts c.end.reached.slots in
+        ReadsAnswers (methods texts) out (whole_answers texts) (remains texts)) }
     // Where the output has not ended, and each number is finished, each has its answer, and nothing remains.
-    ensures complete { (p : Profile) (feed : Feed) (before after : Sink) (steps : List TimedValue) (replies : List ReplyValue) (held out : List ℕ) (unread : Option Feed)
-        → (c : IsConversation p feed before steps replies after held false unread) → AllByRecursion (CanBeReadAt p) c.end.reached.slots → IsOutputOf after held out → IsTrue (list_all is_finished c.end.reached.slots)
-        → (answers : List ClientAnswer) × HaveAnswers c.end.reached.slots answers × ReadsAnswers (methods (sent_texts c.end.reached.slots)) out answers [] }
+    ensures complete { (p : Profile) (feed : Feed) (before after : Sink) (steps : List TimedValue)
+        (replies : List ReplyValue) (held out : List ℕ) (unread : Option Feed)
+        → (c : IsConversation p feed before steps replies after held false unread)
+        → AllByRecursion (CanBeReadAt p) c.end.reached.slots
+        → IsOutputOf after held out
+        → IsTrue (list_all is_finished c.end.reached.slots)
+        → (answers : List ClientAnswer)
+        × HaveAnswers c.end.reached.slots answers
+        × ReadsAnswers (methods (sent_texts c.end.reached.slots)) out answers [] }
 {}
 
-/// What the client theorem asks of responses, by the standard or not, holds of each `Response` of a status of 200 or more whose
-/// headers are readable as they are printed, and whose data are fewer than 2^63 bytes: its status and its length fit their types,
-/// and its list holds no `Transfer-Encoding` and no `Content-Length`.
+/// What the client theorem asks of responses, by the standard or not, holds of each `Response` of a status of 200 or
+/// more whose headers are readable as they are printed, and whose data are fewer than 2^63 bytes: its status and its
+/// length fit their types, and its list holds no `Transfer-Encoding` and no `Content-Length`.
 pub fn response_can_be_read<D>(response: &Response<D>)
-    ensures { (by_standard : Bool) (content : Feed) → length content.bytes < 2 ^ 63 → 200 ≤ response.now.answer.status → AllByRecursion IsReadable (headers_printed by_standard response.now.answer)
+    ensures { (by_standard : Bool) (content : Feed)
+        → length content.bytes < 2 ^ 63
+        → 200 ≤ response.now.answer.status
+        → AllByRecursion IsReadable (headers_printed by_standard response.now.answer)
         → CanBeRead by_standard (record { answer = response.now.answer; content = content }) }
 {
     let _status = response.status_code();

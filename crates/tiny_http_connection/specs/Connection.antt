@@ -1,5 +1,6 @@
 -- How the driver's connection stands to a state of the definitions.
-use Rattle.std.specs.Prelude.{◌≡◌, ℕ, ◌+◌, Bool, true, false, not, ◌&&◌, List, [], ◌∷◌, Option, Some, None, is_some, MatchBool, ⊤}
+use Rattle.std.specs.Prelude.{◌≡◌, ℕ, ◌+◌, Bool, true, false, not, ◌&&◌, List, [], ◌∷◌, Option, Some, None, is_some}
+use Rattle.std.specs.Prelude.{MatchBool, ⊤}
 use Rattle.std.specs.Option.{option_map}
 use Rattle.std.specs.List.{AllByRecursion}
 use Rattle.httpdate.specs.declared.date.HttpDate.{HttpDate}
@@ -18,22 +19,28 @@ use Rattle.tiny_http_body.specs.declared.framing.Form.TheVariants.{Rest}
 use Rattle.tiny_http_io.specs.Source.{SourceState, GoesOn}
 use Rattle.tiny_http_io.specs.ToCome.{stopped}
 use Rattle.tiny_http_body.specs.Body.{Remaining, remaining, taken_remaining, is_streaming, Fits}
-use Rattle.tiny_http_connection.specs.Pending.{kept_body, last_body, is_streaming_body, holds_next_head_at, last_holds_next_head}
+use Rattle.tiny_http_connection.specs.Pending.{kept_body, last_body, is_streaming_body, holds_next_head_at}
+use Rattle.tiny_http_connection.specs.Pending.{last_holds_next_head}
 use Rattle.tiny_http_standard_head.specs.Judging.{names_protocol}
 use Rattle.tiny_http_open_request.specs.declared.exchange.EndOfRequests.{EndOfRequests}
 use Rattle.tiny_http_io.specs.declared.source.Standing.{Standing}
 use Rattle.tiny_http_io.specs.declared.source.Standing.TheVariants as at
 use Rattle.tiny_http_io.specs.Outlet.{OutletState, output_of}
-use Rattle.tiny_http_open_request.specs.Pipeline.{Item, Asks, Refuses, Request, is_head_method, is_connect_method, body_length_or_0}
-use Rattle.tiny_http_connection.specs.Slots.{closes_now, Slot, Stage, ByServer, Raw, Upgraded, is_finished, is_slot_broken, segment, stage_text, joined, is_output_broken, new_slot, holds_next_head, asks_protocol, last_slot, is_last_slot, last_was_abandoned, rest_of}
+use Rattle.tiny_http_open_request.specs.Pipeline.{Item, Asks, Refuses, Request, is_head_method, is_connect_method}
+use Rattle.tiny_http_open_request.specs.Pipeline.{body_length_or_0}
+use Rattle.tiny_http_connection.specs.Slots.{closes_now, Slot, Stage, ByServer, Raw, Upgraded, is_finished}
+use Rattle.tiny_http_connection.specs.Slots.{is_slot_broken, segment, stage_text, joined, is_output_broken, new_slot}
+use Rattle.tiny_http_connection.specs.Slots.{holds_next_head, asks_protocol, last_slot, is_last_slot}
+use Rattle.tiny_http_connection.specs.Slots.{last_was_abandoned, rest_of}
 use Rattle.tiny_http_connection.specs.Steps.{finished_as}
 use Rattle.tiny_http_response.specs.ResponseValue.{ResponseValue}
 use Rattle.tiny_http_turns.specs.Turns.{Mark, Open, Left, Finished, AreInShape}
 use Rattle.tiny_http_connection.specs.Conversation.{State, Failure, PlaceAt}
 
--- What the program keeps of a connection: its profile, the turns of its numbers, what is kept of those that aren't finished, where the
--- input stands among heads and bodies, whether the asking has ended, what is still to come of the input, how it stopped and
--- whether it is over, what the writer states with what is held, and whether the output has ended.
+-- What the program keeps of a connection: its profile, the turns of its numbers, what is kept of those that aren't
+-- finished, where the input stands among heads and bodies, whether the asking has ended, what is still to come of the
+-- input, how it stopped and whether it is over, what the writer states with what is held, and whether the output has
+-- ended.
 pub record Kept : Type 0 where
   pub profile : Profile
   pub marks : List Mark
@@ -46,8 +53,8 @@ pub record Kept : Type 0 where
   pub sink : Sink
   pub output_ended : Bool
 
--- What a clause sees of a `Connection`: its profile, the turns of its numbers, what is kept of those that aren't finished, why the asking
--- has ended, if it has, its input and its output.
+-- What a clause sees of a `Connection`: its profile, the turns of its numbers, what is kept of those that aren't
+-- finished, why the asking has ended, if it has, its input and its output.
 pub record ConnectionState (R W : Type 0) : Type 0 where
   pub profile : Profile
   pub marks : List Mark
@@ -58,14 +65,31 @@ pub record ConnectionState (R W : Type 0) : Type 0 where
 
 abbrev pub kept : {R W : Type 0} → ConnectionState R W → Kept
 kept c =
-    record { profile = c.profile; marks = c.marks; requests = c.requests; standing = c.source.standing; asking_ended = is_some c.end; feed = c.source.feed; stop = c.source.stop; is_over = c.source.is_over; sink = output_of c.outlet; output_ended = c.outlet.ended }
+    record {
+      profile = c.profile;
+      marks = c.marks;
+      requests = c.requests;
+      standing = c.source.standing;
+      asking_ended = is_some c.end;
+      feed = c.source.feed;
+      stop = c.source.stop;
+      is_over = c.source.is_over;
+      sink = output_of c.outlet;
+      output_ended = c.outlet.ended;
+    }
 
 -- how a request is answered
 abbrev pub answer_context_of : Bool → Request → AnswerContext
-answer_context_of closes r = record { version = r.message.version; asked_coding = coding_for r.framing.by_standard r.message.headers; no_body = is_head_method r.message.method; persistence = persistence_of r.framing.by_standard closes }
+answer_context_of closes r =
+    record {
+      version = r.message.version;
+      asked_coding = coding_for r.framing.by_standard r.message.headers;
+      no_body = is_head_method r.message.method;
+      persistence = persistence_of r.framing.by_standard closes;
+    }
 
--- when a request was handed out, when its 100 was sent, if it was, whether a 100 is still owed, and whether an answer asked that the
--- connection ends behind it
+-- when a request was handed out, when its 100 was sent, if it was, whether a 100 is still owed, and whether an answer
+-- asked that the connection ends behind it
 pub record HandedOut : Type 0 where
   pub date : HttpDate
   pub continued : Option HttpDate
@@ -74,11 +98,14 @@ pub record HandedOut : Type 0 where
 
 -- a request that was handed out so and waits, while so many bytes of its body were given, and its end reported or not
 abbrev pub open_slot : HandedOut → Request → ℕ → Bool → Slot
-open_slot h r given end_reported = record (new_slot h.date (Asks r)) { continued = h.continued; owed = h.owed; closes = h.closes; given = given; end_reported = end_reported }
+open_slot h r given end_reported =
+    record (new_slot h.date (Asks r))
+    { continued = h.continued; owed = h.owed; closes = h.closes; given = given; end_reported = end_reported }
 
 -- what becomes of it if it is dropped
 abbrev pub dropped : HandedOut → Request → ℕ → Bool → Slot
-dropped h r given end_reported = finished_as (closes_now r h.closes h.owed given end_reported) (open_slot h r given end_reported) ByServer
+dropped h r given end_reported =
+    finished_as (closes_now r h.closes h.owed given end_reported) (open_slot h r given end_reported) ByServer
 
 -- a request that was handed out and waits
 pub record IsWaiting (s : Slot) (w : OpenRequest Body) : Type 0 where
@@ -91,15 +118,18 @@ pub record IsWaiting (s : Slot) (w : OpenRequest Body) : Type 0 where
   pub holds : w.holds_next_head ≡ holds_next_head request
   pub standard : w.by_standard ≡ request.framing.by_standard
   pub connect : w.is_connect ≡ is_connect_method request.message.method
-  pub upgrades : (protocol : List ℕ) → (w.holds_next_head && names_protocol w.upgrades.items protocol) ≡ asks_protocol request protocol
+  pub upgrades : (protocol : List ℕ)
+      → (w.holds_next_head && names_protocol w.upgrades.items protocol) ≡ asks_protocol request protocol
   pub closes : w.closes ≡ handed.closes
   pub unsent : handed.owed ≡ true → handed.continued ≡ None
   pub rest_is_last : request.framing.form ≡ Rest → request.framing.is_last ≡ true
   pub answer_context : w.answer_context ≡ answer_context_of request.framing.is_last request
   pub dropped : w.dropped ≡ record { is_taken = false; date = handed.date }
-  pub fits : Fits request.framing.by_standard w.body request.framing.form (body_length_or_0 request.framing) given end_reported
+  pub fits : Fits request.framing.by_standard w.body request.framing.form (body_length_or_0 request.framing) given
+      end_reported
   -- where the body isn't read from the input, this is left of it
-  pub settled : is_streaming w.body ≡ false → (f : Feed) → remaining w.body (Some f) ≡ Some (taken_remaining (rest_of request given) f)
+  pub settled : is_streaming w.body ≡ false → (f : Feed)
+      → remaining w.body (Some f) ≡ Some (taken_remaining (rest_of request given) f)
 
 -- a number whose body can be read so far: it waits for its answer, or it was upgraded
 pub record IsOpen (s : Slot) (body : Body) : Type 0 where
@@ -110,8 +140,10 @@ pub record IsOpen (s : Slot) (body : Body) : Type 0 where
   pub end_reported : Bool
   pub is : s ≡ record (open_slot handed request given end_reported) { stage = stage }
   pub rest_is_last : request.framing.form ≡ Rest → request.framing.is_last ≡ true
-  pub fits : Fits request.framing.by_standard body request.framing.form (body_length_or_0 request.framing) given end_reported
-  pub settled : is_streaming body ≡ false → (f : Feed) → remaining body (Some f) ≡ Some (taken_remaining (rest_of request given) f)
+  pub fits : Fits request.framing.by_standard body request.framing.form (body_length_or_0 request.framing) given
+      end_reported
+  pub settled : is_streaming body ≡ false → (f : Feed)
+      → remaining body (Some f) ≡ Some (taken_remaining (rest_of request given) f)
 
 -- a number whose raw writer is in use
 pub record IsRaw (s : Slot) : Type 0 where
@@ -161,7 +193,8 @@ AreKept _ _ _ = ⊥
 
 -- nothing was sent under this number, or all that was is left for its turn
 abbrev pub HasSentNothing : Slot → Type 0
-HasSentNothing s = (s.continued ≡ None) × (is_finished s ≡ false → (stage_text s.closes s.item s.date s.stage).bytes ≡ [])
+HasSentNothing s =
+    (s.continued ≡ None) × (is_finished s ≡ false → (stage_text s.closes s.item s.date s.stage).bytes ≡ [])
 
 -- what is sent is sent in its turn: nothing was sent behind the first number that isn't finished
 abbrev pub AreSentInTurn : List Slot → Type 0
@@ -233,7 +266,8 @@ pub record NextHead (k : Kept) (last : Option Slot) (rest : List Item) : Type 0 
   pub is_last : is_past_last k.standing ≡ is_last_slot last
   pub within : is_in_body k.standing ≡ (not (is_last_slot last) && is_streaming_body (last_body k.requests))
   pub lost : last_was_abandoned last ≡ true → InputEnded k × (k.feed ≡ Some (stopped End))
-  pub place : last_was_abandoned last ≡ false → PlaceAt k.profile (is_past_last k.standing) (behind_body (last_body k.requests) k.feed) rest
+  pub place : last_was_abandoned last ≡ false
+      → PlaceAt k.profile (is_past_last k.standing) (behind_body (last_body k.requests) k.feed) rest
 
 -- how the input stands to the bodies and to the rest of the pipeline, after this much of the client's feed
 pub record InputStands (client : Feed) (k : Kept) (slots : List Slot) (rest : List Item) : Type 0 where
@@ -243,13 +277,20 @@ pub record InputStands (client : Feed) (k : Kept) (slots : List Slot) (rest : Li
   pub follows : last_holds_next_head k.requests ≡ true → FollowsLast (last_body k.requests) (last_slot slots) k.feed
   pub source : GoesOn (Some client) k.feed
 
--- the output so far: the joined segments, of which no failure takes back what was flushed; or what the writer took when it failed
+-- the output so far: the joined segments, of which no failure takes back what was flushed; or what the writer took
+-- when it failed
 abbrev pub OutputAt : Sink → Sink → Bool → List Slot → List ℕ → Option Failure → Type 0
 OutputAt before sink ended slots flushed None =
-    (sink.taken ≡ Some (joined slots)) × (sink.failures ≡ before.failures) × (sink.has_ended ≡ ended) × (ended ≡ is_output_broken slots)
+    (sink.taken ≡ Some (joined slots))
+    × (sink.failures ≡ before.failures)
+    × (sink.has_ended ≡ ended)
+    × (ended ≡ is_output_broken slots)
     × IsFront flushed (joined slots) × (ended ≡ false → IsFront flushed sink.sent)
 OutputAt before sink ended slots flushed (Some f) =
-    (sink.taken ≡ Some f.output) × (sink.failures ≡ before.failures + 1) × StatesKind sink.last_kind f.kind × (ended ≡ true)
+    (sink.taken ≡ Some f.output)
+    × (sink.failures ≡ before.failures + 1)
+    × StatesKind sink.last_kind f.kind
+    × (ended ≡ true)
 
 -- the connection stands so, after this much of the client's feed and over a writer that stated this before
 pub record Stands (client : Feed) (before : Sink) (k : Kept) (s : State) : Type 0 where

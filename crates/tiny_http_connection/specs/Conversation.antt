@@ -1,5 +1,7 @@
 -- Whole conversations: which replies and which output a list of steps may have.
-use Rattle.std.specs.Prelude.{◌≡◌, ℕ, ◌+◌, ◌-◌, ◌^◌, ◌<◌, ◌⊎◌, Bool, true, false, not, ◌&&◌, ◌||◌, List, [], ◌∷◌, ◌++◌, map, length, Option, Some, None, is_some, unwrap_or, option_map, MatchBool, slice_get, if◌then◌else◌}
+use Rattle.std.specs.Prelude.{◌≡◌, ℕ, ◌+◌, ◌-◌, ◌^◌, ◌<◌, ◌⊎◌, Bool, true, false, not, ◌&&◌, ◌||◌, List, [], ◌∷◌}
+use Rattle.std.specs.Prelude.{◌++◌, map, length, Option, Some, None, is_some, unwrap_or, option_map, MatchBool}
+use Rattle.std.specs.Prelude.{slice_get, if◌then◌else◌}
 use Rattle.std.specs.List.{AllByRecursion}
 use Rattle.std.specs.declared.io.ErrorKind.{ErrorKind}
 use Rattle.httpdate.specs.declared.date.HttpDate.{HttpDate}
@@ -11,16 +13,19 @@ use Rattle.tiny_http_io.specs.declared.device.Stop.TheVariants.{End}
 use Rattle.tiny_http_io.specs.ToCome.{stopped}
 use Rattle.tiny_http_response.specs.ResponseValue.{ResponseValue}
 use Rattle.tiny_http_response.specs.Answer.{IsGathered}
-use Rattle.tiny_http_connection.specs.Slots.{Slot, is_finished, joined, is_output_broken, new_slot, rest_of, last_slot, last_is_open, is_last_slot, last_holds_reader, last_was_abandoned, turn_has_come, to_request}
-use Rattle.tiny_http_connection.specs.Steps.{StepValue, Ask, Read, Respond, ReplyValue, NoSuch, Memory, WriterUse, Unused, Unreported, Reported, use_in_turn, Outcome, Reached, outcome}
+use Rattle.tiny_http_connection.specs.Slots.{Slot, is_finished, joined, is_output_broken, new_slot, rest_of}
+use Rattle.tiny_http_connection.specs.Slots.{last_slot, last_is_open, is_last_slot, last_holds_reader}
+use Rattle.tiny_http_connection.specs.Slots.{last_was_abandoned, turn_has_come, to_request}
+use Rattle.tiny_http_connection.specs.Steps.{StepValue, Ask, Read, Respond, ReplyValue, NoSuch, Memory, WriterUse}
+use Rattle.tiny_http_connection.specs.Steps.{Unused, Unreported, Reported, use_in_turn, Outcome, Reached, outcome}
 
 -- the writer's first fault: its kind, and all that the writer took
 pub record Failure : Type 0 where
   pub kind : ErrorKind
   pub output : List ℕ
 
--- Where a conversation stands: what is reached; the output as of the last step that flushed it, while the writer has not
--- failed; and how the writer failed, if it did.
+-- Where a conversation stands: what is reached; the output as of the last step that flushed it, while the writer has
+-- not failed; and how the writer failed, if it did.
 pub record State : Type 0 where
   pub reached : Reached
   pub flushed : List ℕ
@@ -35,8 +40,8 @@ abbrev pub finished_front : List Slot → ℕ
 finished_front [] = 0
 finished_front (s ∷ slots) = if is_finished s then finished_front slots + 1 else 0
 
--- HOW THE WRITER FARES in a step: without a fault; or it fails in the step's own text; or after that, in a text that was left
--- or, where the data broke off, in what was held.
+-- HOW THE WRITER FARES in a step: without a fault; or it fails in the step's own text; or after that, in a text that
+-- was left or, where the data broke off, in what was held.
 pub data Fares : Type 0 where
   Well : Fares
   FailsWithin : (failure : Failure) → Fares
@@ -58,10 +63,13 @@ MayFare Unused old slots (FailsWithin f) = ⊥
 MayFare Unused old slots (FailsAfter f) = ⊥
 MayFare Unreported old slots (FailsWithin f) = ⊥
 MayFare Unreported old slots (FailsAfter f) = FallsBetween old.flushed (joined slots) f
-MayFare (Reported own broken flushes report) old slots (FailsWithin f) = CanMeet own broken × FallsBetween old.flushed (joined old.reached.slots ++ own) f
+MayFare (Reported own broken flushes report) old slots (FailsWithin f) =
+    CanMeet own broken × FallsBetween old.flushed (joined old.reached.slots ++ own) f
 MayFare (Reported own None flushes report) old slots (FailsAfter f) =
-    (finished_front old.reached.slots + 1 < finished_front slots) × FallsBetween (joined old.reached.slots ++ own) (joined slots) f
-MayFare (Reported own (Some kind) flushes report) old slots (FailsAfter f) = FallsBetween old.flushed (joined old.reached.slots ++ own) f
+    (finished_front old.reached.slots + 1 < finished_front slots)
+    × FallsBetween (joined old.reached.slots ++ own) (joined slots) f
+MayFare (Reported own (Some kind) flushes report) old slots (FailsAfter f) =
+    FallsBetween old.flushed (joined old.reached.slots ++ own) f
 
 -- the reply: the fault in the step's own text, or that of its data; else what was planned
 abbrev pub reply_in : WriterUse → ReplyValue → Fares → ReplyValue
@@ -84,7 +92,10 @@ abbrev pub WriterPart : WriterUse → State → ReplyValue → List Slot → Rep
 WriterPart writer old planned slots reply failure =
     MatchBool (is_silent writer old)
     ((reply ≡ planned) × (failure ≡ old.failure))
-    ((fares : Fares) × MayFare writer old slots fares × (reply ≡ reply_in writer planned fares) × (failure ≡ failure_in fares))
+    ((fares : Fares)
+    × MayFare writer old slots fares
+    × (reply ≡ reply_in writer planned fares)
+    × (failure ≡ failure_in fares))
 
 abbrev pub flushes : WriterUse → Bool
 flushes Unused = false
@@ -100,7 +111,10 @@ reached_by o = record { slots = o.slots; rest = o.rest; asking_ended = o.asking_
 
 -- the step has this outcome
 abbrev pub HasOutcome : Outcome → State → ReplyValue → State → Type 0
-HasOutcome o old reply new = (new.reached ≡ reached_by o) × (new.flushed ≡ flushed_after o.writer old o.slots) × WriterPart o.writer old o.reply o.slots reply new.failure
+HasOutcome o old reply new =
+    (new.reached ≡ reached_by o)
+    × (new.flushed ≡ flushed_after o.writer old o.slots)
+    × WriterPart o.writer old o.reply o.slots reply new.failure
 
 -- the response's data are read whole before its head
 abbrev pub GathersFor : HttpDate → ResponseValue → Slot → Item → Type 0
@@ -127,21 +141,37 @@ abbrev pub answers_to : List Slot → List Item → WriterUse
 answers_to slots [] = Unused
 answers_to slots (item ∷ refused) = use_in_turn (turn_has_come (length slots) slots)
 
--- out of memory: before a read, which changes nothing; or at a head, after the refused ones before it, which ends the asking
+-- out of memory: before a read, which changes nothing; or at a head, after the refused ones before it, which ends the
+-- asking
 abbrev pub FindsNoMemory : HttpDate → State → StepValue → ReplyValue → State → Type 0
-FindsNoMemory date old (Read k n) reply new = 0 < n × ((outcome true date old.reached (Read k n)).reply ≡ NoSuch → ⊥) × (reply ≡ Memory) × (new ≡ old)
+FindsNoMemory date old (Read k n) reply new =
+    0 < n × ((outcome true date old.reached (Read k n)).reply ≡ NoSuch → ⊥) × (reply ≡ Memory) × (new ≡ old)
 FindsNoMemory date old Ask reply new =
-    (old.reached.asking_ended ≡ false) × (is_last_slot (last_slot old.reached.slots) ≡ false) × (last_holds_reader (last_slot old.reached.slots) ≡ false)
+    (old.reached.asking_ended ≡ false)
+    × (is_last_slot (last_slot old.reached.slots) ≡ false)
+    × (last_holds_reader (last_slot old.reached.slots) ≡ false)
     × (last_was_abandoned (last_slot old.reached.slots) ≡ false)
-    × (refused : List Item) × (rest : List Item) × (old.reached.rest ≡ refused ++ rest) × AllByRecursion IsPassedOver refused
+    × (refused : List Item)
+    × (rest : List Item)
+    × (old.reached.rest ≡ refused ++ rest)
+    × AllByRecursion IsPassedOver refused
     × (let slots = old.reached.slots ++ map (new_slot date) refused in
-    HasOutcome (record { reply = Memory; slots = slots; rest = rest; asking_ended = true; writer = answers_to old.reached.slots refused }) old reply new)
+    HasOutcome
+    (record {
+      reply = Memory;
+      slots = slots;
+      rest = rest;
+      asking_ended = true;
+      writer = answers_to old.reached.slots refused;
+    }) old reply new)
 FindsNoMemory date old _ reply new = ⊥
 
 -- One step on a date may be answered so and leave this.
 abbrev pub StepsTo : State → HttpDate → StepValue → ReplyValue → State → Type 0
 StepsTo old date step reply new =
-    ((found : Bool) × MayLack found date old.reached step × HasOutcome (outcome found date old.reached step) old reply new)
+    ((found : Bool)
+    × MayLack found date old.reached step
+    × HasOutcome (outcome found date old.reached step) old reply new)
     ⊎ FindsNoMemory date old step reply new
 
 -- a step on a date
@@ -157,16 +187,26 @@ Run old (s ∷ steps) [] new = ⊥
 
 -- nothing is reached of a pipeline
 abbrev pub start_state : List Item → State
-start_state items = record { reached = record { slots = []; rest = items; asking_ended = false }; flushed = []; failure = None }
+start_state items =
+    record { reached = record { slots = []; rest = items; asking_ended = false }; flushed = []; failure = None }
 
--- The output: what the writer took and what is held are the joined segments, it took all that was flushed, it did not fail, and
--- the output has ended exactly if one of them broke off. Or the writer failed once: it states that kind and those bytes,
--- nothing is held, and the output has ended.
+-- The output: what the writer took and what is held are the joined segments, it took all that was flushed, it did not
+-- fail, and the output has ended exactly if one of them broke off. Or the writer failed once: it states that kind and
+-- those bytes, nothing is held, and the output has ended.
 abbrev pub IsOutput : List Slot → List ℕ → Option Failure → Sink → Sink → List ℕ → Bool → Type 0
 IsOutput slots flushed None before after held ended =
-    (after.failures ≡ before.failures) × (taken : List ℕ) × (after.taken ≡ Some taken) × (taken ++ held ≡ joined slots) × IsFront flushed taken × (ended ≡ is_output_broken slots)
+    (after.failures ≡ before.failures)
+    × (taken : List ℕ)
+    × (after.taken ≡ Some taken)
+    × (taken ++ held ≡ joined slots)
+    × IsFront flushed taken
+    × (ended ≡ is_output_broken slots)
 IsOutput slots flushed (Some f) before after held ended =
-    (after.failures ≡ before.failures + 1) × StatesKind after.last_kind f.kind × (after.taken ≡ Some f.output) × (held ≡ []) × (ended ≡ true)
+    (after.failures ≡ before.failures + 1)
+    × StatesKind after.last_kind f.kind
+    × (after.taken ≡ Some f.output)
+    × (held ≡ [])
+    × (ended ≡ true)
 
 -- what the bytes still ask: nothing after the last head, else the pipeline from where the input stands
 abbrev pub PlaceAt : Profile → Bool → Option Feed → List Item → Type 0
@@ -174,10 +214,13 @@ PlaceAt p true feed rest = rest ≡ []
 PlaceAt p false None rest = ⊥
 PlaceAt p false (Some f) rest = Pipeline p (Some f.bytes) f.stop rest
 
--- The input stands within this number's body: what is left of the body comes next, and after it what the pipeline still has.
+-- The input stands within this number's body: what is left of the body comes next, and after it what the pipeline
+-- still has.
 abbrev pub WithinBody : Profile → Slot → Item → Feed → List Item → Type 0
 WithinBody p s (Asks r) feed rest =
-    (next : Place) × RemainsAt r.framing.by_standard r.framing.form (body_length_or_0 r.framing - s.given) feed.bytes feed.stop (rest_of r s.given) next
+    (next : Place)
+    × RemainsAt r.framing.by_standard r.framing.form (body_length_or_0 r.framing - s.given) feed.bytes feed.stop
+    (rest_of r s.given) next
     × Pipeline p (place_after r.framing.is_last next) feed.stop rest
 WithinBody p s (Refuses refusal manner no_body last) feed rest = ⊥
 
@@ -191,11 +234,13 @@ abbrev pub InputAt : Profile → Reached → Option Feed → Type 0
 InputAt p old feed =
     MatchBool old.asking_ended (Unit {0})
     (MatchBool (last_was_abandoned (last_slot old.slots)) (feed ≡ Some (stopped End))
-    (MatchBool (last_is_open (last_slot old.slots)) (WithinLast p (last_slot old.slots) feed old.rest) (PlaceAt p (is_last_slot (last_slot old.slots)) feed old.rest)))
+    (MatchBool (last_is_open (last_slot old.slots)) (WithinLast p (last_slot old.slots) feed old.rest)
+    (PlaceAt p (is_last_slot (last_slot old.slots)) feed old.rest)))
 
--- THE CONNECTION THEOREM: replies and output are those of a run over the pipeline that stands in the feed under this profile; and
--- this of the feed is left.
-pub record IsConversation (p : Profile) (feed : Feed) (before : Sink) (steps : List TimedValue) (replies : List ReplyValue) (after : Sink) (held : List ℕ) (ended : Bool) (unread : Option Feed) : Type 0 where
+-- THE CONNECTION THEOREM: replies and output are those of a run over the pipeline that stands in the feed under this
+-- profile; and this of the feed is left.
+pub record IsConversation (p : Profile) (feed : Feed) (before : Sink) (steps : List TimedValue)
+    (replies : List ReplyValue) (after : Sink) (held : List ℕ) (ended : Bool) (unread : Option Feed) : Type 0 where
   pub items : List Item
   pub end : State
   pub pipeline : Pipeline p (Some feed.bytes) feed.stop items

@@ -1,4 +1,5 @@
--- A run over a feed by the rules of tiny_http, computed for a writer that takes all: one plain reading, by which the definitions are tried out.
+-- A run over a feed by the rules of tiny_http, computed for a writer that takes all: one plain reading, by which the
+-- definitions are tried out.
 use Rattle.std.specs.Prelude.{ℕ, Bool, true, List, [], ◌∷◌, if◌then◌else◌}
 use Rattle.std.specs.Prelude.{false}
 use Rattle.tiny_http_io.specs.Device.{Feed}

@@ -1,5 +1,7 @@
 -- What the calls of a `Connection` come to.
-use Rattle.std.specs.Prelude.{◌≡◌, ◌⊎◌, ◌||◌, ℕ, ◌+◌, Bool, true, false, List, [], ◌∷◌, ◌++◌, length, replicate, Option, Some, None, IsSome, MatchBool, slice_get, slice_set, if◌then◌else◌, string_bytes, ⊤}
+use Rattle.std.specs.Prelude.{◌≡◌, ◌⊎◌, ◌||◌, ℕ, ◌+◌, Bool, true, false, List, [], ◌∷◌, ◌++◌, length, replicate}
+use Rattle.std.specs.Prelude.{Option, Some, None, IsSome, MatchBool, slice_get, slice_set, if◌then◌else◌}
+use Rattle.std.specs.Prelude.{string_bytes, ⊤}
 use Rattle.std.specs.declared.io.ErrorKind.{ErrorKind}
 use Rattle.httpdate.specs.declared.date.HttpDate.{HttpDate}
 use Rattle.tiny_http_io.specs.Device.{Feed, Sink}
@@ -16,13 +18,17 @@ use Rattle.tiny_http_open_request.specs.HeadReads.{EndsAt, IsBeforeHead, HasByte
 use Rattle.tiny_http_body.specs.declared.framing.Profile.{Profile}
 use Rattle.tiny_http_body.specs.declared.framing.Framing.{Framing}
 use Rattle.tiny_http_io.specs.Outlet.{output_of, SentOn}
-use Rattle.tiny_http_open_request.specs.Pipeline.{Item, Manner, Refuses, Refusal, refusal_status, OneHead, Pipeline, Place, place_feed}
-use Rattle.tiny_http_connection.specs.Steps.{StepValue, ReplyValue, Handed, Ended, NotYet, Done, Refused, NoSuch, Memory, Fault}
+use Rattle.tiny_http_open_request.specs.Pipeline.{Item, Manner, Refuses, Refusal, refusal_status, OneHead, Pipeline}
+use Rattle.tiny_http_open_request.specs.Pipeline.{Place, place_feed}
+use Rattle.tiny_http_connection.specs.Steps.{StepValue, ReplyValue, Handed, Ended, NotYet, Done, Refused, NoSuch}
+use Rattle.tiny_http_connection.specs.Steps.{Memory, Fault}
 use Rattle.tiny_http_connection.specs.Conversation.{State, TimedValue, Run, start_state, IsFresh, IsPassedOver}
 use Rattle.tiny_http_response.specs.declared.answer_context.AnswerContext.{AnswerContext}
 use Rattle.tiny_http_response.specs.ResponseValue.{printing_in}
 use Rattle.tiny_http_response.specs.Sending.{IsHonest, FailsOnce}
-use Rattle.tiny_http_connection.specs.Pending.{waiting_answer_context, owes_continue, is_last_once_finished_at, refuses_at, refuses_upgrade_at, is_last_with_stream_at, asked_to_close, last_holds_next_head, kept_body, GivesUpBody, with_body}
+use Rattle.tiny_http_connection.specs.Pending.{waiting_answer_context, owes_continue, is_last_once_finished_at}
+use Rattle.tiny_http_connection.specs.Pending.{refuses_at, refuses_upgrade_at, is_last_with_stream_at, asked_to_close}
+use Rattle.tiny_http_connection.specs.Pending.{last_holds_next_head, kept_body, GivesUpBody, with_body}
 use Rattle.tiny_http_body.specs.declared.body.Body.{Body}
 use Rattle.tiny_http_open_request.specs.declared.open_request.OpenRequest.{OpenRequest}
 use Rattle.tiny_http_connection.specs.declared.pending.Unfinished.{Unfinished}
@@ -31,9 +37,10 @@ use Rattle.tiny_http_body.specs.Body.{is_streaming, stream_body, body_standing}
 use Rattle.tiny_http_connection.specs.Seen.{IsStep, IsAnswered, IsOfWriter, all_sent_after}
 use Rattle.tiny_http_connection.specs.Connection.{ConnectionState, kept, Stands}
 
--- By a connection of this profile, over this client's feed and a fresh writer, these steps were done, with these replies: they
--- are a run over the pipeline that stands in the feed, and the connection stands where it leads.
-pub record HasDone {R W : Type 0} (p : Profile) (client : Feed) (before : Sink) (c : ConnectionState R W) (steps : List TimedValue) (replies : List ReplyValue) : Type 0 where
+-- By a connection of this profile, over this client's feed and a fresh writer, these steps were done, with these
+-- replies: they are a run over the pipeline that stands in the feed, and the connection stands where it leads.
+pub record HasDone {R W : Type 0} (p : Profile) (client : Feed) (before : Sink) (c : ConnectionState R W)
+    (steps : List TimedValue) (replies : List ReplyValue) : Type 0 where
   pub profile : c.profile ≡ p
   pub fresh : IsFresh before
   pub items : List Item
@@ -61,44 +68,67 @@ stated_step feed (step.Drop k) = step.Drop k
 -- the head that stands there is refused, with this status
 abbrev pub IsRefusal : Profile → Feed → EndOfRequests → Type 0
 IsRefusal p f why =
-    (status : StatusCode) × (refusal : Refusal) × (manner : Manner) × (no_body : Bool) × OneHead p f.bytes f.stop (Some (Refuses refusal manner no_body true)) None
+    (status : StatusCode)
+    × (refusal : Refusal)
+    × (manner : Manner)
+    × (no_body : Bool)
+    × OneHead p f.bytes f.stop (Some (Refuses refusal manner no_body true)) None
     × (status.0 ≡ refusal_status refusal) × (why ≡ because.Refused status)
 
 -- no request stands in these bytes: a head is refused, and ends the requests; or none stands there, for this reason
 abbrev pub EndsThere : Profile → Standing → Feed → EndOfRequests → Type 0
-EndsThere p standing f why = IsRefusal p f why ⊎ (OneHead p f.bytes f.stop None None × EndsAt p standing f.bytes f.stop why)
+EndsThere p standing f why =
+    IsRefusal p f why ⊎ (OneHead p f.bytes f.stop None None × EndsAt p standing f.bytes f.stop why)
 
 -- These heads are refused one after another, and the asking goes on behind each; then this comes.
 abbrev pub ArePassedOver : Profile → Feed → List Item → Feed → Type 0
 ArePassedOver p f [] behind = behind ≡ f
-ArePassedOver p f (item ∷ items) behind = IsPassedOver item × (next : Place) × OneHead p f.bytes f.stop (Some item) next × ArePassedOver p (place_feed f.stop next) items behind
+ArePassedOver p f (item ∷ items) behind =
+    IsPassedOver item
+    × (next : Place)
+    × OneHead p f.bytes f.stop (Some item) next
+    × ArePassedOver p (place_feed f.stop next) items behind
 
 -- a byte of a further head comes behind such heads, or the reader times out there
 abbrev pub HasByteBehind : Profile → Option Feed → Type 0
 HasByteBehind p None = ⊤
-HasByteBehind p (Some f) = (passed : List Item) × (behind : Feed) × ArePassedOver p f passed behind × HasByteOrTimedOut (Some behind)
+HasByteBehind p (Some f) =
+    (passed : List Item) × (behind : Feed) × ArePassedOver p f passed behind × HasByteOrTimedOut (Some behind)
 
 -- where the source stands behind such heads
 abbrev pub standing_behind : Standing → List Item → Standing
 standing_behind standing [] = standing
 standing_behind standing (item ∷ items) = at.Head
 
--- WHY THE REQUESTS END where the source stands: the last one was read; or no request stands in the bytes that come, behind the
--- heads that are passed.
+-- WHY THE REQUESTS END where the source stands: the last one was read; or no request stands in the bytes that come,
+-- behind the heads that are passed.
 abbrev pub EndsRequestsAt : Profile → Standing → Option Feed → EndOfRequests → Type 0
 EndsRequestsAt p at.Last feed why = why ≡ because.LastRequest
 EndsRequestsAt p standing feed why =
-    (f : Feed) → feed ≡ Some f → (passed : List Item) × (behind : Feed) × ArePassedOver p f passed behind × EndsThere p (standing_behind standing passed) behind why
+    (f : Feed)
+    → feed ≡ Some f
+    → (passed : List Item)
+    × (behind : Feed)
+    × ArePassedOver p f passed behind
+    × EndsThere p (standing_behind standing passed) behind why
 
--- What an Ask says of the end of the requests, by its reply: it ends them for a reason that stands in the client's bytes, or
--- where memory for a head was refused; after the end it changes nothing, and after the last request the source is left alone.
+-- What an Ask says of the end of the requests, by its reply: it ends them for a reason that stands in the client's
+-- bytes, or where memory for a head was refused; after the end it changes nothing, and after the last request the
+-- source is left alone.
 abbrev pub AskEnds : {R W : Type 0} → ConnectionState R W → ConnectionState R W → ReplyValue → Type 0
 AskEnds old new (Handed k message framing) = (old.end ≡ None) × (new.end ≡ None)
 AskEnds old new NotYet = (old.end ≡ None) × (old.source.standing ≡ at.Body ⊎ last_holds_next_head old.requests ≡ true)
 AskEnds old new Ended =
     (IsSome old.end → new ≡ old) × (old.source.standing ≡ at.Last → new.source ≡ old.source)
-    × (old.end ≡ None → (why : EndOfRequests) × (new.end ≡ Some why) × EndsRequestsAt old.profile old.source.standing old.source.feed why)
-AskEnds old new Memory = (old.end ≡ None) × (new.end ≡ Some because.Memory) × IsBeforeHead old.source.standing × HasByteBehind old.profile old.source.feed
+    × (old.end ≡ None
+    → (why : EndOfRequests)
+    × (new.end ≡ Some why)
+    × EndsRequestsAt old.profile old.source.standing old.source.feed why)
+AskEnds old new Memory =
+    (old.end ≡ None)
+    × (new.end ≡ Some because.Memory)
+    × IsBeforeHead old.source.standing
+    × HasByteBehind old.profile old.source.feed
 AskEnds old new _ = ⊥
 
 -- why the requests end, where no head is read behind a request that is finished or gets the connection's stream
@@ -120,16 +150,20 @@ UpgradeEnds k old new reply = EndsBehind (is_last_with_stream_at (slice_get old.
 
 -- the same of a Respond, whose answer may ask that the connection ends; one that is refused asks for nothing
 abbrev pub RespondEnds : {R W : Type 0} → ℕ → Bool → ConnectionState R W → ConnectionState R W → ReplyValue → Type 0
-RespondEnds k closes old new Refused = new.end ≡ ends_behind (is_last_once_finished_at (slice_get old.requests k)) old.end
-RespondEnds k closes old new reply = EndsBehind (closes || is_last_once_finished_at (slice_get old.requests k)) old new reply
+RespondEnds k closes old new Refused =
+    new.end ≡ ends_behind (is_last_once_finished_at (slice_get old.requests k)) old.end
+RespondEnds k closes old new reply =
+    EndsBehind (closes || is_last_once_finished_at (slice_get old.requests k)) old new reply
 
 -- what a step says of the end of the requests
-abbrev pub StepEnds : {R W : Type 0} → Step (Option Feed) → ConnectionState R W → ConnectionState R W → ReplyValue → Type 0
+abbrev pub StepEnds : {R W : Type 0} → Step (Option Feed) → ConnectionState R W → ConnectionState R W → ReplyValue
+    → Type 0
 StepEnds step.Ask old new reply = AskEnds old new reply
 StepEnds (step.AsReader k) old new reply = new.end ≡ old.end
 StepEnds (step.Read k n) old new reply = new.end ≡ old.end
 StepEnds (step.Respond k r) old new reply = RespondEnds k r.answer.closes old new reply
-StepEnds (step.IntoWriter k) old new reply = EndsBehind (is_last_with_stream_at (slice_get old.requests k)) old new reply
+StepEnds (step.IntoWriter k) old new reply =
+    EndsBehind (is_last_with_stream_at (slice_get old.requests k)) old new reply
 StepEnds (step.Write k bytes) old new reply = new.end ≡ old.end
 StepEnds (step.Flush k) old new reply = new.end ≡ old.end
 StepEnds (step.Upgrade k p r) old new reply = UpgradeEnds k old new reply
@@ -138,15 +172,18 @@ StepEnds (step.Drop k) old new reply = EndsBehind (is_last_once_finished_at (sli
 
 -- the body that is kept of this number was given up
 abbrev pub GivesUpKept : {R W : Type 0} → ℕ → ConnectionState R W → ConnectionState R W → Type 0
-GivesUpKept k old new = (u : Unfinished) → slice_get old.requests k ≡ Some (Some u) → GivesUpBody (kept_body (Some u)) old.source new.source
+GivesUpKept k old new =
+    (u : Unfinished)
+    → slice_get old.requests k ≡ Some (Some u)
+    → GivesUpBody (kept_body (Some u)) old.source new.source
 
 -- nothing is kept of this number any more, and its body was given up
 abbrev pub LetsGo : {R W : Type 0} → ℕ → ConnectionState R W → ConnectionState R W → Type 0
 LetsGo k old new =
     (new.requests ≡ slice_set old.requests k None) × GivesUpKept k old new
 
--- nothing is kept of this number any more, and its body was given up; the last number was told that the connection ends, if it waits
--- and the answer asked for that
+-- nothing is kept of this number any more, and its body was given up; the last number was told that the connection
+-- ends, if it waits and the answer asked for that
 abbrev pub LetsGoAnswered : {R W : Type 0} → ℕ → Bool → ConnectionState R W → ConnectionState R W → Type 0
 LetsGoAnswered k closes old new =
     (new.requests ≡ slice_set (asked_to_close closes old.requests) k None) × GivesUpKept k old new
@@ -157,31 +194,38 @@ after_head f body = if f.is_last then at.Last else if is_streaming body then at.
 
 -- So many heads were refused, and have their numbers. Where none was the output is left alone.
 abbrev pub RefusesHeads : {R W : Type 0} → ℕ → ConnectionState R W → ConnectionState R W → Type 0
-RefusesHeads n old new = (new.requests ≡ old.requests ++ replicate n None) × (n ≡ 0 → (new.marks ≡ old.marks) × (new.outlet ≡ old.outlet))
+RefusesHeads n old new =
+    (new.requests ≡ old.requests ++ replicate n None) × (n ≡ 0 → (new.marks ≡ old.marks) × (new.outlet ≡ old.outlet))
 
--- What an Ask leaves of requests, source and output, by its reply: a request was added behind the refused heads, and the source
--- stands after its head; where none was refused nothing is sent, and no end or fault of the reader was met. Or none was added.
--- After the last request, or the end of the source, no head is refused.
+-- What an Ask leaves of requests, source and output, by its reply: a request was added behind the refused heads, and
+-- the source stands after its head; where none was refused nothing is sent, and no end or fault of the reader was
+-- met. Or none was added. After the last request, or the end of the source, no head is refused.
 abbrev pub AskLeaves : {R W : Type 0} → ConnectionState R W → ConnectionState R W → ReplyValue → Type 0
 AskLeaves old new (Handed k message framing) =
-    (n : ℕ) × (w : OpenRequest Body) × (new.requests ≡ old.requests ++ replicate n None ++ Some (still.Waiting w) ∷ []) × (new.source.standing ≡ after_head framing w.body)
+    (n : ℕ)
+    × (w : OpenRequest Body)
+    × (new.requests ≡ old.requests ++ replicate n None ++ Some (still.Waiting w) ∷ [])
+    × (new.source.standing ≡ after_head framing w.body)
     × (k ≡ length old.marks + n) × (n ≡ 0 → (new.outlet ≡ old.outlet) × (new.source.stop ≡ old.source.stop))
 AskLeaves old new Memory = (n : ℕ) × RefusesHeads n old new
-AskLeaves old new Ended = (n : ℕ) × RefusesHeads n old new × (old.source.standing ≡ at.Last ⊎ IsAtEnd old.source → n ≡ 0)
+AskLeaves old new Ended =
+    (n : ℕ) × RefusesHeads n old new × (old.source.standing ≡ at.Last ⊎ IsAtEnd old.source → n ≡ 0)
 AskLeaves old new NotYet = Unit {0}
 AskLeaves old new _ = ⊥
 
--- A read from the body of a request that leaves this of it: where it is read from the source, that stands by what is left;
--- else the source is left alone.
+-- A read from the body of a request that leaves this of it: where it is read from the source, that stands by what is
+-- left; else the source is left alone.
 abbrev pub StandsAfter : {R : Type 0} → Body → Body → SourceState R → SourceState R → Type 0
 StandsAfter was body old new = MatchBool (is_streaming was) (new.standing ≡ body_standing body old.standing) (new ≡ old)
 
--- What becomes of the 100 of a number, by the reply: none is owed any more, and if none was nothing has changed; or one is
--- owed, and waits for its turn; or no such request waits for an answer.
+-- What becomes of the 100 of a number, by the reply: none is owed any more, and if none was nothing has changed; or
+-- one is owed, and waits for its turn; or no such request waits for an answer.
 abbrev pub SendsContinue : {R W : Type 0} → ℕ → ConnectionState R W → ConnectionState R W → ReplyValue → Type 0
 SendsContinue k old new Done =
     (w : OpenRequest Body) × (slice_get old.requests k ≡ Some (Some (still.Waiting w)))
-    × MatchBool w.owes_continue (new.requests ≡ slice_set old.requests k (Some (still.Waiting (record w { owes_continue = false })))) (new ≡ old)
+    × MatchBool w.owes_continue
+    (new.requests ≡ slice_set old.requests k (Some (still.Waiting (record w { owes_continue = false }))))
+    (new ≡ old)
 SendsContinue k old new NotYet = owes_continue (slice_get old.requests k) ≡ true
 SendsContinue k old new NoSuch = waiting_answer_context (slice_get old.requests k) ≡ None
 SendsContinue k old new _ = ⊥
@@ -193,34 +237,47 @@ LeavesAllButOutlet old new = (new.requests ≡ old.requests) × (new.marks ≡ o
 -- what this answer leaves, by the reply: the request was answered; or the answer was refused, and the request dropped
 abbrev pub AnswerLeaves : {R W : Type 0} → ℕ → Answer → ConnectionState R W → ConnectionState R W → ReplyValue → Type 0
 AnswerLeaves k a old new Refused = LetsGo k old new × (refuses_at a.status (slice_get old.requests k) ≡ true)
-AnswerLeaves k a old new reply = IsAnswered reply → LetsGoAnswered k a.closes old new × (refuses_at a.status (slice_get old.requests k) ≡ false)
+AnswerLeaves k a old new reply =
+    IsAnswered reply → LetsGoAnswered k a.closes old new × (refuses_at a.status (slice_get old.requests k) ≡ false)
 
--- What an Upgrade to this protocol with this code leaves, by the reply: the request was upgraded, and its body is kept, or by the
--- standard all that comes is read; or the upgrade was refused, and the request dropped.
-abbrev pub UpgradeLeaves : {R W : Type 0} → ℕ → List ℕ → ℕ → ConnectionState R W → ConnectionState R W → ReplyValue → Type 0
+-- What an Upgrade to this protocol with this code leaves, by the reply: the request was upgraded, and its body is
+-- kept, or by the standard all that comes is read; or the upgrade was refused, and the request dropped.
+abbrev pub UpgradeLeaves : {R W : Type 0} → ℕ → List ℕ → ℕ → ConnectionState R W → ConnectionState R W → ReplyValue
+    → Type 0
 UpgradeLeaves k protocol code old new Done =
     (refuses_upgrade_at protocol code (slice_get old.requests k) ≡ false) ×
-    (w : OpenRequest Body) × (slice_get old.requests k ≡ Some (Some (still.Waiting w))) × (new.requests ≡ slice_set old.requests k (Some (still.Upgraded (stream_body w.by_standard w.body))))
+    (w : OpenRequest Body)
+    × (slice_get old.requests k ≡ Some (Some (still.Waiting w)))
+    × (new.requests ≡ slice_set old.requests k (Some (still.Upgraded (stream_body w.by_standard w.body))))
     × (new.marks ≡ old.marks) × (new.source ≡ old.source)
-UpgradeLeaves k protocol code old new Refused = LetsGo k old new × (refuses_upgrade_at protocol code (slice_get old.requests k) ≡ true)
+UpgradeLeaves k protocol code old new Refused =
+    LetsGo k old new × (refuses_upgrade_at protocol code (slice_get old.requests k) ≡ true)
 UpgradeLeaves k protocol code old new NotYet = Unit {0}
 UpgradeLeaves k protocol code old new NoSuch = Unit {0}
 UpgradeLeaves k protocol code old new _ = ⊥
 
--- What a step leaves of requests, source and output. An AsReader only clears what its request owes. A read changes no more than
--- the body of its request, and the source if it is read from that. An answer, a drop and a Finish let their request go. An
--- IntoWriter gives the body up.
-abbrev pub StepLeaves : {R W : Type 0} → Step (Option Feed) → ConnectionState R W → ConnectionState R W → ReplyValue → Type 0
+-- What a step leaves of requests, source and output. An AsReader only clears what its request owes. A read changes no
+-- more than the body of its request, and the source if it is read from that. An answer, a drop and a Finish let their
+-- request go. An IntoWriter gives the body up.
+abbrev pub StepLeaves : {R W : Type 0} → Step (Option Feed) → ConnectionState R W → ConnectionState R W → ReplyValue
+    → Type 0
 StepLeaves step.Ask old new reply = AskLeaves old new reply
-StepLeaves (step.AsReader k) old new reply = (new.source ≡ old.source) × (new.marks ≡ old.marks) × SendsContinue k old new reply
+StepLeaves (step.AsReader k) old new reply =
+    (new.source ≡ old.source) × (new.marks ≡ old.marks) × SendsContinue k old new reply
 StepLeaves (step.Read k n) old new reply =
     (new.outlet ≡ old.outlet) × (new.marks ≡ old.marks)
     × (((new.requests ≡ old.requests) × (new.source ≡ old.source))
-    ⊎ ((u : Unfinished) × (was : Body) × (body : Body) × (slice_get old.requests k ≡ Some (Some u)) × (kept_body (Some u) ≡ Some was)
+    ⊎ ((u : Unfinished)
+    × (was : Body)
+    × (body : Body)
+    × (slice_get old.requests k ≡ Some (Some u))
+    × (kept_body (Some u) ≡ Some was)
     × (new.requests ≡ slice_set old.requests k (Some (with_body body u))) × StandsAfter was body old.source new.source))
 StepLeaves (step.Respond k r) old new reply = AnswerLeaves k r.answer old new reply
 StepLeaves (step.IntoWriter k) old new reply =
-    (new.outlet ≡ old.outlet) × (new.marks ≡ old.marks) × (IsAnswered reply → (new.requests ≡ slice_set old.requests k (Some still.Raw)) × GivesUpKept k old new)
+    (new.outlet ≡ old.outlet)
+    × (new.marks ≡ old.marks)
+    × (IsAnswered reply → (new.requests ≡ slice_set old.requests k (Some still.Raw)) × GivesUpKept k old new)
 StepLeaves (step.Write k bytes) old new reply = LeavesAllButOutlet old new
 StepLeaves (step.Flush k) old new reply = LeavesAllButOutlet old new
 StepLeaves (step.Upgrade k p r) old new reply = UpgradeLeaves k (string_bytes p) r.answer.status old new reply
@@ -234,10 +291,11 @@ IsDeclined _ NoSuch = Unit {0}
 IsDeclined (step.Read k n) Memory = Unit {0}
 IsDeclined _ _ = ⊥
 
--- A fault that a step reports, whatever reader, writer and data state: that of a Write or a Flush is the writer's, whose count
--- rose; that of an answer is so too, or that of its own data, printed for its request; of a body's nothing is said here. The
--- other steps report none.
-abbrev pub ReportsFault : {R W : Type 0} → ConnectionState R W → ConnectionState R W → HttpDate → Step (Option Feed) → ErrorKind → Type 0
+-- A fault that a step reports, whatever reader, writer and data state: that of a Write or a Flush is the writer's,
+-- whose count rose; that of an answer is so too, or that of its own data, printed for its request; of a body's
+-- nothing is said here. The other steps report none.
+abbrev pub ReportsFault : {R W : Type 0} → ConnectionState R W → ConnectionState R W → HttpDate → Step (Option Feed)
+    → ErrorKind → Type 0
 ReportsFault old new now step.Ask kind = ⊥
 ReportsFault old new now (step.AsReader k) kind = ⊥
 ReportsFault old new now (step.Read k n) kind = Unit {0}
@@ -248,33 +306,43 @@ ReportsFault old new now (step.Flush k) kind = IsOfWriter (output_of old.outlet)
 ReportsFault old new now (step.Upgrade k p r) kind = ⊥
 ReportsFault old new now (step.Finish k) kind = ⊥
 ReportsFault old new now (step.Respond k r) kind =
-    (context : AnswerContext) × (waiting_answer_context (slice_get (asked_to_close r.answer.closes old.requests) k) ≡ Some context)
+    (context : AnswerContext)
+    × (waiting_answer_context (slice_get (asked_to_close r.answer.closes old.requests) k) ≡ Some context)
     × IsHonest (output_of old.outlet) (output_of new.outlet) r.answer r.data_reader (printing_in context now) kind
 
--- One step on a date: what was done is done with this step and its reply after it, and the profile is kept. And whatever reader,
--- writer and data state: a step that was not done changes nothing, why the requests end is kept, the other requests are left alone, the source
--- goes on, the writer fails once at most, what is held and what was sent on is told by step and reply, and a fault that is
--- reported is one.
-pub record TakesStep {R W : Type 0} (old new : ConnectionState R W) (now : HttpDate) (step : Step (Option Feed)) (reply : ReplyValue) : Type 0 where
-  pub does : (p : Profile) (client : Feed) (before : Sink) (steps : List TimedValue) (replies : List ReplyValue) (asked : StepValue) → IsStep (λ f. f) step asked
-      → HasDone p client before old steps replies → HasDone p client before new (steps ++ (now, asked) ∷ []) (replies ++ reply ∷ [])
+-- One step on a date: what was done is done with this step and its reply after it, and the profile is kept. And
+-- whatever reader, writer and data state: a step that was not done changes nothing, why the requests end is kept, the
+-- other requests are left alone, the source goes on, the writer fails once at most, what is held and what was sent on
+-- is told by step and reply, and a fault that is reported is one.
+pub record TakesStep {R W : Type 0} (old new : ConnectionState R W) (now : HttpDate) (step : Step (Option Feed))
+    (reply : ReplyValue) : Type 0 where
+  pub does : (p : Profile) (client : Feed) (before : Sink) (steps : List TimedValue) (replies : List ReplyValue)
+      (asked : StepValue) → IsStep (λ f. f) step asked
+      → HasDone p client before old steps replies
+      → HasDone p client before new (steps ++ (now, asked) ∷ []) (replies ++ reply ∷ [])
   pub profile : new.profile ≡ old.profile
   pub declined : IsDeclined step reply → new ≡ old
   pub ends : StepEnds step old new reply
   pub leaves : StepLeaves step old new reply
   pub goes_on : GoesOn old.source.feed new.source.feed
   pub fails_once : FailsOnce old.outlet new.outlet
-  pub flushed : (sent : Bool) → (sent ≡ true → old.outlet.held ≡ []) → all_sent_after step reply sent ≡ true → new.outlet.held ≡ []
-  pub sent_on : (sent : Bool) → (sent ≡ true → SentOn old.outlet) → all_sent_after step reply sent ≡ true → SentOn new.outlet
+  pub flushed : (sent : Bool) → (sent ≡ true → old.outlet.held ≡ []) → all_sent_after step reply sent ≡ true
+      → new.outlet.held ≡ []
+  pub sent_on : (sent : Bool) → (sent ≡ true → SentOn old.outlet) → all_sent_after step reply sent ≡ true
+      → SentOn new.outlet
   pub honest : (kind : ErrorKind) → reply ≡ Fault kind → ReportsFault old new now step kind
 
 -- a step that drops the request of this number, and its reply: a Drop, an answer that is refused, or an Upgrade that is
 abbrev pub IsDropping : List (Option Unfinished) → ℕ → Step (Option Feed) → ReplyValue → Type 0
 IsDropping requests n (step.Drop k) Done = k ≡ n
 IsDropping requests n (step.Respond k r) Refused = (k ≡ n) × (refuses_at r.answer.status (slice_get requests n) ≡ true)
-IsDropping requests n (step.Upgrade k p r) Refused = (k ≡ n) × (refuses_upgrade_at (string_bytes p) r.answer.status (slice_get requests n) ≡ true)
+IsDropping requests n (step.Upgrade k p r) Refused =
+    (k ≡ n) × (refuses_upgrade_at (string_bytes p) r.answer.status (slice_get requests n) ≡ true)
 IsDropping _ _ _ _ = ⊥
 
 -- the request of this number was dropped
 abbrev pub Drops : {R W : Type 0} → ℕ → ConnectionState R W → ConnectionState R W → Type 0
-Drops n old new = (now : HttpDate) (x : Step (Option Feed)) (reply : ReplyValue) → IsDropping old.requests n x reply → TakesStep old new now x reply
+Drops n old new =
+    (now : HttpDate) (x : Step (Option Feed)) (reply : ReplyValue)
+    → IsDropping old.requests n x reply
+    → TakesStep old new now x reply

@@ -1,5 +1,6 @@
 -- Numbers whose turn comes, and what is sent as it does.
-use Rattle.std.specs.Prelude.{◌≡◌, ◌==◌, ◌<◌, ◌^◌, ◌+◌, ℕ, Bool, true, false, not, ◌||◌, List, [], ◌∷◌, ◌++◌, length, Option, Some, None, MatchBool, is_err, slice_get, if◌then◌else◌}
+use Rattle.std.specs.Prelude.{◌≡◌, ◌==◌, ◌<◌, ◌^◌, ◌+◌, ℕ, Bool, true, false, not, ◌||◌, List, [], ◌∷◌, ◌++◌, length}
+use Rattle.std.specs.Prelude.{Option, Some, None, MatchBool, is_err, slice_get, if◌then◌else◌}
 use Rattle.tiny_http_io.specs.Device.{Sink}
 use Rattle.tiny_http_response.specs.declared.answer_context.AnswerContext.{AnswerContext}
 use Rattle.std.specs.Global.{Vec}
@@ -10,11 +11,13 @@ use Rattle.tiny_http_connection.specs.declared.pending.Unfinished.TheVariants as
 use Rattle.tiny_http_body.specs.declared.body.Body.{Body}
 use Rattle.tiny_http_open_request.specs.declared.open_request.OpenRequest.{OpenRequest}
 use Rattle.tiny_http_body.specs.Body.{is_streaming, is_whole, remainder, GivesUp}
-use Rattle.tiny_http_open_request.specs.OpenRequest.{closing, is_last_once_finished, final_context, refuses_code, request_check}
+use Rattle.tiny_http_open_request.specs.OpenRequest.{closing, is_last_once_finished, final_context, refuses_code}
+use Rattle.tiny_http_open_request.specs.OpenRequest.{request_check}
 use Rattle.tiny_http_io.specs.Source.{SourceState}
 use Rattle.tiny_http_io.specs.Outlet.{OutletState, output_of, outlet_ended, outlet_held, SentOn}
 use Rattle.tiny_http_response.specs.Sending.{CanSend, SendsUnlessEnded, SendsQuietlyOn, IsFlushed, FailsOnce}
-use Rattle.tiny_http_turns.specs.Turns.{Mark, Open, Held, Left, Finished, AreInShape, first_unfinished, TurnsState, Finish, marks_after_step, turn_answer}
+use Rattle.tiny_http_turns.specs.Turns.{Mark, Open, Held, Left, Finished, AreInShape, first_unfinished, TurnsState}
+use Rattle.tiny_http_turns.specs.Turns.{Finish, marks_after_step, turn_answer}
 use Rattle.tiny_http_turns.specs.TurnsCalls.{Finishes}
 use Rattle.tiny_http_turns.specs.declared.turns.Finishing.{Finishing}
 use Rattle.tiny_http_turns.specs.declared.turns.Finishing.TheVariants.{Go}
@@ -45,7 +48,10 @@ begins_left (Finished ∷ marks) = false
 
 -- as a turn passes to these numbers the texts that were left at their front are sent; if there is none, nothing is done
 abbrev pub SendsLeft : List Mark → Bool → Sink → Sink → Bool → Type 0
-SendsLeft rest was old new ended = MatchBool (begins_left rest) (SendsUnlessEnded was old new ended (left_text rest) × IsFlushed new) ((new ≡ old) × (ended ≡ was))
+SendsLeft rest was old new ended =
+    MatchBool (begins_left rest) (SendsUnlessEnded was old new ended (left_text rest)
+    × IsFlushed new) ((new ≡ old)
+    × (ended ≡ was))
 
 -- the number at the place of the held one is finished, and so are those after it that were left
 abbrev pub FinishesFront : List Mark → List Mark → List Mark → Type 0
@@ -120,7 +126,8 @@ refuses_at code None = false
 
 -- it waits for its answer, and an upgrade to this protocol with this code is refused
 abbrev pub refuses_upgrade_at : List ℕ → ℕ → Option (Option Unfinished) → Bool
-refuses_upgrade_at protocol code (Some (Some (still.Waiting w))) = is_err (request_check w protocol code (is_whole w.body))
+refuses_upgrade_at protocol code (Some (Some (still.Waiting w))) =
+    is_err (request_check w protocol code (is_whole w.body))
 refuses_upgrade_at protocol code (Some (Some still.Raw)) = false
 refuses_upgrade_at protocol code (Some (Some (still.Upgraded b))) = false
 refuses_upgrade_at protocol code (Some None) = false
@@ -182,11 +189,13 @@ abbrev pub is_streaming_body : Option Body → Bool
 is_streaming_body None = false
 is_streaming_body (Some b) = is_streaming b
 
--- A REFUSED HEAD takes the next number, and its answer is left there; or memory is refused for that, and nothing changes. The answer
--- isn't held back while the next head is waited for.
-pub record RefusesHead {W : Type 0} (p : Pending) (o : OutletState W) (text : List ℕ) (kept : Bool) (q : Pending) (u : OutletState W) : Type 0 where
+-- A REFUSED HEAD takes the next number, and its answer is left there; or memory is refused for that, and nothing
+-- changes. The answer isn't held back while the next head is waited for.
+pub record RefusesHead {W : Type 0} (p : Pending) (o : OutletState W) (text : List ℕ) (kept : Bool) (q : Pending)
+    (u : OutletState W) : Type 0 where
   pub leaves : kept ≡ true → (outlet_ended o ≡ false → CanSend (output_of o))
-      → LeavesText (length p.turns.marks == first_unfinished p.turns.marks) p.turns.marks [] q.turns.marks text (outlet_ended o) (output_of o) (output_of u) (outlet_ended u)
+      → LeavesText (length p.turns.marks == first_unfinished p.turns.marks) p.turns.marks [] q.turns.marks text
+      (outlet_ended o) (output_of o) (output_of u) (outlet_ended u)
   pub counts : kept ≡ true → length q.turns.marks ≡ length p.turns.marks + 1
   pub requests : kept ≡ true → q.requests ≡ p.requests ++ (None ∷ [])
   pub bound : kept ≡ true → length q.requests < 2 ^ 64
@@ -205,6 +214,10 @@ NextHeld k r None l = ((u : Unit {0}) (next : Vec ℕ) → r ≡ Go u next → �
 NextHeld k r (Some text) l = ((u : Unit {0}) × (r ≡ Go u text)) × (l.0 ≡ k.0 + 1) × (l.0 < 2 ^ 64)
 
 -- a number that is held is finished, by a step of the turns
-abbrev pub FinishesHeld : HeldNumber → TurnsState (Unit {0}) → Option (Vec ℕ) → HeldNumber → TurnsState (Unit {0}) → Type 0
+abbrev pub FinishesHeld : HeldNumber → TurnsState (Unit {0}) → Option (Vec ℕ) → HeldNumber → TurnsState (Unit {0})
+    → Type 0
 FinishesHeld k p left l q =
-    (r : Finishing (Unit {0})) × (q.marks ≡ marks_after_step (Finish k.0) p.marks) × Finishes (turn_answer (Finish k.0) p.marks) tt p.resting r q.resting × NextHeld k r left l
+    (r : Finishing (Unit {0}))
+    × (q.marks ≡ marks_after_step (Finish k.0) p.marks)
+    × Finishes (turn_answer (Finish k.0) p.marks) tt p.resting r q.resting
+    × NextHeld k r left l

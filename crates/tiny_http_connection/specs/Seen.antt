@@ -1,5 +1,6 @@
 -- The program's steps and replies as the definitions see them.
-use Rattle.std.specs.Prelude.{◌≡◌, ◌<◌, ◌^◌, List, [], ◌∷◌, length, Option, Some, Bool, true, false, not, ◌&&◌, ◌||◌, Result, Ok, Err, string_bytes}
+use Rattle.std.specs.Prelude.{◌≡◌, ◌<◌, ◌^◌, List, [], ◌∷◌, length, Option, Some, Bool, true, false, not, ◌&&◌, ◌||◌}
+use Rattle.std.specs.Prelude.{Result, Ok, Err, string_bytes}
 use Rattle.std.specs.IoError.{error_kind}
 use Rattle.std.specs.declared.io.Error.{Error}
 use Rattle.std.specs.declared.io.ErrorKind.{ErrorKind}
@@ -14,13 +15,16 @@ use Rattle.tiny_http_connection.specs.declared.driver.Reply.{Reply}
 use Rattle.tiny_http_connection.specs.declared.driver.Reply.TheVariants as reply
 use Rattle.tiny_http_open_request.specs.HeadReads.{head_message, head_framing}
 use Rattle.tiny_http_response.specs.ResponseValue.{ResponseValue, printing_in}
-use Rattle.tiny_http_connection.specs.Steps.{StepValue, Ask, AsReader, Read, Respond, IntoWriter, Write, Flush, Upgrade, Finish, Drop, ReplyValue, Handed, Ended, Given, Fault, NotYet, Done, Refused, NoSuch, Memory, fault_reply}
+use Rattle.tiny_http_connection.specs.Steps.{StepValue, Ask, AsReader, Read, Respond, IntoWriter, Write, Flush}
+use Rattle.tiny_http_connection.specs.Steps.{Upgrade, Finish, Drop, ReplyValue, Handed, Ended, Given, Fault, NotYet}
+use Rattle.tiny_http_connection.specs.Steps.{Done, Refused, NoSuch, Memory, fault_reply}
 use Rattle.tiny_http_connection.specs.Conversation.{TimedValue}
 use Rattle.tiny_http_response.specs.Sending.{Sends, IsFlushed, IsHonest, FailsAtMostOnce}
 
 -- the response states its data, of fewer than 2^63 bytes
 abbrev pub IsResponse : {D : Type 0} → (D → Option Feed) → ResponseState D → ResponseValue → Type 0
-IsResponse feed r value = (value.answer ≡ r.answer) × (feed r.data_reader ≡ Some value.content) × (length value.content.bytes < 2 ^ 63)
+IsResponse feed r value =
+    (value.answer ≡ r.answer) × (feed r.data_reader ≡ Some value.content) × (length value.content.bytes < 2 ^ 63)
 
 -- the step is this one
 abbrev pub IsStep : {D : Type 0} → (D → Option Feed) → Step D → StepValue → Type 0
@@ -31,7 +35,8 @@ IsStep feed (step.Respond k r) (Respond n value) = (n ≡ k) × IsResponse feed 
 IsStep feed (step.IntoWriter k) (IntoWriter n) = n ≡ k
 IsStep feed (step.Write k v) (Write n bytes) = (n ≡ k) × (bytes ≡ v.items)
 IsStep feed (step.Flush k) (Flush n) = n ≡ k
-IsStep feed (step.Upgrade k p r) (Upgrade n protocol value) = (n ≡ k) × (protocol ≡ string_bytes p) × (value.answer ≡ r.answer)
+IsStep feed (step.Upgrade k p r) (Upgrade n protocol value) =
+    (n ≡ k) × (protocol ≡ string_bytes p) × (value.answer ≡ r.answer)
 IsStep feed (step.Finish k) (Finish n) = n ≡ k
 IsStep feed (step.Drop k) (Drop n) = n ≡ k
 IsStep feed _ _ = ⊥
@@ -56,8 +61,8 @@ seen reply.Memory = Memory
 abbrev pub IsOfWriter : Sink → Sink → ErrorKind → Type 0
 IsOfWriter old new kind = (new.failures ≡ next_count old.failures) × StatesKind new.last_kind kind
 
--- The step may fail by this kind: a Write and a Flush by the writer, a Respond by the writer or by its own data, printed for
--- some request, and a Read by that of the body that it reads. The others report no fault.
+-- The step may fail by this kind: a Write and a Flush by the writer, a Respond by the writer or by its own data,
+-- printed for some request, and a Read by that of the body that it reads. The others report no fault.
 abbrev pub MayFail : {D : Type 0} → (D → Option Feed) → Sink → Sink → HttpDate → Step D → ErrorKind → Type 0
 MayFail feed old new date step.Ask kind = ⊥
 MayFail feed old new date (step.AsReader k) kind = ⊥
@@ -68,17 +73,24 @@ MayFail feed old new date (step.Write k v) kind = IsOfWriter old new kind
 MayFail feed old new date (step.Flush k) kind = IsOfWriter old new kind
 MayFail feed old new date (step.Upgrade k p r) kind = ⊥
 MayFail feed old new date (step.Finish k) kind = ⊥
-MayFail feed old new date (step.Respond k r) kind = (context : AnswerContext) × IsHonest old new r.answer (feed r.data_reader) (printing_in context date) kind
+MayFail feed old new date (step.Respond k r) kind =
+    (context : AnswerContext) × IsHonest old new r.answer (feed r.data_reader) (printing_in context date) kind
 
--- a fault that an answer reports is the writer's, whose count rose, or that of the step's own data; of a body's nothing is said
+-- a fault that an answer reports is the writer's, whose count rose, or that of the step's own data; of a body's
+-- nothing is said
 abbrev pub ReportsHonestly : {D : Type 0} → (D → Option Feed) → Sink → Sink → Timed D → Reply → Type 0
-ReportsHonestly feed old new t reply = (kind : ErrorKind) → seen reply ≡ Fault kind → MayFail feed old new t.now t.step kind
+ReportsHonestly feed old new t reply =
+    (kind : ErrorKind) → seen reply ≡ Fault kind → MayFail feed old new t.now t.step kind
 
--- Steps that report their faults so, while the writer's count goes from one number to another: a step raises it at most once.
+-- Steps that report their faults so, while the writer's count goes from one number to another: a step raises it at
+-- most once.
 abbrev pub ReportHonestly : {D : Type 0} → (D → Option Feed) → Sink → List (Timed D) → List Reply → Sink → Type 0
 ReportHonestly feed old [] [] new = new.failures ≡ old.failures
 ReportHonestly feed old (t ∷ steps) (r ∷ replies) new =
-    (mid : Sink) × FailsAtMostOnce old mid × ReportsHonestly feed old mid t r × ReportHonestly feed mid steps replies new
+    (mid : Sink)
+    × FailsAtMostOnce old mid
+    × ReportsHonestly feed old mid t r
+    × ReportHonestly feed mid steps replies new
 ReportHonestly feed old [] (r ∷ replies) new = ⊥
 ReportHonestly feed old (t ∷ steps) [] new = ⊥
 
@@ -88,8 +100,8 @@ is_done Done = true
 is_done (Fault kind) = true
 is_done _ = false
 
--- WHETHER ALL WAS SENT ON after a step, by whether all was before it: a Write that is done may hold its bytes back, a Flush, an
--- answer and an upgrade that are done hold none; the other steps leave it as it is.
+-- WHETHER ALL WAS SENT ON after a step, by whether all was before it: a Write that is done may hold its bytes back, a
+-- Flush, an answer and an upgrade that are done hold none; the other steps leave it as it is.
 abbrev pub all_sent_after : {D : Type 0} → Step D → ReplyValue → Bool → Bool
 all_sent_after step.Ask reply sent = sent
 all_sent_after (step.AsReader k) reply sent = sent
@@ -126,4 +138,5 @@ IsAnswered _ = ⊥
 
 -- an answer with this data was sent and flushed, and the reply reports how that went
 abbrev pub Answers : Sink → Sink → Bool → ReplyValue → Answer → Feed → Printing → Type 0
-Answers old new ended reply answer content p = (r : Result (Unit {0}) Error) × (reply ≡ reply_to r) × Sends old new ended r answer content p × IsFlushed new
+Answers old new ended reply answer content p =
+    (r : Result (Unit {0}) Error) × (reply ≡ reply_to r) × Sends old new ended r answer content p × IsFlushed new

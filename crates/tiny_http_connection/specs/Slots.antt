@@ -1,5 +1,6 @@
 -- The numbers of a connection: what stands under each, and what each sends.
-use Rattle.std.specs.Prelude.{ℕ, ◌-◌, nat_lt, Bool, true, false, not, ◌&&◌, ◌||◌, List, [], ◌∷◌, ◌++◌, take, drop, Option, Some, None, is_err, if◌then◌else◌}
+use Rattle.std.specs.Prelude.{ℕ, ◌-◌, nat_lt, Bool, true, false, not, ◌&&◌, ◌||◌, List, [], ◌∷◌, ◌++◌, take, drop}
+use Rattle.std.specs.Prelude.{Option, Some, None, is_err, if◌then◌else◌}
 use Rattle.std.specs.List.{list_all, last_or}
 use Rattle.std.specs.declared.io.ErrorKind.TheVariants.{OutOfMemory}
 use Rattle.httpdate.specs.declared.date.HttpDate.{HttpDate}
@@ -10,7 +11,8 @@ use Rattle.tiny_http_response.specs.Answer.{Printing}
 use Rattle.tiny_http_body.specs.Text.{Text, Ending, Whole, Broken, prepend_text, whole, nothing_sent}
 use Rattle.tiny_http_body.specs.declared.framing.Form.{Form}
 use Rattle.tiny_http_body.specs.declared.framing.Form.TheVariants.{Rest, Nothing, WithHead, Counted, Chunked}
-use Rattle.tiny_http_open_request.specs.Pipeline.{Item, Asks, Refuses, Request, is_head_method, is_connect_method, body_length_or_0}
+use Rattle.tiny_http_open_request.specs.Pipeline.{Item, Asks, Refuses, Request, is_head_method, is_connect_method}
+use Rattle.tiny_http_open_request.specs.Pipeline.{body_length_or_0}
 use Rattle.tiny_http_open_request.specs.OpenRequest.{coding_for, refuses_code, upgrade_check}
 use Rattle.tiny_http_standard_head.specs.Judging.{names_protocol}
 use Rattle.tiny_http_response.specs.ResponseValue.{ResponseValue, response_of, response_text, upgrade_text, printing_to}
@@ -33,10 +35,10 @@ pub data Stage : Type 0 where
   -- it was upgraded by this response on this date; then these bytes were written, and the stream has ended or not
   Upgraded : (protocol : List ℕ) (response : ResponseValue) (date : HttpDate) (written : List ℕ) (closed : Bool) → Stage
 
--- A number that was reached: its item, the date of its Ask, the date of its 100 if that was sent, whether a 100 is still
--- owed, how many bytes of its body were given out, whether the body's end or fault was reported, whether the body was given
--- up, whether, by the standard, its answer says that the connection ends (where an answer asked for that; and then as was decided
--- as it was finished), and what became of it.
+-- A number that was reached: its item, the date of its Ask, the date of its 100 if that was sent, whether a 100 is
+-- still owed, how many bytes of its body were given out, whether the body's end or fault was reported, whether the
+-- body was given up, whether, by the standard, its answer says that the connection ends (where an answer asked for
+-- that; and then as was decided as it was finished), and what became of it.
 pub record Slot : Type 0 where
   pub item : Item
   pub date : HttpDate
@@ -56,9 +58,12 @@ drop_response = response_of 500 [] []
 abbrev pub continue_response : ResponseValue
 continue_response = response_of 100 [] []
 
--- an answer to a request: in its version, by its headers, without a body for HEAD; by the standard it says whether the connection ends
+-- an answer to a request: in its version, by its headers, without a body for HEAD; by the standard it says whether
+-- the connection ends
 abbrev pub to_request : Bool → Request → HttpDate → Printing
-to_request closes r date = printing_to (coding_for r.framing.by_standard r.message.headers) r.message.version (is_head_method r.message.method) (persistence_of r.framing.by_standard closes) date
+to_request closes r date =
+    printing_to (coding_for r.framing.by_standard r.message.headers) r.message.version
+    (is_head_method r.message.method) (persistence_of r.framing.by_standard closes) date
 
 -- how an answer under an item is printed
 abbrev pub printing_for : Bool → Item → HttpDate → Printing
@@ -85,7 +90,8 @@ stage_text closes item date Unanswered = whole []
 stage_text closes item date (Answered response at found) = text_if found response (printing_for closes item at)
 stage_text closes item date ByServer = response_text (server_response item) (printing_for closes item date)
 stage_text closes item date (Raw written closed) = whole written
-stage_text closes item date (Upgraded protocol response at written closed) = whole (upgrade_text response protocol (printing_for (is_last_item item) item at) ++ written)
+stage_text closes item date (Upgraded protocol response at written closed) =
+    whole (upgrade_text response protocol (printing_for (is_last_item item) item at) ++ written)
 
 -- the 100 in front, if it was sent
 abbrev pub opening : Item → Option HttpDate → List ℕ
@@ -121,7 +127,8 @@ is_finished s = is_stage_finished s.stage
 abbrev pub turn_has_come : ℕ → List Slot → Bool
 turn_has_come k slots = list_all is_finished (take k slots)
 
--- THE JOINED OUTPUT: the segments in the order of their numbers, as far as turns have come, ending after the first broken one
+-- THE JOINED OUTPUT: the segments in the order of their numbers, as far as turns have come, ending after the first
+-- broken one
 abbrev pub joined : List Slot → List ℕ
 joined [] = []
 joined (s ∷ slots) = segment s ++ (if (is_finished s && not (is_slot_broken s)) then joined slots else [])
@@ -134,9 +141,29 @@ is_output_broken (s ∷ slots) = is_slot_broken s || (is_finished s && is_output
 -- the slot of an item that is reached
 abbrev pub new_slot : HttpDate → Item → Slot
 new_slot date (Asks r) =
-    record { item = Asks r; date = date; continued = None; owed = r.framing.owes_continue; given = 0; end_reported = false; given_up = false; closes = false; stage = Unanswered }
+    record {
+      item = Asks r;
+      date = date;
+      continued = None;
+      owed = r.framing.owes_continue;
+      given = 0;
+      end_reported = false;
+      given_up = false;
+      closes = false;
+      stage = Unanswered;
+    }
 new_slot date (Refuses refusal manner no_body last) =
-    record { item = Refuses refusal manner no_body last; date = date; continued = None; owed = false; given = 0; end_reported = false; given_up = true; closes = false; stage = ByServer }
+    record {
+      item = Refuses refusal manner no_body last;
+      date = date;
+      continued = None;
+      owed = false;
+      given = 0;
+      end_reported = false;
+      given_up = true;
+      closes = false;
+      stage = ByServer;
+    }
 
 -- what is left of a request's body
 abbrev pub rest_of : Request → ℕ → Feed
@@ -179,22 +206,30 @@ is_unanswered _ = false
 abbrev pub holds_next_head : Request → Bool
 holds_next_head r = r.framing.asks_upgrade && not r.framing.is_last
 
--- What is left of the body of a request, if it is finished now. Its end isn't known where chunks were not read to their end, or a read met
--- its cut or its break.
+-- What is left of the body of a request, if it is finished now. Its end isn't known where chunks were not read to
+-- their end, or a read met its cut or its break.
 abbrev pub remainder_of : Request → ℕ → Bool → Remainder
 remainder_of r given end_reported =
-    if (is_chunked r.framing.form && not end_reported) || (body_finished r.framing.form (body_length_or_0 r.framing) given end_reported && not (is_end r.body.stop)) then left.Endless else
-    if is_counted r.framing.form && (not end_reported && nat_lt MOST_SKIPPED (body_length_or_0 r.framing - given)) then left.Long else left.Skipped
+    if (is_chunked r.framing.form && not end_reported)
+    ||
+    (body_finished r.framing.form (body_length_or_0 r.framing) given end_reported
+    && not (is_end r.body.stop)) then left.Endless else
+    if is_counted r.framing.form
+    && (not end_reported && nat_lt MOST_SKIPPED (body_length_or_0 r.framing - given)) then left.Long
+    else left.Skipped
 
--- No head is read behind a request that is finished now: by the standard its 100 wasn't sent, so that the client may leave the body out, or
--- send it; or more is left of its body than is skipped.
+-- No head is read behind a request that is finished now: by the standard its 100 wasn't sent, so that the client may
+-- leave the body out, or send it; or more is left of its body than is skipped.
 abbrev pub is_last_once_finished : Request → Bool → ℕ → Bool → Bool
-is_last_once_finished r owed given end_reported = r.framing.by_standard && (owed || is_long (remainder_of r given end_reported))
+is_last_once_finished r owed given end_reported =
+    r.framing.by_standard && (owed || is_long (remainder_of r given end_reported))
 
--- By the standard the answer of a request that is finished now says that the connection ends: its head ended it, an answer asked for that,
--- its 100 is owed, or what is left of its body isn't skipped: it is long, or its end isn't known.
+-- By the standard the answer of a request that is finished now says that the connection ends: its head ended it, an
+-- answer asked for that, its 100 is owed, or what is left of its body isn't skipped: it is long, or its end isn't
+-- known.
 abbrev pub closes_now : Request → Bool → Bool → ℕ → Bool → Bool
-closes_now r closes owed given end_reported = r.framing.is_last || (closes || (owed || not (is_skipped (remainder_of r given end_reported))))
+closes_now r closes owed given end_reported =
+    r.framing.is_last || (closes || (owed || not (is_skipped (remainder_of r given end_reported))))
 
 -- the number's answer says that the connection ends, if it isn't made yet
 abbrev pub closing : Slot → Slot
@@ -208,7 +243,8 @@ last_closing (s ∷ t ∷ slots) = s ∷ last_closing (t ∷ slots)
 
 -- the request isn't answered by this response
 abbrev pub refuses_response : Request → ResponseValue → Bool
-refuses_response r response = refuses_code r.framing.by_standard (is_connect_method r.message.method) response.answer.status
+refuses_response r response =
+    refuses_code r.framing.by_standard (is_connect_method r.message.method) response.answer.status
 
 -- it asks for this protocol, and isn't the last
 abbrev pub asks_protocol : Request → List ℕ → Bool
@@ -220,16 +256,22 @@ is_body_whole r s = is_body_finished r s && is_end r.body.stop
 
 -- the request isn't upgraded to this protocol by this response
 abbrev pub refuses_upgrade : Request → Slot → List ℕ → ResponseValue → Bool
-refuses_upgrade r s protocol response = is_err (upgrade_check r.framing.by_standard (asks_protocol r protocol) protocol response.answer.status (is_body_whole r s))
+refuses_upgrade r s protocol response =
+    is_err
+    (upgrade_check r.framing.by_standard (asks_protocol r protocol) protocol response.answer.status
+    (is_body_whole r s))
 
 -- all that follows the request, as the body of its upgraded connection
 abbrev pub as_stream : Request → Request
-as_stream r = record r { framing = record r.framing { form = Rest; is_last = true }; body = r.behind; behind = whole_feed [] }
+as_stream r =
+    record r { framing = record r.framing { form = Rest; is_last = true }; body = r.behind; behind = whole_feed [] }
 
 -- The number is upgraded. By the standard its stream reads all that follows the request, else the request's own body.
 abbrev pub upgraded_slot : Request → Slot → Stage → Slot
 upgraded_slot r s stage =
-    if r.framing.by_standard then record s { item = Asks (as_stream r); given = 0; end_reported = false; stage = stage; owed = false } else record s { stage = stage; owed = false }
+    if r.framing.by_standard then record s
+    { item = Asks (as_stream r); given = 0; end_reported = false; stage = stage; owed = false }
+    else record s { stage = stage; owed = false }
 
 -- the next head isn't read before this number is answered
 abbrev pub is_holding : Slot → Item → Bool

@@ -1,5 +1,6 @@
 -- The steps of a connection, and what each answers and changes.
-use Rattle.std.specs.Prelude.{ℕ, ◌+◌, Bool, true, false, not, ◌&&◌, ◌||◌, ◌==◌, nat_lt, List, [], ◌∷◌, ◌++◌, length, take, Option, Some, None, if◌then◌else◌, slice_get, slice_set}
+use Rattle.std.specs.Prelude.{ℕ, ◌+◌, Bool, true, false, not, ◌&&◌, ◌||◌, ◌==◌, nat_lt, List, [], ◌∷◌, ◌++◌, length}
+use Rattle.std.specs.Prelude.{take, Option, Some, None, if◌then◌else◌, slice_get, slice_set}
 use Rattle.std.specs.declared.io.ErrorKind.{ErrorKind}
 use Rattle.httpdate.specs.declared.date.HttpDate.{HttpDate}
 use Rattle.tiny_http_io.specs.declared.device.Stop.{Stop}
@@ -10,7 +11,11 @@ use Rattle.tiny_http_body.specs.declared.framing.Framing.{Framing}
 use Rattle.tiny_http_open_request.specs.Pipeline.{Item, Asks, Refuses, Request}
 use Rattle.tiny_http_response.specs.ResponseValue.{ResponseValue}
 use Rattle.tiny_http_response.specs.Sending.{is_closed_client}
-use Rattle.tiny_http_connection.specs.Slots.{Slot, Stage, Unanswered, Answered, ByServer, Raw, Upgraded, turn_has_come, to_request, text_if, new_slot, rest_of, last_slot, last_closing, holds_next_head, is_last_once_finished, closes_now, refuses_response, refuses_upgrade, upgraded_slot, last_holds_reader, last_was_abandoned}
+use Rattle.tiny_http_connection.specs.Slots.{Slot, Stage, Unanswered, Answered, ByServer, Raw, Upgraded}
+use Rattle.tiny_http_connection.specs.Slots.{turn_has_come, to_request, text_if, new_slot, rest_of, last_slot}
+use Rattle.tiny_http_connection.specs.Slots.{last_closing, holds_next_head, is_last_once_finished, closes_now}
+use Rattle.tiny_http_connection.specs.Slots.{refuses_response, refuses_upgrade, upgraded_slot, last_holds_reader}
+use Rattle.tiny_http_connection.specs.Slots.{last_was_abandoned}
 
 -- a step, with its response as a value
 pub data StepValue : Type 0 where
@@ -41,9 +46,9 @@ pub data ReplyValue : Type 0 where
 abbrev pub fault_reply : ErrorKind → ReplyValue
 fault_reply kind = if is_closed_client kind then Done else Fault kind
 
--- How a step uses the writer: not at all; or its texts are written and flushed, and no reply reports a fault; or its own text
--- is written, and flushed or not, and a fault of the writer in it is reported, or else that of its response's data, if any.
--- Where both fail, either may be reported.
+-- How a step uses the writer: not at all; or its texts are written and flushed, and no reply reports a fault; or its
+-- own text is written, and flushed or not, and a fault of the writer in it is reported, or else that of its
+-- response's data, if any. Where both fail, either may be reported.
 pub data WriterUse : Type 0 where
   Unused : WriterUse
   Unreported : WriterUse
@@ -64,27 +69,44 @@ pub record Reached : Type 0 where
   pub asking_ended : Bool
 
 abbrev pub unchanged : Reached → ReplyValue → Outcome
-unchanged old reply = record { reply = reply; slots = old.slots; rest = old.rest; asking_ended = old.asking_ended; writer = Unused }
+unchanged old reply =
+    record { reply = reply; slots = old.slots; rest = old.rest; asking_ended = old.asking_ended; writer = Unused }
 
 -- the step changes one slot
 abbrev pub changes : Reached → ℕ → Slot → ReplyValue → WriterUse → Outcome
-changes old k s reply writer = record { reply = reply; slots = slice_set old.slots k s; rest = old.rest; asking_ended = old.asking_ended; writer = writer }
+changes old k s reply writer =
+    record {
+      reply = reply;
+      slots = slice_set old.slots k s;
+      rest = old.rest;
+      asking_ended = old.asking_ended;
+      writer = writer;
+    }
 
 -- an Ask goes to the next request, past the refused heads before it
 abbrev pub asks_from : HttpDate → WriterUse → List Slot → List Item → Outcome
-asks_from date writer slots [] = record { reply = Ended; slots = slots; rest = []; asking_ended = true; writer = writer }
+asks_from date writer slots [] =
+    record { reply = Ended; slots = slots; rest = []; asking_ended = true; writer = writer }
 asks_from date writer slots (Asks r ∷ items) =
-    record { reply = Handed (length slots) r.message r.framing; slots = slots ++ new_slot date (Asks r) ∷ []; rest = items; asking_ended = false; writer = writer }
+    record {
+      reply = Handed (length slots) r.message r.framing;
+      slots = slots ++ new_slot date (Asks r) ∷ [];
+      rest = items;
+      asking_ended = false;
+      writer = writer;
+    }
 asks_from date writer slots (Refuses refusal manner no_body last ∷ items) =
-    asks_from date (if turn_has_come (length slots) slots then Unreported else writer) (slots ++ new_slot date (Refuses refusal manner no_body last) ∷ []) items
+    asks_from date (if turn_has_come (length slots) slots then Unreported else writer)
+    (slots ++ new_slot date (Refuses refusal manner no_body last) ∷ []) items
 
--- The answer to an Ask: Ended once it was; NotYet while the last request handed out holds the reader; Ended after a chunked
--- body that was given up before its end; else the next request of the pipeline, or its end.
+-- The answer to an Ask: Ended once it was; NotYet while the last request handed out holds the reader; Ended after a
+-- chunked body that was given up before its end; else the next request of the pipeline, or its end.
 abbrev pub ask : HttpDate → Reached → Outcome
 ask date old =
     if old.asking_ended then unchanged old Ended else
     if last_holds_reader (last_slot old.slots) then unchanged old NotYet else
-    if last_was_abandoned (last_slot old.slots) then record { reply = Ended; slots = old.slots; rest = old.rest; asking_ended = true; writer = Unused } else
+    if last_was_abandoned (last_slot old.slots) then record
+    { reply = Ended; slots = old.slots; rest = old.rest; asking_ended = true; writer = Unused } else
     asks_from date Unused old.slots old.rest
 
 -- the bytes that a read gives, or how the body closes
@@ -103,7 +125,8 @@ finished_as closes s stage = record s { stage = stage; given_up = true; owed = f
 -- more bytes were written, or the stream ends
 abbrev pub written_to : List ℕ → Stage → Stage
 written_to bytes (Raw written ends) = Raw (written ++ bytes) ends
-written_to bytes (Upgraded protocol response date written ends) = Upgraded protocol response date (written ++ bytes) ends
+written_to bytes (Upgraded protocol response date written ends) =
+    Upgraded protocol response date (written ++ bytes) ends
 written_to bytes stage = stage
 
 abbrev pub stage_closed : Stage → Stage
@@ -154,12 +177,13 @@ use_in_turn false = Unused
 abbrev pub ends_asking : Bool → Outcome → Outcome
 ends_asking ends o = record o { asking_ended = o.asking_ended || ends }
 
--- No head is read behind a request that gets the connection's stream now, if it holds the next head or would be the last.
+-- No head is read behind a request that gets the connection's stream now, if it holds the next head or would be the
+-- last.
 abbrev pub is_last_with_stream : Request → Bool → ℕ → Bool → Bool
 is_last_with_stream r owed given end_reported = holds_next_head r || is_last_once_finished r owed given end_reported
 
--- An answer asks that the connection ends: no further head is read, and the last number that was reached says so in its answer, if that
--- isn't made yet.
+-- An answer asks that the connection ends: no further head is read, and the last number that was reached says so in
+-- its answer, if that isn't made yet.
 abbrev pub asked_to_close : Bool → Reached → Reached
 asked_to_close closes old = if closes then record old { slots = last_closing old.slots; asking_ended = true } else old
 
@@ -169,7 +193,9 @@ answers_slot found date old r k response None = unchanged old NoSuch
 answers_slot found date old r k response (Some s) =
     let closes = closes_now r s.closes s.owed s.given s.end_reported in
     let text = text_if found response (to_request closes r date) in
-    ends_asking (is_last_once_finished r s.owed s.given s.end_reported) (changes old k (finished_as closes s (Answered response date found)) Done (Reported text.bytes (fault_in text.ending) true fault_reply))
+    ends_asking (is_last_once_finished r s.owed s.given s.end_reported)
+    (changes old k (finished_as closes s (Answered response date found)) Done
+    (Reported text.bytes (fault_in text.ending) true fault_reply))
 
 -- the number of a request is answered by the response
 abbrev pub answers : Bool → HttpDate → Reached → Request → ℕ → ResponseValue → Outcome
@@ -178,24 +204,42 @@ answers found date old r k response = answers_slot found date old r k response (
 -- a step that the number of a request takes, in its time
 abbrev pub effect : Bool → HttpDate → Reached → Request → Slot → Bool → StepValue → Outcome
 effect found date old r s turn (AsReader k) =
-    if s.owed then changes old k (record s { owed = false; continued = Some date }) Done Unreported else unchanged old Done
+    if s.owed then changes old k (record s { owed = false; continued = Some date }) Done Unreported
+    else unchanged old Done
 effect found date old r s turn (Read k n) =
     if n == 0 then unchanged old (Given [])
-    else changes old k (record s { given = s.given + length (take n (rest_of r s.given).bytes); end_reported = s.end_reported || nat_lt (length (rest_of r s.given).bytes) n })
+    else changes old k
+    (record s {
+      given = s.given + length (take n (rest_of r s.given).bytes);
+      end_reported = s.end_reported
+          || nat_lt (length (rest_of r s.given).bytes) n;
+    })
     (read_reply n (rest_of r s.given).bytes r.body.stop) Unused
 effect found date old r s turn (Respond k response) =
     if refuses_response r response
-    then ends_asking (is_last_once_finished r s.owed s.given s.end_reported) (changes old k (finished_as (closes_now r s.closes s.owed s.given s.end_reported) s ByServer) Refused (use_in_turn turn))
+    then ends_asking (is_last_once_finished r s.owed s.given s.end_reported)
+    (changes old k (finished_as (closes_now r s.closes s.owed s.given s.end_reported) s ByServer) Refused
+    (use_in_turn turn))
     else answers found date (asked_to_close response.answer.closes old) r k response
-effect found date old r s turn (IntoWriter k) = ends_asking (is_last_with_stream r s.owed s.given s.end_reported) (changes old k (record s { stage = Raw [] false; given_up = true; owed = false }) Done Unused)
-effect found date old r s turn (Write k bytes) = changes old k (record s { stage = written_to bytes s.stage }) Done (Reported bytes None false Fault)
+effect found date old r s turn (IntoWriter k) =
+    ends_asking (is_last_with_stream r s.owed s.given s.end_reported)
+    (changes old k (record s { stage = Raw [] false; given_up = true; owed = false }) Done Unused)
+effect found date old r s turn (Write k bytes) =
+    changes old k (record s { stage = written_to bytes s.stage }) Done (Reported bytes None false Fault)
 effect found date old r s turn (Flush k) = changes old k s Done (Reported [] None true Fault)
 effect found date old r s turn (Upgrade k protocol response) =
     if refuses_upgrade r s protocol response
-    then ends_asking (is_last_once_finished r s.owed s.given s.end_reported) (changes old k (finished_as (closes_now r s.closes s.owed s.given s.end_reported) s ByServer) Refused (use_in_turn turn))
-    else ends_asking (is_last_with_stream r s.owed s.given s.end_reported) (changes old k (upgraded_slot r s (Upgraded protocol response date [] false)) Done Unreported)
-effect found date old r s turn (Finish k) = changes old k (finished_as s.closes s (stage_closed s.stage)) Done (use_in_turn turn)
-effect found date old r s turn (Drop k) = ends_asking (is_last_once_finished r s.owed s.given s.end_reported) (changes old k (finished_as (closes_now r s.closes s.owed s.given s.end_reported) s ByServer) Done (use_in_turn turn))
+    then ends_asking (is_last_once_finished r s.owed s.given s.end_reported)
+    (changes old k (finished_as (closes_now r s.closes s.owed s.given s.end_reported) s ByServer) Refused
+    (use_in_turn turn))
+    else ends_asking (is_last_with_stream r s.owed s.given s.end_reported)
+    (changes old k (upgraded_slot r s (Upgraded protocol response date [] false)) Done Unreported)
+effect found date old r s turn (Finish k) =
+    changes old k (finished_as s.closes s (stage_closed s.stage)) Done (use_in_turn turn)
+effect found date old r s turn (Drop k) =
+    ends_asking (is_last_once_finished r s.owed s.given s.end_reported)
+    (changes old k (finished_as (closes_now r s.closes s.owed s.given s.end_reported) s ByServer) Done
+    (use_in_turn turn))
 effect found date old r s turn Ask = unchanged old NoSuch
 
 abbrev pub at_item : Bool → HttpDate → Reached → ℕ → StepValue → Slot → Item → Outcome

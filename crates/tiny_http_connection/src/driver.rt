@@ -1,6 +1,7 @@
 //! A connection driven step by step, or by a list of steps, without threads.
 ghost use Rattle.std.specs.Global.{Global as Heap, Vec};
-ghost use Rattle.std.specs.Prelude.{◌≡◌, ℕ, ◌+◌, ◌-◌, ◌<◌, ◌^◌, true, false, List, [], length, Some, None, Ok, IfOk, IfErr, IsTrue, is_some, slice_get, String, string_bytes};
+ghost use Rattle.std.specs.Prelude.{◌≡◌, ℕ, ◌+◌, ◌-◌, ◌<◌, ◌^◌, true, false, List, [], length, Some, None, Ok, IfOk};
+ghost use Rattle.std.specs.Prelude.{IfErr, IsTrue, is_some, slice_get, String, string_bytes};
 ghost use Rattle.tiny_http_io.specs.Device.{Feed, Sink};
 ghost use Rattle.tiny_http_response.specs.ResponseValue.{ResponseValue};
 ghost use Rattle.tiny_http_open_request.specs.OpenRequest.{final_context};
@@ -10,7 +11,8 @@ ghost use Rattle.httpdate.specs.declared.date.HttpDate.{HttpDate as Date};
 ghost use Rattle.tiny_http_connection.specs.Steps.{ReplyValue, Done, Fault};
 ghost use Rattle.std.specs.declared.io.ErrorKind.{ErrorKind};
 ghost use Rattle.tiny_http_connection.specs.Pending.{waiting_answer_context};
-ghost use Rattle.tiny_http_connection.specs.Driving.{HasDone, TakesStep, Drops, ends_behind, stated_response, stated_step};
+ghost use Rattle.tiny_http_connection.specs.Driving.{HasDone, TakesStep, Drops, ends_behind, stated_response};
+ghost use Rattle.tiny_http_connection.specs.Driving.{stated_step};
 ghost use Rattle.tiny_http_connection.specs.Runs.{IsConversationOf, RunsSteps};
 ghost use Rattle.tiny_http_response.specs.ResponseValue.{printing_in};
 ghost use Rattle.tiny_http_connection.specs.Seen.{seen, write_reply, Answers, IsAnswered, IsResponse, ReportsHonestly};
@@ -37,10 +39,10 @@ use tiny_http_response::sending::reported;
 /// What is done next on a connection.
 #[derive(Drop)]
 pub enum Step<D> {
-    /// Reads the next head and hands it out. It is `NotYet` while the body of the last request that was handed out holds the
-    /// reader: one that is counted or chunked, neither read to its end nor given up, of a request that isn't the connection's
-    /// last. Under `Standard` it is `NotYet`, too, while a request that asks for an upgrade waits for its answer. After a
-    /// chunked body that was given up before its end was reported no head follows.
+    /// Reads the next head and hands it out. It is `NotYet` while the body of the last request that was handed out
+    /// holds the reader: one that is counted or chunked, neither read to its end nor given up, of a request that
+    /// isn't the connection's last. Under `Standard` it is `NotYet`, too, while a request that asks for an upgrade
+    /// waits for its answer. After a chunked body that was given up before its end was reported no head follows.
     Ask,
     /// Sends the 100 that is owed to the request of this number. Before its turn it is `NotYet`.
     AsReader(u64),
@@ -50,19 +52,19 @@ pub enum Step<D> {
     Respond(u64, Response<D>),
     /// Takes the raw writer of the request of this number in place of an answer, and gives its body up.
     IntoWriter(u64),
-    /// Writes these bytes by the raw writer of this number, or to the stream of its upgrade, in its turn. They may be held
-    /// until its `Flush` or `Finish`.
+    /// Writes these bytes by the raw writer of this number, or to the stream of its upgrade, in its turn. They may be
+    /// held until its `Flush` or `Finish`.
     Write(u64, Vec<u8>),
     /// Sends what was written under this number, in its turn.
     Flush(u64),
-    /// Answers the request of this number in its turn by a response that upgrades the connection to this protocol. Then its
-    /// stream is read by `Read`, and written by `Write`, until its `Finish`. It reads what is left of the request's body, or under
-    /// `Standard` all that follows the body.
+    /// Answers the request of this number in its turn by a response that upgrades the connection to this protocol.
+    /// Then its stream is read by `Read`, and written by `Write`, until its `Finish`. It reads what is left of the
+    /// request's body, or under `Standard` all that follows the body.
     Upgrade(u64, String, Response<D>),
     /// Ends the raw writer of this number, or the stream of an upgrade. In its turn what was written is sent.
     Finish(u64),
-    /// Drops the request of this number, and gives its body up: it is answered by an empty 500, on the date on which it was
-    /// handed out.
+    /// Drops the request of this number, and gives its body up: it is answered by an empty 500, on the date on which
+    /// it was handed out.
     Drop(u64),
 }
 
@@ -82,14 +84,14 @@ pub enum Reply {
     Handed(u64, Head),
     /// The connection has no further request.
     Ended,
-    /// These bytes of the body. Where they are fewer than were asked for no byte follows: the next read reports the end by
-    /// none, or the fault.
+    /// These bytes of the body. Where they are fewer than were asked for no byte follows: the next read reports the
+    /// end by none, or the fault.
     Given(Vec<u8>),
     /// The body ends by this fault; or the writer or the response's data failed so.
     Fault(ErrorKind),
-    /// The step has to wait: an `Ask` for the last body to be read or given up, or for the answer to a request that asks for an
-    /// upgrade; a `Respond` or an `Upgrade` that isn't refused, a `Write`, a `Flush`, or an `AsReader` that has a 100 to send,
-    /// for its turn. Nothing has changed.
+    /// The step has to wait: an `Ask` for the last body to be read or given up, or for the answer to a request that
+    /// asks for an upgrade; a `Respond` or an `Upgrade` that isn't refused, a `Write`, a `Flush`, or an `AsReader`
+    /// that has a 100 to send, for its turn. Nothing has changed.
     NotYet,
     /// The step was done, and met no fault that is reported.
     Done,
@@ -106,8 +108,8 @@ pub enum Reply {
 pub struct Record<R: ReadDevice, W: WriteDevice> {
     /// What each step was answered.
     pub replies: Vec<Reply>,
-    /// The reader, with the bytes that are held. While requests may follow it stands after the last head that was read, and
-    /// after what was read of that request's body.
+    /// The reader, with the bytes that are held. While requests may follow it stands after the last head that was
+    /// read, and after what was read of that request's body.
     pub source: Source<R>,
     /// The writer, with what is held back. Its bytes and then those held are the output.
     pub outlet: Outlet<W>,
@@ -122,10 +124,10 @@ pub struct RunError<R, W> {
     pub writer: W,
 }
 
-/// A connection over a reader and a writer, without threads. It hands out the client's requests one after another, reads
-/// their bodies when they are asked for, and sends the answers in the order of the requests (RFC 9112, section 9.3.2): an
-/// answer that is made before its turn is refused by `NotYet`, and a drop waits for its turn. A program drives it call by call;
-/// each call is a step of the connection theorem.
+/// A connection over a reader and a writer, without threads. It hands out the client's requests one after another,
+/// reads their bodies when they are asked for, and sends the answers in the order of the requests (RFC 9112, section
+/// 9.3.2): an answer that is made before its turn is refused by `NotYet`, and a drop waits for its turn. A program
+/// drives it call by call; each call is a step of the connection theorem.
 #[derive(Drop)]
 pub struct Connection<R: ReadDevice, W: WriteDevice> {
     profile: Profile,
@@ -140,7 +142,14 @@ impl<R: ReadDevice, W: WriteDevice> Model for Connection<R, W> {
 
     ghost Value = { ConnectionState R W };
 
-    ghost view = { λ c. record { profile = c.profile; marks = c.pending.turns.marks; requests = c.pending.requests; end = c.end; source = c.source; outlet = c.outlet } };
+    ghost view = { λ c. record {
+      profile = c.profile;
+      marks = c.pending.turns.marks;
+      requests = c.pending.requests;
+      end = c.end;
+      source = c.source;
+      outlet = c.outlet;
+    } };
 }
 
 impl Reply {
@@ -155,8 +164,8 @@ impl Reply {
     }
 }
 
-// Answers a request whose turn has come, of whose body this is left, and says how that is replied. An output that has ended
-// sends nothing, and the data are left unread.
+// Answers a request whose turn has come, of whose body this is left, and says how that is replied. An output that has
+// ended sends nothing, and the data are left unread.
 fn answer<W: WriteDevice, D: ReadDevice + Drop>(
     alloc: Global,
     request: &mut OpenRequest<Body>,
@@ -168,14 +177,16 @@ fn answer<W: WriteDevice, D: ReadDevice + Drop>(
     ensures past { outlet_ended outlet.old ≡ true → (outlet.new ≡ outlet.old) × (seen result ≡ Done) }
     ensures sends { (content : Feed) → D.feed response.data_reader ≡ Some content → length content.bytes < 2 ^ 63
         → outlet_ended outlet.old ≡ false → CanSend (output_of outlet.old)
-        → Answers (output_of outlet.old) (output_of outlet.new) (outlet_ended outlet.new) (seen result) response.answer content (printing_in (final_context request.old left) now) }
+        → Answers (output_of outlet.old) (output_of outlet.new) (outlet_ended outlet.new) (seen result)
+        response.answer content (printing_in (final_context request.old left) now) }
     ensures fails_once { FailsOnce outlet.old outlet.new }
     ensures flushed { outlet_held outlet.new ≡ [] }
     ensures sent_on { SentOn outlet.new }
     ensures body { request.new.body ≡ request.old.body }
     ensures done { IsAnswered (seen result) }
     ensures honest { (kind : ErrorKind) → seen result ≡ Fault kind → (outlet_ended outlet.new ≡ true)
-        × IsHonest (output_of outlet.old) (output_of outlet.new) response.answer (D.feed response.data_reader) (printing_in (final_context request.old left) now) kind }
+        × IsHonest (output_of outlet.old) (output_of outlet.new) response.answer (D.feed response.data_reader)
+        (printing_in (final_context request.old left) now) kind }
 {
     Reply::write_reply(reported(request.respond(alloc, outlet, response, left, now)))
 }
@@ -200,11 +211,14 @@ fn zeros(alloc: Global, count: u16) -> Result<Vec<u8>, AllocError>
 }
 
 impl<R: ReadDevice, W: WriteDevice> Connection<R, W> {
-    /// A connection on which nothing was asked yet, under `Lenient`. Its theorem is for a writer that has taken nothing and has
-    /// not ended.
+    /// A connection on which nothing was asked yet, under `Lenient`. Its theorem is for a writer that has taken
+    /// nothing and has not ended.
     pub fn new(alloc: Global, reader: R, writer: W) -> Connection<R, W>
         ensures profile { result.profile ≡ Profile.Lenient }
-        ensures begins { (client : Feed) → R.feed reader ≡ Some client → IsFresh (W.sink writer) → HasDone Profile.Lenient client (W.sink writer) result [] [] }
+        ensures begins { (client : Feed)
+            → R.feed reader ≡ Some client
+            → IsFresh (W.sink writer)
+            → HasDone Profile.Lenient client (W.sink writer) result [] [] }
         ensures open { (result.end ≡ None) × (result.requests ≡ []) }
         ensures source { (result.source.feed ≡ R.feed reader) × (result.source.standing ≡ Standing.Head) }
         ensures outlet { result.outlet ≡ record { held = []; ended = false; writer = writer; sink = W.sink writer } }
@@ -215,7 +229,10 @@ impl<R: ReadDevice, W: WriteDevice> Connection<R, W> {
     /// The same under this profile, by which its heads are read.
     pub fn new_with(alloc: Global, profile: Profile, reader: R, writer: W) -> Connection<R, W>
         ensures profile { result.profile ≡ profile }
-        ensures begins { (client : Feed) → R.feed reader ≡ Some client → IsFresh (W.sink writer) → HasDone profile client (W.sink writer) result [] [] }
+        ensures begins { (client : Feed)
+            → R.feed reader ≡ Some client
+            → IsFresh (W.sink writer)
+            → HasDone profile client (W.sink writer) result [] [] }
         ensures open { (result.end ≡ None) × (result.requests ≡ []) }
         ensures source { (result.source.feed ≡ R.feed reader) × (result.source.standing ≡ Standing.Head) }
         ensures outlet { result.outlet ≡ record { held = []; ended = false; writer = writer; sink = W.sink writer } }
@@ -251,19 +268,20 @@ impl<R: ReadDevice, W: WriteDevice> Connection<R, W> {
         self.pending.is_waiting(number)
     }
 
-    /// Goes to the next request, and hands it out with its number: `Handed`. It is `NotYet` while the body of the last request
-    /// holds the reader: until that was read to its end or given up. It is so, too, while the last request waits for its answer
-    /// and its head says `asks_upgrade`, unless it is the connection's last: what follows it may be bytes of the other protocol
-    /// (RFC 9110, section 7.8). The reply is `Ended` once the connection has no further request, from then on, and
-    /// `end_of_requests` says why. A refused head is answered under a number of its own, in its turn, and ends the asking; but
-    /// a 505 does so only where its head names an upgrade or its body is chunked. After any other 505 the same call reads the
-    /// next head. `Memory` ends the asking too, and so does a chunked body that was given up before its end. Under `Standard`
-    /// each 505 ends it; so does a request that asked for an upgrade, once its raw writer is taken or it is upgraded, and one
-    /// that is answered, dropped or gives its raw writer while its 100 is owed, or while more than 65,536 bytes of its body are
-    /// unread. The call waits for the client only until the
-    /// head and a body of up to 1024 bytes have come, or the head alone where it expects a 100, and before them the rest of a
-    /// counted body that was given up or passed over. After the last request the reader isn't called. `now` dates the answers
-    /// to refused heads, and the 500 of this request if it is dropped.
+    /// Goes to the next request, and hands it out with its number: `Handed`. It is `NotYet` while the body of the
+    /// last request holds the reader: until that was read to its end or given up. It is so, too, while the last
+    /// request waits for its answer and its head says `asks_upgrade`, unless it is the connection's last: what
+    /// follows it may be bytes of the other protocol (RFC 9110, section 7.8). The reply is `Ended` once the
+    /// connection has no further request, from then on, and `end_of_requests` says why. A refused head is answered
+    /// under a number of its own, in its turn, and ends the asking; but a 505 does so only where its head names an
+    /// upgrade or its body is chunked. After any other 505 the same call reads the next head. `Memory` ends the
+    /// asking too, and so does a chunked body that was given up before its end. Under `Standard` each 505 ends it; so
+    /// does a request that asked for an upgrade, once its raw writer is taken or it is upgraded, and one that is
+    /// answered, dropped or gives its raw writer while its 100 is owed, or while more than 65,536 bytes of its body
+    /// are unread. The call waits for the client only until the head and a body of up to 1024 bytes have come, or the
+    /// head alone where it expects a 100, and before them the rest of a counted body that was given up or passed
+    /// over. After the last request the reader isn't called. `now` dates the answers to refused heads, and the 500 of
+    /// this request if it is dropped.
     #[inline(never)]
     pub fn ask(&mut self, alloc: Global, now: HttpDate) -> Reply
         ensures step { TakesStep self.old self.new now Step.Ask (seen result) }
@@ -300,11 +318,11 @@ impl<R: ReadDevice, W: WriteDevice> Connection<R, W> {
         }
     }
 
-    /// Sends the 100 that is owed to the request of this number, and flushes (RFC 9110, section 10.1.1): `Done`. Its body can
-    /// be read then. It is `Done` too where no 100 is owed, and changes nothing. After the output has ended nothing is sent,
-    /// and none is owed any more. It is `NotYet` where a 100 is owed and a number before it isn't finished, and `NoSuch` for a
-    /// number that doesn't wait for an answer; then nothing has changed. No reply reports a fault of the writer. The call takes
-    /// no memory. `now` is the `Date` of the 100.
+    /// Sends the 100 that is owed to the request of this number, and flushes (RFC 9110, section 10.1.1): `Done`. Its
+    /// body can be read then. It is `Done` too where no 100 is owed, and changes nothing. After the output has ended
+    /// nothing is sent, and none is owed any more. It is `NotYet` where a 100 is owed and a number before it isn't
+    /// finished, and `NoSuch` for a number that doesn't wait for an answer; then nothing has changed. No reply
+    /// reports a fault of the writer. The call takes no memory. `now` is the `Date` of the 100.
     #[inline(never)]
     pub fn as_reader(&mut self, alloc: Global, now: HttpDate, number: u64) -> Reply
         ensures step { TakesStep self.old self.new now (Step.AsReader number) (seen result) }
@@ -323,10 +341,11 @@ impl<R: ReadDevice, W: WriteDevice> Connection<R, W> {
         Reply::Done
     }
 
-    /// Reads the body of the request of this number, until there are `count` bytes or no more follow: `Given`, without a byte
-    /// once the body has ended. It is `Fault` where the body is cut or broken, at each later read too. It is `NoSuch` for a
-    /// number that neither waits for an answer nor was upgraded, and while a 100 is owed to its request. It is `Memory` where
-    /// there is none for so many bytes, which changes nothing. It takes no date, as it sends nothing.
+    /// Reads the body of the request of this number, until there are `count` bytes or no more follow: `Given`,
+    /// without a byte once the body has ended. It is `Fault` where the body is cut or broken, at each later read too.
+    /// It is `NoSuch` for a number that neither waits for an answer nor was upgraded, and while a 100 is owed to its
+    /// request. It is `Memory` where there is none for so many bytes, which changes nothing. It takes no date, as it
+    /// sends nothing.
     #[inline(never)]
     pub fn read(&mut self, alloc: Global, number: u64, count: u16) -> Reply
         ensures step { (date : Date) → TakesStep self.old self.new date (Step.Read number count) (seen result) }
@@ -352,11 +371,11 @@ impl<R: ReadDevice, W: WriteDevice> Connection<R, W> {
         }
     }
 
-    /// Drops the request of this number, and gives its body up: an empty 500 is its answer, on the date of its `ask`. It is
-    /// sent now, or by the call that finishes the last number before it; it is never `NotYet`. `Done`, or `NoSuch` for a number
-    /// that doesn't wait for an answer. It takes no memory, and no reply reports a fault of the writer. Under `Standard` no request
-    /// follows one that is dropped or answered while its 100 is owed, or while more than 65,536 bytes of its body are unread. The
-    /// 500 says `close` as an answer by `respond` does.
+    /// Drops the request of this number, and gives its body up: an empty 500 is its answer, on the date of its `ask`.
+    /// It is sent now, or by the call that finishes the last number before it; it is never `NotYet`. `Done`, or
+    /// `NoSuch` for a number that doesn't wait for an answer. It takes no memory, and no reply reports a fault of the
+    /// writer. Under `Standard` no request follows one that is dropped or answered while its 100 is owed, or while
+    /// more than 65,536 bytes of its body are unread. The 500 says `close` as an answer by `respond` does.
     #[inline(never)]
     pub fn drop_request(&mut self, number: u64) -> Reply
         ensures step { (date : Date) → TakesStep self.old self.new date (Step.Drop number) (seen result) }
@@ -371,7 +390,8 @@ impl<R: ReadDevice, W: WriteDevice> Connection<R, W> {
     #[inline(never)]
     fn let_go(&mut self, number: u64) -> bool
         ensures drops { IsTrue result → Drops number self.old self.new }
-        ensures none { result ≡ false → (waiting_answer_context (slice_get self.old.requests number) ≡ None) × (self.new ≡ self.old) }
+        ensures none { result ≡ false
+            → (waiting_answer_context (slice_get self.old.requests number) ≡ None) × (self.new ≡ self.old) }
     {
         let Some(request) = self.pending.take(number, None) else {
             return false;
@@ -384,19 +404,20 @@ impl<R: ReadDevice, W: WriteDevice> Connection<R, W> {
         true
     }
 
-    /// Answers the request of this number, and gives its body up: `Done`, or `Fault` where the writer failed within the answer
-    /// or the response's data broke off, after which nothing more is sent on the connection: later answers are `Done` and
-    /// unsent. A fault by which the client has gone is `Done` too, and data of unknown length for which there is no memory are
-    /// a fault of kind `OutOfMemory`. `now` is the answer's `Date`.
-    /// `NotYet` while a number before it isn't finished, and `NoSuch` for a number that doesn't wait for an answer: then the
-    /// response is let go, and nothing has changed. Under `Standard` it is `Refused`, in its turn or before it, where the code is
-    /// below 200 or above 999, or a 2xx to `CONNECT`: then the request is dropped. The answer says there
-    /// `Connection: close` where the request is the last by its head, its 100 is owed, more than 65,536 bytes of its counted body
-    /// weren't given out, or the end of its body isn't known. What a later `ask` meets doesn't change it.
+    /// Answers the request of this number, and gives its body up: `Done`, or `Fault` where the writer failed within
+    /// the answer or the response's data broke off, after which nothing more is sent on the connection: later answers
+    /// are `Done` and unsent. A fault by which the client has gone is `Done` too, and data of unknown length for
+    /// which there is no memory are a fault of kind `OutOfMemory`. `now` is the answer's `Date`. `NotYet` while a
+    /// number before it isn't finished, and `NoSuch` for a number that doesn't wait for an answer: then the response
+    /// is let go, and nothing has changed. Under `Standard` it is `Refused`, in its turn or before it, where the code
+    /// is below 200 or above 999, or a 2xx to `CONNECT`: then the request is dropped. The answer says there
+    /// `Connection: close` where the request is the last by its head, its 100 is owed, more than 65,536 bytes of its
+    /// counted body weren't given out, or the end of its body isn't known. What a later `ask` meets doesn't change
+    /// it.
     ///
-    /// Where the response was made by `with_close`, no further head is read: a later `ask` is `Ended`. Under `Standard` the answer to
-    /// the last number says `Connection: close`: this answer, or that of a later request or refused head. A later request says
-    /// nothing of it that was dropped before, is upgraded or gives its raw writer.
+    /// Where the response was made by `with_close`, no further head is read: a later `ask` is `Ended`. Under
+    /// `Standard` the answer to the last number says `Connection: close`: this answer, or that of a later request or
+    /// refused head. A later request says nothing of it that was dropped before, is upgraded or gives its raw writer.
     #[inline(never)]
     pub fn respond<D: ReadDevice + Drop>(
         &mut self,
@@ -405,7 +426,8 @@ impl<R: ReadDevice, W: WriteDevice> Connection<R, W> {
         number: u64,
         response: Response<D>,
     ) -> Reply
-        ensures step { TakesStep self.old self.new now (Step.Respond number (stated_response D.feed response)) (seen result) }
+        ensures step { TakesStep self.old self.new now (Step.Respond number (stated_response D.feed response))
+            (seen result) }
     {
         if !self.pending.is_waiting(number) {
             return Reply::NoSuch;
@@ -431,11 +453,11 @@ impl<R: ReadDevice, W: WriteDevice> Connection<R, W> {
         reply
     }
 
-    /// Takes the raw writer of the request of this number in place of an answer, and gives its body up: `Done`, in its turn or
-    /// before it, or `NoSuch` for a number that doesn't wait for an answer. Nothing is sent: after a 100 that was sent before,
-    /// the bytes that `write` writes are all that the client gets for the request. A 100 that is owed isn't sent any more. Under
-    /// `Standard` no request follows one whose head says `asks_upgrade`, whose 100 is owed, or of whose body more than 65,536
-    /// bytes are unread.
+    /// Takes the raw writer of the request of this number in place of an answer, and gives its body up: `Done`, in
+    /// its turn or before it, or `NoSuch` for a number that doesn't wait for an answer. Nothing is sent: after a 100
+    /// that was sent before, the bytes that `write` writes are all that the client gets for the request. A 100 that
+    /// is owed isn't sent any more. Under `Standard` no request follows one whose head says `asks_upgrade`, whose 100
+    /// is owed, or of whose body more than 65,536 bytes are unread.
     #[inline(never)]
     pub fn into_writer(&mut self, number: u64) -> Reply
         ensures step { (date : Date) → TakesStep self.old self.new date (Step.IntoWriter number) (seen result) }
@@ -449,14 +471,16 @@ impl<R: ReadDevice, W: WriteDevice> Connection<R, W> {
         Reply::Done
     }
 
-    /// Writes bytes by the raw writer of this number, or to the stream of its upgrade: `Done`, or `Fault` where the writer
-    /// failed in them or in what was held before them. A fault of any kind is reported. After it nothing more is sent on the
-    /// connection, and later writes are `Done` and unsent. Up to 1024 bytes may be held until `flush` or `finish`. It is
-    /// `NotYet` while a number before it isn't finished, and `NoSuch` for a number without a raw writer or stream; then nothing
-    /// has changed.
+    /// Writes bytes by the raw writer of this number, or to the stream of its upgrade: `Done`, or `Fault` where the
+    /// writer failed in them or in what was held before them. A fault of any kind is reported. After it nothing more
+    /// is sent on the connection, and later writes are `Done` and unsent. Up to 1024 bytes may be held until `flush`
+    /// or `finish`. It is `NotYet` while a number before it isn't finished, and `NoSuch` for a number without a raw
+    /// writer or stream; then nothing has changed.
     #[inline(never)]
     pub fn write(&mut self, number: u64, bytes: &[u8]) -> Reply
-        ensures step { (date : Date) (written : Vec ℕ) → written.items ≡ bytes.now → TakesStep self.old self.new date (Step.Write number written) (seen result) }
+        ensures step { (date : Date) (written : Vec ℕ)
+            → written.items ≡ bytes.now
+            → TakesStep self.old self.new date (Step.Write number written) (seen result) }
     {
         if !self.pending.is_writable(number) {
             return Reply::NoSuch;
@@ -467,8 +491,8 @@ impl<R: ReadDevice, W: WriteDevice> Connection<R, W> {
         Reply::write_reply(self.outlet.write(bytes))
     }
 
-    /// Sends what was written under this number, and has the writer send it on: `Done`, or `Fault` where the writer failed.
-    /// `NotYet` and `NoSuch` are as for `write`.
+    /// Sends what was written under this number, and has the writer send it on: `Done`, or `Fault` where the writer
+    /// failed. `NotYet` and `NoSuch` are as for `write`.
     #[inline(never)]
     pub fn flush(&mut self, number: u64) -> Reply
         ensures step { (date : Date) → TakesStep self.old self.new date (Step.Flush number) (seen result) }
@@ -482,16 +506,17 @@ impl<R: ReadDevice, W: WriteDevice> Connection<R, W> {
         Reply::write_reply(self.outlet.flush())
     }
 
-    /// Answers the request of this number by a response that upgrades the connection to this protocol (RFC 9110, section
-    /// 7.8): `Done`. The response's head is sent and flushed, with `Connection: upgrade` and `Upgrade: PROTOCOL`, and its data
-    /// are let go unread. From then on `read` gives what is left of the request's body, which is all that follows where its head
-    /// names an upgrade. Under `Standard` it gives all that follows the body. Bytes are written by `write`, `flush` and `finish`,
-    /// as by a raw writer. It is `Refused` where the protocol isn't ASCII, in its turn or before it: then the request is dropped.
-    /// Under `Standard` it is so, too, where the request doesn't ask for this protocol or is its connection's last, where the code
-    /// isn't 101, and where the body wasn't read until its end was reported, or was cut or is broken. (A body without bytes or of
-    /// up to 1024 bytes that came with its head needn't be read, and a counted one only to its last byte.) `NotYet` and `NoSuch`
-    /// are as for `respond`.
-    /// It takes no memory, and no reply reports a fault of the writer. `now` is the answer's `Date`.
+    /// Answers the request of this number by a response that upgrades the connection to this protocol (RFC 9110,
+    /// section 7.8): `Done`. The response's head is sent and flushed, with `Connection: upgrade` and `Upgrade:
+    /// PROTOCOL`, and its data are let go unread. From then on `read` gives what is left of the request's body, which
+    /// is all that follows where its head names an upgrade. Under `Standard` it gives all that follows the body.
+    /// Bytes are written by `write`, `flush` and `finish`, as by a raw writer. It is `Refused` where the protocol
+    /// isn't ASCII, in its turn or before it: then the request is dropped. Under `Standard` it is so, too, where the
+    /// request doesn't ask for this protocol or is its connection's last, where the code isn't 101, and where the
+    /// body wasn't read until its end was reported, or was cut or is broken. (A body without bytes or of up to 1024
+    /// bytes that came with its head needn't be read, and a counted one only to its last byte.) `NotYet` and `NoSuch`
+    /// are as for `respond`. It takes no memory, and no reply reports a fault of the writer. `now` is the answer's
+    /// `Date`.
     #[inline(never)]
     pub fn upgrade<D: ReadDevice + Drop>(
         &mut self,
@@ -502,7 +527,8 @@ impl<R: ReadDevice, W: WriteDevice> Connection<R, W> {
         response: Response<D>,
     ) -> Reply
         ensures step { (named : String Heap) → string_bytes named ≡ protocol.now
-            → TakesStep self.old self.new now (Step.Upgrade number named (stated_response D.feed response)) (seen result) }
+            → TakesStep self.old self.new now (Step.Upgrade number named (stated_response D.feed response))
+            (seen result) }
     {
         if !self.pending.is_waiting(number) {
             return Reply::NoSuch;
@@ -522,9 +548,10 @@ impl<R: ReadDevice, W: WriteDevice> Connection<R, W> {
         Reply::Done
     }
 
-    /// Ends the raw writer of this number, or the stream of its upgrade, and gives the body up: `Done`, in its turn or before
-    /// it, or `NoSuch` for a number without a raw writer or stream. In its turn what was written is sent, and so are the texts
-    /// that wait directly after it. It takes no memory, and no reply reports a fault of the writer.
+    /// Ends the raw writer of this number, or the stream of its upgrade, and gives the body up: `Done`, in its turn
+    /// or before it, or `NoSuch` for a number without a raw writer or stream. In its turn what was written is sent,
+    /// and so are the texts that wait directly after it. It takes no memory, and no reply reports a fault of the
+    /// writer.
     #[inline(never)]
     pub fn finish(&mut self, alloc: Global, number: u64) -> Reply
         ensures step { (date : Date) → TakesStep self.old self.new date (Step.Finish number) (seen result) }
@@ -560,11 +587,14 @@ impl<R: ReadDevice, W: WriteDevice> Connection<R, W> {
         }
     }
 
-    /// Reader and writer within their buffers, and the end of the connection: requests that wait for their answers are let go
-    /// without one.
+    /// Reader and writer within their buffers, and the end of the connection: requests that wait for their answers
+    /// are let go without one.
     pub fn into_parts(self) -> (Source<R>, Outlet<W>)
-        ensures conversation { (p : Profile) (client : Feed) (before : Sink) (steps : List TimedValue) (replies : List ReplyValue) → HasDone p client before self steps replies
-            → IsConversation p client before steps replies (W.sink (outlet_writer result.1)) (outlet_held result.1) (outlet_ended result.1) result.0.feed }
+        ensures conversation { (p : Profile) (client : Feed) (before : Sink) (steps : List TimedValue)
+            (replies : List ReplyValue)
+            → HasDone p client before self steps replies
+            → IsConversation p client before steps replies (W.sink (outlet_writer result.1)) (outlet_held result.1)
+            (outlet_ended result.1) result.0.feed }
         ensures source { result.0 ≡ self.source }
         ensures outlet { result.1 ≡ self.outlet }
         ensures sink { result.1.sink ≡ W.sink (outlet_writer result.1) }
@@ -574,9 +604,9 @@ impl<R: ReadDevice, W: WriteDevice> Connection<R, W> {
     }
 }
 
-/// Runs the steps over a connection under `Lenient`, one reply a step. It hands out exactly the requests that the grammar finds
-/// in the client's bytes, each body gives its own bytes and reports its end only there, and the output is one segment a request
-/// or refused head, in order, whole up to the first fault.
+/// Runs the steps over a connection under `Lenient`, one reply a step. It hands out exactly the requests that the
+/// grammar finds in the client's bytes, each body gives its own bytes and reports its end only there, and the output
+/// is one segment a request or refused head, in order, whole up to the first fault.
 pub fn run<R: ReadDevice + Drop, W: WriteDevice + Drop, D: ReadDevice + Drop>(
     alloc: Global,
     reader: R,
@@ -584,7 +614,8 @@ pub fn run<R: ReadDevice + Drop, W: WriteDevice + Drop, D: ReadDevice + Drop>(
     steps: Vec<Timed<D>>,
 ) -> Result<Record<R, W>, RunError<R, W>>
     // The connection theorem.
-    ensures conversation { IfOk result (IsConversationOf R.feed W.sink D.feed Profile.Lenient reader writer steps.items) }
+    ensures conversation { IfOk result
+        (IsConversationOf R.feed W.sink D.feed Profile.Lenient reader writer steps.items) }
     // Whatever reader, writer and data state.
     ensures run { IfOk result (RunsSteps R.feed W.sink D.feed reader writer steps.items) }
     ensures err { IfErr result (λ e. (e.reader ≡ reader) × (e.writer ≡ writer)) }
@@ -592,9 +623,9 @@ pub fn run<R: ReadDevice + Drop, W: WriteDevice + Drop, D: ReadDevice + Drop>(
     run_with(alloc, Profile::Lenient, reader, writer, steps)
 }
 
-/// Runs the steps over a connection under this profile, one reply a step. It hands out exactly the requests that the grammar
-/// finds in the client's bytes, each body gives its own bytes and reports its end only there, and the output is one segment a
-/// request or refused head, in order, whole up to the first fault.
+/// Runs the steps over a connection under this profile, one reply a step. It hands out exactly the requests that the
+/// grammar finds in the client's bytes, each body gives its own bytes and reports its end only there, and the output
+/// is one segment a request or refused head, in order, whole up to the first fault.
 pub fn run_with<R: ReadDevice + Drop, W: WriteDevice + Drop, D: ReadDevice + Drop>(
     alloc: Global,
     profile: Profile,

@@ -1,5 +1,7 @@
 //! Requests that aren't finished, and texts that wait for their turn.
-ghost use Rattle.std.specs.Prelude.{◌≡◌, ◌↔◌, ◌≤◌, ◌<◌, ◌^◌, ◌+◌, ◌++◌, ◌∷◌, true, false, List, [], length, Some, None, IfOk, IfSome, IfNone, is_some, OnOk, OnErr, IsTrue, ◌==◌, slice_get, slice_set};
+ghost use Rattle.std.specs.Prelude.{◌≡◌, ◌↔◌, ◌≤◌, ◌<◌, ◌^◌, ◌+◌, ◌++◌, ◌∷◌, true, false, List, [], length, Some};
+ghost use Rattle.std.specs.Prelude.{None, IfOk, IfSome, IfNone, is_some, OnOk, OnErr, IsTrue, ◌==◌, slice_get};
+ghost use Rattle.std.specs.Prelude.{slice_set};
 ghost use Rattle.tiny_http_turns.specs.Turns.{Mark, Open, Held, AreInShape, first_unfinished};
 ghost use Rattle.tiny_http_io.specs.Outlet.{output_of, outlet_ended, outlet_held, SentOn};
 ghost use Rattle.tiny_http_response.specs.Sending.{CanSend, IsFlushed, FailsOnce, SendsQuietlyOn};
@@ -13,7 +15,11 @@ ghost use Rattle.tiny_http_body.specs.declared.body.Body.{Body};
 ghost use Rattle.tiny_http_open_request.specs.declared.open_request.OpenRequest.{OpenRequest};
 ghost use Rattle.tiny_http_io.specs.Source.{GoesOn};
 ghost use Rattle.tiny_http_body.specs.Body.{is_streaming, stream_body, body_standing, FillsFromBody};
-ghost use Rattle.tiny_http_connection.specs.Pending.{WaitsAt, left_text, SendsLeft, FinishesFront, LeavesText, waiting_answer_context, is_readable, is_writable, owes_continue, holds_next_head_at, refuses_at, refuses_upgrade_at, is_last_with_stream_at, asked_to_close, last_holds_next_head, kept_body, GivesUpBody, with_body};
+ghost use Rattle.tiny_http_connection.specs.Pending.{WaitsAt, left_text, SendsLeft, FinishesFront, LeavesText};
+ghost use Rattle.tiny_http_connection.specs.Pending.{waiting_answer_context, is_readable, is_writable, owes_continue};
+ghost use Rattle.tiny_http_connection.specs.Pending.{holds_next_head_at, refuses_at, refuses_upgrade_at};
+ghost use Rattle.tiny_http_connection.specs.Pending.{is_last_with_stream_at, asked_to_close, last_holds_next_head};
+ghost use Rattle.tiny_http_connection.specs.Pending.{kept_body, GivesUpBody, with_body};
 
 use httpdate::HttpDate;
 use std::alloc::{AllocError, Global};
@@ -140,7 +146,8 @@ impl Pending {
         }
     }
 
-    /// Whether this number waits for its answer, and an upgrade to this protocol by an answer with this code is refused.
+    /// Whether this number waits for its answer, and an upgrade to this protocol by an answer with this code is
+    /// refused.
     pub fn refuses_upgrade(&self, number: u64, protocol: &str, status: StatusCode) -> bool
         ensures { result ≡ refuses_upgrade_at protocol.now status.0 (slice_get self.now.requests number) }
     {
@@ -152,8 +159,8 @@ impl Pending {
         }
     }
 
-    /// Whether this number waits for its answer, and no head is read behind it once it gets the connection's stream: it holds the
-    /// next head, or would be the last if it were answered.
+    /// Whether this number waits for its answer, and no head is read behind it once it gets the connection's stream:
+    /// it holds the next head, or would be the last if it were answered.
     pub fn is_last_with_stream(&self, number: u64) -> bool
         ensures { result ≡ is_last_with_stream_at (slice_get self.now.requests number) }
     {
@@ -175,8 +182,8 @@ impl Pending {
         }
     }
 
-    /// Has the answer to the last number say, by the standard, that the connection ends behind it, if the number waits for it and
-    /// an answer asks for that.
+    /// Has the answer to the last number say, by the standard, that the connection ends behind it, if the number
+    /// waits for it and an answer asks for that.
     pub fn close_last(&mut self, closes: bool)
         ensures turns { self.new.turns ≡ self.old.turns }
         ensures requests { self.new.requests ≡ asked_to_close closes self.old.requests }
@@ -212,7 +219,8 @@ impl Pending {
         now: HttpDate,
     )
         ensures requests { (w : OpenRequest Body) → WaitsAt self.old.requests number w
-            → self.new.requests ≡ slice_set self.old.requests number (Some (Unfinished.Waiting (record w { owes_continue = false }))) }
+            → self.new.requests ≡ slice_set self.old.requests number
+            (Some (Unfinished.Waiting (record w { owes_continue = false }))) }
         ensures sends { (w : OpenRequest Body) → WaitsAt self.old.requests number w → w.owes_continue ≡ true
             → SendsQuietlyOn outlet.old outlet.new (own_text_by 100 (printing_in w.answer_context now))
             × HasSentAll outlet.new }
@@ -228,8 +236,8 @@ impl Pending {
         }
     }
 
-    /// Upgrades the connection to this protocol, if this number waits for its answer. Its body is kept, or by the standard all that
-    /// comes is read.
+    /// Upgrades the connection to this protocol, if this number waits for its answer. Its body is kept, or by the
+    /// standard all that comes is read.
     pub fn upgrade<W: WriteDevice, D: Drop>(
         &mut self,
         alloc: Global,
@@ -241,11 +249,13 @@ impl Pending {
     )
         requires { list_all is_ascii protocol.now ≡ true }
         ensures requests { (w : OpenRequest Body) → WaitsAt self.old.requests number w
-            → self.new.requests ≡ slice_set self.old.requests number (Some (Unfinished.Upgraded (stream_body w.by_standard w.body))) }
+            → self.new.requests ≡ slice_set self.old.requests number
+            (Some (Unfinished.Upgraded (stream_body w.by_standard w.body))) }
         // Whatever the data are.
         ensures sends { (w : OpenRequest Body) → WaitsAt self.old.requests number w
             → ((content : Feed) → SendsQuietlyOn outlet.old outlet.new
-            (upgrade_text (record { answer = response.answer; content = content }) protocol.now (printing_in w.answer_context now)))
+            (upgrade_text (record { answer = response.answer; content = content }) protocol.now
+            (printing_in w.answer_context now)))
             × HasSentAll outlet.new }
         ensures fails_once { FailsOnce outlet.old outlet.new }
         ensures turns { self.new.turns ≡ self.old.turns }
@@ -269,9 +279,12 @@ impl Pending {
         buf: &mut [u8],
     ) -> Result<usize, ErrorKind>
         ensures bound { IfOk result (λ n. n ≤ length buf.new) }
-        ensures fills { (u : Unfinished) (was : Body) → slice_get self.old.requests number ≡ Some (Some u) → kept_body (Some u) ≡ Some was
+        ensures fills { (u : Unfinished) (was : Body)
+            → slice_get self.old.requests number ≡ Some (Some u)
+            → kept_body (Some u) ≡ Some was
             → (body : Body) × (self.new.requests ≡ slice_set self.old.requests number (Some (with_body body u)))
-            × FillsFromBody was source.old.feed body source.new.feed result buf.new × (is_streaming was ≡ false → source.new ≡ source.old)
+            × FillsFromBody was source.old.feed body source.new.feed result buf.new
+            × (is_streaming was ≡ false → source.new ≡ source.old)
             × (is_streaming was ≡ true → source.new.standing ≡ body_standing body source.old.standing) }
         ensures turns { self.new.turns ≡ self.old.turns }
         ensures goes_on { GoesOn source.old.feed source.new.feed }
@@ -289,7 +302,8 @@ impl Pending {
     pub fn take(&mut self, number: u64, then: Option<Unfinished>) -> Option<OpenRequest<Body>>
         ensures some { IfSome result (λ w. (WaitsAt self.old.requests number w)
             × (self.new.requests ≡ slice_set self.old.requests number then)) }
-        ensures none { IfNone result ((waiting_answer_context (slice_get self.old.requests number) ≡ None) × (self.new.requests ≡ self.old.requests)) }
+        ensures none { IfNone result ((waiting_answer_context (slice_get self.old.requests number) ≡ None)
+            × (self.new.requests ≡ self.old.requests)) }
         ensures turns { self.new.turns ≡ self.old.turns }
     {
         if !self.is_waiting(number) {
@@ -303,9 +317,11 @@ impl Pending {
 
     /// What is kept of this number, if bytes can be written under it. Nothing is kept of it any more.
     pub fn close(&mut self, number: u64) -> Option<Unfinished>
-        ensures some { IfSome result (λ u. (slice_get self.old.requests number ≡ Some (Some u)) × (is_writable (Some (Some u)) ≡ true)
+        ensures some { IfSome result (λ u. (slice_get self.old.requests number ≡ Some (Some u))
+            × (is_writable (Some (Some u)) ≡ true)
             × (self.new.requests ≡ slice_set self.old.requests number None)) }
-        ensures none { IfNone result ((is_writable (slice_get self.old.requests number) ≡ false) × (self.new.requests ≡ self.old.requests)) }
+        ensures none { IfNone result ((is_writable (slice_get self.old.requests number) ≡ false)
+            × (self.new.requests ≡ self.old.requests)) }
         ensures turns { self.new.turns ≡ self.old.turns }
     {
         if self.is_writable(number) {
@@ -317,7 +333,8 @@ impl Pending {
 
     /// Holds this number, if its turn has come.
     pub fn hold(&mut self, number: u64) -> bool
-        ensures held { IsTrue result ↔ ((slice_get self.old.turns.marks number ≡ Some Open) × (number ≡ first_unfinished self.old.turns.marks)) }
+        ensures held { IsTrue result ↔ ((slice_get self.old.turns.marks number ≡ Some Open)
+            × (number ≡ first_unfinished self.old.turns.marks)) }
         ensures marks { IsTrue result → self.new.turns.marks ≡ slice_set self.old.turns.marks number Held }
         ensures not_yet { result ≡ false → self.new.turns.marks ≡ self.old.turns.marks }
         ensures requests { self.new.requests ≡ self.old.requests }
@@ -325,13 +342,17 @@ impl Pending {
         self.turns.take(number).is_some()
     }
 
-    /// Finishes a number that is held, and so each after it that was left, whose text is sent. No reply reports a fault that
-    /// is met there.
+    /// Finishes a number that is held, and so each after it that was left, whose text is sent. No reply reports a
+    /// fault that is met there.
     pub fn pass<W: WriteDevice>(&mut self, outlet: &mut Outlet<W>, number: u64)
-        ensures passes { (front rest : List Mark) → self.old.turns.marks ≡ front ++ (Held ∷ rest) → length front ≡ number → FinishesFront front rest self.new.turns.marks }
+        ensures passes { (front rest : List Mark)
+            → self.old.turns.marks ≡ front ++ (Held ∷ rest)
+            → length front ≡ number
+            → FinishesFront front rest self.new.turns.marks }
         ensures sends { (front rest : List Mark) → self.old.turns.marks ≡ front ++ (Held ∷ rest) → length front ≡ number
             → (outlet_ended outlet.old ≡ false → CanSend (output_of outlet.old))
-            → SendsLeft rest (outlet_ended outlet.old) (output_of outlet.old) (output_of outlet.new) (outlet_ended outlet.new) }
+            → SendsLeft rest (outlet_ended outlet.old) (output_of outlet.old) (output_of outlet.new)
+            (outlet_ended outlet.new) }
         ensures requests { self.new.requests ≡ self.old.requests }
         ensures fails_once { FailsOnce outlet.old outlet.new }
         ensures flushed { outlet_held outlet.old ≡ [] → outlet_held outlet.new ≡ [] }
@@ -344,7 +365,9 @@ impl Pending {
 
     /// Leaves an open number with a text. In its turn the text is sent, and the number is finished, as by `pass`.
     pub fn leave<W: WriteDevice>(&mut self, outlet: &mut Outlet<W>, number: u64, text: Vec<u8>)
-        ensures leaves { (front rest : List Mark) → self.old.turns.marks ≡ front ++ (Open ∷ rest) → length front ≡ number
+        ensures leaves { (front rest : List Mark)
+            → self.old.turns.marks ≡ front ++ (Open ∷ rest)
+            → length front ≡ number
             → (outlet_ended outlet.old ≡ false → CanSend (output_of outlet.old))
             → LeavesText (number == first_unfinished self.old.turns.marks) front rest self.new.turns.marks text.items
             (outlet_ended outlet.old) (output_of outlet.old) (output_of outlet.new) (outlet_ended outlet.new) }
@@ -384,7 +407,8 @@ fn fill_from<R: ReadDevice>(
     ensures bound { IfOk result (λ n. n ≤ length buf.new) }
     ensures fills { (was : Body) → kept_body (Some unfinished.old) ≡ Some was
         → (body : Body) × (unfinished.new ≡ with_body body unfinished.old)
-        × FillsFromBody was source.old.feed body source.new.feed result buf.new × (is_streaming was ≡ false → source.new ≡ source.old)
+        × FillsFromBody was source.old.feed body source.new.feed result buf.new
+        × (is_streaming was ≡ false → source.new ≡ source.old)
         × (is_streaming was ≡ true → source.new.standing ≡ body_standing body source.old.standing) }
     ensures goes_on { GoesOn source.old.feed source.new.feed }
 {

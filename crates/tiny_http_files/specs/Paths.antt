@@ -1,5 +1,6 @@
 -- Paths below a folder.
-use Rattle.std.specs.Prelude.{ℕ, Bool, not, false, ◌||◌, ◌==◌, List, [], ◌∷◌, ◌++◌, Option, Some, None, codes, if◌then◌else◌}
+use Rattle.std.specs.Prelude.{ℕ, Bool, not, false, ◌||◌, ◌==◌, List, [], ◌∷◌, ◌++◌, Option, Some, None, codes}
+use Rattle.std.specs.Prelude.{if◌then◌else◌}
 use Rattle.std.specs.List.{list_any}
 use Rattle.std.specs.Str.{bytes_eq}
 use Rattle.tiny_http_text.specs.Bytes.{parts}
@@ -22,4 +23,5 @@ begins_with_slash (b ∷ bs) = b == slash
 
 -- the folder and the path joined, where the path leads to nothing else
 abbrev pub below_folder : List ℕ → List ℕ → Option (List ℕ)
-below_folder folder path = if not (begins_with_slash path) || list_any is_unsafe_part (parts slash path) then None else Some (folder ++ path)
+below_folder folder path =
+    if not (begins_with_slash path) || list_any is_unsafe_part (parts slash path) then None else Some (folder ++ path)

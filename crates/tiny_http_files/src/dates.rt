@@ -5,9 +5,10 @@ ghost use Rattle.tiny_http_files.specs.Dates.{is_not_modified};
 
 use httpdate::HttpDate;
 
-/// Whether a client has the file of this date: its `If-Modified-Since` (`since`) is a date, and the file is no later. Then the answer is
-/// a 304 without content (`Response::contentless`). A value that is no date asks for nothing (RFC 9110, section 13.1.3). The caller
-/// passes the header over where the request has `If-None-Match`, or a method other than `GET` and `HEAD`.
+/// Whether a client has the file of this date: its `If-Modified-Since` (`since`) is a date, and the file is no later.
+/// Then the answer is a 304 without content (`Response::contentless`). A value that is no date asks for nothing (RFC
+/// 9110, section 13.1.3). The caller passes the header over where the request has `If-None-Match`, or a method other
+/// than `GET` and `HEAD`.
 pub fn is_not_modified(since: Option<&str>, modified: HttpDate) -> bool
     ensures { result ≡ is_not_modified (option_copied since.entry) modified }
 {

@@ -20,10 +20,10 @@ fn is_unsafe_part(part: &str) -> bool
     part == "." || part == ".." || has_unsafe_byte(part.as_bytes())
 }
 
-/// Whether a path isn't to be looked up below a folder: a part of it between slashes is `.` or `..`, which may lead out, or it has a NUL
-/// or a backslash, which no name of a file has everywhere. The path is the request's (`Request::path`) once it is percent-decoded: an
-/// escaped slash or point is one then. A link of the file system may lead out as well; who allows links there compares the real path
-/// (`fs::canonicalize`).
+/// Whether a path isn't to be looked up below a folder: a part of it between slashes is `.` or `..`, which may lead
+/// out, or it has a NUL or a backslash, which no name of a file has everywhere. The path is the request's
+/// (`Request::path`) once it is percent-decoded: an escaped slash or point is one then. A link of the file system may
+/// lead out as well; who allows links there compares the real path (`fs::canonicalize`).
 pub fn is_unsafe(path: &str) -> bool
     ensures { result ≡ list_any is_unsafe_part (parts slash path.now) }
 {
@@ -35,9 +35,9 @@ pub fn is_unsafe(path: &str) -> bool
     false
 }
 
-/// The path of a file below a folder, by the request's path (`Request::path`) once it is percent-decoded: both joined, as they are. None
-/// where the request's path doesn't begin with a slash, or is unsafe (`is_unsafe`). The file may be missing, or a link. An error where
-/// memory was refused.
+/// The path of a file below a folder, by the request's path (`Request::path`) once it is percent-decoded: both
+/// joined, as they are. None where the request's path doesn't begin with a slash, or is unsafe (`is_unsafe`). The
+/// file may be missing, or a link. An error where memory was refused.
 pub fn below_folder(alloc: Global, folder: &str, path: &str) -> Result<Option<String>, AllocError>
     ensures { IfOk result (λ found. option_map string_bytes found ≡ below_folder folder.now path.now) }
 {

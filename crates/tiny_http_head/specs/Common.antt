@@ -1,5 +1,6 @@
 -- Codes, versions, names, methods and headers, and their texts.
-use Rattle.std.specs.Prelude.{◌≡◌, ◌⊎◌, ⊤, ℕ, ◌+◌, ◌<◌, ◌≤◌, Bool, false, ◌&&◌, List, [], ◌∷◌, ◌++◌, map, codes, decimal, ◌==◌, bytes_eq, if◌then◌else◌}
+use Rattle.std.specs.Prelude.{◌≡◌, ◌⊎◌, ⊤, ℕ, ◌+◌, ◌<◌, ◌≤◌, Bool, false, ◌&&◌, List, [], ◌∷◌, ◌++◌, map, codes}
+use Rattle.std.specs.Prelude.{decimal, ◌==◌, bytes_eq, if◌then◌else◌}
 use Rattle.std.specs.List.{list_any}
 use Rattle.std.specs.Char.{to_ascii_lowercase}
 use Rattle.std.specs.Ordering.{nat_cmp, ordering_then}
@@ -8,7 +9,8 @@ use Rattle.tiny_http_head.specs.declared.common.StatusCode.{StatusCode}
 use Rattle.tiny_http_head.specs.declared.common.HTTPVersion.{HTTPVersion}
 use Rattle.tiny_http_head.specs.declared.common.Header.{Header}
 use Rattle.tiny_http_head.specs.declared.common.Method.{Method}
-use Rattle.tiny_http_head.specs.declared.common.Method.TheVariants.{Get, Head, Post, Put, Delete, Connect, Options, Trace, Patch, NonStandard}
+use Rattle.tiny_http_head.specs.declared.common.Method.TheVariants.{Get, Head, Post, Put, Delete, Connect, Options}
+use Rattle.tiny_http_head.specs.declared.common.Method.TheVariants.{Trace, Patch, NonStandard}
 
 -- a text with its ASCII letters in lower case
 abbrev pub lowercase : List ℕ → List ℕ
@@ -70,7 +72,9 @@ method_text (NonStandard name) = name
 
 -- the nine names
 abbrev pub nine_names : List (List ℕ)
-nine_names = codes "GET" ∷ codes "HEAD" ∷ codes "POST" ∷ codes "PUT" ∷ codes "DELETE" ∷ codes "CONNECT" ∷ codes "OPTIONS" ∷ codes "TRACE" ∷ codes "PATCH" ∷ []
+nine_names =
+    codes "GET" ∷ codes "HEAD" ∷ codes "POST" ∷ codes "PUT" ∷ codes "DELETE" ∷ codes "CONNECT" ∷ codes "OPTIONS" ∷
+    codes "TRACE" ∷ codes "PATCH" ∷ []
 
 -- not one of the nine names, kept as `NonStandard`
 abbrev pub HasItsOwnName : Method → Type 0
@@ -88,11 +92,30 @@ HasItsOwnName (NonStandard name) = list_any (bytes_eq name) nine_names ≡ false
 -- the phrase of each code that has one, as in tiny_http 0.12 (most by RFC 9110, section 15)
 abbrev pub reason_phrases : List (ℕ × List ℕ)
 reason_phrases =
-    (100, codes "Continue") ∷ (101, codes "Switching Protocols") ∷ (102, codes "Processing") ∷ (103, codes "Early Hints") ∷
-    (200, codes "OK") ∷ (201, codes "Created") ∷ (202, codes "Accepted") ∷ (203, codes "Non-Authoritative Information") ∷ (204, codes "No Content") ∷ (205, codes "Reset Content") ∷ (206, codes "Partial Content") ∷ (207, codes "Multi-Status") ∷ (208, codes "Already Reported") ∷ (226, codes "IM Used") ∷
-    (300, codes "Multiple Choices") ∷ (301, codes "Moved Permanently") ∷ (302, codes "Found") ∷ (303, codes "See Other") ∷ (304, codes "Not Modified") ∷ (305, codes "Use Proxy") ∷ (307, codes "Temporary Redirect") ∷ (308, codes "Permanent Redirect") ∷
-    (400, codes "Bad Request") ∷ (401, codes "Unauthorized") ∷ (402, codes "Payment Required") ∷ (403, codes "Forbidden") ∷ (404, codes "Not Found") ∷ (405, codes "Method Not Allowed") ∷ (406, codes "Not Acceptable") ∷ (407, codes "Proxy Authentication Required") ∷ (408, codes "Request Timeout") ∷ (409, codes "Conflict") ∷ (410, codes "Gone") ∷ (411, codes "Length Required") ∷ (412, codes "Precondition Failed") ∷ (413, codes "Payload Too Large") ∷ (414, codes "URI Too Long") ∷ (415, codes "Unsupported Media Type") ∷ (416, codes "Range Not Satisfiable") ∷ (417, codes "Expectation Failed") ∷ (421, codes "Misdirected Request") ∷ (422, codes "Unprocessable Entity") ∷ (423, codes "Locked") ∷ (424, codes "Failed Dependency") ∷ (426, codes "Upgrade Required") ∷ (428, codes "Precondition Required") ∷ (429, codes "Too Many Requests") ∷ (431, codes "Request Header Fields Too Large") ∷ (451, codes "Unavailable For Legal Reasons") ∷
-    (500, codes "Internal Server Error") ∷ (501, codes "Not Implemented") ∷ (502, codes "Bad Gateway") ∷ (503, codes "Service Unavailable") ∷ (504, codes "Gateway Timeout") ∷ (505, codes "HTTP Version Not Supported") ∷ (506, codes "Variant Also Negotiates") ∷ (507, codes "Insufficient Storage") ∷ (508, codes "Loop Detected") ∷ (510, codes "Not Extended") ∷ (511, codes "Network Authentication Required") ∷ []
+    (100, codes "Continue") ∷ (101, codes "Switching Protocols") ∷ (102, codes "Processing") ∷
+    (103, codes "Early Hints") ∷
+    (200, codes "OK") ∷ (201, codes "Created") ∷ (202, codes "Accepted") ∷
+    (203, codes "Non-Authoritative Information") ∷ (204, codes "No Content") ∷ (205, codes "Reset Content") ∷
+    (206, codes "Partial Content") ∷ (207, codes "Multi-Status") ∷ (208, codes "Already Reported") ∷
+    (226, codes "IM Used") ∷
+    (300, codes "Multiple Choices") ∷ (301, codes "Moved Permanently") ∷ (302, codes "Found") ∷
+    (303, codes "See Other") ∷ (304, codes "Not Modified") ∷ (305, codes "Use Proxy") ∷
+    (307, codes "Temporary Redirect") ∷ (308, codes "Permanent Redirect") ∷
+    (400, codes "Bad Request") ∷ (401, codes "Unauthorized") ∷ (402, codes "Payment Required") ∷
+    (403, codes "Forbidden") ∷ (404, codes "Not Found") ∷ (405, codes "Method Not Allowed") ∷
+    (406, codes "Not Acceptable") ∷ (407, codes "Proxy Authentication Required") ∷ (408, codes "Request Timeout")
+    ∷ (409, codes "Conflict") ∷ (410, codes "Gone") ∷ (411, codes "Length Required") ∷
+    (412, codes "Precondition Failed") ∷ (413, codes "Payload Too Large") ∷ (414, codes "URI Too Long") ∷
+    (415, codes "Unsupported Media Type") ∷ (416, codes "Range Not Satisfiable") ∷
+    (417, codes "Expectation Failed") ∷ (421, codes "Misdirected Request") ∷ (422, codes "Unprocessable Entity")
+    ∷ (423, codes "Locked") ∷ (424, codes "Failed Dependency") ∷ (426, codes "Upgrade Required") ∷
+    (428, codes "Precondition Required") ∷ (429, codes "Too Many Requests") ∷
+    (431, codes "Request Header Fields Too Large") ∷ (451, codes "Unavailable For Legal Reasons") ∷
+    (500, codes "Internal Server Error") ∷ (501, codes "Not Implemented") ∷ (502, codes "Bad Gateway") ∷
+    (503, codes "Service Unavailable") ∷ (504, codes "Gateway Timeout") ∷
+    (505, codes "HTTP Version Not Supported") ∷ (506, codes "Variant Also Negotiates") ∷
+    (507, codes "Insufficient Storage") ∷ (508, codes "Loop Detected") ∷ (510, codes "Not Extended") ∷
+    (511, codes "Network Authentication Required") ∷ []
 
 -- the phrase that a table has for a code, or Unknown
 abbrev pub phrase_in : List (ℕ × List ℕ) → ℕ → List ℕ

@@ -1,5 +1,5 @@
--- The two texts of which a header is made (RFC 9110, sections 5.1, 5.5 and 5.6.2). A token and a byte of a value are those of the
--- crate `httparse`.
+-- The two texts of which a header is made (RFC 9110, sections 5.1, 5.5 and 5.6.2). A token and a byte of a value are
+-- those of the crate `httparse`.
 use Rattle.std.specs.Prelude.{ℕ, List, IsTrue}
 use Rattle.std.specs.List.{list_all}
 use Rattle.std.specs.declared.io.ErrorKind.{ErrorKind}

@@ -1,9 +1,11 @@
 -- The head of a request (RFC 9112, sections 2.1, 3 and 5): each text is a joining of named parts.
-use Rattle.std.specs.Prelude.{◌≡◌, ℕ, Bool, ◌&&◌, ◌||◌, ◌==◌, ◌⊎◌, List, [], ◌∷◌, ◌++◌, length, ◌^◌, Option, Some, None, if◌then◌else◌, codes, nat_lt}
+use Rattle.std.specs.Prelude.{◌≡◌, ℕ, Bool, ◌&&◌, ◌||◌, ◌==◌, ◌⊎◌, List, [], ◌∷◌, ◌++◌, length, ◌^◌, Option, Some}
+use Rattle.std.specs.Prelude.{None, if◌then◌else◌, codes, nat_lt}
 use Rattle.std.specs.Str.{bytes_eq, all_ascii_digits}
 use Rattle.std.specs.Str.Parse.{without_leading_plus, digits_value}
 use Rattle.tiny_http_head.specs.declared.common.Method.{Method}
-use Rattle.tiny_http_head.specs.declared.common.Method.TheVariants.{Get, Head, Post, Put, Delete, Connect, Options, Trace, Patch, NonStandard}
+use Rattle.tiny_http_head.specs.declared.common.Method.TheVariants.{Get, Head, Post, Put, Delete, Connect, Options}
+use Rattle.tiny_http_head.specs.declared.common.Method.TheVariants.{Trace, Patch, NonStandard}
 use Rattle.tiny_http_head.specs.declared.common.HTTPVersion.{HTTPVersion}
 use Rattle.tiny_http_head.specs.declared.common.Header.{Header}
 use Rattle.tiny_http_text.specs.Bytes.{is_blank, AreAscii, HasNo, HasNoBlank, Trims, IsEmptyOrBegins, space, colon}
@@ -70,7 +72,13 @@ IsHeader text h = AreAscii text × HeaderLine text h.field h.value
 -- the bytes begin with these field-lines, and the rest follows
 abbrev pub BeginsWithHeaderLines : List ℕ → List Header → List ℕ → Type 0
 BeginsWithHeaderLines bytes [] rest = rest ≡ bytes
-BeginsWithHeaderLines bytes (h ∷ hs) rest = (text : List ℕ) × (next : List ℕ) × Line bytes text next × AreAscii text × HeaderLine text h.field h.value × BeginsWithHeaderLines next hs rest
+BeginsWithHeaderLines bytes (h ∷ hs) rest =
+    (text : List ℕ)
+    × (next : List ℕ)
+    × Line bytes text next
+    × AreAscii text
+    × HeaderLine text h.field h.value
+    × BeginsWithHeaderLines next hs rest
 
 -- what a head says
 pub record Message : Type 0 where
@@ -81,11 +89,17 @@ pub record Message : Type 0 where
 
 -- the bytes begin with the request line, and the rest follows
 abbrev pub BeginsWithRequestLine : List ℕ → Method → List ℕ → HTTPVersion → List ℕ → Type 0
-BeginsWithRequestLine bytes method path version rest = (text : List ℕ) × Line bytes text rest × AreAscii text × RequestLine text method path version
+BeginsWithRequestLine bytes method path version rest =
+    (text : List ℕ) × Line bytes text rest × AreAscii text × RequestLine text method path version
 
 -- the bytes begin with a head: a request line, field-lines and an empty line; what follows it is after
 abbrev pub BeginsWithRequestHead : List ℕ → Message → List ℕ → Type 0
-BeginsWithRequestHead bytes m after = (fields : List ℕ) × (empty : List ℕ) × BeginsWithRequestLine bytes m.method m.path m.version fields × BeginsWithHeaderLines fields m.headers empty × Line empty [] after
+BeginsWithRequestHead bytes m after =
+    (fields : List ℕ)
+    × (empty : List ℕ)
+    × BeginsWithRequestLine bytes m.method m.path m.version fields
+    × BeginsWithHeaderLines fields m.headers empty
+    × Line empty [] after
 
 -- how the next line is no good: it isn't finished, or isn't ASCII, or it isn't what has to stand there
 pub data GrammarFault : Type 0 where
@@ -96,10 +110,12 @@ pub data GrammarFault : Type 0 where
 abbrev pub FaultyLine : (List ℕ → Type 0) → List ℕ → GrammarFault → Type 0
 FaultyLine IsGood bytes Cut = IsUnfinished bytes
 FaultyLine IsGood bytes NotAscii = (text : List ℕ) × (rest : List ℕ) × Line bytes text rest × (AreAscii text → ⊥)
-FaultyLine IsGood bytes Malformed = (text : List ℕ) × (rest : List ℕ) × Line bytes text rest × AreAscii text × (IsGood text → ⊥)
+FaultyLine IsGood bytes Malformed =
+    (text : List ℕ) × (rest : List ℕ) × Line bytes text rest × AreAscii text × (IsGood text → ⊥)
 
 abbrev pub IsRequestLine : List ℕ → Type 0
-IsRequestLine text = (method : Method) × (path : List ℕ) × (version : HTTPVersion) × RequestLine text method path version
+IsRequestLine text =
+    (method : Method) × (path : List ℕ) × (version : HTTPVersion) × RequestLine text method path version
 
 abbrev pub IsFieldOrEnd : List ℕ → Type 0
 IsFieldOrEnd text = (text ≡ []) ⊎ ((field : List ℕ) × (value : List ℕ) × HeaderLine text field value)
@@ -109,11 +125,16 @@ abbrev pub FaultyHead : List ℕ → Option HTTPVersion → GrammarFault → Typ
 FaultyHead bytes None fault = FaultyLine IsRequestLine bytes fault
 FaultyHead bytes (Some v) fault =
     (method : Method) × (path : List ℕ) × (fields : List ℕ) × BeginsWithRequestLine bytes method path v fields
-    × (headers : List Header) × (rest : List ℕ) × BeginsWithHeaderLines fields headers rest × FaultyLine IsFieldOrEnd rest fault
+    × (headers : List Header)
+    × (rest : List ℕ)
+    × BeginsWithHeaderLines fields headers rest
+    × FaultyLine IsFieldOrEnd rest fault
 
 -- the length that a Content-Length value says (RFC 9110, section 8.6): an optional plus, one digit or more, below 2^64
 abbrev pub length_of : List ℕ → Option ℕ
-length_of ds = if nat_lt 0 (length ds) && (all_ascii_digits ds && nat_lt (digits_value 10 ds) (2 ^ 64)) then Some (digits_value 10 ds) else None
+length_of ds =
+    if nat_lt 0 (length ds) && (all_ascii_digits ds && nat_lt (digits_value 10 ds) (2 ^ 64)) then Some
+    (digits_value 10 ds) else None
 
 unfoldable pub length_in : List ℕ → Option ℕ
 length_in value = length_of (without_leading_plus value)

@@ -1,5 +1,6 @@
 -- The parts of a request's target (RFC 9112, section 3.2; RFC 3986, section 3).
-use Rattle.std.specs.Prelude.{◌≡◌, ℕ, Bool, false, ◌&&◌, ◌||◌, ◌==◌, ◌⊎◌, List, [], ◌∷◌, ◌++◌, Option, Some, None, IsTrue, codes}
+use Rattle.std.specs.Prelude.{◌≡◌, ℕ, Bool, false, ◌&&◌, ◌||◌, ◌==◌, ◌⊎◌, List, [], ◌∷◌, ◌++◌, Option, Some, None}
+use Rattle.std.specs.Prelude.{IsTrue, codes}
 use Rattle.std.specs.List.{list_all, list_any}
 use Rattle.std.specs.Char.{is_ascii_alphabetic, is_ascii_alphanumeric}
 use Rattle.tiny_http_text.specs.Bytes.{HasNo}
@@ -46,12 +47,16 @@ pub record PathBehindAuthority (text path : List ℕ) : Type 0 where
 abbrev pub AuthorityAndPath : List ℕ → List ℕ → Type 0
 AuthorityAndPath text path = PathBehindAuthority text path ⊎ (HasNo slash text × (path ≡ codes "/"))
 
--- THE PARTS OF A TARGET. Without a scheme it is its path, up to the first question mark; in absolute form the path stands behind the
--- authority.
+-- THE PARTS OF A TARGET. Without a scheme it is its path, up to the first question mark; in absolute form the path
+-- stands behind the authority.
 abbrev pub TargetParts : List ℕ → List ℕ → Option (List ℕ) → Type 0
 TargetParts target path query =
     (HasNoScheme target × FrontAndQuery target path query)
-    ⊎ ((behind : List ℕ) × (front : List ℕ) × HasScheme target behind × FrontAndQuery behind front query × AuthorityAndPath front path)
+    ⊎ ((behind : List ℕ)
+    × (front : List ℕ)
+    × HasScheme target behind
+    × FrontAndQuery behind front query
+    × AuthorityAndPath front path)
 
 -- the path of a target, and its query if it has one
 abbrev pub IsPath : List ℕ → List ℕ → Type 0

@@ -1,5 +1,6 @@
 //! Status codes, versions, methods and headers.
-ghost use Rattle.std.specs.Prelude.{◌≡◌, ◌%◌, ◌↔◌, IfOk, IfErr, IsOk, IsErrOf, IsSome, IsTrue, OnErr, IsAscii, Some, nat_eq, List, ℕ};
+ghost use Rattle.std.specs.Prelude.{◌≡◌, ◌%◌, ◌↔◌, IfOk, IfErr, IsOk, IsErrOf, IsSome, IsTrue, OnErr, IsAscii, Some};
+ghost use Rattle.std.specs.Prelude.{nat_eq, List, ℕ};
 ghost use Rattle.std.specs.Ordering.{on};
 ghost use Rattle.std.specs.Cmp.Lexicographic.{pointwise};
 ghost use Rattle.std.specs.Cmp.Rules.{comparing};
@@ -49,7 +50,8 @@ impl From<ParseError> for io::Error {
 
     ghost from_gives = { λ error fault. error_kind fault ≡ kind_of error };
 
-    /// `InvalidInput` of `Refused`, and `OutOfMemory` of `Memory`: `?` gives these in a function that answers an `io::Result`.
+    /// `InvalidInput` of `Refused`, and `OutOfMemory` of `Memory`: `?` gives these in a function that answers an
+    /// `io::Result`.
     fn from(error: ParseError) -> io::Error {
         match error {
             ParseError::Refused => ErrorKind::InvalidInput.into(),
@@ -475,11 +477,12 @@ impl Header {
     ghost use Rattle.tiny_http_head.specs.Heads.{IsHeader};
     ghost use Rattle.tiny_http_head.specs.HeaderTexts.{AreHeaderTexts, header_of};
 
-    /// Makes a header of a name and a value, both as they are given. The name is a token: one byte or more, each a letter, a
-    /// digit or one of ``!#$%&'*+-.^_`|~`` (RFC 9110, section 5.6.2). The value is of visible ASCII bytes, spaces and tabs, and
-    /// neither a space nor a tab stands at its ends; it may be empty (RFC 9110, section 5.5). `Refused` for any other text, as
-    /// one with CR, LF or NUL, and for no other reason; `Memory` where there is no memory for the copies. A client reads such a
-    /// header as it was meant, also where a client's text stands in the value.
+    /// Makes a header of a name and a value, both as they are given. The name is a token: one byte or more, each a
+    /// letter, a digit or one of ``!#$%&'*+-.^_`|~`` (RFC 9110, section 5.6.2). The value is of visible ASCII bytes,
+    /// spaces and tabs, and neither a space nor a tab stands at its ends; it may be empty (RFC 9110, section 5.5).
+    /// `Refused` for any other text, as one with CR, LF or NUL, and for no other reason; `Memory` where there is no
+    /// memory for the copies. A client reads such a header as it was meant, also where a client's text stands in the
+    /// value.
     #[tactic(auto, using(crate::proofs::HeaderTextsLemmas::token_ascii))]
     pub fn new(alloc: Global, name: &str, value: &str) -> Result<Header, ParseError>
         ensures ok { IfOk result (λ h. (h ≡ header_of name.now value.now) × AreHeaderTexts name.now value.now) }
@@ -572,8 +575,8 @@ fn is_field_value(text: &[u8]) -> bool
     are_ascii(text) && is_header_value(text) && is_trimmed(text)
 }
 
-/// The method that an ASCII text names: one of the nine names, exactly, or any other text. An error where there is no memory for
-/// a copy.
+/// The method that an ASCII text names: one of the nine names, exactly, or any other text. An error where there is no
+/// memory for a copy.
 pub fn method_of(alloc: Global, text: &[u8]) -> Result<Method, AllocError>
     requires { AreAscii text.now }
     ensures { IfOk result (λ m. m ≡ method_of text.now) }

@@ -7,7 +7,8 @@ ghost use Rattle.tiny_http_head.specs.declared.common.HTTPVersion.{HTTPVersion a
 ghost use Rattle.tiny_http_head.specs.declared.common.Method.{Method as AnyMethod};
 ghost use Rattle.tiny_http_head.specs.declared.common.Header.{Header};
 ghost use Rattle.tiny_http_text.specs.Bytes.{AreAscii, HasNo, IsTrimmed, IsWord, colon};
-ghost use Rattle.tiny_http_head.specs.Common.{IsSameButForCase, same_name, is_code, code_order, is_version, version_order, IsBefore, HasItsOwnName, method_text, header_text};
+ghost use Rattle.tiny_http_head.specs.Common.{IsSameButForCase, same_name, is_code, code_order, is_version};
+ghost use Rattle.tiny_http_head.specs.Common.{version_order, IsBefore, HasItsOwnName, method_text, header_text};
 ghost use Rattle.tiny_http_head.specs.Heads.{IsHeader, method_of, RequestLine, HeaderLine};
 ghost use Rattle.tiny_http_head.specs.HeadReading.{request_line, header_line};
 ghost use Rattle.tiny_http_head.specs.Target.{TargetParts};
@@ -21,22 +22,31 @@ pub fn header_field_equality()
     ensures ignores_case { (a b : List ℕ) → IsTrue (⟦<HeaderField as PartialEq>⟧.eq a b) ↔ IsSameButForCase a b }
     ensures equiv { (a b : List ℕ) → same_name a b ≡ ⟦<HeaderField as PartialEq>⟧.eq a b }
     ensures reflexive { (a : List ℕ) → IsTrue (⟦<HeaderField as PartialEq>⟧.eq a a) }
-    ensures symmetric { (a b : List ℕ) → IsTrue (⟦<HeaderField as PartialEq>⟧.eq a b) → IsTrue (⟦<HeaderField as PartialEq>⟧.eq b a) }
-    ensures transitive { (a b c : List ℕ) → IsTrue (⟦<HeaderField as PartialEq>⟧.eq a b) → IsTrue (⟦<HeaderField as PartialEq>⟧.eq b c) → IsTrue (⟦<HeaderField as PartialEq>⟧.eq a c) }
+    ensures symmetric { (a b : List ℕ)
+        → IsTrue (⟦<HeaderField as PartialEq>⟧.eq a b)
+        → IsTrue (⟦<HeaderField as PartialEq>⟧.eq b a) }
+    ensures transitive { (a b c : List ℕ)
+        → IsTrue (⟦<HeaderField as PartialEq>⟧.eq a b)
+        → IsTrue (⟦<HeaderField as PartialEq>⟧.eq b c)
+        → IsTrue (⟦<HeaderField as PartialEq>⟧.eq a c) }
 {}
 
 /// Methods are equal where they are the same, and equal ones feed a hasher alike.
 pub fn method_hash()
     ensures equality { (a b : AnyMethod) → IsTrue (⟦<Method as PartialEq>⟧.eq a b) ↔ (a ≡ b) }
-    ensures hash { (a b : AnyMethod) → IsTrue (⟦<Method as PartialEq>⟧.eq a b) → ⟦<Method as Hash>⟧.hash_input a ≡ ⟦<Method as Hash>⟧.hash_input b }
+    ensures hash { (a b : AnyMethod)
+        → IsTrue (⟦<Method as PartialEq>⟧.eq a b)
+        → ⟦<Method as Hash>⟧.hash_input a ≡ ⟦<Method as Hash>⟧.hash_input b }
 {}
 
 /// Status codes are ordered by their numbers, and `is` and `cmp_u16` agree with equality and order.
 pub fn status_code_order()
     ensures by_number { (a b : Code) → ⟦<StatusCode as Ord>⟧.cmp a b ≡ nat_cmp a.0 b.0 }
     ensures partial { (a b : Code) → ⟦<StatusCode as PartialOrd>⟧.partial_cmp a b ≡ Some (nat_cmp a.0 b.0) }
-    ensures is { (code : Code) (number : ℕ) → is_code code number ≡ ⟦<StatusCode as PartialEq>⟧.eq code (record { 0 = number }) }
-    ensures cmp_u16 { (code : Code) (number : ℕ) → code_order code number ≡ ⟦<StatusCode as Ord>⟧.cmp code (record { 0 = number }) }
+    ensures is { (code : Code) (number : ℕ)
+        → is_code code number ≡ ⟦<StatusCode as PartialEq>⟧.eq code (record { 0 = number }) }
+    ensures cmp_u16 { (code : Code) (number : ℕ)
+        → code_order code number ≡ ⟦<StatusCode as Ord>⟧.cmp code (record { 0 = number }) }
 {}
 
 /// The order of versions is lexicographic, the major number first, and agrees with equality; `is`
@@ -46,9 +56,12 @@ pub fn http_version_order()
     ensures greater { (a b : Version) → (⟦<HTTPVersion as Ord>⟧.cmp a b ≡ Greater) ↔ IsBefore b a }
     ensures equal { (a b : Version) → (⟦<HTTPVersion as Ord>⟧.cmp a b ≡ Equal) ↔ (a ≡ b) }
     ensures equality { (a b : Version) → IsTrue (⟦<HTTPVersion as PartialEq>⟧.eq a b) ↔ (a ≡ b) }
-    ensures partial { (a b : Version) → ⟦<HTTPVersion as PartialOrd>⟧.partial_cmp a b ≡ Some (⟦<HTTPVersion as Ord>⟧.cmp a b) }
-    ensures is { (v : Version) (numbers : ℕ × ℕ) → is_version v numbers ≡ ⟦<HTTPVersion as PartialEq>⟧.eq v (record { 0 = numbers.0; 1 = numbers.1 }) }
-    ensures cmp_pair { (v : Version) (numbers : ℕ × ℕ) → version_order v numbers ≡ ⟦<HTTPVersion as Ord>⟧.cmp v (record { 0 = numbers.0; 1 = numbers.1 }) }
+    ensures partial { (a b : Version)
+        → ⟦<HTTPVersion as PartialOrd>⟧.partial_cmp a b ≡ Some (⟦<HTTPVersion as Ord>⟧.cmp a b) }
+    ensures is { (v : Version) (numbers : ℕ × ℕ)
+        → is_version v numbers ≡ ⟦<HTTPVersion as PartialEq>⟧.eq v (record { 0 = numbers.0; 1 = numbers.1 }) }
+    ensures cmp_pair { (v : Version) (numbers : ℕ × ℕ)
+        → version_order v numbers ≡ ⟦<HTTPVersion as Ord>⟧.cmp v (record { 0 = numbers.0; 1 = numbers.1 }) }
 {}
 
 /// A method is read back from its name, unless it is one of the nine names kept as `NonStandard`.
@@ -59,19 +72,27 @@ pub fn method_from_its_name()
 /// A header is read back from its display, where its name has no white space or colon and its value
 /// is trimmed; and no text is two headers.
 pub fn header_from_its_text()
-    ensures back { (h : Header) → IsWord h.field → HasNo colon h.field → AreAscii h.value → IsTrimmed h.value → IsHeader (header_text h) h }
+    ensures back { (h : Header)
+        → IsWord h.field
+        → HasNo colon h.field
+        → AreAscii h.value
+        → IsTrimmed h.value
+        → IsHeader (header_text h) h }
     ensures one { (text : List ℕ) (h k : Header) → IsHeader text h → IsHeader text k → h ≡ k }
 {}
 
 /// The plain readings of a request line and of a header line, which the parsers equal, are the
 /// grammar's (RFC 9112, sections 3 and 5).
 pub fn lines_by_the_grammar()
-    ensures request { (text path : List ℕ) (method : AnyMethod) (version : Version) → (request_line text ≡ Some (method, path, version)) ↔ RequestLine text method path version }
+    ensures request { (text path : List ℕ) (method : AnyMethod) (version : Version)
+        → (request_line text ≡ Some (method, path, version)) ↔ RequestLine text method path version }
     ensures header { (text : List ℕ) (h : Header) → (header_line text ≡ Some h) ↔ HeaderLine text h.field h.value }
 {}
 
 /// A target has one path at most, and one query or none (RFC 9112, section 3.2).
 pub fn one_path_and_query()
-    ensures { (target path other : List ℕ) (query another : Option (List ℕ)) → TargetParts target path query → TargetParts target other another
+    ensures { (target path other : List ℕ) (query another : Option (List ℕ))
+        → TargetParts target path query
+        → TargetParts target other another
         → (path ≡ other) × (query ≡ another) }
 {}

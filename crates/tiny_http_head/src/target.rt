@@ -2,7 +2,8 @@
 ghost use Rattle.std.specs.Prelude.{◌≡◌, IfSome, IfNone};
 ghost use Rattle.std.specs.Option.{option_copied};
 ghost use Rattle.std.specs.List.{list_all};
-ghost use Rattle.tiny_http_head.specs.Target.{is_scheme_byte, is_scheme, HasScheme, HasNoScheme, FrontAndQuery, AuthorityAndPath, TargetParts, IsPath, IsQuery};
+ghost use Rattle.tiny_http_head.specs.Target.{is_scheme_byte, is_scheme, HasScheme, HasNoScheme, FrontAndQuery};
+ghost use Rattle.tiny_http_head.specs.Target.{AuthorityAndPath, TargetParts, IsPath, IsQuery};
 
 use tiny_http_text::text::cut;
 
@@ -67,22 +68,23 @@ fn parts_of(target: &str) -> (&str, Option<&str>)
     (behind_authority(front), query)
 }
 
-/// The path of a request's target, without its query (RFC 9112, section 3.2). It is a part of the target, as it was sent:
-/// percent-encoded, with its fragment if there is one, and with `.` and `..` among its segments.
+/// The path of a request's target, without its query (RFC 9112, section 3.2). It is a part of the target, as it was
+/// sent: percent-encoded, with its fragment if there is one, and with `.` and `..` among its segments.
 ///
 /// - The path of `/a?b` is `/a`.
-/// - In absolute form it stands behind the scheme and the authority: the path of `http://host/a?b` is `/a`. Where it is empty
-///   there, it is `/` (RFC 9110, section 4.2.3).
-/// - `*`, a host with a port, and any other text that begins neither with a slash nor with a scheme and `://`, are wholly path, up
-///   to the first question mark.
+/// - In absolute form it stands behind the scheme and the authority: the path of `http://host/a?b` is `/a`. Where it
+///   is empty there, it is `/` (RFC 9110, section 4.2.3).
+/// - `*`, a host with a port, and any other text that begins neither with a slash nor with a scheme and `://`, are
+///   wholly path, up to the first question mark.
 pub fn path_of(target: &str) -> &str
     ensures { IsPath target.now result.now }
 {
     parts_of(target).0
 }
 
-/// The query of a request's target: what stands behind its first question mark, also where that is nothing (RFC 9112, section 3.2;
-/// RFC 3986, section 3.4). It is as it was sent, with its fragment if there is one. `None` where there is no question mark.
+/// The query of a request's target: what stands behind its first question mark, also where that is nothing (RFC 9112,
+/// section 3.2; RFC 3986, section 3.4). It is as it was sent, with its fragment if there is one. `None` where there
+/// is no question mark.
 pub fn query_of(target: &str) -> Option<&str>
     ensures { IsQuery target.now (option_copied result) }
 {

@@ -18,4 +18,6 @@ budget_kind b = b.kind
 
 -- what it states as a writer
 abbrev pub budget_sink : Budget → Sink
-budget_sink b = record { taken = Some b.bytes.items; sent = b.bytes.items; failures = b.failures; last_kind = b.last; has_ended = false }
+budget_sink b =
+    record
+    { taken = Some b.bytes.items; sent = b.bytes.items; failures = b.failures; last_kind = b.last; has_ended = false }

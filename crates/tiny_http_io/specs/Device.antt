@@ -1,5 +1,6 @@
 -- What a device gives when it is read, and what it reports when it is written.
-use Rattle.std.specs.Prelude.{◌≡◌, ℕ, ◌+◌, ◌-◌, ◌*◌, ◌^◌, ◌<◌, ◌≤◌, min, Bool, true, false, List, [], ◌++◌, length, take, drop, Option, Some, None, Result, Ok, Err, IfOk, IfErr, OnErr, ⊤, ◌⊎◌}
+use Rattle.std.specs.Prelude.{◌≡◌, ℕ, ◌+◌, ◌-◌, ◌*◌, ◌^◌, ◌<◌, ◌≤◌, min, Bool, true, false, List, [], ◌++◌, length}
+use Rattle.std.specs.Prelude.{take, drop, Option, Some, None, Result, Ok, Err, IfOk, IfErr, OnErr, ⊤, ◌⊎◌}
 use Rattle.std.specs.Option.{option_map}
 use Rattle.std.specs.IoError.{error_kind}
 use Rattle.std.specs.declared.io.Error.{Error}
@@ -57,9 +58,9 @@ abbrev pub fault_of : Stop → ErrorKind
 fault_of End = UnexpectedEof
 fault_of (Fault kind) = kind
 
--- ONE READ into a buffer: the bytes that came are the next of the feed and stand in the buffer's front; none of some only
--- after the last byte, at the feed's end; an error comes after the last byte alone, is the feed's fault, and takes nothing.
--- Nothing is said of the bytes where the feed isn't stated.
+-- ONE READ into a buffer: the bytes that came are the next of the feed and stand in the buffer's front; none of some
+-- only after the last byte, at the feed's end; an error comes after the last byte alone, is the feed's fault, and
+-- takes nothing. Nothing is said of the bytes where the feed isn't stated.
 pub record Reads (old new : Option Feed) (r : Result ℕ Error) (buf : List ℕ) : Type 0 where
   pub bound : IfOk r (λ n. n ≤ length buf)
   pub bytes : IfOk r (λ n. old ≡ prepended (take n buf) new)
@@ -72,16 +73,17 @@ pub record Reads (old new : Option Feed) (r : Result ℕ Error) (buf : List ℕ)
 abbrev pub ReadsFrom : Option Feed → Option Feed → Result ℕ Error → List ℕ → Type 0
 ReadsFrom None new r buf = ⊤
 ReadsFrom (Some f) None r buf = ⊥
-ReadsFrom (Some f) (Some g) (Ok n) buf = (f.bytes ≡ take n buf ++ g.bytes) × (g.stop ≡ f.stop) × (n ≡ 0 → 0 < length buf → (f.bytes ≡ []) × (f.stop ≡ End))
+ReadsFrom (Some f) (Some g) (Ok n) buf =
+    (f.bytes ≡ take n buf ++ g.bytes) × (g.stop ≡ f.stop) × (n ≡ 0 → 0 < length buf → (f.bytes ≡ []) × (f.stop ≡ End))
 ReadsFrom (Some f) (Some g) (Err e) buf = (f.bytes ≡ []) × (f.stop ≡ Fault (error_kind e)) × (g ≡ f)
 
 -- these bytes begin those
 abbrev pub IsFront : List ℕ → List ℕ → Type 0
 IsFront front whole = (rest : List ℕ) × (whole ≡ front ++ rest)
 
--- What a writer states: the bytes that it took, if it states them; the front of them that it has sent on, which no failure
--- takes back; how often it failed, and how the last time, if it states them; and whether it has ended: it then answers Ok
--- and takes no more.
+-- What a writer states: the bytes that it took, if it states them; the front of them that it has sent on, which no
+-- failure takes back; how often it failed, and how the last time, if it states them; and whether it has ended: it
+-- then answers Ok and takes no more.
 pub record Sink : Type 0 where
   pub taken : Option (List ℕ)
   pub sent : List ℕ
@@ -181,7 +183,8 @@ CopiedKnown (Some f) (Some g) from to n = Copied f g from to n
 -- a reader stopped before it gave a byte more, or the writer failed within the next `left` bytes
 abbrev pub CopyBreaks : Option Feed → Sink → Sink → ℕ → ErrorKind → Type 0
 CopyBreaks None from to left kind = ⊤
-CopyBreaks (Some f) from to left kind = ((f.bytes ≡ []) × (fault_of f.stop ≡ kind) × Took from to []) ⊎ Failed from to (take left f.bytes) kind
+CopyBreaks (Some f) from to left kind =
+    ((f.bytes ≡ []) × (fault_of f.stop ≡ kind) × Took from to []) ⊎ Failed from to (take left f.bytes) kind
 
 -- a call went on from a reader to a writer, by a byte or more of the next `left`
 abbrev pub CopiesPiece : Option Feed → Option Feed → Sink → Sink → ℕ → Result ℕ Error → Type 0
@@ -193,14 +196,20 @@ CopiesPiece f g from to left (Err e) = CopyBreaks f from to left (error_kind e)
 abbrev pub Fills : Option Feed → Option Feed → Result ℕ Error → List ℕ → Type 0
 Fills None new r buf = ⊤
 Fills (Some f) None r buf = ⊥
-Fills (Some f) (Some g) (Ok n) buf = (n ≤ length f.bytes) × (take n buf ≡ take n f.bytes) × (g.bytes ≡ drop n f.bytes) × (g.stop ≡ f.stop) × (n < length buf → (g.bytes ≡ []) × (f.stop ≡ End))
+Fills (Some f) (Some g) (Ok n) buf =
+    (n ≤ length f.bytes)
+    × (take n buf ≡ take n f.bytes)
+    × (g.bytes ≡ drop n f.bytes)
+    × (g.stop ≡ f.stop)
+    × (n < length buf → (g.bytes ≡ []) × (f.stop ≡ End))
 Fills (Some f) (Some g) (Err e) buf = (length f.bytes < length buf) × (f.stop ≡ Fault (error_kind e))
 
 -- the first n bytes of a buffer came from the feed
 abbrev pub FilledTo : Option Feed → Option Feed → ℕ → List ℕ → Type 0
 FilledTo None new n buf = ⊤
 FilledTo (Some f) None n buf = ⊥
-FilledTo (Some f) (Some g) n buf = (n ≤ length f.bytes) × (take n buf ≡ take n f.bytes) × (g.bytes ≡ drop n f.bytes) × (g.stop ≡ f.stop)
+FilledTo (Some f) (Some g) n buf =
+    (n ≤ length f.bytes) × (take n buf ≡ take n f.bytes) × (g.bytes ≡ drop n f.bytes) × (g.stop ≡ f.stop)
 
 -- a call read all bytes of a feed that ends; else it reported the fault, or found no memory
 abbrev pub Gathers : {T : Type 0} → (T → List ℕ) → Feed → Result T Error → Type 0
@@ -211,4 +220,8 @@ Gathers items f (Err e) = (f.stop ≡ Fault (error_kind e)) ⊎ (error_kind e �
 abbrev pub GatheredTo : Option Feed → Option Feed → List ℕ → ℕ → Type 0
 GatheredTo None new all count = ⊤
 GatheredTo (Some f) None all count = ⊥
-GatheredTo (Some f) (Some g) all count = (count * 8192 ≤ length f.bytes) × (all ≡ take (count * 8192) f.bytes) × (g.bytes ≡ drop (count * 8192) f.bytes) × (g.stop ≡ f.stop)
+GatheredTo (Some f) (Some g) all count =
+    (count * 8192 ≤ length f.bytes)
+    × (all ≡ take (count * 8192) f.bytes)
+    × (g.bytes ≡ drop (count * 8192) f.bytes)
+    × (g.stop ≡ f.stop)

@@ -18,13 +18,15 @@ equal_left r = r.left
 abbrev pub equal_feed : {R : Type 0} → (R → Option Feed) → EqualReader R → Option Feed
 equal_feed feed r = option_map (feed_front r.left) (feed r.inner)
 
--- ONE READ. Of what it still gives it is a read; what stands after the part stays the same. And whatever the reader inside
--- states: into an empty buffer, and where no byte is left, it answers 0 and changes nothing; the bytes that came are taken off
--- those that are left, and a fault takes none off.
-pub record ReadsPart {R : Type 0} (feed : R → Option Feed) (old new : EqualReader R) (r : Result ℕ Error) (buf : List ℕ) : Type 0 where
+-- ONE READ. Of what it still gives it is a read; what stands after the part stays the same. And whatever the reader
+-- inside states: into an empty buffer, and where no byte is left, it answers 0 and changes nothing; the bytes that
+-- came are taken off those that are left, and a fault takes none off.
+pub record ReadsPart {R : Type 0} (feed : R → Option Feed) (old new : EqualReader R) (r : Result ℕ Error)
+    (buf : List ℕ) : Type 0 where
   pub reads : Reads (equal_feed feed old) (equal_feed feed new) r buf
   pub empty : length buf ≡ 0 → (r ≡ Ok 0) × (new ≡ old)
   pub past : equal_left old ≡ 0 → (r ≡ Ok 0) × (new ≡ old)
   pub count : IfOk r (λ n. equal_left old ≡ n + equal_left new)
   pub fault_takes_none : OnErr r (equal_left new ≡ equal_left old)
-  pub behind : option_map (feed_behind (equal_left new)) (feed (equal_inner new)) ≡ option_map (feed_behind (equal_left old)) (feed (equal_inner old))
+  pub behind : option_map (feed_behind (equal_left new)) (feed (equal_inner new))
+      ≡ option_map (feed_behind (equal_left old)) (feed (equal_inner old))

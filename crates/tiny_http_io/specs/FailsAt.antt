@@ -23,7 +23,8 @@ has_failed f = f.has_failed
 
 -- a call was counted, and is not the one that fails
 abbrev pub IsCounted : {S : Type 0} → FailsAt S → FailsAt S → Type 0
-IsCounted old new = (calls_left new ≡ calls_left old - 1) × (fault_kind new ≡ fault_kind old) × (has_failed new ≡ has_failed old)
+IsCounted old new =
+    (calls_left new ≡ calls_left old - 1) × (fault_kind new ≡ fault_kind old) × (has_failed new ≡ has_failed old)
 
 -- the call failed by the kind that was said, and nothing came to the stream inside
 abbrev pub FailsNow : {S T : Type 0} → FailsAt S → FailsAt S → Result T Error → Type 0

@@ -11,7 +11,8 @@ stop_where false stop = End
 
 -- the first bytes, so many of them, or those that there are
 unfoldable pub feed_front : ℕ → Feed → Feed
-feed_front size feed = record { bytes = take size feed.bytes; stop = stop_where (nat_lt (length feed.bytes) size) feed.stop }
+feed_front size feed =
+    record { bytes = take size feed.bytes; stop = stop_where (nat_lt (length feed.bytes) size) feed.stop }
 
 -- and what stands after them
 unfoldable pub feed_behind : ℕ → Feed → Feed

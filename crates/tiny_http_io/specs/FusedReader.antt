@@ -1,5 +1,6 @@
 -- What clauses read of a `FusedReader`.
-use Rattle.std.specs.Prelude.{◌≡◌, ℕ, ◌<◌, List, length, Bool, true, false, [], Option, Some, None, Result, Ok, IfOk, OnErr, IsSome}
+use Rattle.std.specs.Prelude.{◌≡◌, ℕ, ◌<◌, List, length, Bool, true, false, [], Option, Some, None, Result, Ok, IfOk}
+use Rattle.std.specs.Prelude.{OnErr, IsSome}
 use Rattle.std.specs.declared.io.Error.{Error}
 use Rattle.std.specs.Option.{option_map}
 use Rattle.tiny_http_io.specs.Device.{Feed, whole_feed, Reads}
@@ -23,7 +24,8 @@ fused_feed feed r = feed_unless r.over (feed r.inner)
 
 -- ONE READ. Of what it still gives it is a read; and whatever the reader inside states: into an empty buffer it changes
 -- nothing; a byte or a fault is no end; and the reader isn't called again after its end.
-pub record ReadsFused {R : Type 0} (feed : R → Option Feed) (old new : FusedReader R) (r : Result ℕ Error) (buf : List ℕ) : Type 0 where
+pub record ReadsFused {R : Type 0} (feed : R → Option Feed) (old new : FusedReader R) (r : Result ℕ Error)
+    (buf : List ℕ) : Type 0 where
   pub reads : Reads (fused_feed feed old) (fused_feed feed new) r buf
   pub empty : length buf ≡ 0 → (r ≡ Ok 0) × (new ≡ old)
   pub over : IfOk r (λ n. n ≡ 0 → 0 < length buf → fused_inner new ≡ None)

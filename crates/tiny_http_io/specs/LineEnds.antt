@@ -1,5 +1,6 @@
 -- How far a line has been read.
-use Rattle.std.specs.Prelude.{◌≡◌, ℕ, ◌+◌, ◌≤◌, ◌<◌, ⊤, Option, None, Some, Bool, true, false, List, [], ◌∷◌, ◌++◌, length, take}
+use Rattle.std.specs.Prelude.{◌≡◌, ℕ, ◌+◌, ◌≤◌, ◌<◌, ⊤, Option, None, Some, Bool, true, false, List, [], ◌∷◌, ◌++◌}
+use Rattle.std.specs.Prelude.{length, take}
 use Rattle.tiny_http_text.specs.Lines.{has_crlf}
 use Rattle.tiny_http_io.specs.declared.source.LineFault.{LineFault}
 use Rattle.tiny_http_io.specs.declared.source.LineFault.TheVariants.{TooLong}

@@ -6,7 +6,14 @@ use Rattle.tiny_http_io.specs.Device.{Sink, IsFront, grown, Failed, HoldsNothing
 
 -- what a writer took and what is held back, as one sink
 abbrev pub holding : Sink → List ℕ → Bool → Sink
-holding s held ended = record { taken = grown s.has_ended s.taken held; sent = s.sent; failures = s.failures; last_kind = s.last_kind; has_ended = ended || s.has_ended }
+holding s held ended =
+    record {
+      taken = grown s.has_ended s.taken held;
+      sent = s.sent;
+      failures = s.failures;
+      last_kind = s.last_kind;
+      has_ended = ended || s.has_ended;
+    }
 
 -- What a clause sees of an `Outlet`: what is held back, whether it takes nothing more, the writer inside, and what that
 -- reports.
@@ -38,5 +45,9 @@ SentOn o = (output_of o).has_ended ≡ false → HoldsNothing o.sink
 
 -- what was held was sent; or the writer failed in it
 abbrev pub EndsOutlet : {T : Type 0} → Sink → Sink → Result T Error → Type 0
-EndsOutlet old new (Ok x) = (new.taken ≡ old.taken) × IsFront old.sent new.sent × (new.failures ≡ old.failures) × (new.last_kind ≡ old.last_kind)
+EndsOutlet old new (Ok x) =
+    (new.taken ≡ old.taken)
+    × IsFront old.sent new.sent
+    × (new.failures ≡ old.failures)
+    × (new.last_kind ≡ old.last_kind)
 EndsOutlet old new (Err e) = Failed old new [] (error_kind e)

@@ -16,7 +16,8 @@ behind_held (Some stop) feed = option_map (λ _. stopped stop) feed
 
 -- the feed without its first n bytes; one that is cut short ends
 abbrev pub skipped : ℕ → Feed → Feed
-skipped n feed = if nat_le n (length feed.bytes) then record { bytes = drop n feed.bytes; stop = feed.stop } else stopped End
+skipped n feed =
+    if nat_le n (length feed.bytes) then record { bytes = drop n feed.bytes; stop = feed.stop } else stopped End
 
 -- what is still to come, after n bytes are skipped of those that are held and those after them
 abbrev pub to_come : ℕ → List ℕ → Option Feed → Option Feed

@@ -1,5 +1,6 @@
 //! A queue of bytes in a fixed room.
-ghost use Rattle.std.specs.Prelude.{◌≡◌, ℕ, ◌+◌, ◌-◌, ◌≤◌, ◌==◌, min, List, [], ◌∷◌, ◌++◌, length, take, drop, Ok, IfOk, IfErr, OnOk, OnErr, IfSome, IfNone};
+ghost use Rattle.std.specs.Prelude.{◌≡◌, ℕ, ◌+◌, ◌-◌, ◌≤◌, ◌==◌, min, List, [], ◌∷◌, ◌++◌, length, take, drop, Ok};
+ghost use Rattle.std.specs.Prelude.{IfOk, IfErr, OnOk, OnErr, IfSome, IfNone};
 ghost use Rattle.std.specs.IoError.{error_kind};
 ghost use Rattle.tiny_http_io.specs.Device.{prepended, StopsBy};
 ghost use Rattle.tiny_http_io.specs.declared.device.Stop.TheVariants.{End, Fault};

@@ -88,7 +88,8 @@ impl<R: ReadDevice, W> Read for CustomStream<R, W> {
     /// Reads from the reader, as `read_in`.
     fn read(&mut self, buf: &mut [u8]) -> io::Result<usize>
         ensures bound { ReadsAtMost result buf.new }
-        ensures bytes { ReadConsumes (bytes_of (R.feed (custom_reader self.old))) (bytes_of (R.feed (custom_reader self.new))) result buf.new }
+        ensures bytes { ReadConsumes (bytes_of (R.feed (custom_reader self.old)))
+            (bytes_of (R.feed (custom_reader self.new))) result buf.new }
         ensures reads { Reads (R.feed (custom_reader self.old)) (R.feed (custom_reader self.new)) result buf.new }
         ensures empty { length buf.new ≡ 0 → (result ≡ Ok 0) × (self.new ≡ self.old) }
         ensures writer { custom_writer self.new ≡ custom_writer self.old }
@@ -97,8 +98,8 @@ impl<R: ReadDevice, W> Read for CustomStream<R, W> {
     }
 }
 
-// A writer may take some bytes and then fail, or answer `Ok` after its end and take none. The trait's words for known bytes
-// allow neither. So its `contents` are left unstated, and each clause says what the writer itself states.
+// A writer may take some bytes and then fail, or answer `Ok` after its end and take none. The trait's words for known
+// bytes allow neither. So its `contents` are left unstated, and each clause says what the writer itself states.
 impl<R, W: WriteDevice> Write for CustomStream<R, W> {
     ghost use Rattle.std.specs.Io.{WritesAtMost};
 
@@ -120,8 +121,8 @@ impl<R, W: WriteDevice> Write for CustomStream<R, W> {
         self.flush_out()
     }
 
-    /// Writes all the bytes. It stops at the first fault and reports it, also one of kind `Interrupted`: a writer may have
-    /// ended by that, and a second try would then answer `Ok`.
+    /// Writes all the bytes. It stops at the first fault and reports it, also one of kind `Interrupted`: a writer may
+    /// have ended by that, and a second try would then answer `Ok`.
     fn write_all(&mut self, buf: &[u8]) -> io::Result<()>
         ensures puts { Puts (W.sink (custom_writer self.old)) (W.sink (custom_writer self.new)) result buf.now }
         ensures reader { custom_reader self.new ≡ custom_reader self.old }

@@ -1,8 +1,10 @@
 //! What is read and what is written: readers that may state what they give, and writers that count their failures.
-ghost use Rattle.std.specs.Prelude.{◌≡◌, ◌<◌, ◌≤◌, min, false, [], length, take, drop, Option, None, Some, Ok, IfOk, IfErr, OnOk, OnErr, vec_len, flat_map};
+ghost use Rattle.std.specs.Prelude.{◌≡◌, ◌<◌, ◌≤◌, min, false, [], length, take, drop, Option, None, Some, Ok, IfOk};
+ghost use Rattle.std.specs.Prelude.{IfErr, OnOk, OnErr, vec_len, flat_map};
 ghost use Rattle.std.specs.IoError.{error_kind};
 ghost use Rattle.tiny_http_io.specs.Cursor.{cursor_bytes};
-ghost use Rattle.tiny_http_io.specs.Device.{Feed, whole_feed, prepended, StopsBy, stop_of, next_count, Sink, BeginsKnown, HoldsNothing, Reads, ReadsFrom, Puts, PutsFront};
+ghost use Rattle.tiny_http_io.specs.Device.{Feed, whole_feed, prepended, StopsBy, stop_of, next_count, Sink};
+ghost use Rattle.tiny_http_io.specs.Device.{BeginsKnown, HoldsNothing, Reads, ReadsFrom, Puts, PutsFront};
 
 use std::alloc::Global;
 use std::io;
@@ -32,7 +34,8 @@ pub trait ReadDevice {
 
 /// A writer that counts its failures, and may state the bytes that it took and how it failed last.
 pub trait WriteDevice {
-    /// The bytes that it took, if it states them, and those that it has sent on; its failures; and whether it has ended.
+    /// The bytes that it took, if it states them, and those that it has sent on; its failures; and whether it has
+    /// ended.
     ghost sink: { Self → Sink };
 
     /// How often it has failed to write or to flush, up to 2^64 - 1.
@@ -52,15 +55,15 @@ pub trait WriteDevice {
         ensures puts { Puts (sink self.old) (sink self.new) result [] }
         ensures sent { OnOk result ((sink self.new).has_ended ≡ false → HoldsNothing (sink self.new)) };
 
-    /// Says that no byte follows (RFC 9112, section 9.6): the caller writes nothing more. What the writer states stays the same. A
-    /// writer that can't say so does nothing, as this body. That the others say it is tested.
+    /// Says that no byte follows (RFC 9112, section 9.6): the caller writes nothing more. What the writer states
+    /// stays the same. A writer that can't say so does nothing, as this body. That the others say it is tested.
     fn end_out(&mut self)
         ensures { sink self.new ≡ sink self.old }
     {}
 }
 
-/// Copies bytes from the front of `from` to that of `to`, as many as both have, and says how many. What stands behind them in
-/// `to` stays.
+/// Copies bytes from the front of `from` to that of `to`, as many as both have, and says how many. What stands behind
+/// them in `to` stays.
 pub fn copy_front(from: &[u8], to: &mut [u8]) -> usize
     ensures count { result ≡ min (length from.now) (length to.old) }
     ensures len { length to.new ≡ length to.old }
@@ -153,7 +156,8 @@ impl<S> Metered<S> {
     /// A stream that has not failed.
     pub fn new(inner: S) -> Metered<S>
         ensures inner { metered_inner result ≡ inner }
-        ensures sink { metered_sink result ≡ record { taken = None; sent = []; failures = 0; last_kind = None; has_ended = false } }
+        ensures sink { metered_sink result
+            ≡ record { taken = None; sent = []; failures = 0; last_kind = None; has_ended = false } }
     {
         Metered {
             inner,
@@ -187,7 +191,8 @@ impl<S: Read> ReadDevice for Metered<S> {
         ensures reads { Reads None None result buf.new }
         ensures empty { length buf.new ≡ 0 → (result ≡ Ok 0) × (self.new ≡ self.old) }
         // What came is the stream's, if it states what it still gives.
-        ensures stream { ReadConsumes (S.remaining (metered_inner self.old)) (S.remaining (metered_inner self.new)) result buf.new }
+        ensures stream { ReadConsumes (S.remaining (metered_inner self.old)) (S.remaining (metered_inner self.new))
+            result buf.new }
     {
         if buf.is_empty() {
             return Ok(0);
@@ -211,7 +216,8 @@ impl<S: Write> WriteDevice for Metered<S> {
     fn write_out(&mut self, buf: &[u8]) -> Result<usize, io::Error>
         ensures puts { PutsFront (metered_sink self.old) (metered_sink self.new) result buf.now }
         // The stream took what was taken, and nothing at a fault, if it states its bytes.
-        ensures stream { WriteAppends (S.contents (metered_inner self.old)) (S.contents (metered_inner self.new)) result buf.now }
+        ensures stream { WriteAppends (S.contents (metered_inner self.old)) (S.contents (metered_inner self.new))
+            result buf.now }
     {
         let outcome = match self.inner.write(buf) {
             Ok(0) if !buf.is_empty() => Err(ErrorKind::WriteZero.into()),
@@ -262,7 +268,8 @@ impl Budget {
     /// Takes `room` bytes, and then fails with this kind; with `OutOfMemory` where there is no
     /// memory for the bytes.
     pub fn new(alloc: Global, room: usize, kind: ErrorKind) -> Budget
-        ensures sink { budget_sink result ≡ record { taken = Some []; sent = []; failures = 0; last_kind = None; has_ended = false } }
+        ensures sink { budget_sink result
+            ≡ record { taken = Some []; sent = []; failures = 0; last_kind = None; has_ended = false } }
         ensures room { budget_room result ≡ room }
         ensures kind { budget_kind result ≡ kind }
     {
@@ -271,7 +278,8 @@ impl Budget {
 
     /// The same, with these bytes as the first that it took.
     pub fn from_vec(bytes: Vec<u8>, room: usize, kind: ErrorKind) -> Budget
-        ensures sink { budget_sink result ≡ record { taken = Some bytes.items; sent = bytes.items; failures = 0; last_kind = None; has_ended = false } }
+        ensures sink { budget_sink result ≡ record
+            { taken = Some bytes.items; sent = bytes.items; failures = 0; last_kind = None; has_ended = false } }
         ensures room { budget_room result ≡ room }
         ensures kind { budget_kind result ≡ kind }
     {
@@ -321,8 +329,8 @@ impl WriteDevice for Budget {
         self.failures
     }
 
-    /// Takes as many bytes as there is room for. It fails where there is room for none, or where memory was refused, and
-    /// then takes none.
+    /// Takes as many bytes as there is room for. It fails where there is room for none, or where memory was refused,
+    /// and then takes none.
     fn write_out(&mut self, buf: &[u8]) -> Result<usize, io::Error>
         ensures puts { PutsFront (budget_sink self.old) (budget_sink self.new) result buf.now }
         ensures count { IfOk result (λ n. n ≡ min (length buf.now) (budget_room self.old)) }
@@ -330,7 +338,8 @@ impl WriteDevice for Budget {
         ensures empty { length buf.now ≡ 0 → (result ≡ Ok 0) × (self.new ≡ self.old) }
         ensures full { budget_room self.old ≡ 0 → IfErr result (λ e. error_kind e ≡ budget_kind self.old) }
         ensures memory { 0 < budget_room self.old → IfErr result (λ e. error_kind e ≡ ErrorKind.OutOfMemory) }
-        ensures none { OnErr result ((budget_bytes self.new ≡ budget_bytes self.old) × (budget_room self.new ≡ budget_room self.old)) }
+        ensures none { OnErr result ((budget_bytes self.new ≡ budget_bytes self.old)
+            × (budget_room self.new ≡ budget_room self.old)) }
         ensures kind { budget_kind self.new ≡ budget_kind self.old }
     {
         let n = buf.len().min(self.room);
@@ -456,8 +465,8 @@ impl<R: ReadDevice> ReadDevice for ByPieces<R> {
     }
 }
 
-/// A reader or a writer of which one call fails, once: that call doesn't reach the stream inside, and every other does. It is a
-/// `ReadDevice` over one, and std's `Write` over one. It is for tests of what reads and writes.
+/// A reader or a writer of which one call fails, once: that call doesn't reach the stream inside, and every other
+/// does. It is a `ReadDevice` over one, and std's `Write` over one. It is for tests of what reads and writes.
 #[derive(Drop)]
 pub struct FailsAt<S> {
     inner: S,
@@ -470,8 +479,8 @@ pub struct FailsAt<S> {
 impl<S> FailsAt<S> {
     ghost use Rattle.tiny_http_io.specs.FailsAt.{fails_at_inner, calls_left, fault_kind, has_failed, Counts};
 
-    /// The `nth` call, counted from 1, fails by this kind. For 0 none fails. Reads, writes and flushes count alike. A read into
-    /// an empty buffer doesn't count.
+    /// The `nth` call, counted from 1, fails by this kind. For 0 none fails. Reads, writes and flushes count alike. A
+    /// read into an empty buffer doesn't count.
     pub fn new(inner: S, nth: u64, kind: ErrorKind) -> FailsAt<S>
         ensures inner { fails_at_inner result ≡ inner }
         ensures calls { calls_left result ≡ nth }
@@ -525,7 +534,8 @@ impl<S: ReadDevice> ReadDevice for FailsAt<S> {
         ensures fails { 0 < length buf.new → calls_left self.old ≡ 1 → FailsNow self.old self.new result }
         ensures counts { 0 < length buf.new → calls_left self.old ≢ 1 → IsCounted self.old self.new }
         // What came is the reader's, if it states what it still gives.
-        ensures stream { calls_left self.old ≢ 1 → ReadsFrom (S.feed (fails_at_inner self.old)) (S.feed (fails_at_inner self.new)) result buf.new }
+        ensures stream { calls_left self.old ≢ 1
+            → ReadsFrom (S.feed (fails_at_inner self.old)) (S.feed (fails_at_inner self.new)) result buf.new }
     {
         if buf.is_empty() {
             return Ok(0);
@@ -546,7 +556,8 @@ impl<S: Write> Write for FailsAt<S> {
     /// Writes once to the stream, or fails.
     fn write(&mut self, buf: &[u8]) -> io::Result<usize>
         ensures bound { WritesAtMost result buf.now }
-        ensures bytes { WriteAppends (S.contents (fails_at_inner self.old)) (S.contents (fails_at_inner self.new)) result buf.now }
+        ensures bytes { WriteAppends (S.contents (fails_at_inner self.old)) (S.contents (fails_at_inner self.new))
+            result buf.now }
         ensures fails { calls_left self.old ≡ 1 → FailsNow self.old self.new result }
         ensures counts { calls_left self.old ≢ 1 → IsCounted self.old self.new }
     {
@@ -554,7 +565,8 @@ impl<S: Write> Write for FailsAt<S> {
         self.inner.write(buf)
     }
 
-    /// Flushes the stream, or fails. No contract says that it is flushed, as std's words for a flush say only that the bytes stay.
+    /// Flushes the stream, or fails. No contract says that it is flushed, as std's words for a flush say only that
+    /// the bytes stay.
     fn flush(&mut self) -> io::Result<()>
         ensures bytes { Keeps (S.contents (fails_at_inner self.old)) (S.contents (fails_at_inner self.new)) }
         ensures fails { calls_left self.old ≡ 1 → FailsNow self.old self.new result }

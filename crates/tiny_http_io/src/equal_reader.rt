@@ -49,8 +49,8 @@ impl<R: ReadDevice + Drop> EqualReader<R> {
         }
     }
 
-    /// Reads the rest of the bytes away, and hands the reader back: it stands after them, or has stopped before. Faults met
-    /// here are not reported.
+    /// Reads the rest of the bytes away, and hands the reader back: it stands after them, or has stopped before.
+    /// Faults met here are not reported.
     pub fn finish(self) -> R
         ensures { R.feed result ≡ option_map (feed_behind (equal_left self)) (R.feed (equal_inner self)) }
     {
@@ -62,7 +62,8 @@ impl<R: ReadDevice + Drop> EqualReader<R> {
     // Reads some of the bytes that are left, straight into `buf`.
     fn read_part(&mut self, buf: &mut [u8]) -> Result<usize, io::Error>
         ensures bound { IfOk result (λ n. n ≤ length buf.new) }
-        ensures bytes { IfOk result (λ n. equal_feed R.feed self.old ≡ prepended (take n buf.new) (equal_feed R.feed self.new)) }
+        ensures bytes { IfOk result
+            (λ n. equal_feed R.feed self.old ≡ prepended (take n buf.new) (equal_feed R.feed self.new)) }
         ensures end { IfOk result (λ n. n ≡ 0 → 0 < length buf.new → StopsBy Stop.End (equal_feed R.feed self.old)) }
         ensures fault { IfErr result (λ e. StopsBy (Stop.Fault (error_kind e)) (equal_feed R.feed self.old)) }
         ensures again { OnErr result (equal_feed R.feed self.new ≡ equal_feed R.feed self.old) }
@@ -71,7 +72,8 @@ impl<R: ReadDevice + Drop> EqualReader<R> {
         ensures count { IfOk result (λ n. equal_left self.old ≡ n + equal_left self.new) }
         ensures fault_takes_none { OnErr result (equal_left self.new ≡ equal_left self.old) }
         // What is read away, now or later, stays the same.
-        ensures behind { option_map (feed_behind (equal_left self.new)) (R.feed (equal_inner self.new)) ≡ option_map (feed_behind (equal_left self.old)) (R.feed (equal_inner self.old)) }
+        ensures behind { option_map (feed_behind (equal_left self.new)) (R.feed (equal_inner self.new))
+            ≡ option_map (feed_behind (equal_left self.old)) (R.feed (equal_inner self.old)) }
     {
         if self.left == 0 {
             return Ok(0);
@@ -117,7 +119,8 @@ impl<R: ReadDevice + Drop> Read for EqualReader<R> {
     /// Reads some of the bytes that are left.
     fn read(&mut self, buf: &mut [u8]) -> io::Result<usize>
         ensures bound { ReadsAtMost result buf.new }
-        ensures bytes { ReadConsumes (bytes_of (equal_feed R.feed self.old)) (bytes_of (equal_feed R.feed self.new)) result buf.new }
+        ensures bytes { ReadConsumes (bytes_of (equal_feed R.feed self.old)) (bytes_of (equal_feed R.feed self.new))
+            result buf.new }
         ensures reads { ReadsPart R.feed self.old self.new result buf.new }
     {
         self.read_in(buf)

@@ -74,7 +74,8 @@ impl<R: ReadDevice> Read for FusedReader<R> {
     /// Reads some bytes. A read into an empty buffer is no end.
     fn read(&mut self, buf: &mut [u8]) -> io::Result<usize>
         ensures bound { ReadsAtMost result buf.new }
-        ensures bytes { ReadConsumes (bytes_of (fused_feed R.feed self.old)) (bytes_of (fused_feed R.feed self.new)) result buf.new }
+        ensures bytes { ReadConsumes (bytes_of (fused_feed R.feed self.old)) (bytes_of (fused_feed R.feed self.new))
+            result buf.new }
         ensures reads { ReadsFused R.feed self.old self.new result buf.new }
     {
         self.read_in(buf)

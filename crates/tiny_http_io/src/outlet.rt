@@ -26,7 +26,8 @@ impl<W: WriteDevice> Model for Outlet<W> {
 }
 
 impl<W: WriteDevice> Outlet<W> {
-    ghost use Rattle.tiny_http_io.specs.Outlet.{output_of, outlet_held, outlet_ended, outlet_writer, SentOn, EndsOutlet};
+    ghost use Rattle.tiny_http_io.specs.Outlet.{output_of, outlet_held, outlet_ended, outlet_writer, SentOn};
+    ghost use Rattle.tiny_http_io.specs.Outlet.{EndsOutlet};
 
     /// An outlet over this writer. What it promises is for a writer that has not ended by itself.
     pub fn new(inner: W) -> Outlet<W>
@@ -186,7 +187,8 @@ impl<W: WriteDevice> Outlet<W> {
         ensures ends { EndsOutlet (output_of self.old) (output_of self.new) result }
         ensures held { outlet_held self.new ≡ [] }
         // The writer is flushed.
-        ensures sent { outlet_ended self.old ≡ false → OnOk result (self.new.sink.has_ended ≡ false → HoldsNothing self.new.sink) }
+        ensures sent { outlet_ended self.old ≡ false
+            → OnOk result (self.new.sink.has_ended ≡ false → HoldsNothing self.new.sink) }
         ensures ended { outlet_ended self.new ≡ true }
     {
         let sent = self.flush();
@@ -252,14 +254,15 @@ impl<W: WriteDevice> WriteDevice for Outlet<W> {
     }
 }
 
-// The inherent methods `write` and `flush` are found before these. `contents` is left unstated, as an outlet takes bytes and
-// drops them after its end, and a fault may lose what was held: each clause says what the outlet itself states.
+// The inherent methods `write` and `flush` are found before these. `contents` is left unstated, as an outlet takes
+// bytes and drops them after its end, and a fault may lose what was held: each clause says what the outlet itself
+// states.
 impl<W: WriteDevice> Write for Outlet<W> {
     ghost use Rattle.std.specs.Io.{WritesAtMost};
     ghost use Rattle.tiny_http_io.specs.Outlet.{output_of, outlet_held, outlet_ended, SentOn};
 
-    /// Takes some of the bytes, at least one if there is one, and says how many. After the outlet has ended it takes none
-    /// and reports their whole count.
+    /// Takes some of the bytes, at least one if there is one, and says how many. After the outlet has ended it takes
+    /// none and reports their whole count.
     fn write(&mut self, buf: &[u8]) -> io::Result<usize>
         ensures bound { WritesAtMost result buf.now }
         ensures puts { PutsFront (output_of self.old) (output_of self.new) result buf.now }

@@ -1,5 +1,7 @@
 //! A connection's input, seen as what is still to come of it: lines and bytes through a buffer.
-ghost use Rattle.std.specs.Prelude.{◌≡◌, ◌≢◌, ℕ, true, false, vec_len, ◌*◌, ◌+◌, ◌-◌, ◌^◌, ◌<◌, ◌≤◌, ◌⊎◌, min, List, [], ◌∷◌, ◌++◌, length, take, drop, Option, None, Some, Ok, Err, IfOk, IfErr, OnOk, OnErr, IsSome, IfSome, IfNone, IsTrue};
+ghost use Rattle.std.specs.Prelude.{◌≡◌, ◌≢◌, ℕ, true, false, vec_len, ◌*◌, ◌+◌, ◌-◌, ◌^◌, ◌<◌, ◌≤◌, ◌⊎◌, min, List};
+ghost use Rattle.std.specs.Prelude.{[], ◌∷◌, ◌++◌, length, take, drop, Option, None, Some, Ok, Err, IfOk, IfErr};
+ghost use Rattle.std.specs.Prelude.{OnOk, OnErr, IsSome, IfSome, IfNone, IsTrue};
 ghost use Rattle.std.specs.Option.{option_map};
 ghost use Rattle.std.specs.IoError.{error_kind};
 ghost use Rattle.tiny_http_io.specs.Device.{AnswersStop, prepended, StopsBy};
@@ -24,7 +26,8 @@ pub enum LineFault {
     End,
     /// The line has a byte from 128 on. The source goes on after it.
     NotAscii,
-    /// No line has ended in the next bytes, as many as were allowed, all of which came. The source answers `End` from then on.
+    /// No line has ended in the next bytes, as many as were allowed, all of which came. The source answers `End` from
+    /// then on.
     TooLong,
     /// The reader timed out before a CR LF.
     TimedOut,
@@ -92,10 +95,10 @@ impl Standing {
     }
 }
 
-/// A reader with a buffer of 1024 bytes, a number of bytes to skip, and where it stands among heads and bodies. After its
-/// first end or fault the reader isn't called again. It is called only where the buffer is empty and a byte is wanted: nothing
-/// is read ahead but what one call of the reader gives. (The clauses `lazy` say that no end or fault of the reader was met in
-/// a call that gave what was asked for.)
+/// A reader with a buffer of 1024 bytes, a number of bytes to skip, and where it stands among heads and bodies. After
+/// its first end or fault the reader isn't called again. It is called only where the buffer is empty and a byte is
+/// wanted: nothing is read ahead but what one call of the reader gives. (The clauses `lazy` say that no end or fault
+/// of the reader was met in a call that gave what was asked for.)
 #[derive(Drop)]
 pub struct Source<R: ReadDevice> {
     input: Input<R>,
@@ -107,13 +110,23 @@ impl<R: ReadDevice> Model for Source<R> {
 
     ghost Value = { SourceState R };
 
-    ghost use Rattle.tiny_http_io.specs.Input.{input_feed, input_stop, input_reader, input_held, input_skip, is_input_over};
+    ghost use Rattle.tiny_http_io.specs.Input.{input_feed, input_stop, input_reader, input_held, input_skip};
+    ghost use Rattle.tiny_http_io.specs.Input.{is_input_over};
 
-    ghost view = { λ s. record { feed = input_feed R.feed s.input; stop = input_stop s.input; is_over = is_input_over s.input; reader = input_reader s.input; held = input_held s.input; skip = input_skip s.input; standing = s.standing } };
+    ghost view = { λ s. record {
+      feed = input_feed R.feed s.input;
+      stop = input_stop s.input;
+      is_over = is_input_over s.input;
+      reader = input_reader s.input;
+      held = input_held s.input;
+      skip = input_skip s.input;
+      standing = s.standing;
+    } };
 }
 
 impl<R: ReadDevice> Source<R> {
-    ghost use Rattle.tiny_http_io.specs.Source.{ReadsLine, ReadsSource, LooksForByte, SkipsBytes, EndsHere, ReadsOneLine, FindsOneLine, PassesLine, TakesHeld, TakesBytes};
+    ghost use Rattle.tiny_http_io.specs.Source.{ReadsLine, ReadsSource, LooksForByte, SkipsBytes, EndsHere};
+    ghost use Rattle.tiny_http_io.specs.Source.{ReadsOneLine, FindsOneLine, PassesLine, TakesHeld, TakesBytes};
 
     /// A source over this reader. A head comes first.
     pub fn new(inner: R) -> Source<R>
@@ -165,8 +178,8 @@ impl<R: ReadDevice> Source<R> {
         self.input.into_inner()
     }
 
-    /// Skips n bytes more, before the next line or read. Where fewer are left the input ends. The reader isn't called, but
-    /// where 2^64 bytes and more are to be skipped together.
+    /// Skips n bytes more, before the next line or read. Where fewer are left the input ends. The reader isn't
+    /// called, but where 2^64 bytes and more are to be skipped together.
     pub fn skip(&mut self, n: usize)
         ensures { SkipsBytes n self.old self.new }
     {
@@ -188,17 +201,17 @@ impl<R: ReadDevice> Source<R> {
         self.input.read_line(alloc, None)
     }
 
-    /// Reads the first line, if it has ended within `left` bytes, its CR LF included. Else it is `TooLong` as soon as so many
-    /// bytes came, and the source ends. It holds no more of them. The other faults are those of `read_line`.
+    /// Reads the first line, if it has ended within `left` bytes, its CR LF included. Else it is `TooLong` as soon as
+    /// so many bytes came, and the source ends. It holds no more of them. The other faults are those of `read_line`.
     pub fn read_line_within(&mut self, alloc: Global, left: usize) -> Result<AsciiString, LineFault>
         ensures { ReadsOneLine (Some left) self.old self.new result }
     {
         self.input.read_line(alloc, Some(left))
     }
 
-    /// Finds the first line, whatever bytes it has, within `left` bytes where that is given; for the crates above. A line that
-    /// lies whole in the buffer stays there, to be parsed in its place, and takes no memory. Any other line is taken off. The
-    /// faults are those of `read_line_within`, but `NotAscii`.
+    /// Finds the first line, whatever bytes it has, within `left` bytes where that is given; for the crates above. A
+    /// line that lies whole in the buffer stays there, to be parsed in its place, and takes no memory. Any other line
+    /// is taken off. The faults are those of `read_line_within`, but `NotAscii`.
     pub fn find_line(&mut self, alloc: Global, left: Option<usize>) -> Result<FirstLine, LineFault>
         ensures { FindsOneLine left self.old self.new result }
     {
@@ -212,8 +225,8 @@ impl<R: ReadDevice> Source<R> {
         self.input.held()
     }
 
-    /// Takes a line off that `find_line` found in the buffer: n bytes, and the CR LF after them; for the crates above. The
-    /// reader isn't called.
+    /// Takes a line off that `find_line` found in the buffer: n bytes, and the CR LF after them; for the crates
+    /// above. The reader isn't called.
     pub fn pass_line(&mut self, n: usize)
         requires skip { self.old.skip ≡ 0 }
         requires line { EndsLine self.old.held n }
@@ -231,16 +244,16 @@ impl<R: ReadDevice> Source<R> {
         self.input.consume(n)
     }
 
-    /// Reads some bytes. After them each call answers how the reader stopped. Where no byte is held or to be skipped, a read
-    /// into 1024 bytes or more goes straight to the reader.
+    /// Reads some bytes. After them each call answers how the reader stopped. Where no byte is held or to be skipped,
+    /// a read into 1024 bytes or more goes straight to the reader.
     pub fn read(&mut self, buf: &mut [u8]) -> Result<usize, io::Error>
         ensures reads { ReadsSource self.old self.new result buf.new }
     {
         self.input.read(buf)
     }
 
-    /// Takes n bytes; or answers `None` where fewer are left, all of which are taken, and then the source is over. An error
-    /// where there is no memory for them; then nothing has changed.
+    /// Takes n bytes; or answers `None` where fewer are left, all of which are taken, and then the source is over. An
+    /// error where there is no memory for them; then nothing has changed.
     pub fn take_exactly(&mut self, alloc: Global, n: usize) -> Result<Option<Vec<u8>>, AllocError>
         ensures { TakesBytes n self.old self.new result }
     {
@@ -289,7 +302,8 @@ struct Input<R> {
 }
 
 impl<R: ReadDevice> Input<R> {
-    ghost use Rattle.tiny_http_io.specs.Input.{input_feed, input_stop, input_reader, input_held, input_skip, IsInputOver, SkipsHeld};
+    ghost use Rattle.tiny_http_io.specs.Input.{input_feed, input_stop, input_reader, input_held, input_skip};
+    ghost use Rattle.tiny_http_io.specs.Input.{IsInputOver, SkipsHeld};
     ghost use Rattle.tiny_http_io.specs.Source.{line_fault_of, ReadsWithin, TakesLine, FindsLine, TakesExactly, GoesOn};
 
     pub fn new(inner: R) -> Input<R>
@@ -316,18 +330,22 @@ impl<R: ReadDevice> Input<R> {
     /// How the reader stopped, if it has.
     pub fn stop(&self) -> Option<Stop>
         ensures stop { result ≡ input_stop self.now }
-        ensures over { IsInputOver self.now → IsSome result × IfSome result (λ stop. StopsBy stop (input_feed R.feed self.now)) }
+        ensures over { IsInputOver self.now
+            → IsSome result × IfSome result (λ stop. StopsBy stop (input_feed R.feed self.now)) }
     {
         self.stop
     }
 
     /// Whether a byte is still to come.
     pub fn has_byte(&mut self) -> bool
-        ensures some { IsTrue result → HasByte (input_feed R.feed self.old) × (input_stop self.new ≡ input_stop self.old) }
+        ensures some { IsTrue result
+            → HasByte (input_feed R.feed self.old) × (input_stop self.new ≡ input_stop self.old) }
         ensures none { result ≡ false → HasNoByte (input_feed R.feed self.old) × IsInputOver self.new }
         ensures feed { input_feed R.feed self.new ≡ input_feed R.feed self.old }
-        ensures once { IsSome (input_stop self.old) → IsSome (input_stop self.new) × (input_reader self.new ≡ input_reader self.old) }
-        ensures held { input_skip self.old < length (input_held self.old) → input_reader self.new ≡ input_reader self.old }
+        ensures once { IsSome (input_stop self.old)
+            → IsSome (input_stop self.new) × (input_reader self.new ≡ input_reader self.old) }
+        ensures held { input_skip self.old < length (input_held self.old)
+            → input_reader self.new ≡ input_reader self.old }
         ensures holds { IsTrue result → input_skip self.new < length (input_held self.new) }
         ensures skipped { IsTrue result → input_skip self.new ≡ 0 }
         ensures stays { IsInputOver self.old → (result ≡ false) × (self.new ≡ self.old) }
@@ -369,7 +387,8 @@ impl<R: ReadDevice> Input<R> {
         ensures skip { self.new.skip ≡ 0 }
         ensures over { self.new.held ≡ [] → IsSome self.new.stop }
         // After an end or a fault the reader isn't called again; nor where a byte is held.
-        ensures once { IsSome (input_stop self.old) → IsSome (input_stop self.new) × (input_reader self.new ≡ input_reader self.old) }
+        ensures once { IsSome (input_stop self.old)
+            → IsSome (input_stop self.new) × (input_reader self.new ≡ input_reader self.old) }
         ensures stays { IsInputOver self.old → self.new ≡ self.old }
         ensures lazy { 0 < length self.new.held → input_stop self.new ≡ input_stop self.old }
         ensures held { input_skip self.old < length (input_held self.old) → SkipsHeld self.old self.new }
@@ -406,15 +425,24 @@ impl<R: ReadDevice> Input<R> {
 
     /// Finds the first line within the limit: held, or taken off.
     pub fn find_line(&mut self, alloc: Global, left: Option<usize>) -> Result<FirstLine, LineFault>
-        ensures line { FindsLine left (input_feed R.feed self.old) (input_feed R.feed self.new) (input_held self.new) (input_skip self.new) result }
+        ensures line { FindsLine left (input_feed R.feed self.old) (input_feed R.feed self.new) (input_held self.new)
+            (input_skip self.new) result }
         ensures limited { result ≡ Err LineFault.TooLong → IsSome left }
         ensures over { OnErr result (IsInputOver self.new) }
-        ensures ended { IfErr result (λ fault. (fault ≡ LineFault.Memory) ⊎ (fault ≡ LineFault.TooLong) → input_stop self.new ≡ Some Stop.End) }
-        ensures stop { IfErr result (λ fault. fault ≢ LineFault.Memory → fault ≢ LineFault.TooLong → IfSome (input_stop self.new) (λ stop. fault ≡ line_fault_of stop)) }
-        ensures stays { IsInputOver self.old → left ≢ Some 0 → (self.new ≡ self.old) × IfSome (input_stop self.old) (λ stop. result ≡ Err (line_fault_of stop)) }
-        ensures once { IsSome (input_stop self.old) → IsSome (input_stop self.new) × (input_reader self.new ≡ input_reader self.old) }
-        ensures held { has_crlf (drop (input_skip self.old) (input_held self.old)) ≡ true → input_reader self.new ≡ input_reader self.old }
-        ensures full { IfSome left (λ n. input_skip self.old + n ≤ length (input_held self.old) → input_reader self.new ≡ input_reader self.old) }
+        ensures ended { IfErr result (λ fault. (fault ≡ LineFault.Memory) ⊎ (fault ≡ LineFault.TooLong)
+            → input_stop self.new ≡ Some Stop.End) }
+        ensures stop { IfErr result (λ fault. fault ≢ LineFault.Memory
+            → fault ≢ LineFault.TooLong
+            → IfSome (input_stop self.new) (λ stop. fault ≡ line_fault_of stop)) }
+        ensures stays { IsInputOver self.old
+            → left ≢ Some 0
+            → (self.new ≡ self.old) × IfSome (input_stop self.old) (λ stop. result ≡ Err (line_fault_of stop)) }
+        ensures once { IsSome (input_stop self.old)
+            → IsSome (input_stop self.new) × (input_reader self.new ≡ input_reader self.old) }
+        ensures held { has_crlf (drop (input_skip self.old) (input_held self.old)) ≡ true
+            → input_reader self.new ≡ input_reader self.old }
+        ensures full { IfSome left (λ n. input_skip self.old + n ≤ length (input_held self.old)
+            → input_reader self.new ≡ input_reader self.old) }
         ensures lazy { OnOk result (input_stop self.new ≡ input_stop self.old) }
     {
         if is_reached(left, 0) {
@@ -446,7 +474,8 @@ impl<R: ReadDevice> Input<R> {
     pub fn pass_line(&mut self, n: usize)
         requires skip { input_skip self.old ≡ 0 }
         requires line { EndsLine (input_held self.old) n }
-        ensures line { TakesLine (input_feed R.feed self.old) (input_feed R.feed self.new) (take n (input_held self.old)) }
+        ensures line { TakesLine (input_feed R.feed self.old) (input_feed R.feed self.new)
+            (take n (input_held self.old)) }
         ensures rest { (input_held self.new ≡ drop (n + 2) (input_held self.old)) × (input_skip self.new ≡ 0) }
         ensures reader { input_reader self.new ≡ input_reader self.old }
         ensures stop { input_stop self.new ≡ input_stop self.old }
@@ -459,7 +488,8 @@ impl<R: ReadDevice> Input<R> {
     pub fn consume(&mut self, n: usize)
         requires skip { input_skip self.old ≡ 0 }
         requires held { n ≤ length (input_held self.old) }
-        ensures feed { input_feed R.feed self.old ≡ prepended (take n (input_held self.old)) (input_feed R.feed self.new) }
+        ensures feed { input_feed R.feed self.old
+            ≡ prepended (take n (input_held self.old)) (input_feed R.feed self.new) }
         ensures rest { (input_held self.new ≡ drop n (input_held self.old)) × (input_skip self.new ≡ 0) }
         ensures reader { input_reader self.new ≡ input_reader self.old }
         ensures stop { input_stop self.new ≡ input_stop self.old }
@@ -484,16 +514,26 @@ impl<R: ReadDevice> Input<R> {
 
     // The first line within the limit, byte by byte.
     fn read_slowly(&mut self, alloc: Global, left: Option<usize>) -> Result<Vec<u8>, LineFault>
-        ensures text { IfOk result (λ text. input_feed R.feed self.old ≡ prepended (text.items ++ (13 ∷ (10 ∷ []))) (input_feed R.feed self.new)) }
+        ensures text { IfOk result
+            (λ text. input_feed R.feed self.old
+            ≡ prepended (text.items ++ (13 ∷ (10 ∷ []))) (input_feed R.feed self.new)) }
         ensures first { IfOk result (λ text. BeginsNoLineEnd text.items (13 ∷ [])) }
         ensures within { IfOk result (λ text. IsWithin left (length text.items)) }
-        ensures none { IfErr result (λ fault. ReadsWithin left (input_feed R.feed self.old) (input_feed R.feed self.new) (Err fault) × (fault ≢ LineFault.NotAscii)) }
+        ensures none { IfErr result
+            (λ fault. ReadsWithin left (input_feed R.feed self.old) (input_feed R.feed self.new) (Err fault)
+            × (fault ≢ LineFault.NotAscii)) }
         ensures limited { result ≡ Err LineFault.TooLong → IsSome left }
         ensures over { OnErr result (IsInputOver self.new) }
-        ensures ended { IfErr result (λ fault. (fault ≡ LineFault.Memory) ⊎ (fault ≡ LineFault.TooLong) → input_stop self.new ≡ Some Stop.End) }
-        ensures stop { IfErr result (λ fault. fault ≢ LineFault.Memory → fault ≢ LineFault.TooLong → IfSome (input_stop self.new) (λ stop. fault ≡ line_fault_of stop)) }
-        ensures once { IsSome (input_stop self.old) → IsSome (input_stop self.new) × (input_reader self.new ≡ input_reader self.old) }
-        ensures stays { IsInputOver self.old → left ≢ Some 0 → (self.new ≡ self.old) × IfSome (input_stop self.old) (λ stop. result ≡ Err (line_fault_of stop)) }
+        ensures ended { IfErr result (λ fault. (fault ≡ LineFault.Memory) ⊎ (fault ≡ LineFault.TooLong)
+            → input_stop self.new ≡ Some Stop.End) }
+        ensures stop { IfErr result (λ fault. fault ≢ LineFault.Memory
+            → fault ≢ LineFault.TooLong
+            → IfSome (input_stop self.new) (λ stop. fault ≡ line_fault_of stop)) }
+        ensures once { IsSome (input_stop self.old)
+            → IsSome (input_stop self.new) × (input_reader self.new ≡ input_reader self.old) }
+        ensures stays { IsInputOver self.old
+            → left ≢ Some 0
+            → (self.new ≡ self.old) × IfSome (input_stop self.old) (λ stop. result ≡ Err (line_fault_of stop)) }
         ensures lazy { OnOk result (input_stop self.new ≡ input_stop self.old) }
     {
         let mut text = Vec::new(alloc);
@@ -536,17 +576,26 @@ impl<R: ReadDevice> Input<R> {
     ) -> Result<AsciiString, LineFault>
         ensures line { ReadsWithin left (input_feed R.feed self.old) (input_feed R.feed self.new) result }
         // After an end or a fault the reader isn't called again.
-        ensures once { IsSome (input_stop self.old) → IsSome (input_stop self.new) × (input_reader self.new ≡ input_reader self.old) }
+        ensures once { IsSome (input_stop self.old)
+            → IsSome (input_stop self.new) × (input_reader self.new ≡ input_reader self.old) }
         // Whatever the reader states, an input that is over stays so, and a line's place has its stop.
         ensures limited { result ≡ Err LineFault.TooLong → IsSome left }
         ensures over { IfErr result (λ fault. fault ≢ LineFault.NotAscii → IsInputOver self.new) }
-        ensures ended { IfErr result (λ fault. (fault ≡ LineFault.Memory) ⊎ (fault ≡ LineFault.TooLong) → input_stop self.new ≡ Some Stop.End) }
-        ensures stop { IfErr result (λ fault. fault ≢ LineFault.NotAscii → fault ≢ LineFault.Memory → fault ≢ LineFault.TooLong → IfSome (input_stop self.new) (λ stop. fault ≡ line_fault_of stop)) }
-        ensures stays { IsInputOver self.old → left ≢ Some 0 → (self.new ≡ self.old) × IfSome (input_stop self.old) (λ stop. result ≡ Err (line_fault_of stop)) }
+        ensures ended { IfErr result (λ fault. (fault ≡ LineFault.Memory) ⊎ (fault ≡ LineFault.TooLong)
+            → input_stop self.new ≡ Some Stop.End) }
+        ensures stop { IfErr result (λ fault. fault ≢ LineFault.NotAscii
+            → fault ≢ LineFault.Memory
+            → fault ≢ LineFault.TooLong
+            → IfSome (input_stop self.new) (λ stop. fault ≡ line_fault_of stop)) }
+        ensures stays { IsInputOver self.old
+            → left ≢ Some 0
+            → (self.new ≡ self.old) × IfSome (input_stop self.old) (λ stop. result ≡ Err (line_fault_of stop)) }
         ensures lazy { OnOk result (input_stop self.new ≡ input_stop self.old) }
         ensures passed { result ≡ Err LineFault.NotAscii → input_stop self.new ≡ input_stop self.old }
-        ensures held { has_crlf (drop (input_skip self.old) (input_held self.old)) ≡ true → input_reader self.new ≡ input_reader self.old }
-        ensures full { IfSome left (λ n. input_skip self.old + n ≤ length (input_held self.old) → input_reader self.new ≡ input_reader self.old) }
+        ensures held { has_crlf (drop (input_skip self.old) (input_held self.old)) ≡ true
+            → input_reader self.new ≡ input_reader self.old }
+        ensures full { IfSome left (λ n. input_skip self.old + n ≤ length (input_held self.old)
+            → input_reader self.new ≡ input_reader self.old) }
     {
         let text = match self.find_line(alloc, left)? {
             FirstLine::Taken(text) => text,
@@ -564,14 +613,18 @@ impl<R: ReadDevice> Input<R> {
         }
     }
 
-    /// Takes n bytes, or none where fewer are left: then the input is over. Without memory for them nothing has changed.
+    /// Takes n bytes, or none where fewer are left: then the input is over. Without memory for them nothing has
+    /// changed.
     pub fn take_exactly(&mut self, alloc: Global, n: usize) -> Result<Option<Vec<u8>>, AllocError>
-        ensures takes { IfOk result (λ body. TakesExactly (λ v. v.items) n (input_feed R.feed self.old) (input_feed R.feed self.new) body) }
+        ensures takes { IfOk result
+            (λ body. TakesExactly (λ v. v.items) n (input_feed R.feed self.old) (input_feed R.feed self.new) body) }
         ensures over { IfOk result (λ body. body ≡ None → IsInputOver self.new) }
         ensures err { OnErr result (self.new ≡ self.old) }
-        ensures once { IsSome (input_stop self.old) → IsSome (input_stop self.new) × (input_reader self.new ≡ input_reader self.old) }
+        ensures once { IsSome (input_stop self.old)
+            → IsSome (input_stop self.new) × (input_reader self.new ≡ input_reader self.old) }
         ensures lazy { IfOk result (λ body. IsSome body → input_stop self.new ≡ input_stop self.old) }
-        ensures held { input_skip self.old + n ≤ length (input_held self.old) → input_reader self.new ≡ input_reader self.old }
+        ensures held { input_skip self.old + n ≤ length (input_held self.old)
+            → input_reader self.new ≡ input_reader self.old }
         ensures goes_on { GoesOn (input_feed R.feed self.old) (input_feed R.feed self.new) }
     {
         let mut body = Vec::with_capacity(alloc, n)?;
@@ -599,10 +652,13 @@ impl<R: ReadDevice> Input<R> {
     /// Skips n bytes more, before the next line or read. Where fewer are left the input ends.
     pub fn skip(&mut self, n: usize)
         ensures feed { input_feed R.feed self.new ≡ option_map (skipped n) (input_feed R.feed self.old) }
-        ensures alone { input_skip self.old + n < 2 ^ 64 → (input_reader self.new ≡ input_reader self.old) × (input_stop self.new ≡ input_stop self.old) }
-        ensures adds { input_skip self.old + n < 2 ^ 64 → (input_skip self.new ≡ input_skip self.old + n) × (input_held self.new ≡ input_held self.old) }
+        ensures alone { input_skip self.old + n < 2 ^ 64
+            → (input_reader self.new ≡ input_reader self.old) × (input_stop self.new ≡ input_stop self.old) }
+        ensures adds { input_skip self.old + n < 2 ^ 64
+            → (input_skip self.new ≡ input_skip self.old + n) × (input_held self.new ≡ input_held self.old) }
         // After an end or a fault the reader isn't called again.
-        ensures once { IsSome (input_stop self.old) → IsSome (input_stop self.new) × (input_reader self.new ≡ input_reader self.old) }
+        ensures once { IsSome (input_stop self.old)
+            → IsSome (input_stop self.new) × (input_reader self.new ≡ input_reader self.old) }
     {
         match self.skip.checked_add(n) {
             Some(sum) => self.skip = sum,
@@ -615,14 +671,18 @@ impl<R: ReadDevice> Input<R> {
 
     // Takes the next byte, if there is one.
     fn pop_byte(&mut self) -> Option<u8>
-        ensures some { IfSome result (λ b. input_feed R.feed self.old ≡ prepended (b ∷ []) (input_feed R.feed self.new)) }
+        ensures some { IfSome result
+            (λ b. input_feed R.feed self.old ≡ prepended (b ∷ []) (input_feed R.feed self.new)) }
         ensures none { IfNone result (input_feed R.feed self.new ≡ input_feed R.feed self.old) }
         ensures over { IfNone result (IsInputOver self.new) }
-        ensures stop { IfNone result (IfSome (input_stop self.new) (λ stop. StopsBy stop (input_feed R.feed self.old))) }
-        ensures once { IsSome (input_stop self.old) → IsSome (input_stop self.new) × (input_reader self.new ≡ input_reader self.old) }
+        ensures stop { IfNone result
+            (IfSome (input_stop self.new) (λ stop. StopsBy stop (input_feed R.feed self.old))) }
+        ensures once { IsSome (input_stop self.old)
+            → IsSome (input_stop self.new) × (input_reader self.new ≡ input_reader self.old) }
         ensures stays { IsInputOver self.old → (result ≡ None) × (self.new ≡ self.old) }
         ensures lazy { IsSome result → input_stop self.new ≡ input_stop self.old }
-        ensures held { input_skip self.old < length (input_held self.old) → (input_reader self.new ≡ input_reader self.old) × (input_skip self.new ≡ 0)
+        ensures held { input_skip self.old < length (input_held self.old)
+            → (input_reader self.new ≡ input_reader self.old) × (input_skip self.new ≡ 0)
             × (length (input_held self.new) + input_skip self.old + 1 ≡ length (input_held self.old)) }
     {
         self.fill();
@@ -635,7 +695,8 @@ impl<R: ReadDevice> Input<R> {
         requires empty { (self.old.held ≡ []) × (self.old.skip ≡ 0) }
         requires open { self.old.stop ≡ None }
         ensures bound { IfOk result (λ n. n ≤ length buf.new) }
-        ensures bytes { IfOk result (λ n. input_feed R.feed self.old ≡ prepended (take n buf.new) (input_feed R.feed self.new)) }
+        ensures bytes { IfOk result
+            (λ n. input_feed R.feed self.old ≡ prepended (take n buf.new) (input_feed R.feed self.new)) }
         ensures end { IfOk result (λ n. n ≡ 0 → StopsBy Stop.End (input_feed R.feed self.old)) }
         ensures fault { IfErr result (λ e. StopsBy (Stop.Fault (error_kind e)) (input_feed R.feed self.old)) }
         ensures again { OnErr result (input_feed R.feed self.new ≡ input_feed R.feed self.old) }
@@ -657,23 +718,30 @@ impl<R: ReadDevice> Input<R> {
         }
     }
 
-    /// Reads some bytes. After them each call answers how the input stopped. Where no byte is held or to be skipped, a read
-    /// into 1024 bytes or more goes straight to the reader.
+    /// Reads some bytes. After them each call answers how the input stopped. Where no byte is held or to be skipped,
+    /// a read into 1024 bytes or more goes straight to the reader.
     pub fn read(&mut self, buf: &mut [u8]) -> Result<usize, io::Error>
         ensures bound { IfOk result (λ n. n ≤ length buf.new) }
-        ensures bytes { IfOk result (λ n. input_feed R.feed self.old ≡ prepended (take n buf.new) (input_feed R.feed self.new)) }
+        ensures bytes { IfOk result
+            (λ n. input_feed R.feed self.old ≡ prepended (take n buf.new) (input_feed R.feed self.new)) }
         ensures end { IfOk result (λ n. n ≡ 0 → 0 < length buf.new → StopsBy Stop.End (input_feed R.feed self.old)) }
         ensures fault { IfErr result (λ e. StopsBy (Stop.Fault (error_kind e)) (input_feed R.feed self.old)) }
         ensures again { OnErr result (input_feed R.feed self.new ≡ input_feed R.feed self.old) }
         ensures empty { length buf.new ≡ 0 → (result ≡ Ok 0) × (self.new ≡ self.old) }
         // After an end or a fault the reader isn't called again.
-        ensures once { IsSome (input_stop self.old) → IsSome (input_stop self.new) × (input_reader self.new ≡ input_reader self.old) }
+        ensures once { IsSome (input_stop self.old)
+            → IsSome (input_stop self.new) × (input_reader self.new ≡ input_reader self.old) }
         ensures over { OnErr result (IsInputOver self.new) }
-        ensures none { IfOk result (λ n. n ≡ 0 → 0 < length buf.new → IsInputOver self.new × (input_stop self.new ≡ Some Stop.End)) }
+        ensures none { IfOk result (λ n. n ≡ 0
+            → 0 < length buf.new
+            → IsInputOver self.new × (input_stop self.new ≡ Some Stop.End)) }
         ensures kind { IfErr result (λ e. input_stop self.new ≡ Some (Stop.Fault (error_kind e))) }
-        ensures stays { IsInputOver self.old → (self.new ≡ self.old) × IfSome (input_stop self.old) (λ stop. 0 < length buf.new → AnswersStop stop result) }
+        ensures stays { IsInputOver self.old
+            → (self.new ≡ self.old)
+            × IfSome (input_stop self.old) (λ stop. 0 < length buf.new → AnswersStop stop result) }
         ensures lazy { IfOk result (λ n. 0 < n → input_stop self.new ≡ input_stop self.old) }
-        ensures held { input_skip self.old < length (input_held self.old) → input_reader self.new ≡ input_reader self.old }
+        ensures held { input_skip self.old < length (input_held self.old)
+            → input_reader self.new ≡ input_reader self.old }
     {
         if buf.is_empty() {
             return Ok(0);
@@ -697,8 +765,11 @@ fn go_on(text: &mut Vec<u8>, after_return: &mut bool, b: u8) -> Result<(), LineF
     requires not_end { after_return.old ≡ true → b ≢ 10 }
     requires passed { BeginsNoLineEnd text.old.items (held_return after_return.old) }
     ensures passed { OnOk result (BeginsNoLineEnd text.new.items (held_return after_return.new)) }
-    ensures bytes { OnOk result (text.new.items ++ held_return after_return.new ≡ (text.old.items ++ held_return after_return.old) ++ b ∷ []) }
-    ensures more { OnOk result (2 * vec_len text.old + length (held_return after_return.old) < 2 * vec_len text.new + length (held_return after_return.new)) }
+    ensures bytes { OnOk result
+        (text.new.items ++ held_return after_return.new ≡ (text.old.items ++ held_return after_return.old) ++ b ∷ []) }
+    ensures more { OnOk result
+        (2 * vec_len text.old + length (held_return after_return.old) < 2 * vec_len text.new + length
+        (held_return after_return.new)) }
     ensures fault { IfErr result (λ fault. fault ≡ LineFault.Memory) }
 {
     match (*after_return, b) {

@@ -1,5 +1,8 @@
--- WHO IS CONNECTED. A census is seen as its two limits, the number of the next client, and the clients in the order in which they came.
-use Rattle.std.specs.Prelude.{◌≡◌, ℕ, ◌+◌, ◌-◌, ◌^◌, ◌≤◌, Bool, false, not, ◌||◌, ◌==◌, nat_le, if◌then◌else◌, List, [], ◌∷◌, ◌++◌, length, filter, count_by, Option, Some, None, option_map, Result, Ok, Err}
+-- WHO IS CONNECTED. A census is seen as its two limits, the number of the next client, and the clients in the order
+-- in which they came.
+use Rattle.std.specs.Prelude.{◌≡◌, ℕ, ◌+◌, ◌-◌, ◌^◌, ◌≤◌, Bool, false, not, ◌||◌, ◌==◌, nat_le, if◌then◌else◌, List}
+use Rattle.std.specs.Prelude.{[], ◌∷◌, ◌++◌, length, filter, count_by, Option, Some, None, option_map, Result, Ok}
+use Rattle.std.specs.Prelude.{Err}
 use Rattle.std.specs.List.{find}
 use Rattle.std.specs.Option.{option_eq}
 use Rattle.std.specs.declared.net.ip_addr.IpAddr.{IpAddr}
@@ -39,15 +42,23 @@ module _ {T : Type 0} where
 
   -- why a client of this address may not come in
   abbrev pub refusal_of : Connected T → Option IpAddr → Option Refusal
-  refusal_of census address = if is_closed census then Some Full else if is_address_full census address then Some AddressFull else None
+  refusal_of census address = if is_closed census then Some Full
+      else if is_address_full census address then Some AddressFull else None
 
   -- with this client behind the others, under the next number
   abbrev pub with_guest : Connected T → Option IpAddr → T → Connected T
-  with_guest census address item = record census { next = census.next + 1; guests = census.guests ++ record { number = census.next; address = address; item = item } ∷ [] }
+  with_guest census address item = record census {
+    next = census.next + 1;
+    guests = census.guests
+        ++ record { number = census.next; address = address; item = item } ∷ [];
+  }
 
-  -- A CLIENT COMES. It comes in and has the number that was the next. Or it may not, or there is no memory, and nothing has changed.
+  -- A CLIENT COMES. It comes in and has the number that was the next. Or it may not, or there is no memory, and
+  -- nothing has changed.
   abbrev pub Enters : Connected T → Option IpAddr → T → Result ℕ Refusal → Connected T → Type 0
-  Enters old address item (Ok number) new = (refusal_of old address ≡ None) × (number ≡ old.next) × (new ≡ with_guest old address item)
+  Enters old address item (Ok number) new = (refusal_of old address ≡ None)
+      × (number ≡ old.next)
+      × (new ≡ with_guest old address item)
   Enters old address item (Err Memory) new = (refusal_of old address ≡ None) × (new ≡ old)
   Enters old address item (Err Full) new = (refusal_of old address ≡ Some Full) × (new ≡ old)
   Enters old address item (Err AddressFull) new = (refusal_of old address ≡ Some AddressFull) × (new ≡ old)
@@ -69,7 +80,8 @@ module _ {T : Type 0} where
   AreNumbered least [] next = least ≤ next
   AreNumbered least (guest ∷ guests) next = (least ≤ guest.number) × AreNumbered (guest.number + 1) guests next
 
-  -- WHAT HOLDS OF EVERY CENSUS: no number stands twice, and no more clients are connected than may be, in all and of one address.
+  -- WHAT HOLDS OF EVERY CENSUS: no number stands twice, and no more clients are connected than may be, in all and of
+  -- one address.
   pub record IsKept (census : Connected T) : Type 0 where
     pub numbered : AreNumbered 0 census.guests census.next
     pub few : length census.guests ≤ census.most

@@ -8,11 +8,32 @@ use Rattle.tiny_http_limits.specs.declared.counts.Counts.{Counts}
 
 -- each count is 0
 abbrev pub no_refusals : Refusals
-no_refusals = record { bad_request = 0; request_timeout = 0; uri_too_long = 0; expectation_failed = 0; header_fields_too_large = 0; not_implemented = 0; version_not_supported = 0; other = 0 }
+no_refusals =
+    record {
+      bad_request = 0;
+      request_timeout = 0;
+      uri_too_long = 0;
+      expectation_failed = 0;
+      header_fields_too_large = 0;
+      not_implemented = 0;
+      version_not_supported = 0;
+      other = 0;
+    }
 
 -- each count is 0
 abbrev pub no_counts : Counts
-no_counts = record { connections = 0; requests = 0; refusals = no_refusals; accept_faults = 0; turned_away = 0; idle = 0; slow_heads = 0; slow_bodies = 0; slow_writes = 0 }
+no_counts =
+    record {
+      connections = 0;
+      requests = 0;
+      refusals = no_refusals;
+      accept_faults = 0;
+      turned_away = 0;
+      idle = 0;
+      slow_heads = 0;
+      slow_bodies = 0;
+      slow_writes = 0;
+    }
 
 -- so many more
 abbrev pub add_count : ℕ → ℕ → ℕ
@@ -52,4 +73,5 @@ with_any_closing (Some closing) c = with_closing closing c
 
 -- A CONNECTION ENDED: its requests, its refusal and its limit are counted.
 abbrev pub with_end : Summary → Counts → Counts
-with_end s c = with_any_closing s.closing (with_last_refusal s.refusal (record c { requests = add_count c.requests s.requests }))
+with_end s c =
+    with_any_closing s.closing (with_last_refusal s.refusal (record c { requests = add_count c.requests s.requests }))

@@ -22,4 +22,5 @@ counts_text c =
     joined (codes "connections " ∷ decimal c.connections ∷ codes ", requests " ∷ decimal c.requests
     ∷ codes ", refused " ∷ refusals_text c.refusals ∷ codes ", accept faults " ∷ decimal c.accept_faults
     ∷ codes ", closed: turned away " ∷ decimal c.turned_away ∷ codes ", idle " ∷ decimal c.idle
-    ∷ codes ", head " ∷ decimal c.slow_heads ∷ codes ", body " ∷ decimal c.slow_bodies ∷ codes ", write " ∷ decimal c.slow_writes ∷ [])
+    ∷ codes ", head " ∷ decimal c.slow_heads ∷ codes ", body " ∷ decimal c.slow_bodies ∷ codes ", write " ∷ decimal
+    c.slow_writes ∷ [])

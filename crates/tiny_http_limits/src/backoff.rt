@@ -11,7 +11,8 @@ pub const FIRST_MILLIS: u64 = 10;
 /// The milliseconds of the longest wait.
 pub const MOST_MILLIS: u64 = 1_000;
 
-/// The next wait: 10 ms, and after each wait twice as long, up to 1,000 ms. A contract sees it as the milliseconds of that wait.
+/// The next wait: 10 ms, and after each wait twice as long, up to 1,000 ms. A contract sees it as the milliseconds of
+/// that wait.
 #[derive(Clone, Copy, Debug, PartialEq, Eq)]
 pub struct Backoff {
     millis: u64,

@@ -1,6 +1,7 @@
 //! Who is connected.
 ghost use Rattle.std.specs.Prelude.{◌≡◌, ◌≤◌, ◌↔◌, length, position, IfNone, IsTrue};
-ghost use Rattle.tiny_http_limits.specs.Census.{nobody, count_of, is_address_full, Enters, has_number, item_of, without, IsKept};
+ghost use Rattle.tiny_http_limits.specs.Census.{nobody, count_of, is_address_full, Enters, has_number, item_of};
+ghost use Rattle.tiny_http_limits.specs.Census.{without, IsKept};
 
 use std::alloc::Global;
 use std::marker::Model;
@@ -34,8 +35,8 @@ pub enum Refusal {
     Memory,
 }
 
-/// The clients that are connected, in the order in which they came, with what is kept for each. At most so many are, in all and of
-/// one address. A contract sees the two limits, the next number and the clients.
+/// The clients that are connected, in the order in which they came, with what is kept for each. At most so many are,
+/// in all and of one address. A contract sees the two limits, the next number and the clients.
 #[derive(Drop)]
 pub struct Census<T> {
     most: usize,
@@ -50,9 +51,11 @@ impl<T> Model for Census<T> {
 
     ghost Value = { Connected T };
 
-    ghost view = { λ c. record { most = c.most; most_of_address = c.most_of_address; next = c.next; guests = c.guests.items } };
+    ghost view = { λ c. record
+        { most = c.most; most_of_address = c.most_of_address; next = c.next; guests = c.guests.items } };
 
-    ghost invariant = { λ c. IsKept (record { most = c.most; most_of_address = c.most_of_address; next = c.next; guests = c.guests.items }) };
+    ghost invariant = { λ c. IsKept
+        (record { most = c.most; most_of_address = c.most_of_address; next = c.next; guests = c.guests.items }) };
 }
 
 impl<T: Drop> Census<T> {
@@ -82,9 +85,9 @@ impl<T: Drop> Census<T> {
         self.count() >= self.most
     }
 
-    /// Admits a client of this address, if it has one, and keeps this for it. Its number, which no earlier client had; or why it isn't
-    /// admitted, and then nothing has changed but that what was to be kept is dropped: in this order, `Full`, also where no number is left;
-    /// `AddressFull`; and `Memory`.
+    /// Admits a client of this address, if it has one, and keeps this for it. Its number, which no earlier client
+    /// had; or why it isn't admitted, and then nothing has changed but that what was to be kept is dropped: in this
+    /// order, `Full`, also where no number is left; `AddressFull`; and `Memory`.
     pub fn enter(&mut self, address: Option<IpAddr>, item: T) -> Result<u64, Refusal>
         ensures { Enters self.old address item result self.new }
     {
@@ -129,8 +132,8 @@ impl<T: Drop> Census<T> {
             .count()
     }
 
-    /// The client of this number isn't connected any more: what was kept for it. None, and nothing has changed, where no client has
-    /// that number.
+    /// The client of this number isn't connected any more: what was kept for it. None, and nothing has changed, where
+    /// no client has that number.
     pub fn leave(&mut self, number: u64) -> Option<T>
         ensures item { result ≡ item_of number self.old.guests }
         ensures gone { self.new ≡ record self.old { guests = without number self.old.guests } }

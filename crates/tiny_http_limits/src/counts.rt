@@ -1,6 +1,7 @@
 //! What a server counts.
 ghost use Rattle.std.specs.Prelude.{◌≡◌, Some};
-ghost use Rattle.tiny_http_limits.specs.Counts.{no_refusals, no_counts, add_count, one_more, with_refusal, with_closing, with_end};
+ghost use Rattle.tiny_http_limits.specs.Counts.{no_refusals, no_counts, add_count, one_more, with_refusal};
+ghost use Rattle.tiny_http_limits.specs.Counts.{with_closing, with_end};
 
 use std::fmt;
 
@@ -213,12 +214,13 @@ impl fmt::Display for Counts {
 
     ghost output = { λ c. Some (counts_text c) };
 
-    /// Writes the counts in one line, as `connections 3, requests 12, refused 400:1 .. other:0, accept faults 0, closed: turned away 0,
-    /// idle 1, head 0, body 0, write 0`.
+    /// Writes the counts in one line, as `connections 3, requests 12, refused 400:1 .. other:0, accept faults 0,
+    /// closed: turned away 0, idle 1, head 0, body 0, write 0`.
     fn fmt<W: fmt::Write>(&self, f: &mut fmt::Formatter<W>) -> fmt::Result {
         write!(
             f,
-            "connections {}, requests {}, refused {}, accept faults {}, closed: turned away {}, idle {}, head {}, body {}, write {}",
+            "connections {}, requests {}, refused {}, accept faults {}, closed: turned away {}, idle {}, head {}, \
+                body {}, write {}",
             self.connections,
             self.requests,
             self.refusals,

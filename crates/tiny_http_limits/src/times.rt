@@ -8,8 +8,8 @@ use std::time::Duration;
 /// So many bytes have to move within the time for a body or for a write.
 pub const PIECE: usize = 4_096;
 
-/// What is left at `now` of a time that began at `begun`; none once it is over. The two are times of one clock; where it went back
-/// the whole time is left.
+/// What is left at `now` of a time that began at `begun`; none once it is over. The two are times of one clock; where
+/// it went back the whole time is left.
 pub fn time_left(begun: Duration, now: Duration, time: Duration) -> Option<Duration>
     ensures { LeavesTime (as_nanos now - as_nanos begun) (as_nanos time) result }
 {
@@ -39,8 +39,8 @@ impl Stall {
         }
     }
 
-    /// Counts a call that waited so long, and moved so many bytes. Whether the time is over: so long at least was waited since the
-    /// last whole piece. Where a piece is whole now it isn't, and the next one begins.
+    /// Counts a call that waited so long, and moved so many bytes. Whether the time is over: so long at least was
+    /// waited since the last whole piece. Where a piece is whole now it isn't, and the next one begins.
     pub fn count(&mut self, waited: Duration, moved: usize, time: Duration) -> bool
         ensures whole { 4_096 ≤ self.old.moved + moved → (result ≡ false) × IsFresh self.new }
         ensures part { self.old.moved + moved < 4_096 → AddsCall self.old (as_nanos waited) moved self.new }

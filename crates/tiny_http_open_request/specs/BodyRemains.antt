@@ -17,19 +17,34 @@ breaking bytes kind = record { bytes = bytes; stop = Faults kind }
 -- Within a chunk, so many bytes of its data are left: they, CR LF and a chunked body; or they, and no CR LF; or fewer.
 abbrev pub WithinChunk : Bool → ℕ → List ℕ → Stop → Feed → Place → Type 0
 WithinChunk standard left bytes stop body next =
-    ((part : List ℕ) × (after : List ℕ) × (more : Feed) × (bytes ≡ part ++ (crlf ++ after)) × (length part ≡ left) × BodyAt standard Chunked left after stop more next × (body ≡ prepend part more))
-    ⊎ (((part : List ℕ) × (close : List ℕ) × (kind : ErrorKind) × (bytes ≡ part ++ close) × (length part ≡ left) × CloseFault close stop kind × (body ≡ breaking part kind) × (next ≡ None))
+    ((part : List ℕ)
+    × (after : List ℕ)
+    × (more : Feed)
+    × (bytes ≡ part ++ (crlf ++ after))
+    × (length part ≡ left)
+    × BodyAt standard Chunked left after stop more next
+    × (body ≡ prepend part more))
+    ⊎ (((part : List ℕ)
+    × (close : List ℕ)
+    × (kind : ErrorKind)
+    × (bytes ≡ part ++ close)
+    × (length part ≡ left)
+    × CloseFault close stop kind
+    × (body ≡ breaking part kind)
+    × (next ≡ None))
     ⊎ ((length bytes < left) × (body ≡ breaking bytes (fault_of stop)) × (next ≡ None)))
 
 -- the body's end, or its fault, was met and not reported yet
 abbrev pub IsMet : List ℕ → Feed → Place → Type 0
-IsMet bytes body next = ((body ≡ whole_feed []) × (next ≡ Some bytes)) ⊎ ((kind : ErrorKind) × (body ≡ breaking [] kind) × (next ≡ None))
+IsMet bytes body next =
+    ((body ≡ whole_feed []) × (next ≡ Some bytes)) ⊎ ((kind : ErrorKind) × (body ≡ breaking [] kind) × (next ≡ None))
 
--- WHAT IS LEFT OF A BODY, of which so many bytes are left where it is counted. Of a chunked one: what is left of a chunk, and
--- a chunked body; or a chunked body; or nothing. Of another: a body of its form.
+-- WHAT IS LEFT OF A BODY, of which so many bytes are left where it is counted. Of a chunked one: what is left of a
+-- chunk, and a chunked body; or a chunked body; or nothing. Of another: a body of its form.
 abbrev pub RemainsAt : Bool → Form → ℕ → List ℕ → Stop → Feed → Place → Type 0
 RemainsAt standard Chunked n bytes stop body next =
-    BodyAt standard Chunked n bytes stop body next ⊎ (((left : ℕ) × WithinChunk standard left bytes stop body next) ⊎ IsMet bytes body next)
+    BodyAt standard Chunked n bytes stop body next
+    ⊎ (((left : ℕ) × WithinChunk standard left bytes stop body next) ⊎ IsMet bytes body next)
 RemainsAt standard Nothing n bytes stop body next = BodyAt standard Nothing n bytes stop body next
 RemainsAt standard WithHead n bytes stop body next = BodyAt standard WithHead n bytes stop body next
 RemainsAt standard Counted n bytes stop body next = BodyAt standard Counted n bytes stop body next

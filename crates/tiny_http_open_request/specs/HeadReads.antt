@@ -1,5 +1,6 @@
 -- What the calls that read a head make of the input.
-use Rattle.std.specs.Prelude.{◌≡◌, ◌≢◌, ℕ, ◌+◌, ◌-◌, ⊤, ◌⊎◌, List, [], length, nat_lt, Option, Some, None, Result, Ok, Err, unwrap_or, Bool, true, false, MatchBool, IfSome, IfOk, IsErr, if◌then◌else◌}
+use Rattle.std.specs.Prelude.{◌≡◌, ◌≢◌, ℕ, ◌+◌, ◌-◌, ⊤, ◌⊎◌, List, [], length, nat_lt, Option, Some, None, Result, Ok}
+use Rattle.std.specs.Prelude.{Err, unwrap_or, Bool, true, false, MatchBool, IfSome, IfOk, IsErr, if◌then◌else◌}
 use Rattle.std.specs.declared.alloc.AllocError.{AllocError}
 use Rattle.httpdate.specs.declared.date.HttpDate.{HttpDate}
 use Rattle.tiny_http_head.specs.declared.common.Method.{Method}
@@ -11,7 +12,9 @@ use Rattle.tiny_http_io.specs.Device.{Feed}
 use Rattle.tiny_http_text.specs.Bytes.{AreAscii}
 use Rattle.tiny_http_text.specs.Lines.{Line, IsUnfinished}
 use Rattle.tiny_http_head.specs.HeadReading as reading
-use Rattle.tiny_http_head.specs.Heads.{Message as Texted, BeginsWithRequestLine, BeginsWithHeaderLines, HeaderLine, FaultyLine, FaultyHead, IsRequestLine, IsFieldOrEnd, NotAscii, Malformed, version}
+use Rattle.tiny_http_head.specs.Heads.{Message as Texted, BeginsWithRequestLine, BeginsWithHeaderLines, HeaderLine}
+use Rattle.tiny_http_head.specs.Heads.{FaultyLine, FaultyHead, IsRequestLine, IsFieldOrEnd, NotAscii, Malformed}
+use Rattle.tiny_http_head.specs.Heads.{version}
 use Rattle.tiny_http_open_request.specs.declared.heads.Message.{Message}
 use Rattle.tiny_http_body.specs.declared.framing.Profile.{Profile}
 use Rattle.tiny_http_body.specs.declared.framing.Profile.TheVariants as under
@@ -37,11 +40,17 @@ use Rattle.tiny_http_open_request.specs.declared.heads.HeadFault.TheVariants as 
 use Rattle.tiny_http_body.specs.declared.body.Body.{Body}
 use Rattle.tiny_http_body.specs.FramingReading.{framing}
 use Rattle.tiny_http_io.specs.declared.source.FirstLine.{FirstLine}
-use Rattle.tiny_http_io.specs.Source.{SourceState, GoesOn, feed_from, FindsLine, IsShort, IsTooLong, IsAtEnd, seen_within}
-use Rattle.tiny_http_open_request.specs.Pipeline.{place_feed, Manner, plainly, Request, Asks, Refuses, Refusal, VersionNotSupported, refusal_status, is_timed_out, Place, BeginsWithin, IsUnfinishedHead, IsTooLarge, IsCutWithHead, IsCutHead, IsNotAsciiHead, BodyAt, OneHead, body_length_or_0, place_after, served_version, standard_framing}
+use Rattle.tiny_http_io.specs.Source.{SourceState, GoesOn, feed_from, FindsLine, IsShort, IsTooLong, IsAtEnd}
+use Rattle.tiny_http_io.specs.Source.{seen_within}
+use Rattle.tiny_http_open_request.specs.Pipeline.{place_feed, Manner, plainly, Request, Asks, Refuses, Refusal}
+use Rattle.tiny_http_open_request.specs.Pipeline.{VersionNotSupported, refusal_status, is_timed_out, Place}
+use Rattle.tiny_http_open_request.specs.Pipeline.{BeginsWithin, IsUnfinishedHead, IsTooLarge, IsCutWithHead}
+use Rattle.tiny_http_open_request.specs.Pipeline.{IsCutHead, IsNotAsciiHead, BodyAt, OneHead, body_length_or_0}
+use Rattle.tiny_http_open_request.specs.Pipeline.{place_after, served_version, standard_framing}
 use Rattle.tiny_http_open_request.specs.OwnAnswer.{own_text, refusal_response, refused_text}
 use Rattle.tiny_http_body.specs.Body.{Remaining, remaining, Fits}
-use Rattle.tiny_http_open_request.specs.Exchange.{exchange_head, exchange_open, exchange_left, exchange_streams, KeepsRequest}
+use Rattle.tiny_http_open_request.specs.Exchange.{exchange_head, exchange_open, exchange_left, exchange_streams}
+use Rattle.tiny_http_open_request.specs.Exchange.{KeepsRequest}
 use Rattle.tiny_http_open_request.specs.declared.open_request.OpenRequest.{OpenRequest}
 use Rattle.tiny_http_open_request.specs.OpenRequest.{KeepsHead}
 
@@ -113,31 +122,58 @@ IsFaulty left IsGood bytes fault.Malformed = FaultyLine IsGood (seen_within left
 IsFaulty left IsGood bytes fault.Memory = ⊤
 
 -- a request line, within this limit, of which so much is left
-abbrev pub ReadsStart : Option ℕ → Option ℕ → Option Feed → Option Feed → Result (Method × List ℕ × HTTPVersion) HeadFault → Type 0
+abbrev pub ReadsStart : Option ℕ → Option ℕ → Option Feed → Option Feed
+    → Result (Method × List ℕ × HTTPVersion) HeadFault → Type 0
 ReadsStart limit left None new r = ⊤
-ReadsStart limit left (Some f) new (Ok r) = (rest : List ℕ) × BeginsWithRequestLine f.bytes r.0 r.1 r.2 rest × (new ≡ feed_from f rest) × IsSpent limit f.bytes left rest
+ReadsStart limit left (Some f) new (Ok r) =
+    (rest : List ℕ)
+    × BeginsWithRequestLine f.bytes r.0 r.1 r.2 rest
+    × (new ≡ feed_from f rest)
+    × IsSpent limit f.bytes left rest
 ReadsStart limit left (Some f) new (Err e) = IsFaulty limit IsRequestLine f.bytes e
 
 -- a header line, or the empty line
 abbrev pub ReadsField : Option ℕ → Option ℕ → Option Feed → Option Feed → Result (Option Header) HeadFault → Type 0
 ReadsField limit left None new r = ⊤
 ReadsField limit left (Some f) new (Ok (Some h)) =
-    (text : List ℕ) × (rest : List ℕ) × Line f.bytes text rest × AreAscii text × HeaderLine text h.field h.value × (new ≡ feed_from f rest) × IsSpent limit f.bytes left rest
-ReadsField limit left (Some f) new (Ok None) = (rest : List ℕ) × Line f.bytes [] rest × (new ≡ feed_from f rest) × IsSpent limit f.bytes left rest
+    (text : List ℕ)
+    × (rest : List ℕ)
+    × Line f.bytes text rest
+    × AreAscii text
+    × HeaderLine text h.field h.value
+    × (new ≡ feed_from f rest)
+    × IsSpent limit f.bytes left rest
+ReadsField limit left (Some f) new (Ok None) =
+    (rest : List ℕ) × Line f.bytes [] rest × (new ≡ feed_from f rest) × IsSpent limit f.bytes left rest
 ReadsField limit left (Some f) new (Err e) = IsFaulty limit IsFieldOrEnd f.bytes e
 
 -- these header lines were read
 abbrev pub HasReadFields : Option ℕ → Option ℕ → Option Feed → Option Feed → List Header → Type 0
 HasReadFields limit left None new hs = ⊤
-HasReadFields limit left (Some f) new hs = (rest : List ℕ) × BeginsWithHeaderLines f.bytes hs rest × (new ≡ feed_from f rest) × IsSpent limit f.bytes left rest
+HasReadFields limit left (Some f) new hs =
+    (rest : List ℕ)
+    × BeginsWithHeaderLines f.bytes hs rest
+    × (new ≡ feed_from f rest)
+    × IsSpent limit f.bytes left rest
 
 -- all header lines and the empty line
-abbrev pub ReadsFields : {T : Type 0} → (T → List Header) → Option ℕ → Option ℕ → Option Feed → Option Feed → Result T HeadFault → Type 0
+abbrev pub ReadsFields : {T : Type 0} → (T → List Header) → Option ℕ → Option ℕ → Option Feed → Option Feed
+    → Result T HeadFault → Type 0
 ReadsFields items limit left None new r = ⊤
 ReadsFields items limit left (Some f) new (Ok hs) =
-    (empty : List ℕ) × (rest : List ℕ) × BeginsWithHeaderLines f.bytes (items hs) empty × Line empty [] rest × (new ≡ feed_from f rest) × IsSpent limit f.bytes left rest
+    (empty : List ℕ)
+    × (rest : List ℕ)
+    × BeginsWithHeaderLines f.bytes (items hs) empty
+    × Line empty [] rest
+    × (new ≡ feed_from f rest)
+    × IsSpent limit f.bytes left rest
 ReadsFields items limit left (Some f) new (Err e) =
-    (hs : List Header) × (rest : List ℕ) × (now : Option ℕ) × BeginsWithHeaderLines f.bytes hs rest × IsSpent limit f.bytes now rest × IsFaulty now IsFieldOrEnd rest e
+    (hs : List Header)
+    × (rest : List ℕ)
+    × (now : Option ℕ)
+    × BeginsWithHeaderLines f.bytes hs rest
+    × IsSpent limit f.bytes now rest
+    × IsFaulty now IsFieldOrEnd rest e
 
 abbrev pub message_of : Message → Texted
 message_of m = record { method = m.method; path = m.path; version = m.version; headers = m.headers.items }
@@ -147,7 +183,15 @@ abbrev pub head_message : Head → Texted
 head_message h = record { method = h.method; path = h.path; version = h.version; headers = h.headers.items }
 
 abbrev pub head_framing : Head → Framing
-head_framing h = record { form = h.form; owes_continue = h.owes_continue; body_length = h.body_length; asks_upgrade = h.asks_upgrade; by_standard = h.by_standard; is_last = h.is_last }
+head_framing h =
+    record {
+      form = h.form;
+      owes_continue = h.owes_continue;
+      body_length = h.body_length;
+      asks_upgrade = h.asks_upgrade;
+      by_standard = h.by_standard;
+      is_last = h.is_last;
+    }
 
 -- the request of a head, with its body and what follows that
 abbrev pub request_of : Head → Feed → Feed → Request
@@ -162,9 +206,11 @@ IsFaultyHead limit bytes v fault.Malformed = FaultyHead (seen_within limit bytes
 IsFaultyHead limit bytes v fault.Memory = ⊤
 
 -- a whole head that keeps this limit, or how it is faulty
-abbrev pub ReadsMessage : Option ℕ → Option Feed → Option Feed → Result Message (Option HTTPVersion × HeadFault) → Type 0
+abbrev pub ReadsMessage : Option ℕ → Option Feed → Option Feed → Result Message (Option HTTPVersion × HeadFault)
+    → Type 0
 ReadsMessage limit None new r = ⊤
-ReadsMessage limit (Some f) new (Ok m) = (rest : List ℕ) × BeginsWithin limit f.bytes (message_of m) rest × (new ≡ feed_from f rest)
+ReadsMessage limit (Some f) new (Ok m) =
+    (rest : List ℕ) × BeginsWithin limit f.bytes (message_of m) rest × (new ≡ feed_from f rest)
 ReadsMessage limit (Some f) new (Err e) = IsFaultyHead limit f.bytes e.0 e.1
 
 -- why no request comes where the input stopped so, in front of a head or after bytes of one
@@ -173,11 +219,12 @@ cut_end (Fault kind) has_begun = because.Fault kind
 cut_end End true = because.Cut
 cut_end End false = because.Closed
 
--- WHY NO REQUEST comes from these bytes, which are answered by nothing: the head is cut, and not by a time-out; or a line of
--- it isn't ASCII.
+-- WHY NO REQUEST comes from these bytes, which are answered by nothing: the head is cut, and not by a time-out; or a
+-- line of it isn't ASCII.
 abbrev pub RulesEndBy : HeadRules → List ℕ → Stop → EndOfRequests → Type 0
 RulesEndBy p bytes stop why =
-    (IsCutHead p bytes × (is_timed_out stop ≡ false) × (why ≡ cut_end stop (nat_lt 0 (length bytes)))) ⊎ (IsNotAsciiHead p bytes × (why ≡ because.NotAscii))
+    (IsCutHead p bytes × (is_timed_out stop ≡ false) × (why ≡ cut_end stop (nat_lt 0 (length bytes))))
+    ⊎ (IsNotAsciiHead p bytes × (why ≡ because.NotAscii))
 
 -- By the standard it is cut; a time-out before it has begun is no reason to answer.
 abbrev pub EndsBy : Profile → List ℕ → Stop → EndOfRequests → Type 0
@@ -197,26 +244,32 @@ end_at at.Abandoned why = because.AbandonedBody
 end_at (at.Broken kind) why = because.BrokenBody kind
 end_at _ why = why
 
--- A head is refused by this status in this version: the text of its answer, after which no head follows. Or memory for that
--- was refused.
+-- A head is refused by this status in this version: the text of its answer, after which no head follows. Or memory
+-- for that was refused.
 abbrev pub RefusesWith : ℕ → Manner → HttpDate → Result HeadRead AllocError → Type 0
-RefusesWith status v date (Ok (read.Refused code text last)) = (code.0 ≡ status) × (text.items ≡ own_text status v false date) × (last ≡ true)
+RefusesWith status v date (Ok (read.Refused code text last)) =
+    (code.0 ≡ status) × (text.items ≡ own_text status v false date) × (last ≡ true)
 RefusesWith status v date (Ok _) = ⊥
 RefusesWith status v date (Err e) = ⊤
 
--- A head is refused for its version, under version 1.1: the text of its answer, after which no head follows, or one does. Or
--- memory for that was refused.
+-- A head is refused for its version, under version 1.1: the text of its answer, after which no head follows, or one
+-- does. Or memory for that was refused.
 abbrev pub RefusesTooNew : Bool → Bool → HttpDate → Result HeadRead AllocError → Type 0
-RefusesTooNew ends no_body date (Ok (read.Refused code text last)) = (code.0 ≡ 505) × (text.items ≡ refused_text (refusal_response VersionNotSupported) (plainly (version 1 1)) no_body date) × (last ≡ ends)
+RefusesTooNew ends no_body date (Ok (read.Refused code text last)) =
+    (code.0 ≡ 505)
+    × (text.items ≡ refused_text (refusal_response VersionNotSupported) (plainly (version 1 1)) no_body date)
+    × (last ≡ ends)
 RefusesTooNew ends no_body date (Ok _) = ⊥
 RefusesTooNew ends no_body date (Err e) = ⊤
 
 -- What a head is answered that is cut by this stop: 408 at a time-out, else nothing, for this reason.
 abbrev pub AnswersCut : Stop → Bool → Bool → HttpDate → Result HeadRead AllocError → Type 0
-AnswersCut stop standard has_begun date r = MatchBool (is_timed_out stop) (RefusesWith 408 (record { version = version 1 1; by_standard = standard }) date r) (r ≡ Ok (read.Ended (cut_end stop has_begun)))
+AnswersCut stop standard has_begun date r =
+    MatchBool (is_timed_out stop) (RefusesWith 408 (record { version = version 1 1; by_standard = standard }) date r)
+    (r ≡ Ok (read.Ended (cut_end stop has_begun)))
 
--- What a faulty head is answered, under the version if that was read, where the input stopped so if it is cut; or why it ends
--- the requests; or memory for its line was refused.
+-- What a faulty head is answered, under the version if that was read, where the input stopped so if it is cut; or why
+-- it ends the requests; or memory for its line was refused.
 abbrev pub AnswersFault : Option HTTPVersion → HeadFault → Option Stop → HttpDate → Result HeadRead AllocError → Type 0
 AnswersFault v fault.Malformed stop date r = RefusesWith 400 (plainly (unwrap_or v (version 1 1))) date r
 AnswersFault v fault.Cut stop date r = IfSome stop (λ s. AnswersCut s false true date r)
@@ -233,7 +286,10 @@ abbrev pub Begins : Framing → Option Feed → Option Feed → Option Body → 
 Begins f None new b = ⊤
 Begins f (Some x) new None = IsCutWithHead f.form (body_length_or_0 f) x.bytes
 Begins f (Some x) new (Some b) =
-    (IsCutWithHead f.form (body_length_or_0 f) x.bytes → ⊥) × (body : Feed) × (next : Place) × BodyAt f.by_standard f.form (body_length_or_0 f) x.bytes x.stop body next
+    (IsCutWithHead f.form (body_length_or_0 f) x.bytes → ⊥)
+    × (body : Feed)
+    × (next : Place)
+    × BodyAt f.by_standard f.form (body_length_or_0 f) x.bytes x.stop body next
     × ComesWith (remaining b new) x.stop body next × Fits f.by_standard b f.form (body_length_or_0 f) 0 false
 
 -- the reader times out
@@ -250,17 +306,27 @@ abbrev pub GoesOnAt : Bool → Stop → Place → Option Feed → Type 0
 GoesOnAt true stop next new = next ≡ None
 GoesOnAt false stop next new = new ≡ Some (place_feed stop next)
 
--- ONE HEAD, read at a place: the item that stands there, what is still to come of its body, and where the next head begins
--- after that, unless the request is the last; or why no request comes.
+-- ONE HEAD, read at a place: the item that stands there, what is still to come of its body, and where the next head
+-- begins after that, unless the request is the last; or why no request comes.
 abbrev pub ReadsHead : Profile → Standing → HttpDate → Option Feed → Option Feed → Result HeadRead AllocError → Type 0
 ReadsHead p from_here date None new r = ⊤
 ReadsHead p from_here date (Some f) new (Ok (read.Request x)) =
-    (body : Feed) × (next : Place) × OneHead p f.bytes f.stop (Some (Asks (request_of (exchange_head x) body (place_feed f.stop next)))) (place_after (exchange_head x).is_last next)
+    (body : Feed)
+    × (next : Place)
+    × OneHead p f.bytes f.stop (Some (Asks (request_of (exchange_head x) body (place_feed f.stop next))))
+    (place_after (exchange_head x).is_last next)
     × ComesWith (exchange_left x new) f.stop body next × KeepsRequest x date
 ReadsHead p from_here date (Some f) new (Ok (read.Refused status text last)) =
-    (refusal : Refusal) × (v : Manner) × (no_body : Bool) × (next : Place) × OneHead p f.bytes f.stop (Some (Refuses refusal v no_body last)) next
-    × (text.items ≡ refused_text (refusal_response refusal) v no_body date) × (status.0 ≡ refusal_status refusal) × GoesOnAt last f.stop next new
-ReadsHead p from_here date (Some f) new (Ok (read.Ended why)) = OneHead p f.bytes f.stop None None × EndsAt p from_here f.bytes f.stop why
+    (refusal : Refusal)
+    × (v : Manner)
+    × (no_body : Bool)
+    × (next : Place)
+    × OneHead p f.bytes f.stop (Some (Refuses refusal v no_body last)) next
+    × (text.items ≡ refused_text (refusal_response refusal) v no_body date)
+    × (status.0 ≡ refusal_status refusal)
+    × GoesOnAt last f.stop next new
+ReadsHead p from_here date (Some f) new (Ok (read.Ended why)) =
+    OneHead p f.bytes f.stop None None × EndsAt p from_here f.bytes f.stop why
 ReadsHead p from_here date (Some f) new (Err e) = ⊤
 
 -- after anything but a request, or a refused head after which another follows, the source has ended
@@ -297,7 +363,11 @@ abbrev pub IsFramedHead : Profile → Head → Type 0
 IsFramedHead under.Lenient h = framing rules.Lenient h.version h.headers.items ≡ Ok (head_framing h)
 IsFramedHead under.Strict h = framing rules.Strict h.version h.headers.items ≡ Ok (head_framing h)
 IsFramedHead under.Standard h =
-    (v : HTTPVersion) × (s : HeadSummary) × Judges v h.method h.headers.items (Ok s) × (h.version ≡ served_version v) × (head_framing h ≡ standard_framing s)
+    (v : HTTPVersion)
+    × (s : HeadSummary)
+    × Judges v h.method h.headers.items (Ok s)
+    × (h.version ≡ served_version v)
+    × (head_framing h ≡ standard_framing s)
 
 -- and this is what is kept of a request with this head, on this date
 abbrev pub IsFramedBy : {B : Type 0} → Profile → HttpDate → Head → OpenRequest B → Type 0
@@ -320,21 +390,24 @@ standing_read (Ok (read.Refused status text false)) old = at.Head
 standing_read _ old = old
 
 -- ONE CALL THAT READS A HEAD, from wherever the source stands.
-pub record TakesHead {R : Type 0} (p : Profile) (date : HttpDate) (old new : SourceState R) (r : Result HeadRead AllocError) : Type 0 where
-  -- Where a head would begin: the item that stands there, or why none follows. After anything but a request, or a refused head
-  -- behind which the next one stands, the source has ended.
+pub record TakesHead {R : Type 0} (p : Profile) (date : HttpDate) (old new : SourceState R)
+    (r : Result HeadRead AllocError) : Type 0 where
+  -- Where a head would begin: the item that stands there, or why none follows. After anything but a request, or a
+  -- refused head behind which the next one stands, the source has ended.
   pub reads : IsBeforeHead old.standing → ReadsHead p old.standing date old.feed new.feed r
   pub ends : IsBeforeHead old.standing → EndsUnlessHanded r new
   -- after the last request nothing is read; within a body neither, and the source ends there
   pub last : old.standing ≡ at.Last → (r ≡ Ok (read.Ended because.LastRequest)) × (new ≡ old)
-  pub unread : old.standing ≡ at.Body → (r ≡ Ok (read.Ended because.UnreadBody)) × IsAtEnd new × (new.reader ≡ old.reader)
+  pub unread : old.standing ≡ at.Body
+      → (r ≡ Ok (read.Ended because.UnreadBody)) × IsAtEnd new × (new.reader ≡ old.reader)
   -- the source goes on, or stays
   pub goes_on : GoesOn old.feed new.feed
   -- whatever the reader states: after the end no head follows, and the reader isn't called
   pub at_end : IsAtEnd old → IsOkEnd r × (new.reader ≡ old.reader)
   -- unless it is the end, a byte of a head has come, or the reader timed out: memory isn't refused in place of the end
   pub begun : (IsOkEnd r → ⊥) → HasByteOrTimedOut old.feed
-  -- whatever the reader states: a request is framed as its version and headers say, and its drop's text is that of its head
+  -- whatever the reader states: a request is framed as its version and headers say, and its drop's text is that of
+  -- its head
   pub framed : IfOk r (IsFramedRequest p date)
   -- nothing is read ahead: where a request was read no end or fault of the reader was met
   pub lazy : IfOk r (λ x. IsRequest x → new.stop ≡ old.stop)

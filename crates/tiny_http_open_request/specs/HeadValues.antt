@@ -12,7 +12,7 @@ is_rest WithHead = false
 is_rest Counted = false
 is_rest Chunked = false
 
--- The head asks for an upgrade that its profile takes: by the standard as RFC 9110, section 7.8, says, unless the connection ends
--- after the request; else by a first `Connection` that names one.
+-- The head asks for an upgrade that its profile takes: by the standard as RFC 9110, section 7.8, says, unless the
+-- connection ends after the request; else by a first `Connection` that names one.
 abbrev pub is_upgrade : Head → Bool
 is_upgrade h = if h.by_standard then h.asks_upgrade && not h.is_last else is_rest h.form

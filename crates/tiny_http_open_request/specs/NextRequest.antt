@@ -48,13 +48,17 @@ abbrev pub Follows : {R P O : Type 0} → Refuses P O → Result HeadRead AllocE
 Follows refuses (Ok (read.Request x)) here found there = (found ≡ Some (Ok (next.Request x))) × Stays here there
 Follows refuses (Ok (read.Ended why)) here found there = (found ≡ Some (Ok (next.Ended why))) × Stays here there
 Follows refuses (Ok (read.Refused status text last)) here found there =
-    (kept : Bool) × refuses here.place here.output text.items kept there.place there.output × FollowsRefusal status last kept found
+    (kept : Bool)
+    × refuses here.place here.output text.items kept there.place there.output
+    × FollowsRefusal status last kept found
 Follows refuses (Err e) here found there = (found ≡ Some (Err e)) × Stays here there
 
 -- ONE HEAD is read, and this is found
 abbrev pub FindsHead : {R P O : Type 0} → Refuses P O → Profile → HttpDate → At R P O → Found → At R P O → Type 0
 FindsHead refuses profile date here found there =
-    (r : Result HeadRead AllocError) × TakesHead profile date here.source there.source r × Follows refuses r here found there
+    (r : Result HeadRead AllocError)
+    × TakesHead profile date here.source there.source r
+    × Follows refuses r here found there
 
 -- so many heads were refused, and another stands behind each
 abbrev pub PassesHeads : {R P O : Type 0} → Refuses P O → Profile → HttpDate → ℕ → At R P O → At R P O → Type 0
@@ -67,7 +71,8 @@ abbrev pub PassesTooMany : {R P O : Type 0} → ℕ → At R P O → Result Next
 PassesTooMany passed here r there = (passed ≡ 2 ^ 64) × ((e : AllocError) × (r ≡ Err e)) × (there ≡ here)
 
 -- THE NEXT REQUEST, over the heads that are passed before it
-pub record FindsNext {R P O : Type 0} (refuses : Refuses P O) (profile : Profile) (date : HttpDate) (here : At R P O) (r : Result NextRequest AllocError) (there : At R P O) : Type 0 where
+pub record FindsNext {R P O : Type 0} (refuses : Refuses P O) (profile : Profile) (date : HttpDate) (here : At R P O)
+    (r : Result NextRequest AllocError) (there : At R P O) : Type 0 where
   pub passed : ℕ
   pub mid : At R P O
   pub passes : PassesHeads refuses profile date passed here mid

@@ -1,5 +1,6 @@
 -- What a contract sees of an `OpenRequest`.
-use Rattle.std.specs.Prelude.{◌≡◌, ◌&&◌, ◌||◌, ◌==◌, ℕ, Bool, true, false, not, nat_lt, List, [], Option, Some, None, Result, Ok, Err, ⊤, if◌then◌else◌}
+use Rattle.std.specs.Prelude.{◌≡◌, ◌&&◌, ◌||◌, ◌==◌, ℕ, Bool, true, false, not, nat_lt, List, [], Option, Some, None}
+use Rattle.std.specs.Prelude.{Result, Ok, Err, ⊤, if◌then◌else◌}
 use Rattle.std.specs.List.{list_all}
 use Rattle.httpdate.specs.declared.date.HttpDate.{HttpDate}
 use Rattle.tiny_http_io.specs.declared.device.Stop.TheVariants.{End}
@@ -24,23 +25,27 @@ use Rattle.tiny_http_body.specs.declared.body.Body.TheVariants.{Over}
 use Rattle.tiny_http_body.specs.Body.{stream_body, is_long, is_skipped}
 use Rattle.tiny_http_open_request.specs.declared.open_request.OpenRequest.{OpenRequest}
 use Rattle.tiny_http_open_request.specs.declared.upgrading.UpgradeError.{UpgradeError}
-use Rattle.tiny_http_open_request.specs.declared.upgrading.UpgradeError.TheVariants.{Protocol, NotAsked, Status, UnfinishedBody}
+use Rattle.tiny_http_open_request.specs.declared.upgrading.UpgradeError.TheVariants.{Protocol, NotAsked, Status}
+use Rattle.tiny_http_open_request.specs.declared.upgrading.UpgradeError.TheVariants.{UnfinishedBody}
 use Rattle.tiny_http_open_request.specs.OwnAnswer.{persistence_of}
 use Rattle.tiny_http_open_request.specs.Pipeline.{is_head_method, is_connect_method}
 
 -- the coding that the headers of a request ask for: by the standard, chunks or none
 abbrev pub coding_for : Bool → List Header → Option Coding
-coding_for by_standard headers = if by_standard then (if asks_chunked headers then Some Chunked else None) else coding_asked headers
+coding_for by_standard headers =
+    if by_standard then (if asks_chunked headers then Some Chunked else None) else coding_asked headers
 
 -- a final answer has a code of three digits, and no 1xx (RFC 9110, section 15)
 abbrev pub is_final : ℕ → Bool
 is_final code = not (nat_lt code 200) && nat_lt code 1000
 
--- an answer with this code is refused: by the standard it has to be final, and one to CONNECT is no 2xx, which would open a tunnel
+-- an answer with this code is refused: by the standard it has to be final, and one to CONNECT is no 2xx, which would
+-- open a tunnel
 abbrev pub refuses_code : Bool → Bool → ℕ → Bool
 refuses_code by_standard is_connect code = by_standard && (not (is_final code) || (is_connect && nat_lt code 300))
 
--- no head is read behind a request that is finished now: by the standard its 100 is owed, or more is left of its body than is skipped
+-- no head is read behind a request that is finished now: by the standard its 100 is owed, or more is left of its body
+-- than is skipped
 abbrev pub is_last_once_finished : {B : Type 0} → OpenRequest B → Remainder → Bool
 is_last_once_finished w left = w.by_standard && (w.owes_continue || is_long left)
 
@@ -48,23 +53,28 @@ is_last_once_finished w left = w.by_standard && (w.owes_continue || is_long left
 abbrev pub is_last_with_stream : {B : Type 0} → OpenRequest B → Remainder → Bool
 is_last_with_stream w left = w.holds_next_head || is_last_once_finished w left
 
--- How it is answered now. By the standard the answer says that the connection ends where the request is the last by its head, an answer
--- asked for that, its 100 is owed, or what is left of its body isn't skipped: it is long, or its end isn't known.
+-- How it is answered now. By the standard the answer says that the connection ends where the request is the last by
+-- its head, an answer asked for that, its 100 is owed, or what is left of its body isn't skipped: it is long, or its
+-- end isn't known.
 abbrev pub final_context : {B : Type 0} → OpenRequest B → Remainder → AnswerContext
-final_context w left = if w.by_standard && (w.closes || (w.owes_continue || not (is_skipped left))) then record w.answer_context { persistence = Some Close } else w.answer_context
+final_context w left =
+    if w.by_standard && (w.closes || (w.owes_continue || not (is_skipped left))) then record w.answer_context
+    { persistence = Some Close } else w.answer_context
 
 -- a body that goes on up to the end of the connection
 abbrev pub is_plain : StreamedForm → Bool
 is_plain Plain = true
 is_plain _ = false
 
--- How the head of an answer is printed to this request whose body grows: by the standard it says that the connection ends where another
--- answer would, and where the body goes on up to that end.
+-- How the head of an answer is printed to this request whose body grows: by the standard it says that the connection
+-- ends where another answer would, and where the body goes on up to that end.
 abbrev pub streaming_context : {B : Type 0} → OpenRequest B → ℕ → Remainder → AnswerContext
-streaming_context w status left = if w.by_standard && is_plain (streamed_form w.answer_context status) then record (final_context w left) { persistence = Some Close } else final_context w left
+streaming_context w status left =
+    if w.by_standard && is_plain (streamed_form w.answer_context status) then record (final_context w left)
+    { persistence = Some Close } else final_context w left
 
--- A connection can be upgraded to this protocol by an answer with this code, or why not. By the standard the request has to ask for
--- it, and its body has to be whole (RFC 9110, section 7.8).
+-- A connection can be upgraded to this protocol by an answer with this code, or why not. By the standard the request
+-- has to ask for it, and its body has to be whole (RFC 9110, section 7.8).
 abbrev pub upgrade_check : Bool → Bool → List ℕ → ℕ → Bool → Result ⊤ UpgradeError
 upgrade_check by_standard is_asked protocol code is_whole =
     if not (list_all is_ascii protocol) then Err Protocol else
@@ -75,7 +85,8 @@ upgrade_check by_standard is_asked protocol code is_whole =
 
 -- the same of a request that waits, by how far its body was read
 abbrev pub request_check : {B : Type 0} → OpenRequest B → List ℕ → ℕ → Bool → Result ⊤ UpgradeError
-request_check w protocol code is_whole = upgrade_check w.by_standard (w.holds_next_head && names_protocol w.upgrades.items protocol) protocol code is_whole
+request_check w protocol code is_whole =
+    upgrade_check w.by_standard (w.holds_next_head && names_protocol w.upgrades.items protocol) protocol code is_whole
 
 -- the same request, behind which the connection ends
 abbrev pub closing : {B : Type 0} → OpenRequest B → OpenRequest B
@@ -93,7 +104,8 @@ IsUpgraded old new = new ≡ record old { owes_continue = false; body = stream_b
 abbrev pub HasNoDropText : {B : Type 0} → OpenRequest B → OpenRequest B → Type 0
 HasNoDropText old new = new ≡ record old { owes_continue = false; dropped = record old.dropped { is_taken = true } }
 
--- nothing has changed but that its body reports its end from now on, that no 100 is owed any more, and that no upgrade of it is taken
+-- nothing has changed but that its body reports its end from now on, that no 100 is owed any more, and that no
+-- upgrade of it is taken
 abbrev pub HasNoBodyLeft : OpenRequest Body → OpenRequest Body → Type 0
 HasNoBodyLeft old new = new ≡ record old { body = Over End; owes_continue = false; holds_next_head = false }
 
@@ -113,6 +125,8 @@ pub record KeepsHead {B : Type 0} (w : OpenRequest B) (h : Head) (date : HttpDat
   pub is_connect : w.is_connect ≡ is_connect_method h.method
   pub closes : w.closes ≡ false
   -- the protocols that it asks for, unless it is its connection's last
-  pub upgrades : (protocol : List ℕ) → (w.holds_next_head && names_protocol w.upgrades.items protocol) ≡ (w.holds_next_head && names_protocol h.headers.items protocol)
+  pub upgrades : (protocol : List ℕ)
+      → (w.holds_next_head && names_protocol w.upgrades.items protocol)
+      ≡ (w.holds_next_head && names_protocol h.headers.items protocol)
   pub no_upgrades : w.holds_next_head ≡ false → w.upgrades.items ≡ []
   pub dropped : w.dropped ≡ record { is_taken = false; date = date }

@@ -7,11 +7,13 @@ use Rattle.tiny_http_response.specs.Answer.{Printing, text_plain}
 use Rattle.tiny_http_open_request.specs.Pipeline.{Manner, Refusal, VersionNotSupported, refusal_status}
 use Rattle.tiny_http_response.specs.ResponseValue.{ResponseValue, response_of, response_text, printing_to}
 
--- what an answer says of its connection, by the standard: that it ends behind the last request, and that it persists behind another
+-- what an answer says of its connection, by the standard: that it ends behind the last request, and that it persists
+-- behind another
 abbrev pub persistence_of : Bool → Bool → Option Persistence
 persistence_of by_standard is_last = if by_standard then Some (if is_last then Close else Persistent) else None
 
--- how an answer is printed to a head that is refused, which asks for no coding: by the standard it says that the connection ends
+-- how an answer is printed to a head that is refused, which asks for no coding: by the standard it says that the
+-- connection ends
 abbrev pub own_printing : Manner → Bool → HttpDate → Printing
 own_printing manner no_body date = printing_to None manner.version no_body (persistence_of manner.by_standard true) date
 

@@ -5,4 +5,6 @@ use Rattle.tiny_http_open_request.specs.declared.own_answer.Page.{Page}
 
 -- nothing is held back
 abbrev pub page_sink : Page → Sink
-page_sink p = record { taken = Some p.bytes.items; sent = p.bytes.items; failures = p.failures; last_kind = None; has_ended = false }
+page_sink p =
+    record
+    { taken = Some p.bytes.items; sent = p.bytes.items; failures = p.failures; last_kind = None; has_ended = false }

@@ -1,5 +1,6 @@
 -- What a connection's bytes ask: requests with their bodies, and heads that are refused.
-use Rattle.std.specs.Prelude.{◌≡◌, ℕ, ◌<◌, ◌≤◌, ◌⊎◌, ⊤, Bool, true, false, ◌&&◌, nat_lt, List, [], ◌∷◌, ◌++◌, length, take, drop, Option, Some, None, Result, Ok, Err, unwrap_or, if◌then◌else◌}
+use Rattle.std.specs.Prelude.{◌≡◌, ℕ, ◌<◌, ◌≤◌, ◌⊎◌, ⊤, Bool, true, false, ◌&&◌, nat_lt, List, [], ◌∷◌, ◌++◌, length}
+use Rattle.std.specs.Prelude.{take, drop, Option, Some, None, Result, Ok, Err, unwrap_or, if◌then◌else◌}
 use Rattle.std.specs.declared.io.ErrorKind.{ErrorKind}
 use Rattle.std.specs.declared.io.ErrorKind.TheVariants.{TimedOut}
 use Rattle.tiny_http_head.specs.declared.common.Method.{Method}
@@ -9,7 +10,8 @@ use Rattle.tiny_http_io.specs.declared.device.Stop.{Stop}
 use Rattle.tiny_http_io.specs.declared.device.Stop.TheVariants.{End, Fault as Faults}
 use Rattle.tiny_http_io.specs.Device.{Feed, whole_feed}
 use Rattle.tiny_http_body.specs.Chunks.{WholeChunksBy, CutChunksBy}
-use Rattle.tiny_http_head.specs.Heads.{Message, BeginsWithRequestHead, FaultyHead, Cut, NotAscii, Malformed, version, is_too_new}
+use Rattle.tiny_http_head.specs.Heads.{Message, BeginsWithRequestHead, FaultyHead, Cut, NotAscii, Malformed, version}
+use Rattle.tiny_http_head.specs.Heads.{is_too_new}
 use Rattle.tiny_http_io.specs.Source.{seen_within}
 use Rattle.tiny_http_standard_head.specs.declared.judging.HeadSummary.{HeadSummary}
 use Rattle.tiny_http_standard_head.specs.declared.judging.Refusal.{Refusal as Judgement}
@@ -30,8 +32,8 @@ use Rattle.tiny_http_body.specs.Body.{cut_stop, chunk_rules}
 use Rattle.tiny_http_body.specs.Framing.{Frames, head_limit}
 use Rattle.tiny_http_body.specs.FramingReading.{sized_form}
 
--- a request that is handed out: its head, its framing, what its body reader gives and how that closes, and all that follows its
--- body
+-- a request that is handed out: its head, its framing, what its body reader gives and how that closes, and all that
+-- follows its body
 pub record Request : Type 0 where
   pub message : Message
   pub framing : Framing
@@ -84,8 +86,8 @@ abbrev pub framing_refusal : FramingFault → Refusal
 framing_refusal Invalid = BadRequest
 framing_refusal Expectation = ExpectationFailed
 
--- a head of the connection: handed out, or refused in this manner; no_body says that it is a HEAD, which is told by a 505 alone;
--- last says that the refusal itself ends the connection
+-- a head of the connection: handed out, or refused in this manner; no_body says that it is a HEAD, which is told by a
+-- 505 alone; last says that the refusal itself ends the connection
 pub data Item : Type 0 where
   Asks : (request : Request) → Item
   Refuses : (refusal : Refusal) (manner : Manner) (no_body last : Bool) → Item
@@ -114,20 +116,23 @@ is_connect_method _ = false
 -- BY THE RULES OF TINY_HTTP: the bytes begin with a head of at most so many bytes; what follows it is after
 abbrev pub BeginsWithin : Option ℕ → List ℕ → Message → List ℕ → Type 0
 BeginsWithin None bytes m after = BeginsWithRequestHead bytes m after
-BeginsWithin (Some limit) bytes m after = BeginsWithRequestHead bytes m after × (head : List ℕ) × (bytes ≡ head ++ after) × (length head ≤ limit)
+BeginsWithin (Some limit) bytes m after =
+    BeginsWithRequestHead bytes m after × (head : List ℕ) × (bytes ≡ head ++ after) × (length head ≤ limit)
 
 -- the bytes end within a head, before the limit; the version is that of the request line, if that has ended
 abbrev pub IsUnfinishedHead : Option ℕ → List ℕ → Option HTTPVersion → Type 0
 IsUnfinishedHead None bytes v = FaultyHead bytes v Cut
 IsUnfinishedHead (Some limit) bytes v = FaultyHead bytes v Cut × (length bytes < limit)
 
--- as many bytes as the limit came, or more; each line that ends among so many is good, and the head doesn't end among them
+-- as many bytes as the limit came, or more; each line that ends among so many is good, and the head doesn't end among
+-- them
 abbrev pub IsTooLarge : Option ℕ → List ℕ → Option HTTPVersion → Type 0
 IsTooLarge None bytes v = ⊥
 IsTooLarge (Some limit) bytes v = (limit ≤ length bytes) × FaultyHead (take limit bytes) v Cut
 
 -- the bytes begin with a whole head, and this is how it is framed, or why it isn't
-pub record IsWholeHead (p : HeadRules) (bytes : List ℕ) (m : Message) (after : List ℕ) (framed : Result Framing FramingFault) : Type 0 where
+pub record IsWholeHead (p : HeadRules) (bytes : List ℕ) (m : Message) (after : List ℕ)
+    (framed : Result Framing FramingFault) : Type 0 where
   pub begins : BeginsWithin (head_limit p) bytes m after
   pub frames : Frames p m.version m.headers framed
 
@@ -150,25 +155,34 @@ is_cut_with_head Chunked n after = false
 abbrev pub IsCutHead : HeadRules → List ℕ → Type 0
 IsCutHead p bytes =
     ((line : Option HTTPVersion) × IsUnfinishedHead (head_limit p) bytes line)
-    ⊎ ((m : Message) × (after : List ℕ) × (f : Framing) × IsWholeHead p bytes m after (Ok f) × IsCutWithHead f.form (body_length_or_0 f) after)
+    ⊎ ((m : Message)
+    × (after : List ℕ)
+    × (f : Framing)
+    × IsWholeHead p bytes m after (Ok f)
+    × IsCutWithHead f.form (body_length_or_0 f) after)
 
 -- the first faulty line of a head, among the bytes in which it is looked for, isn't ASCII
 abbrev pub IsNotAsciiHead : HeadRules → List ℕ → Type 0
 IsNotAsciiHead p bytes = (line : Option HTTPVersion) × FaultyHead (seen_within (head_limit p) bytes) line NotAscii
 
--- NO ITEM: the head, or a body that is read with it, is cut, and not by a time-out; or its first faulty line isn't ASCII.
+-- NO ITEM: the head, or a body that is read with it, is cut, and not by a time-out; or its first faulty line isn't
+-- ASCII.
 abbrev pub IsSilent : HeadRules → List ℕ → Stop → Type 0
 IsSilent p bytes stop = (IsCutHead p bytes × (is_timed_out stop ≡ false)) ⊎ IsNotAsciiHead p bytes
 
--- A REFUSAL in this manner, its version that of the request line, or 1.1 where that hasn't ended; a 408 is always in 1.1. A version that is
--- too new is judged by `item_of`, since a body follows it.
+-- A REFUSAL in this manner, its version that of the request line, or 1.1 where that hasn't ended; a 408 is always in
+-- 1.1. A version that is too new is judged by `item_of`, since a body follows it.
 abbrev pub IsRefused : HeadRules → List ℕ → Stop → Refusal → Manner → Type 0
 IsRefused p bytes stop BadRequest v =
-    ((line : Option HTTPVersion) × FaultyHead (seen_within (head_limit p) bytes) line Malformed × (v ≡ plainly (unwrap_or line (version 1 1))))
+    ((line : Option HTTPVersion)
+    × FaultyHead (seen_within (head_limit p) bytes) line Malformed
+    × (v ≡ plainly (unwrap_or line (version 1 1))))
     ⊎ ((m : Message) × (after : List ℕ) × IsWholeHead p bytes m after (Err Invalid) × (v ≡ plainly m.version))
 IsRefused p bytes stop RequestTimeout v = IsCutHead p bytes × (is_timed_out stop ≡ true) × (v ≡ plainly (version 1 1))
-IsRefused p bytes stop ExpectationFailed v = (m : Message) × (after : List ℕ) × IsWholeHead p bytes m after (Err Expectation) × (v ≡ plainly m.version)
-IsRefused p bytes stop HeaderFieldsTooLarge v = (line : Option HTTPVersion) × IsTooLarge (head_limit p) bytes line × (v ≡ plainly (unwrap_or line (version 1 1)))
+IsRefused p bytes stop ExpectationFailed v =
+    (m : Message) × (after : List ℕ) × IsWholeHead p bytes m after (Err Expectation) × (v ≡ plainly m.version)
+IsRefused p bytes stop HeaderFieldsTooLarge v =
+    (line : Option HTTPVersion) × IsTooLarge (head_limit p) bytes line × (v ≡ plainly (unwrap_or line (version 1 1)))
 IsRefused p bytes stop VersionNotSupported v = ⊥
 IsRefused p bytes stop RequestLineTooLong v = ⊥
 IsRefused p bytes stop CodingNotImplemented v = ⊥
@@ -196,7 +210,15 @@ standard_form true owed n = Chunked
 standard_form false owed n = sized_form owed n
 
 abbrev pub standard_framing : HeadSummary → Framing
-standard_framing s = record { form = standard_form s.is_chunked s.owes_continue s.body_length; owes_continue = s.owes_continue; body_length = s.body_length; asks_upgrade = s.asks_upgrade; by_standard = true; is_last = s.is_last }
+standard_framing s =
+    record {
+      form = standard_form s.is_chunked s.owes_continue s.body_length;
+      owes_continue = s.owes_continue;
+      body_length = s.body_length;
+      asks_upgrade = s.asks_upgrade;
+      by_standard = true;
+      is_last = s.is_last;
+    }
 
 -- how a head is refused by its judgement
 abbrev pub standard_refusal : Judgement → Refusal
@@ -224,23 +246,27 @@ RulesHeadAt p bytes stop (Heads m f after) = IsRequestHead p bytes m f after
 
 -- a head, or a body that is read with it, is cut: it is answered where it has begun and the reader timed out
 abbrev pub standard_cut : Bool → Stop → Heading
-standard_cut has_begun stop = if (has_begun && is_timed_out stop) then Refused RequestTimeout by_the_standard else Silence
+standard_cut has_begun stop =
+    if (has_begun && is_timed_out stop) then Refused RequestTimeout by_the_standard else Silence
 
 -- a head that hasn't ended
 abbrev pub standard_open : Bool → List ℕ → Stop → Heading
 standard_open behind_request_line bytes stop =
-    if nat_lt (length bytes) STANDARD_HEAD then standard_cut (is_begun bytes) stop else Refused (long_refusal behind_request_line) by_the_standard
+    if nat_lt (length bytes) STANDARD_HEAD then standard_cut (is_begun bytes) stop
+    else Refused (long_refusal behind_request_line) by_the_standard
 
 -- a whole head that is framed so; a short body of a known length is read with it
 abbrev pub standard_heads : Message → Framing → List ℕ → Stop → Heading
-standard_heads m f after stop = if is_cut_with_head f.form (body_length_or_0 f) after then standard_cut true stop else Heads m f after
+standard_heads m f after stop =
+    if is_cut_with_head f.form (body_length_or_0 f) after then standard_cut true stop else Heads m f after
 
 -- WHAT STANDS THERE by the standard, by what the first bytes are read as. All refusals are in version 1.1.
 abbrev pub standard_heading : Reading → List ℕ → Stop → Heading
 standard_heading ReadBad bytes stop = Refused BadRequest by_the_standard
 standard_heading (ReadOpen behind_request_line) bytes stop = standard_open behind_request_line bytes stop
 standard_heading (ReadWhole m after (Err refusal)) bytes stop = Refused (standard_refusal refusal) by_the_standard
-standard_heading (ReadWhole m after (Ok s)) bytes stop = standard_heads (served_message m) (standard_framing s) (after ++ drop STANDARD_HEAD bytes) stop
+standard_heading (ReadWhole m after (Ok s)) bytes stop =
+    standard_heads (served_message m) (standard_framing s) (after ++ drop STANDARD_HEAD bytes) stop
 
 abbrev pub StandardHeadAt : List ℕ → Stop → Heading → Type 0
 StandardHeadAt bytes stop h = (r : Reading) × AreReadAs (standard_front bytes) r × (h ≡ standard_heading r bytes stop)
@@ -258,25 +284,34 @@ profile_of rules.Strict = Strict
 
 -- the bytes begin with a body of n bytes
 abbrev pub SizedBody : ℕ → List ℕ → Feed → Place → Type 0
-SizedBody n after body next = (rest : List ℕ) × (after ≡ body.bytes ++ rest) × (length body.bytes ≡ n) × (body.stop ≡ End) × (next ≡ Some rest)
+SizedBody n after body next =
+    (rest : List ℕ) × (after ≡ body.bytes ++ rest) × (length body.bytes ≡ n) × (body.stop ≡ End) × (next ≡ Some rest)
 
 -- The body that stands after a head, how it closes, and where the next head begins.
 abbrev pub BodyAt : Bool → Form → ℕ → List ℕ → Stop → Feed → Place → Type 0
 BodyAt standard Nothing n after stop body next = (body ≡ record { bytes = []; stop = End }) × (next ≡ Some after)
 BodyAt standard WithHead n after stop body next = SizedBody n after body next
 BodyAt standard Counted n after stop body next =
-    SizedBody n after body next ⊎ ((length after < n) × (body ≡ record { bytes = after; stop = cut_stop standard stop }) × (next ≡ None))
+    SizedBody n after body next
+    ⊎ ((length after < n) × (body ≡ record { bytes = after; stop = cut_stop standard stop }) × (next ≡ None))
 BodyAt standard Rest n after stop body next = (body ≡ record { bytes = after; stop = stop }) × (next ≡ None)
 BodyAt standard Chunked n after stop body next =
-    ((rest : List ℕ) × WholeChunksBy (chunk_rules standard) after body.bytes rest × (body.stop ≡ End) × (next ≡ Some rest))
-    ⊎ ((kind : ErrorKind) × CutChunksBy (chunk_rules standard) after stop body.bytes kind × (body.stop ≡ Faults kind) × (next ≡ None))
+    ((rest : List ℕ)
+    × WholeChunksBy (chunk_rules standard) after body.bytes rest
+    × (body.stop ≡ End)
+    × (next ≡ Some rest))
+    ⊎ ((kind : ErrorKind)
+    × CutChunksBy (chunk_rules standard) after stop body.bytes kind
+    × (body.stop ≡ Faults kind)
+    × (next ≡ None))
 
 -- where the next head begins after a request
 abbrev pub place_after : Bool → Place → Place
 place_after true next = None
 place_after false next = next
 
--- a version above 1.1 is refused, and the next head stands behind the body, where that is neither chunked nor all the rest
+-- a version above 1.1 is refused, and the next head stands behind the body, where that is neither chunked nor all the
+-- rest
 abbrev pub ends_too_new : Form → Bool
 ends_too_new Rest = true
 ends_too_new Chunked = true
@@ -284,7 +319,8 @@ ends_too_new _ = false
 
 abbrev pub item_of : Message → Framing → Feed → Feed → Item
 item_of m f body behind =
-    if is_too_new m.version then Refuses VersionNotSupported (plainly (version 1 1)) (is_head_method m.method) (ends_too_new f.form) else Asks (record { message = m; framing = f; body = body; behind = behind })
+    if is_too_new m.version then Refuses VersionNotSupported (plainly (version 1 1)) (is_head_method m.method)
+    (ends_too_new f.form) else Asks (record { message = m; framing = f; body = body; behind = behind })
 
 -- where the next head begins after one of this message and framing
 abbrev pub next_place : Message → Framing → Place → Place
@@ -295,7 +331,11 @@ abbrev pub FoundAt : Stop → Heading → Option Item → Place → Type 0
 FoundAt stop Silence item next = (item ≡ None) × (next ≡ None)
 FoundAt stop (Refused refusal v) item next = (item ≡ Some (Refuses refusal v false true)) × (next ≡ None)
 FoundAt stop (Heads m f after) item next =
-    (body : Feed) × (behind : Place) × BodyAt f.by_standard f.form (body_length_or_0 f) after stop body behind × (item ≡ Some (item_of m f body (place_feed stop behind))) × (next ≡ next_place m f behind)
+    (body : Feed)
+    × (behind : Place)
+    × BodyAt f.by_standard f.form (body_length_or_0 f) after stop body behind
+    × (item ≡ Some (item_of m f body (place_feed stop behind)))
+    × (next ≡ next_place m f behind)
 
 -- One head: the item that it is, if any, and where the next one begins.
 abbrev pub OneHead : Profile → List ℕ → Stop → Option Item → Place → Type 0
@@ -307,4 +347,5 @@ abbrev pub Pipeline : Profile → Place → Stop → List Item → Type 0
 Pipeline p None stop [] = ⊤
 Pipeline p None stop (item ∷ items) = ⊥
 Pipeline p (Some bytes) stop [] = OneHead p bytes stop None None
-Pipeline p (Some bytes) stop (item ∷ items) = (next : Place) × OneHead p bytes stop (Some item) next × Pipeline p next stop items
+Pipeline p (Some bytes) stop (item ∷ items) =
+    (next : Place) × OneHead p bytes stop (Some item) next × Pipeline p next stop items

@@ -1,6 +1,7 @@
--- The pipeline of a feed, computed from what stands at each place; and that, by the rules of tiny_http: one plain reading, by which
--- the law of pipelines is proved.
-use Rattle.std.specs.Prelude.{ℕ, zero, suc, ◌+◌, Bool, true, false, nat_lt, nat_le, List, [], ◌∷◌, ◌++◌, length, take, drop, Option, Some, None, unwrap_or, Result, Ok, Err, if◌then◌else◌}
+-- The pipeline of a feed, computed from what stands at each place; and that, by the rules of tiny_http: one plain
+-- reading, by which the law of pipelines is proved.
+use Rattle.std.specs.Prelude.{ℕ, zero, suc, ◌+◌, Bool, true, false, nat_lt, nat_le, List, [], ◌∷◌, ◌++◌, length, take}
+use Rattle.std.specs.Prelude.{drop, Option, Some, None, unwrap_or, Result, Ok, Err, if◌then◌else◌}
 use Rattle.tiny_http_io.specs.declared.device.Stop.{Stop}
 use Rattle.tiny_http_io.specs.declared.device.Stop.TheVariants.{End, Fault as Faults}
 use Rattle.tiny_http_io.specs.Device.{Feed}
@@ -17,7 +18,10 @@ use Rattle.tiny_http_body.specs.declared.framing.Framing.{Framing}
 use Rattle.tiny_http_body.specs.FramingReading.{framing}
 use Rattle.tiny_http_body.specs.Body.{cut_stop, chunk_rules}
 use Rattle.tiny_http_body.specs.Framing.{head_limit}
-use Rattle.tiny_http_open_request.specs.Pipeline.{place_feed, plainly, Item, Refuses, BadRequest, RequestTimeout, HeaderFieldsTooLarge, framing_refusal, Place, is_timed_out, is_cut_with_head, Heading, Silence, Refused, Heads, body_length_or_0, item_of, next_place}
+use Rattle.tiny_http_open_request.specs.Pipeline.{place_feed, plainly, Item, Refuses, BadRequest, RequestTimeout}
+use Rattle.tiny_http_open_request.specs.Pipeline.{HeaderFieldsTooLarge, framing_refusal, Place, is_timed_out}
+use Rattle.tiny_http_open_request.specs.Pipeline.{is_cut_with_head, Heading, Silence, Refused, Heads}
+use Rattle.tiny_http_open_request.specs.Pipeline.{body_length_or_0, item_of, next_place}
 
 -- a body and where the next head begins
 pub record BodyRead : Type 0 where
@@ -25,7 +29,12 @@ pub record BodyRead : Type 0 where
   pub next : Place
 
 abbrev pub chunked_read : Decoded → BodyRead
-chunked_read d = elim d.ends [ Ok rest ↦ record { body = record { bytes = d.body; stop = End }; next = Some rest } | Err kind ↦ record { body = record { bytes = d.body; stop = Faults kind }; next = None } ]
+chunked_read d =
+    elim d.ends [
+      | Ok rest ↦ record { body = record { bytes = d.body; stop = End }; next = Some rest }
+      | Err kind ↦ record
+          { body = record { bytes = d.body; stop = Faults kind }; next = None }
+    ]
 
 abbrev pub sized_read : ℕ → List ℕ → Stop → BodyRead
 sized_read n after stop =
@@ -50,7 +59,8 @@ cut_heading stop = if is_timed_out stop then Refused RequestTimeout (plainly (ve
 
 abbrev pub whole_heading : Message → List ℕ → Stop → Result Framing FramingFault → Heading
 whole_heading m after stop (Err fault) = Refused (framing_refusal fault) (plainly m.version)
-whole_heading m after stop (Ok f) = if is_cut_with_head f.form (body_length_or_0 f) after then cut_heading stop else Heads m f after
+whole_heading m after stop (Ok f) =
+    if is_cut_with_head f.form (body_length_or_0 f) after then cut_heading stop else Heads m f after
 
 -- as many bytes as the limit came
 abbrev pub is_full : Option ℕ → List ℕ → Bool
@@ -64,13 +74,15 @@ all_after (Some limit) bytes after = after ++ drop limit bytes
 
 -- the head's first faulty line; if the head is only cut, the limit was reached or wasn't
 abbrev pub faulty : Bool → Option HTTPVersion → GrammarFault → Stop → Heading
-faulty full v Cut stop = if full then Refused HeaderFieldsTooLarge (plainly (unwrap_or v (version 1 1))) else cut_heading stop
+faulty full v Cut stop =
+    if full then Refused HeaderFieldsTooLarge (plainly (unwrap_or v (version 1 1))) else cut_heading stop
 faulty full v NotAscii stop = Silence
 faulty full v Malformed stop = Refused BadRequest (plainly (unwrap_or v (version 1 1)))
 
 abbrev pub heading : HeadRules → List ℕ → Stop → RequestHeadRead → Heading
 heading p bytes stop (Faulty v fault) = faulty (is_full (head_limit p) bytes) v fault stop
-heading p bytes stop (Whole m after) = whole_heading m (all_after (head_limit p) bytes after) stop (framing p m.version m.headers)
+heading p bytes stop (Whole m after) =
+    whole_heading m (all_after (head_limit p) bytes after) stop (framing p m.version m.headers)
 
 -- the heading at a place, by the rules of tiny_http
 abbrev pub heading_of : HeadRules → Stop → List ℕ → Heading
@@ -89,7 +101,8 @@ Headings = Stop → List ℕ → Heading
 
 abbrev pub items_from : Headings → ℕ → Stop → Place → List Item
 items_from at zero stop place = []
-items_from at (suc fuel) stop place = elim place [ None ↦ [] | Some bytes ↦ items_at (items_from at fuel stop) stop (at stop bytes) ]
+items_from at (suc fuel) stop place =
+    elim place [ None ↦ [] | Some bytes ↦ items_at (items_from at fuel stop) stop (at stop bytes) ]
 
 -- the pipeline of a feed, by what stands at each place
 abbrev pub items_of : Headings → Feed → List Item

@@ -15,6 +15,9 @@ use Rattle.tiny_http_open_request.specs.HeadReads.{RefusesWith, cut_end, head_me
 abbrev pub IsHeadOf : StandardHead → Head → Type 0
 IsHeadOf read h = head_message h ≡ served_message (message_of read)
 
--- What a head is answered that is cut by this stop: 408 where it has begun and the reader timed out, else nothing, for this reason.
+-- What a head is answered that is cut by this stop: 408 where it has begun and the reader timed out, else nothing,
+-- for this reason.
 abbrev pub AnswersStandardCut : Stop → Bool → HttpDate → Result HeadRead AllocError → Type 0
-AnswersStandardCut stop has_begun date r = MatchBool (has_begun && is_timed_out stop) (RefusesWith 408 by_the_standard date r) (r ≡ Ok (read.Ended (cut_end stop has_begun)))
+AnswersStandardCut stop has_begun date r =
+    MatchBool (has_begun && is_timed_out stop) (RefusesWith 408 by_the_standard date r)
+    (r ≡ Ok (read.Ended (cut_end stop has_begun)))

@@ -1,10 +1,16 @@
 //! A request without locks: its head, its body on the connection's input, and what becomes of both.
-ghost use Rattle.std.specs.Prelude.{◌≡◌, ◌<◌, true, false, [], length, Some, None, Ok, IfOk, IfSome, IsSome, OnOk, OnErr};
+ghost use Rattle.std.specs.Prelude.{◌≡◌, ◌<◌, true, false, [], length, Some, None, Ok, IfOk, IfSome, IsSome, OnOk};
+ghost use Rattle.std.specs.Prelude.{OnErr};
 ghost use Rattle.tiny_http_response.specs.ResponseValue.{printing_in, upgrade_text};
 ghost use Rattle.tiny_http_io.specs.Source.{GoesOn, IsAtEnd, IsCutOff};
-ghost use Rattle.tiny_http_open_request.specs.Pipeline.{profile_of, is_timed_out, ends_too_new, refusal_status, framing_refusal};
+ghost use Rattle.tiny_http_open_request.specs.Pipeline.{profile_of, is_timed_out, ends_too_new, refusal_status};
+ghost use Rattle.tiny_http_open_request.specs.Pipeline.{framing_refusal};
 ghost use Rattle.tiny_http_body.specs.Body.{ReadsBody, PassesOver};
-ghost use Rattle.tiny_http_open_request.specs.HeadReads.{ReadsHead, RefusesWith, RefusesTooNew, AnswersCut, AnswersFault, TakesHead, HasByteOrTimedOut, Begins, IsRequest, IsFramedRequest, IsRefusedUncut, IsOkEnd, cut_end, end_at, standing_of, message_of, head_message, head_framing};
+ghost use Rattle.tiny_http_open_request.specs.HeadReads.{ReadsHead, RefusesWith, RefusesTooNew, AnswersCut};
+ghost use Rattle.tiny_http_open_request.specs.HeadReads.{AnswersFault, TakesHead, HasByteOrTimedOut, Begins};
+ghost use Rattle.tiny_http_open_request.specs.HeadReads.{IsRequest, IsFramedRequest, IsRefusedUncut, IsOkEnd};
+ghost use Rattle.tiny_http_open_request.specs.HeadReads.{cut_end, end_at, standing_of, message_of, head_message};
+ghost use Rattle.tiny_http_open_request.specs.HeadReads.{head_framing};
 ghost use Rattle.tiny_http_open_request.specs.OpenRequest.{KeepsHead};
 ghost use Rattle.tiny_http_io.specs.Device.{Feed};
 ghost use Rattle.tiny_http_io.specs.Outlet.{outlet_held, SentOn};
@@ -46,14 +52,14 @@ pub struct Head {
     pub body_length: Option<usize>,
     /// How the body is read.
     pub form: Form,
-    /// Whether the head expects a 100 before the body (RFC 9110, section 10.1.1): in any version and with or without a body; under
-    /// `Standard` in version 1.1, where a body follows.
+    /// Whether the head expects a 100 before the body (RFC 9110, section 10.1.1): in any version and with or without
+    /// a body; under `Standard` in version 1.1, where a body follows.
     pub owes_continue: bool,
-    /// Whether the head asks for an upgrade (RFC 9110, section 7.8); it is told under `Standard` alone: in version 1.1, by a
-    /// `Connection` with the element `upgrade` and an `Upgrade` that names a protocol.
+    /// Whether the head asks for an upgrade (RFC 9110, section 7.8); it is told under `Standard` alone: in version
+    /// 1.1, by a `Connection` with the element `upgrade` and an `Upgrade` that names a protocol.
     pub asks_upgrade: bool,
-    /// Whether it was read under `Standard`: no request follows one that is answered or dropped while its 100 is owed, or while
-    /// more than 65,536 bytes of its body are unread.
+    /// Whether it was read under `Standard`: no request follows one that is answered or dropped while its 100 is
+    /// owed, or while more than 65,536 bytes of its body are unread.
     pub by_standard: bool,
     /// Whether the connection ends after this request (RFC 9112, section 9.3).
     pub is_last: bool,
@@ -69,14 +75,14 @@ pub struct Exchange {
 /// Why no further request comes.
 #[derive(Clone, Copy, Debug, PartialEq, Eq)]
 pub enum EndOfRequests {
-    /// The last request was read: its version or its `Connection` header ends the connection after it. Under `Standard` its
-    /// method `CONNECT` does, too, as does whatever finished it while its 100 was owed or more than 65,536 bytes of its counted
-    /// body weren't given out, and, if it asked for an upgrade, its raw writer or its upgrade. Under each profile an answer by
-    /// `Response::with_close` does.
+    /// The last request was read: its version or its `Connection` header ends the connection after it. Under
+    /// `Standard` its method `CONNECT` does, too, as does whatever finished it while its 100 was owed or more than
+    /// 65,536 bytes of its counted body weren't given out, and, if it asked for an upgrade, its raw writer or its
+    /// upgrade. Under each profile an answer by `Response::with_close` does.
     LastRequest,
-    /// The client's bytes ended, and no byte of a further head had come. So it is too where they ended within a body of a known
-    /// length (under `Standard` that is `BrokenBody`, once it was read up to there), or, by an end or a fault, within what was left
-    /// of one that was given up or passed over.
+    /// The client's bytes ended, and no byte of a further head had come. So it is too where they ended within a body
+    /// of a known length (under `Standard` that is `BrokenBody`, once it was read up to there), or, by an end or a
+    /// fault, within what was left of one that was given up or passed over.
     Closed,
     /// They ended within a head, or within a body that is read with its head.
     Cut,
@@ -84,8 +90,8 @@ pub enum EndOfRequests {
     NotAscii,
     /// A head was refused with this status, and ended the requests.
     Refused(StatusCode),
-    /// The reader failed so before the head, and a body that is read with it, had come. A time-out is `Refused` with 408 in its
-    /// place; under `Standard` only where a byte of the head had come.
+    /// The reader failed so before the head, and a body that is read with it, had come. A time-out is `Refused` with
+    /// 408 in its place; under `Standard` only where a byte of the head had come.
     Fault(ErrorKind),
     /// The body before was read to this fault, the reader's or the body's own.
     BrokenBody(ErrorKind),
@@ -102,8 +108,8 @@ pub enum EndOfRequests {
 pub enum HeadRead {
     /// A request.
     Request(Exchange),
-    /// A head that is refused with this status: the whole text of its answer, to be sent in its turn. If it is the last, no
-    /// head follows.
+    /// A head that is refused with this status: the whole text of its answer, to be sent in its turn. If it is the
+    /// last, no head follows.
     Refused {
         status: StatusCode,
         text: Vec<u8>,
@@ -122,8 +128,12 @@ impl Exchange {
         Exchange { head, open_request }
     }
 
-    ghost use Rattle.tiny_http_open_request.specs.Exchange.{exchange_printing, exchange_context, exchange_check, exchange_of, exchange_head, exchange_drop_text, exchange_owes_continue, exchange_body, Changes, GivesUpBody, KeepsButBody};
-    ghost use Rattle.tiny_http_open_request.specs.OpenRequest.{OwesNoContinue, IsUpgraded, HasNoDropText, HasNoBodyLeft};
+    ghost use Rattle.tiny_http_open_request.specs.Exchange.{exchange_printing, exchange_context, exchange_check};
+    ghost use Rattle.tiny_http_open_request.specs.Exchange.{exchange_of, exchange_head, exchange_drop_text};
+    ghost use Rattle.tiny_http_open_request.specs.Exchange.{exchange_owes_continue, exchange_body, Changes};
+    ghost use Rattle.tiny_http_open_request.specs.Exchange.{GivesUpBody, KeepsButBody};
+    ghost use Rattle.tiny_http_open_request.specs.OpenRequest.{OwesNoContinue, IsUpgraded, HasNoDropText};
+    ghost use Rattle.tiny_http_open_request.specs.OpenRequest.{HasNoBodyLeft};
 
     /// What the request's head says.
     pub fn head(&self) -> &Head
@@ -132,30 +142,32 @@ impl Exchange {
         &self.head
     }
 
-    /// Reads some bytes of the body into the front of `buf`, and says how many: fewer than `buf` has room for also where more
-    /// follow, and 0 where `buf` is empty. After the last byte each call answers 0, or the fault by which the body is cut or
-    /// broken (RFC 9112, sections 6.2 and 7.1): the reader's own; or InvalidData or UnexpectedEof of a chunked body. A body of
-    /// a known length that is cut by the end of the input ends there; under `Standard` that is UnexpectedEof. The source must
-    /// be the one that the request was read from; after a fault the source has ended. A body that was given up answers 0. No
-    /// memory is taken.
+    /// Reads some bytes of the body into the front of `buf`, and says how many: fewer than `buf` has room for also
+    /// where more follow, and 0 where `buf` is empty. After the last byte each call answers 0, or the fault by which
+    /// the body is cut or broken (RFC 9112, sections 6.2 and 7.1): the reader's own; or InvalidData or UnexpectedEof
+    /// of a chunked body. A body of a known length that is cut by the end of the input ends there; under `Standard`
+    /// that is UnexpectedEof. The source must be the one that the request was read from; after a fault the source has
+    /// ended. A body that was given up answers 0. No memory is taken.
     pub fn read_body<R: ReadDevice>(
         &mut self,
         source: &mut Source<R>,
         buf: &mut [u8],
     ) -> Result<usize, io::Error>
-        ensures reads { ReadsBody (exchange_body self.old) (exchange_body self.new) source.old source.new result buf.new }
+        ensures reads { ReadsBody (exchange_body self.old) (exchange_body self.new) source.old source.new result
+            buf.new }
         ensures kept { KeepsButBody self.old self.new }
     {
         self.open_request.read(source, buf)
     }
 
-    /// Sends the answer to this request, printed for it and dated `now`, and flushes it. No 100 is owed any more. The caller
-    /// answers each request once, in the order of the requests, and gives the body up. Under `Standard` the answer
-    /// says that the connection ends where the request is the last by its head, its 100 is owed, more than 65,536 bytes of its body
-    /// are unread, or the end of its body isn't known. Then the caller reads no further head. A body that was given up before this
-    /// call counts as read. What `Response::with_close` asks is passed over. On an outlet that has ended nothing is sent, the data
-    /// aren't read, and the result is `Ok`. The first fault is the error: the data's, or the writer's. Where both fail, either may
-    /// be reported. Then the outlet has ended, and what was held before a fault of the data is sent.
+    /// Sends the answer to this request, printed for it and dated `now`, and flushes it. No 100 is owed any more. The
+    /// caller answers each request once, in the order of the requests, and gives the body up. Under `Standard` the
+    /// answer says that the connection ends where the request is the last by its head, its 100 is owed, more than
+    /// 65,536 bytes of its body are unread, or the end of its body isn't known. Then the caller reads no further
+    /// head. A body that was given up before this call counts as read. What `Response::with_close` asks is passed
+    /// over. On an outlet that has ended nothing is sent, the data aren't read, and the result is `Ok`. The first
+    /// fault is the error: the data's, or the writer's. Where both fail, either may be reported. Then the outlet has
+    /// ended, and what was held before a fault of the data is sent.
     pub fn respond_on<W: WriteDevice, D: ReadDevice + Drop>(
         &mut self,
         alloc: Global,
@@ -163,7 +175,8 @@ impl Exchange {
         response: Response<D>,
         now: HttpDate,
     ) -> Result<(), io::Error>
-        ensures answers { SendsAnswer D.feed outlet.old outlet.new result response (printing_in (exchange_context self.old) now) }
+        ensures answers { SendsAnswer D.feed outlet.old outlet.new result response
+            (printing_in (exchange_context self.old) now) }
         ensures once { Changes OwesNoContinue self.old self.new }
     {
         let left = self.open_request.body.remainder();
@@ -171,16 +184,17 @@ impl Exchange {
             .respond(alloc, outlet, response, left, now)
     }
 
-    /// Sends the answer that upgrades the connection to this protocol (RFC 9110, section 7.8), printed for this request and
-    /// dated `now`, and flushes it: its head alone, with `Connection: upgrade` and `Upgrade: PROTOCOL` in front of the other
-    /// headers (as tiny_http). No 100 is owed any more. The caller does so in the turn of the request, in the place of an
-    /// answer; then the output is the protocol's, and what the body gives is its input: the request's body, or by the standard
-    /// all that follows it. After it the caller sends neither an answer nor the text of a drop. It is an error where the
-    /// protocol isn't ASCII. By the standard it is one, too, where the request doesn't ask for this protocol or is its
-    /// connection's last, where the code isn't 101, and where the body isn't whole: cut, broken, or not read to its end; or the
-    /// body was given up. Then nothing has changed, and the caller drops the request. By the standard the caller reads no head
-    /// behind an upgrade. The data are let go unread. A fault of the writer ends the outlet, and isn't reported. On an outlet
-    /// that has ended nothing is sent. The call takes no memory.
+    /// Sends the answer that upgrades the connection to this protocol (RFC 9110, section 7.8), printed for this
+    /// request and dated `now`, and flushes it: its head alone, with `Connection: upgrade` and `Upgrade: PROTOCOL` in
+    /// front of the other headers (as tiny_http). No 100 is owed any more. The caller does so in the turn of the
+    /// request, in the place of an answer; then the output is the protocol's, and what the body gives is its input:
+    /// the request's body, or by the standard all that follows it. After it the caller sends neither an answer nor
+    /// the text of a drop. It is an error where the protocol isn't ASCII. By the standard it is one, too, where the
+    /// request doesn't ask for this protocol or is its connection's last, where the code isn't 101, and where the
+    /// body isn't whole: cut, broken, or not read to its end; or the body was given up. Then nothing has changed, and
+    /// the caller drops the request. By the standard the caller reads no head behind an upgrade. The data are let go
+    /// unread. A fault of the writer ends the outlet, and isn't reported. On an outlet that has ended nothing is
+    /// sent. The call takes no memory.
     pub fn upgrade_on<W: WriteDevice, D: Drop>(
         &mut self,
         alloc: Global,
@@ -193,9 +207,12 @@ impl Exchange {
         ensures refused { OnErr result ((self.new ≡ self.old) × (outlet.new ≡ outlet.old)) }
         // Whatever the data are.
         ensures sends { OnOk result ((content : Feed) → SendsQuietlyOn outlet.old outlet.new
-            (upgrade_text (record { answer = response.answer; content = content }) protocol.now (exchange_printing self.old now))) }
+            (upgrade_text (record { answer = response.answer; content = content }) protocol.now
+            (exchange_printing self.old now))) }
         ensures once { OnOk result (Changes IsUpgraded self.old self.new) }
-        ensures sent { OnOk result (FailsOnce outlet.old outlet.new × (outlet_held outlet.new ≡ []) × SentOn outlet.new) }
+        ensures sent { OnOk result (FailsOnce outlet.old outlet.new
+            × (outlet_held outlet.new ≡ [])
+            × SentOn outlet.new) }
     {
         let status = response.status_code();
         let is_whole = self.open_request.body.is_whole();
@@ -207,9 +224,10 @@ impl Exchange {
         Ok(())
     }
 
-    /// Sends the 100 that is owed to this request, and flushes (RFC 9110, section 10.1.1). Where none is owed it changes
-    /// nothing. The caller sends it in the turn of the request, before the body is read and before the answer. The call takes
-    /// no memory. A fault of the writer ends the outlet, and isn't reported; on an outlet that has ended nothing is sent.
+    /// Sends the 100 that is owed to this request, and flushes (RFC 9110, section 10.1.1). Where none is owed it
+    /// changes nothing. The caller sends it in the turn of the request, before the body is read and before the
+    /// answer. The call takes no memory. A fault of the writer ends the outlet, and isn't reported; on an outlet that
+    /// has ended nothing is sent.
     pub fn send_continue<W: WriteDevice>(
         &mut self,
         alloc: Global,
@@ -226,8 +244,9 @@ impl Exchange {
         self.open_request.send_continue(alloc, outlet, now);
     }
 
-    /// Gives the body up: each later read answers 0, and no 100 is owed any more. The rest of a body of a known length is
-    /// skipped before the next head; after a chunked one whose end or fault wasn't reported the source has ended.
+    /// Gives the body up: each later read answers 0, and no 100 is owed any more. The rest of a body of a known
+    /// length is skipped before the next head; after a chunked one whose end or fault wasn't reported the source has
+    /// ended.
     pub fn give_up<R: ReadDevice>(&mut self, source: &mut Source<R>)
         ensures gives_up { GivesUpBody self.old source.old source.new }
         ensures kept { Changes HasNoBodyLeft self.old self.new }
@@ -236,9 +255,10 @@ impl Exchange {
         self.open_request.give_up(source);
     }
 
-    /// Takes the text that answers this request if it is dropped: an empty 500, printed for its version, its headers and its
-    /// method, on the date on which it was read (as tiny_http). No byte of it is left, and no 100 is owed any more. The caller
-    /// sends it in the turn of the request, in the place of an answer, and gives the body up. The call takes no memory.
+    /// Takes the text that answers this request if it is dropped: an empty 500, printed for its version, its headers
+    /// and its method, on the date on which it was read (as tiny_http). No byte of it is left, and no 100 is owed any
+    /// more. The caller sends it in the turn of the request, in the place of an answer, and gives the body up. The
+    /// call takes no memory.
     pub fn text_of_drop(&mut self) -> Vec<u8>
         ensures text { result.items ≡ exchange_drop_text self.old }
         ensures once { Changes HasNoDropText self.old self.new }
@@ -308,7 +328,8 @@ fn ends_too_new(form: Form) -> bool
     matches!(form, Form::Rest | Form::Chunked)
 }
 
-// Passes over a body of which nothing was read. It doesn't call the reader, unless 2^64 bytes and more are to be skipped.
+// Passes over a body of which nothing was read. It doesn't call the reader, unless 2^64 bytes and more are to be
+// skipped.
 fn pass_over<R: ReadDevice>(source: &mut Source<R>, body: &Body)
     ensures passes { PassesOver body.now source.old source.new }
     ensures goes_on { GoesOn source.old.feed source.new.feed }
@@ -409,8 +430,8 @@ fn head_of(message: Message, framing: Framing) -> Head
     }
 }
 
-/// The body after a head that is so framed. One of up to 1024 bytes is read at once, unless a 100 is owed: `None` where it is
-/// cut, by the source's end or by a fault. It is an error where memory for it was refused.
+/// The body after a head that is so framed. One of up to 1024 bytes is read at once, unless a 100 is owed: `None`
+/// where it is cut, by the source's end or by a fault. It is an error where memory for it was refused.
 #[inline(always)]
 pub fn begin_body<R: ReadDevice>(
     alloc: Global,
@@ -437,8 +458,8 @@ pub fn begin_body<R: ReadDevice>(
     }
 }
 
-// What stands at the source's standing, by the rules of tiny_http. After anything but a request the source may stand within a head
-// or its body.
+// What stands at the source's standing, by the rules of tiny_http. After anything but a request the source may stand
+// within a head or its body.
 fn read_by_rules<R: ReadDevice>(
     alloc: Global,
     source: &mut Source<R>,
@@ -531,30 +552,32 @@ fn end_at(standing: Standing, why: EndOfRequests) -> EndOfRequests
     }
 }
 
-/// Reads one head, and with it a body of up to 1024 bytes (RFC 9112, sections 2 to 6). It answers a request, whose body is then
-/// read from the source; or a head that is refused; or the end, with its reason. A head is refused by 400 for a bad line, by
-/// 408 where the reader timed out, also before its first byte, by 417 for an expectation that can't be met, and by 505 for a
-/// version above 1.1, with a text that says which are served (as tiny_http). Under `Strict` it is refused by 431, too, where so
-/// many bytes of it came as it may have and it hasn't ended (RFC 6585, section 5), and by 400 where its framing is invalid (RFC
-/// 9112, section 6.3). The first bad line is judged first, then the size, then the framing, then the expectation, then a body
-/// that is read with its head and cut, then the version. `now` dates the answer to a refused head, and
-/// the 500 of a request that is dropped. It is an error where memory was refused.
+/// Reads one head, and with it a body of up to 1024 bytes (RFC 9112, sections 2 to 6). It answers a request, whose
+/// body is then read from the source; or a head that is refused; or the end, with its reason. A head is refused by
+/// 400 for a bad line, by 408 where the reader timed out, also before its first byte, by 417 for an expectation that
+/// can't be met, and by 505 for a version above 1.1, with a text that says which are served (as tiny_http). Under
+/// `Strict` it is refused by 431, too, where so many bytes of it came as it may have and it hasn't ended (RFC 6585,
+/// section 5), and by 400 where its framing is invalid (RFC 9112, section 6.3). The first bad line is judged first,
+/// then the size, then the framing, then the expectation, then a body that is read with its head and cut, then the
+/// version. `now` dates the answer to a refused head, and the 500 of a request that is dropped. It is an error where
+/// memory was refused.
 ///
-/// Under `Standard` a head is read by `tiny_http_standard_head`. It is refused by 400, 408, 414, 417, 431, 501 or 505, each with an
-/// empty answer in version 1.1 after which no head follows. A client that times out before a byte of a head isn't answered. The
-/// order is: the first bad line, the size, the version, the host and what frames the body, its coding, the expectation, and a
-/// body that is read with its head and cut.
+/// Under `Standard` a head is read by `tiny_http_standard_head`. It is refused by 400, 408, 414, 417, 431, 501 or
+/// 505, each with an empty answer in version 1.1 after which no head follows. A client that times out before a byte
+/// of a head isn't answered. The order is: the first bad line, the size, the version, the host and what frames the
+/// body, its coding, the expectation, and a body that is read with its head and cut.
 ///
-/// By the other profiles, after a 505 the next head stands behind the body, which is passed over, unless the head names an
-/// upgrade or the body is chunked. After anything else but a request the source has ended, but after the last request: then
-/// nothing is read, and its body can be read on.
+/// By the other profiles, after a 505 the next head stands behind the body, which is passed over, unless the head
+/// names an upgrade or the body is chunked. After anything else but a request the source has ended, but after the
+/// last request: then nothing is read, and its body can be read on.
 ///
-/// Under `Standard` the caller reads no head before a request that asks for an upgrade is answered or dropped, none behind its
-/// upgrade or raw writer, and none behind a request that was finished while its 100 was owed, or while more than 65,536 bytes of
-/// its body were unread: `Connection` sees to that.
+/// Under `Standard` the caller reads no head before a request that asks for an upgrade is answered or dropped, none
+/// behind its upgrade or raw writer, and none behind a request that was finished while its 100 was owed, or while
+/// more than 65,536 bytes of its body were unread: `Connection` sees to that.
 ///
-/// By `read_head`, `read_body` and `give_up` on one source bytes of a body are never read as a head. Where the body of the
-/// request before was neither read to its end nor given up the answer is `UnreadBody`, and the source ends there.
+/// By `read_head`, `read_body` and `give_up` on one source bytes of a body are never read as a head. Where the body
+/// of the request before was neither read to its end nor given up the answer is `UnreadBody`, and the source ends
+/// there.
 pub fn read_head_with<R: ReadDevice>(
     alloc: Global,
     source: &mut Source<R>,

@@ -1,7 +1,9 @@
 //! The lines of a head.
 ghost use Rattle.std.specs.Prelude.{◌≡◌, ◌≢◌, None, Some, Err, OnOk, IfErr};
 ghost use Rattle.tiny_http_io.specs.Source.{GoesOn, IsWithin, IsAtEnd, IsCutOff};
-ghost use Rattle.tiny_http_open_request.specs.HeadReads.{IsBadLine, StartIn, FieldIn, FindsText, ReadsStart, ReadsField, ReadsFields, ReadsMessage, head_fault, left_after};
+ghost use Rattle.tiny_http_open_request.specs.HeadReads.{IsBadLine, StartIn, FieldIn, FindsText, ReadsStart};
+ghost use Rattle.tiny_http_open_request.specs.HeadReads.{ReadsField, ReadsFields, ReadsMessage, head_fault};
+ghost use Rattle.tiny_http_open_request.specs.HeadReads.{left_after};
 
 use std::alloc::Global;
 use tiny_http_head::common::{HTTPVersion, Header, Method};
@@ -184,8 +186,8 @@ fn read_fields<R: ReadDevice>(
     }
 }
 
-/// Reads a whole head of at most `limit` bytes, its empty line included; or answers its fault, under its version if that was
-/// read.
+/// Reads a whole head of at most `limit` bytes, its empty line included; or answers its fault, under its version if
+/// that was read.
 pub(crate) fn read_message<R: ReadDevice>(
     alloc: Global,
     source: &mut Source<R>,
@@ -197,7 +199,9 @@ pub(crate) fn read_message<R: ReadDevice>(
     ensures lazy { OnOk result (source.new.stop ≡ source.old.stop) }
     ensures passed { IfErr result (λ e. IsBadLine e.1 → source.new.stop ≡ source.old.stop) }
     ensures standing { source.new.standing ≡ source.old.standing }
-    ensures at_end { IsAtEnd source.old → limit ≢ Some 0 → (result ≡ Err (None, HeadFault.Cut)) × (source.new ≡ source.old) }
+    ensures at_end { IsAtEnd source.old
+        → limit ≢ Some 0
+        → (result ≡ Err (None, HeadFault.Cut)) × (source.new ≡ source.old) }
 {
     let mut left = limit;
     let (method, path, version) = match read_start(alloc, source, &mut left) {

@@ -15,5 +15,8 @@ pub fn sizes_of_heads()
 /// Under each profile each feed has exactly one pipeline.
 pub fn one_pipeline()
     ensures some { (p : Profile) (feed : Feed) → (items : List Item) × Pipeline p (Some feed.bytes) feed.stop items }
-    ensures one { (p : Profile) (feed : Feed) (items others : List Item) → Pipeline p (Some feed.bytes) feed.stop items → Pipeline p (Some feed.bytes) feed.stop others → items ≡ others }
+    ensures one { (p : Profile) (feed : Feed) (items others : List Item)
+        → Pipeline p (Some feed.bytes) feed.stop items
+        → Pipeline p (Some feed.bytes) feed.stop others
+        → items ≡ others }
 {}

@@ -18,22 +18,22 @@ pub enum NextRequest {
     Ended(EndOfRequests),
 }
 
-/// A place where the answers to refused heads go, each in the turn of its head. `O` is the output that is lent for that.
+/// A place where the answers to refused heads go, each in the turn of its head. `O` is the output that is lent for
+/// that.
 pub trait RefusalPlace<O> {
     /// This text was put there; or, where the flag is false, it wasn't.
     ghost refuses: { Self → O → List ℕ → Bool → Self → O → Type 0 };
 
-    /// Puts the whole text of the answer to a refused head there. It is sent in the turn of the head, and nobody is waited
-    /// for. An error where memory was refused.
+    /// Puts the whole text of the answer to a refused head there. It is sent in the turn of the head, and nobody is
+    /// waited for. An error where memory was refused.
     fn refuse(&mut self, output: &mut O, text: Vec<u8>) -> Result<(), AllocError>
         ensures { refuses self.old output.old text.items (is_ok result) self.new output.new };
 }
 
-/// Reads heads up to that of the next request. Where one is refused its answer goes to this place. A refused head ends the
-/// requests; but behind a 505 the next head is read, unless its head names an upgrade or its body is chunked (as tiny_http), or the
-/// profile is `Standard`.
-/// `now` dates the answers to refused heads, and the 500 of a request that is dropped. It is an error where memory was
-/// refused, or 2^64 heads were passed.
+/// Reads heads up to that of the next request. Where one is refused its answer goes to this place. A refused head
+/// ends the requests; but behind a 505 the next head is read, unless its head names an upgrade or its body is chunked
+/// (as tiny_http), or the profile is `Standard`. `now` dates the answers to refused heads, and the 500 of a request
+/// that is dropped. It is an error where memory was refused, or 2^64 heads were passed.
 pub fn next_request<R: ReadDevice, O, P: RefusalPlace<O>>(
     alloc: Global,
     source: &mut Source<R>,
@@ -42,7 +42,8 @@ pub fn next_request<R: ReadDevice, O, P: RefusalPlace<O>>(
     output: &mut O,
     now: HttpDate,
 ) -> Result<NextRequest, AllocError>
-    ensures { FindsNext P.refuses profile now (at source.old place.old output.old) result (at source.new place.new output.new) }
+    ensures { FindsNext P.refuses profile now (at source.old place.old output.old) result
+        (at source.new place.new output.new) }
 {
     let mut room = u64::MAX;
     loop {

@@ -1,6 +1,6 @@
 //! A request that was handed out and isn't answered yet: what it owes, how its answer is printed, and its body. A
-//! `Connection` keeps it under its number, a `Request` beside its turn. They see to the turn; what is sent, and what is owed
-//! after it, is decided here.
+//! `Connection` keeps it under its number, a `Request` beside its turn. They see to the turn; what is sent, and what
+//! is owed after it, is decided here.
 ghost use Rattle.std.specs.Prelude.{◌≡◌, ℕ, List, true, false, IfOk};
 ghost use Rattle.tiny_http_standard_head.specs.Judging.{names_protocol};
 ghost use Rattle.std.specs.List.{list_all};
@@ -12,7 +12,10 @@ ghost use Rattle.tiny_http_response.specs.ResponseValue.{printing_in, upgrade_te
 ghost use Rattle.tiny_http_response.specs.Sending.{FailsOnce, SendsQuietlyOn, SendsAnswer};
 ghost use Rattle.tiny_http_open_request.specs.TextState.{drop_text};
 ghost use Rattle.tiny_http_open_request.specs.OwnAnswer.{own_text_by};
-ghost use Rattle.tiny_http_open_request.specs.OpenRequest.{coding_for, KeepsHead, closing, OwesNoContinue, HasNoDropText, HasNoBodyLeft, HasSentAll, final_context, streaming_context, is_last_once_finished, is_last_with_stream, refuses_code, request_check};
+ghost use Rattle.tiny_http_open_request.specs.OpenRequest.{coding_for, KeepsHead, closing, OwesNoContinue};
+ghost use Rattle.tiny_http_open_request.specs.OpenRequest.{HasNoDropText, HasNoBodyLeft, HasSentAll, final_context};
+ghost use Rattle.tiny_http_open_request.specs.OpenRequest.{streaming_context, is_last_once_finished};
+ghost use Rattle.tiny_http_open_request.specs.OpenRequest.{is_last_with_stream, refuses_code, request_check};
 ghost use Rattle.tiny_http_open_request.specs.Pipeline.{is_head_method};
 ghost use Rattle.tiny_http_body.specs.Body.{ReadsBody, GivesUp};
 
@@ -41,8 +44,8 @@ pub struct OpenRequest<B> {
     pub answer_context: AnswerContext,
     /// Whether a 100 is owed that wasn't sent yet.
     pub owes_continue: bool,
-    /// Whether the next head isn't read before the answer: the request asks for an upgrade, and isn't its connection's last. What
-    /// follows it may be bytes of the other protocol (RFC 9110, section 7.8).
+    /// Whether the next head isn't read before the answer: the request asks for an upgrade, and isn't its
+    /// connection's last. What follows it may be bytes of the other protocol (RFC 9110, section 7.8).
     pub holds_next_head: bool,
     /// Whether its head was read under `Standard`.
     pub by_standard: bool,
@@ -59,8 +62,8 @@ pub struct OpenRequest<B> {
 }
 
 impl<B: Drop> OpenRequest<B> {
-    /// A request with this head and this body. `now` dates the 500 that is sent if it is dropped. It is an error where memory
-    /// for that was refused.
+    /// A request with this head and this body. `now` dates the 500 that is sent if it is dropped. It is an error
+    /// where memory for that was refused.
     #[inline(always)]
     pub fn new(
         alloc: Global,
@@ -96,34 +99,34 @@ impl<B: Drop> OpenRequest<B> {
         })
     }
 
-    /// Has the answer to this request say, by the standard, that the connection ends behind it (RFC 9112, section 9.6). The
-    /// caller reads no further head.
+    /// Has the answer to this request say, by the standard, that the connection ends behind it (RFC 9112, section
+    /// 9.6). The caller reads no further head.
     pub fn close(&mut self)
         ensures { self.new ≡ closing self.old }
     {
         self.closes = true;
     }
 
-    /// Whether no head is read behind this request if it is answered now or dropped, or its raw writer taken, where this is left of
-    /// its body. By the standard that is so while its 100 is owed: the client may leave the body out, or send it, and both are
-    /// right (RFC 9110, section 10.1.1). It is so, too, where more is left than is skipped.
+    /// Whether no head is read behind this request if it is answered now or dropped, or its raw writer taken, where
+    /// this is left of its body. By the standard that is so while its 100 is owed: the client may leave the body out,
+    /// or send it, and both are right (RFC 9110, section 10.1.1). It is so, too, where more is left than is skipped.
     pub fn is_last_once_finished(&self, left: Remainder) -> bool
         ensures { result ≡ is_last_once_finished self.now left }
     {
         self.by_standard && (self.owes_continue || left == Remainder::Long)
     }
 
-    /// Whether no head is read behind this request once it gets the connection's stream, by its raw writer or an upgrade: it holds
-    /// the next head, or would be the last if it were answered.
+    /// Whether no head is read behind this request once it gets the connection's stream, by its raw writer or an
+    /// upgrade: it holds the next head, or would be the last if it were answered.
     pub fn is_last_with_stream(&self, left: Remainder) -> bool
         ensures { result ≡ is_last_with_stream self.now left }
     {
         self.holds_next_head || self.is_last_once_finished(left)
     }
 
-    // How it is answered now, where this is left of its body: by the standard the answer says that the connection ends where the
-    // request is the last by its head, `close` was called, its 100 is owed, or what is left isn't skipped: it is long, or its end
-    // isn't known (RFC 9112, section 9.6).
+    // How it is answered now, where this is left of its body: by the standard the answer says that the connection
+    // ends where the request is the last by its head, `close` was called, its 100 is owed, or what is left isn't
+    // skipped: it is long, or its end isn't known (RFC 9112, section 9.6).
     fn final_context(&self, left: Remainder) -> AnswerContext
         ensures { result ≡ final_context self.now left }
     {
@@ -135,9 +138,9 @@ impl<B: Drop> OpenRequest<B> {
         context
     }
 
-    /// Whether an answer with this code is refused: by the standard, one that isn't final, since the client would take a later
-    /// answer for this request's (RFC 9110, section 15.2), or whose code hasn't three digits; and a 2xx to `CONNECT`, since it
-    /// would open a tunnel (section 9.3.6).
+    /// Whether an answer with this code is refused: by the standard, one that isn't final, since the client would
+    /// take a later answer for this request's (RFC 9110, section 15.2), or whose code hasn't three digits; and a 2xx
+    /// to `CONNECT`, since it would open a tunnel (section 9.3.6).
     pub fn refuses(&self, status: StatusCode) -> bool
         ensures { result ≡ refuses_code self.now.by_standard self.now.is_connect status.0 }
     {
@@ -145,10 +148,10 @@ impl<B: Drop> OpenRequest<B> {
         self.by_standard && (!is_final || (self.is_connect && status.0 < 300))
     }
 
-    /// Whether the connection can be upgraded to this protocol by an answer with this code, where the body is whole or isn't: the
-    /// first error that holds. By the standard the request has to ask for the protocol, without being its connection's last, the
-    /// code has to be 101, and the body has to be whole (RFC 9110, section 7.8). An element of `Upgrade` with a percent sign isn't
-    /// taken for a protocol.
+    /// Whether the connection can be upgraded to this protocol by an answer with this code, where the body is whole
+    /// or isn't: the first error that holds. By the standard the request has to ask for the protocol, without being
+    /// its connection's last, the code has to be 101, and the body has to be whole (RFC 9110, section 7.8). An
+    /// element of `Upgrade` with a percent sign isn't taken for a protocol.
     pub fn check_upgrade(
         &self,
         protocol: &str,
@@ -161,12 +164,13 @@ impl<B: Drop> OpenRequest<B> {
         check_upgrade(self.by_standard, is_asked, protocol, status, is_whole)
     }
 
-    /// Sends the answer to this request, of whose body this is left, printed for it and dated `now`, and flushes it. By the standard
-    /// it says that the connection ends where the request is the last by its head, `close` was called, its 100 is owed, or what is
-    /// left isn't skipped (RFC 9112, section 9.6). What the response itself asks of the connection is the caller's. No 100 is owed any more. The caller
-    /// does so in the turn of the request, and then gives the body up. On an outlet that has ended nothing is sent, the data
-    /// aren't read, and the result is `Ok`. The first fault is the error: the data's, or the writer's. Where both fail, either
-    /// may be reported. Then the outlet has ended, and what was held before a fault of the data is sent.
+    /// Sends the answer to this request, of whose body this is left, printed for it and dated `now`, and flushes it.
+    /// By the standard it says that the connection ends where the request is the last by its head, `close` was
+    /// called, its 100 is owed, or what is left isn't skipped (RFC 9112, section 9.6). What the response itself asks
+    /// of the connection is the caller's. No 100 is owed any more. The caller does so in the turn of the request, and
+    /// then gives the body up. On an outlet that has ended nothing is sent, the data aren't read, and the result is
+    /// `Ok`. The first fault is the error: the data's, or the writer's. Where both fail, either may be reported. Then
+    /// the outlet has ended, and what was held before a fault of the data is sent.
     pub fn respond<W: WriteDevice, D: ReadDevice + Drop>(
         &mut self,
         alloc: Global,
@@ -175,7 +179,8 @@ impl<B: Drop> OpenRequest<B> {
         left: Remainder,
         now: HttpDate,
     ) -> Result<(), io::Error>
-        ensures answers { SendsAnswer D.feed outlet.old outlet.new result response (printing_in (final_context self.old left) now) }
+        ensures answers { SendsAnswer D.feed outlet.old outlet.new result response
+            (printing_in (final_context self.old left) now) }
         ensures once { OwesNoContinue self.old self.new }
     {
         let context = self.final_context(left);
@@ -183,15 +188,16 @@ impl<B: Drop> OpenRequest<B> {
         send_unless_ended(alloc, outlet, response, context, now)
     }
 
-    /// How a body is sent that grows behind the answer to this request with this code, as `AnswerContext::streamed_form` says.
+    /// How a body is sent that grows behind the answer to this request with this code, as
+    /// `AnswerContext::streamed_form` says.
     pub fn streamed_form(&self, status: StatusCode) -> StreamedForm
         ensures { result ≡ streamed_form self.now.answer_context status.0 }
     {
         self.answer_context.streamed_form(status)
     }
 
-    // How the head of an answer is printed whose body grows. By the standard it says that the connection ends where it would else, and
-    // where the body goes on up to that end.
+    // How the head of an answer is printed whose body grows. By the standard it says that the connection ends where
+    // it would else, and where the body goes on up to that end.
     fn streaming_context(&self, status: StatusCode, left: Remainder) -> AnswerContext
         ensures { result ≡ streaming_context self.now status.0 left }
     {
@@ -202,11 +208,12 @@ impl<B: Drop> OpenRequest<B> {
         context
     }
 
-    /// Writes the head of the answer to this request, of whose body this is left, where the answer's own body comes later, and grows
-    /// while it is sent: `streamed_form` says how that is to be sent. The head is dated `now`; the answer's data and their length are
-    /// passed over. By the standard it says that the connection ends where that of `respond` would, and where the body goes on up to
-    /// that end. No 100 is owed any more. It doesn't flush. The caller does so in the turn of the request, and then gives the body up.
-    /// The error is the writer's first fault. On an outlet that has ended nothing is written, and the result is `Ok`.
+    /// Writes the head of the answer to this request, of whose body this is left, where the answer's own body comes
+    /// later, and grows while it is sent: `streamed_form` says how that is to be sent. The head is dated `now`; the
+    /// answer's data and their length are passed over. By the standard it says that the connection ends where that of
+    /// `respond` would, and where the body goes on up to that end. No 100 is owed any more. It doesn't flush. The
+    /// caller does so in the turn of the request, and then gives the body up. The error is the writer's first fault.
+    /// On an outlet that has ended nothing is written, and the result is `Ok`.
     pub fn begin_streaming<W: WriteDevice, D>(
         &mut self,
         outlet: &mut Outlet<W>,
@@ -223,9 +230,10 @@ impl<B: Drop> OpenRequest<B> {
         response.print_head(outlet, context, now)
     }
 
-    /// Sends the 100 that is owed to this request, and flushes (RFC 9110, section 10.1.1). Where none is owed it changes
-    /// nothing. The caller does so in the turn of the request, before the body is read and before the answer. The call takes
-    /// no memory. A fault of the writer ends the outlet, and isn't reported; on an outlet that has ended nothing is sent.
+    /// Sends the 100 that is owed to this request, and flushes (RFC 9110, section 10.1.1). Where none is owed it
+    /// changes nothing. The caller does so in the turn of the request, before the body is read and before the answer.
+    /// The call takes no memory. A fault of the writer ends the outlet, and isn't reported; on an outlet that has
+    /// ended nothing is sent.
     pub fn send_continue<W: WriteDevice>(
         &mut self,
         alloc: Global,
@@ -246,12 +254,12 @@ impl<B: Drop> OpenRequest<B> {
         }
     }
 
-    /// Sends the answer that upgrades the connection to this protocol (RFC 9110, section 7.8), printed for this request and
-    /// dated `now`, and flushes it: its head alone, with `Connection: upgrade` and `Upgrade: PROTOCOL` in front of the other
-    /// headers (as tiny_http). No 100 is owed any more. The caller asks `check_upgrade` first. It makes this
-    /// call in the turn of the request, in the place of an answer; then the output is the protocol's, and what the body
-    /// gives after `become_stream` is its input. The data are let go unread. A fault of the writer ends the outlet, and isn't
-    /// reported. On an outlet that has ended nothing is sent. The call takes no memory.
+    /// Sends the answer that upgrades the connection to this protocol (RFC 9110, section 7.8), printed for this
+    /// request and dated `now`, and flushes it: its head alone, with `Connection: upgrade` and `Upgrade: PROTOCOL` in
+    /// front of the other headers (as tiny_http). No 100 is owed any more. The caller asks `check_upgrade` first. It
+    /// makes this call in the turn of the request, in the place of an answer; then the output is the protocol's, and
+    /// what the body gives after `become_stream` is its input. The data are let go unread. A fault of the writer ends
+    /// the outlet, and isn't reported. On an outlet that has ended nothing is sent. The call takes no memory.
     pub fn upgrade<W: WriteDevice, D: Drop>(
         &mut self,
         alloc: Global,
@@ -263,7 +271,8 @@ impl<B: Drop> OpenRequest<B> {
         requires { list_all is_ascii protocol.now ≡ true }
         // Whatever the data are.
         ensures sends { (content : Feed) → SendsQuietlyOn outlet.old outlet.new
-            (upgrade_text (record { answer = response.answer; content = content }) protocol.now (printing_in self.old.answer_context now)) }
+            (upgrade_text (record { answer = response.answer; content = content }) protocol.now
+            (printing_in self.old.answer_context now)) }
         ensures once { OwesNoContinue self.old self.new }
         ensures fails_once { FailsOnce outlet.old outlet.new }
         ensures sent { HasSentAll outlet.new }
@@ -272,9 +281,10 @@ impl<B: Drop> OpenRequest<B> {
         send_upgrade_quietly(alloc, outlet, response, self.answer_context, protocol, now);
     }
 
-    /// Takes the text that answers this request if it is dropped: an empty 500, printed for its version, its headers and its
-    /// method, on the date on which it was read (as tiny_http). No byte of it is left, and no 100 is owed any more. The caller
-    /// sends it in the turn of the request, in the place of an answer, and gives the body up. The call takes no memory.
+    /// Takes the text that answers this request if it is dropped: an empty 500, printed for its version, its headers
+    /// and its method, on the date on which it was read (as tiny_http). No byte of it is left, and no 100 is owed any
+    /// more. The caller sends it in the turn of the request, in the place of an answer, and gives the body up. The
+    /// call takes no memory.
     pub fn take_drop_text(&mut self, left: Remainder) -> Vec<u8>
         ensures text { result.items ≡ drop_text self.old.dropped (final_context self.old left) }
         ensures once { HasNoDropText self.old self.new }
@@ -284,8 +294,8 @@ impl<B: Drop> OpenRequest<B> {
         self.dropped.take_text(context)
     }
 
-    /// The text that answers this request, as it is dropped, and the body, which the caller gives up once it has left the text
-    /// in the turn of the request.
+    /// The text that answers this request, as it is dropped, and the body, which the caller gives up once it has left
+    /// the text in the turn of the request.
     pub fn into_drop_text(self, left: Remainder) -> (Vec<u8>, B)
         ensures text { result.0.items ≡ drop_text self.dropped (final_context self left) }
         ensures body { result.1 ≡ self.body }
@@ -297,8 +307,8 @@ impl<B: Drop> OpenRequest<B> {
 }
 
 impl OpenRequest<Body> {
-    /// Reads some bytes of the body into the front of `buf`, and says how many. The source must be the one that the request
-    /// was read from. Errors and ends are those of `Exchange::read_body`. No memory is taken.
+    /// Reads some bytes of the body into the front of `buf`, and says how many. The source must be the one that the
+    /// request was read from. Errors and ends are those of `Exchange::read_body`. No memory is taken.
     pub fn read<R: ReadDevice>(
         &mut self,
         source: &mut Source<R>,
@@ -310,9 +320,9 @@ impl OpenRequest<Body> {
         self.body.read(source, buf)
     }
 
-    /// Gives the body up: each later read answers 0, no 100 is owed any more, and by the standard no upgrade is taken. The rest
-    /// of a body of a known length is skipped before the next head; after a chunked one whose end or fault wasn't reported the
-    /// source has ended.
+    /// Gives the body up: each later read answers 0, no 100 is owed any more, and by the standard no upgrade is
+    /// taken. The rest of a body of a known length is skipped before the next head; after a chunked one whose end or
+    /// fault wasn't reported the source has ended.
     pub fn give_up<R: ReadDevice>(&mut self, source: &mut Source<R>)
         ensures gives_up { GivesUp self.old.body source.old source.new }
         ensures kept { HasNoBodyLeft self.old self.new }
@@ -340,7 +350,8 @@ fn coding_for(by_standard: bool, headers: &[Header]) -> Option<Coding>
 
 // The `Upgrade` headers among these. An error where there is no memory for them.
 fn upgrade_headers(alloc: Global, headers: &[Header]) -> Result<Vec<Header>, AllocError>
-    ensures { IfOk result (λ upgrades. (protocol : List ℕ) → names_protocol upgrades.items protocol ≡ names_protocol headers.now protocol) }
+    ensures { IfOk result (λ upgrades. (protocol : List ℕ)
+        → names_protocol upgrades.items protocol ≡ names_protocol headers.now protocol) }
 {
     let mut upgrades = Vec::new(alloc);
     for header in headers {

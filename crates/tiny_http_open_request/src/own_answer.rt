@@ -1,5 +1,5 @@
-//! Answers of the server's own: the text of a refused head, and the text of a dropped request, which is printed as it is
-//! dropped.
+//! Answers of the server's own: the text of a refused head, and the text of a dropped request, which is printed as it
+//! is dropped.
 ghost use Rattle.std.specs.Prelude.{◌≡◌, ◌<◌, ◌≤◌, ◌^◌, true, false, [], Some, IfOk, length, vec_len, vec_capacity};
 ghost use Rattle.httpdate.specs.Date.{date_text};
 ghost use Rattle.tiny_http_response.specs.ResponseValue.{printing_in};
@@ -7,7 +7,8 @@ ghost use Rattle.tiny_http_response.specs.Sending.{FailsOnce, SendsQuietlyOn};
 ghost use Rattle.tiny_http_open_request.specs.OpenRequest.{HasSentAll};
 ghost use Rattle.tiny_http_open_request.specs.declared.own_answer.TheConstants.{OWN_ANSWER};
 ghost use Rattle.tiny_http_open_request.specs.TextState.{drop_text};
-ghost use Rattle.tiny_http_open_request.specs.OwnAnswer.{own_text, own_text_by, persistence_of, refusal_response, refused_text};
+ghost use Rattle.tiny_http_open_request.specs.OwnAnswer.{own_text, own_text_by, persistence_of, refusal_response};
+ghost use Rattle.tiny_http_open_request.specs.OwnAnswer.{refused_text};
 ghost use Rattle.tiny_http_open_request.specs.Pipeline.{VersionNotSupported, plainly};
 ghost use Rattle.tiny_http_io.specs.Device.{Feed};
 ghost use Rattle.tiny_http_head.specs.Heads.{version};
@@ -37,7 +38,9 @@ fn refused_text<D: ReadDevice + Drop>(
     now: HttpDate,
 ) -> Result<Vec<u8>, AllocError>
     ensures { (content : Feed) → D.feed answer.data_reader ≡ Some content → length content.bytes < 2 ^ 63
-        → IfOk result (λ text. text.items ≡ refused_text (record { answer = answer.answer; content = content }) (record { version = version; by_standard = by_standard }) no_body now) }
+        → IfOk result
+        (λ text. text.items ≡ refused_text (record { answer = answer.answer; content = content })
+        (record { version = version; by_standard = by_standard }) no_body now) }
 {
     let bytes = Vec::with_capacity(alloc, OWN_ANSWER)?;
     let mut writer = Budget::from_vec(bytes, usize::MAX, ErrorKind::OutOfMemory);
@@ -53,8 +56,8 @@ fn refused_text<D: ReadDevice + Drop>(
     }
 }
 
-/// The text of the answer to a head that is refused, in this version: this code, no headers of its own and no data. By the standard
-/// it says that the connection ends. An error where there is no memory for it.
+/// The text of the answer to a head that is refused, in this version: this code, no headers of its own and no data.
+/// By the standard it says that the connection ends. An error where there is no memory for it.
 pub fn own_answer(
     alloc: Global,
     status: StatusCode,
@@ -62,14 +65,15 @@ pub fn own_answer(
     by_standard: bool,
     now: HttpDate,
 ) -> Result<Vec<u8>, AllocError>
-    ensures { IfOk result (λ text. text.items ≡ own_text status.0 (record { version = version; by_standard = by_standard }) false now) }
+    ensures { IfOk result
+        (λ text. text.items ≡ own_text status.0 (record { version = version; by_standard = by_standard }) false now) }
 {
     let answer = Response::empty(alloc, status);
     refused_text(alloc, answer, version, by_standard, false, now)
 }
 
-/// What an answer says of its connection, by the standard: that it ends behind the last request, and that it persists behind
-/// another.
+/// What an answer says of its connection, by the standard: that it ends behind the last request, and that it persists
+/// behind another.
 pub(crate) fn persistence_of(by_standard: bool, is_last: bool) -> Option<Persistence>
     ensures { result ≡ persistence_of by_standard is_last }
 {
@@ -83,18 +87,21 @@ pub(crate) fn persistence_of(by_standard: bool, is_last: bool) -> Option<Persist
 // What a version above 1.1 is told.
 const TOO_NEW: &str = "This server only supports HTTP versions 1.0 and 1.1";
 
-/// The text of the answer to a head whose version is above 1.1: 505 in version 1.1, and a text that says which versions are
-/// served, which is withheld for `no_body` (as tiny_http; RFC 9110, section 15.6.6). An error where there is no memory for it.
+/// The text of the answer to a head whose version is above 1.1: 505 in version 1.1, and a text that says which
+/// versions are served, which is withheld for `no_body` (as tiny_http; RFC 9110, section 15.6.6). An error where
+/// there is no memory for it.
 pub fn too_new_answer(alloc: Global, no_body: bool, now: HttpDate) -> Result<Vec<u8>, AllocError>
-    ensures { IfOk result (λ text. text.items ≡ refused_text (refusal_response VersionNotSupported) (plainly (version 1 1)) no_body now) }
+    ensures { IfOk result
+        (λ text. text.items ≡ refused_text (refusal_response VersionNotSupported) (plainly (version 1 1)) no_body
+        now) }
 {
     let text = String::from_str(alloc, TOO_NEW)?;
     let answer = Response::from_string(alloc, text)?.with_status_code(StatusCode(505));
     refused_text(alloc, answer, HTTPVersion(1, 1), false, no_body, now)
 }
 
-// Sends an answer of the server's own to a request, and flushes it: this code, no headers of its own and no data. It takes no
-// memory. No reply reports a fault that is met there; an outlet that has ended sends nothing.
+// Sends an answer of the server's own to a request, and flushes it: this code, no headers of its own and no data. It
+// takes no memory. No reply reports a fault that is met there; an outlet that has ended sends nothing.
 pub(crate) fn send_own_quietly<W: WriteDevice>(
     alloc: Global,
     outlet: &mut Outlet<W>,
@@ -182,8 +189,8 @@ fn print_drop(room: Vec<u8>, context: AnswerContext, now: HttpDate) -> Vec<u8>
     }
 }
 
-/// The text that is sent if a request is dropped: an empty 500; or, once it was taken, no byte. Its room is taken as it is
-/// made, and it is printed as the request is dropped.
+/// The text that is sent if a request is dropped: an empty 500; or, once it was taken, no byte. Its room is taken as
+/// it is made, and it is printed as the request is dropped.
 #[derive(Drop)]
 pub struct DropText {
     room: Vec<u8>,
@@ -200,7 +207,9 @@ impl Model for DropText {
 
     ghost view = { λ t. record { is_taken = t.is_taken; date = t.now } };
 
-    ghost invariant = { λ t. (t.room.items ≡ []) × (vec_len t.room ≡ 0) × (t.is_taken ≡ false → OWN_ANSWER ≤ vec_capacity t.room) };
+    ghost invariant = { λ t. (t.room.items ≡ [])
+        × (vec_len t.room ≡ 0)
+        × (t.is_taken ≡ false → OWN_ANSWER ≤ vec_capacity t.room) };
 }
 
 impl DropText {

@@ -3,8 +3,10 @@ ghost use Rattle.std.specs.Prelude.{◌≡◌, IfOk, IfSome};
 ghost use Rattle.tiny_http_io.specs.Source.{GoesOn, IsAtEnd};
 ghost use Rattle.tiny_http_head.specs.Heads.{version};
 ghost use Rattle.tiny_http_standard_head.specs.Heads.{status_of};
-ghost use Rattle.tiny_http_open_request.specs.Pipeline.{by_the_standard, served_version, standard_form, standard_framing, standard_heads};
-ghost use Rattle.tiny_http_open_request.specs.HeadReads.{ReadsHead, RefusesWith, IsRequest, IsFramedRequest, IsRefusedUncut, IsOkEnd, HasByteOrTimedOut, head_framing};
+ghost use Rattle.tiny_http_open_request.specs.Pipeline.{by_the_standard, served_version, standard_form};
+ghost use Rattle.tiny_http_open_request.specs.Pipeline.{standard_framing, standard_heads};
+ghost use Rattle.tiny_http_open_request.specs.HeadReads.{ReadsHead, RefusesWith, IsRequest, IsFramedRequest};
+ghost use Rattle.tiny_http_open_request.specs.HeadReads.{IsRefusedUncut, IsOkEnd, HasByteOrTimedOut, head_framing};
 ghost use Rattle.tiny_http_open_request.specs.StandardReads.{AnswersStandardCut, IsHeadOf};
 
 use crate::exchange::{Exchange, Head, HeadRead, answer_cut, begin_body, cut_end, refused_with};
@@ -99,8 +101,8 @@ fn refuse(alloc: Global, fault: HeadFault, now: HttpDate) -> Result<HeadRead, Al
     refused_with(alloc, status, HTTPVersion(1, 1), true, now)
 }
 
-/// What stands at the source's standing, by the standard. After anything but a request the source may stand within a head or its
-/// body.
+/// What stands at the source's standing, by the standard. After anything but a request the source may stand within a
+/// head or its body.
 pub(crate) fn read_standard<R: ReadDevice>(
     alloc: Global,
     source: &mut Source<R>,

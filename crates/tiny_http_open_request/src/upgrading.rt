@@ -24,7 +24,8 @@ pub enum UpgradeError {
     /// The name of the protocol isn't ASCII.
     #[error("the protocol's name is not ASCII")]
     Protocol,
-    /// By the standard: the request doesn't ask for this protocol, or no upgrade of it is taken, as it is its connection's last.
+    /// By the standard: the request doesn't ask for this protocol, or no upgrade of it is taken, as it is its
+    /// connection's last.
     #[error("the request does not ask for this protocol, or is the last")]
     NotAsked,
     /// By the standard: the answer's code isn't 101.
@@ -35,8 +36,8 @@ pub enum UpgradeError {
     UnfinishedBody,
 }
 
-/// Whether a connection can be upgraded to a protocol of this name by an answer with this code: the first error that holds. By
-/// the standard the request has to ask for it, and its body has to be whole (RFC 9110, section 7.8).
+/// Whether a connection can be upgraded to a protocol of this name by an answer with this code: the first error that
+/// holds. By the standard the request has to ask for it, and its body has to be whole (RFC 9110, section 7.8).
 pub fn check_upgrade(
     by_standard: bool,
     is_asked: bool,
@@ -64,9 +65,9 @@ pub fn check_upgrade(
     Ok(())
 }
 
-// Sends the answer that upgrades a connection to this protocol, and flushes it: its head alone, with `Connection: upgrade`
-// and `Upgrade: PROTOCOL` in front of the other headers (as tiny_http). Its data are let go unread. No reply reports a fault
-// of the writer; an outlet that has ended sends nothing. It takes no memory.
+// Sends the answer that upgrades a connection to this protocol, and flushes it: its head alone, with `Connection:
+// upgrade` and `Upgrade: PROTOCOL` in front of the other headers (as tiny_http). Its data are let go unread. No reply
+// reports a fault of the writer; an outlet that has ended sends nothing. It takes no memory.
 pub(crate) fn send_upgrade_quietly<W: WriteDevice, D: Drop>(
     alloc: Global,
     outlet: &mut Outlet<W>,

@@ -24,7 +24,8 @@ abbrev pub client_profile : {R : Type 0} → {W : Type 0} → {Rt : Type 0} → 
 client_profile c = c.profile
 
 -- The next request of a connection, which was handed out on this date. After the last one none is handed out.
-pub record HandsOut {R W Rt : Type 0} (old new : ClientConnection R W Rt) (date : HttpDate) (r : Request R W Rt) : Type 0 where
+pub record HandsOut {R W Rt : Type 0} (old new : ClientConnection R W Rt) (date : HttpDate)
+    (r : Request R W Rt) : Type 0 where
   pub framed : IsFramed r (client_profile old) date
   pub client : (request_secure r ≡ client_secure old) × (request_address r ≡ client_address old)
   pub last : (request_head r).is_last ≡ true → IsOver new

@@ -26,7 +26,8 @@ use Rattle.tiny_http_open_request.specs.Pipeline.{IsCutWithHead, body_length_or_
 use Rattle.tiny_http_open_request.specs.declared.open_request.OpenRequest.{OpenRequest}
 use Rattle.tiny_http_request.specs.declared.request.Request.{Request}
 use Rattle.tiny_http_request.specs.declared.request.RequestCreationError.{RequestCreationError}
-use Rattle.tiny_http_request.specs.declared.request.RequestCreationError.TheVariants.{ExpectationFailed, CreationIoError, Memory}
+use Rattle.tiny_http_request.specs.declared.request.RequestCreationError.TheVariants.{ExpectationFailed}
+use Rattle.tiny_http_request.specs.declared.request.RequestCreationError.TheVariants.{CreationIoError, Memory}
 
 -- what the request's head says
 abbrev pub request_head : {R : Type 0} → {W : Type 0} → {Rt : Type 0} → Request R W Rt → Head
@@ -80,7 +81,8 @@ abbrev pub BeginsWith : Framing → Option Feed → Body → Type 0
 BeginsWith f feed body = (left : Option Feed) × Begins f feed left (Some body)
 
 -- of its client, and of its request line, a request says this
-abbrev pub Says : {R : Type 0} → {W : Type 0} → {Rt : Type 0} → Request R W Rt → Bool → Option SocketAddr → Method → List ℕ → HTTPVersion → Type 0
+abbrev pub Says : {R : Type 0} → {W : Type 0} → {Rt : Type 0} → Request R W Rt → Bool → Option SocketAddr → Method
+    → List ℕ → HTTPVersion → Type 0
 Says r secure address method path version =
     (request_secure r ≡ secure) × (request_address r ≡ address)
     × ((request_head r).method ≡ method) × ((request_head r).path ≡ path) × ((request_head r).version ≡ version)
@@ -89,11 +91,12 @@ Says r secure address method path version =
 abbrev pub IsFramed : {R : Type 0} → {W : Type 0} → {Rt : Type 0} → Request R W Rt → Profile → HttpDate → Type 0
 IsFramed r profile date = IsFramedBy profile date (request_head r) (request_open r)
 
--- Why no request is made of these headers: what they expect can't be met; or a body that is read at once is cut short; or memory was
--- refused, of which nothing is said.
+-- Why no request is made of these headers: what they expect can't be met; or a body that is read at once is cut
+-- short; or memory was refused, of which nothing is said.
 abbrev pub FailsBy : RequestCreationError → HTTPVersion → List Header → Option Feed → Type 0
 FailsBy e version headers feed =
-    (is_expectation_failed e ≡ true → framing Lenient version headers ≡ Err Expectation) × IfCreationIo e (λ fault. CutsShort version headers feed (error_kind fault))
+    (is_expectation_failed e ≡ true → framing Lenient version headers ≡ Err Expectation)
+    × IfCreationIo e (λ fault. CutsShort version headers feed (error_kind fault))
 
 -- the head asks for an upgrade to this protocol
 abbrev pub asks_for : Head → List ℕ → Bool

@@ -36,4 +36,5 @@ length_header n = record { field = codes "Content-Length"; value = decimal n }
 
 -- the headers, and behind them the one that says this length, if they have none of that name
 abbrev pub with_length : ℕ → List Header → List Header
-with_length n headers = if is_some (value_of (codes "Content-Length") headers) then headers else headers ++ (length_header n ∷ [])
+with_length n headers =
+    if is_some (value_of (codes "Content-Length") headers) then headers else headers ++ (length_header n ∷ [])

@@ -22,8 +22,8 @@ error_by _ _ e = Io e
 abbrev pub fault_error : Form → Error → BodyError
 fault_error form e = error_by form (error_kind e) e
 
--- Why reading on ended, whatever the form: the bytes are more than may be read, where no length is known; or those of a known length
--- ended early; or a fault was reported.
+-- Why reading on ended, whatever the form: the bytes are more than may be read, where no length is known; or those of
+-- a known length ended early; or a fault was reported.
 abbrev pub FailsReading : Body → Body → BodyError → Type 0
 FailsReading old new TooLong = (bytes_left old ≡ None) × ((kind : ErrorKind) → body_stop old ≡ Some (Fault kind) → ⊥)
 FailsReading old new Cut = (is_streaming old ≡ true) × IsBodyOver new
@@ -35,12 +35,14 @@ FailsReading old new Memory = ⊤
 abbrev pub HasAnEnd : Form → Type 0
 HasAnEnd form = (form ≡ Counted) ⊎ (form ≡ Chunked)
 
--- WHY A BODY OF THIS FORM ISN'T READ WHOLE, where so many bytes may be read: its length is above that, or isn't known and no fault was
--- reported before; its bytes ended early; it reported this fault, which each later read reports; or memory was refused, of which nothing
--- is said.
+-- WHY A BODY OF THIS FORM ISN'T READ WHOLE, where so many bytes may be read: its length is above that, or isn't known
+-- and no fault was reported before; its bytes ended early; it reported this fault, which each later read reports; or
+-- memory was refused, of which nothing is said.
 abbrev pub FailsWhole : Form → ℕ → Body → Body → BodyError → Type 0
-FailsWhole form most old new TooLong = ((n : ℕ) → bytes_left old ≡ Some n → most < n) × ((kind : ErrorKind) → body_stop old ≡ Some (Fault kind) → ⊥)
-FailsWhole form most old new Cut = (HasAnEnd form × (body_stop new ≡ Some (Fault UnexpectedEof))) ⊎ ((is_streaming old ≡ true) × IsBodyOver new)
+FailsWhole form most old new TooLong =
+    ((n : ℕ) → bytes_left old ≡ Some n → most < n) × ((kind : ErrorKind) → body_stop old ≡ Some (Fault kind) → ⊥)
+FailsWhole form most old new Cut =
+    (HasAnEnd form × (body_stop new ≡ Some (Fault UnexpectedEof))) ⊎ ((is_streaming old ≡ true) × IsBodyOver new)
 FailsWhole form most old new Broken = (form ≡ Chunked) × (body_stop new ≡ Some (Fault InvalidData))
 FailsWhole form most old new (Io e) = (fault_error form e ≡ Io e) × (body_stop new ≡ Some (Fault (error_kind e)))
 FailsWhole form most old new Memory = ⊤

@@ -1,9 +1,11 @@
 //! The body of a request that a thread may read, while the connection reads on.
-ghost use Rattle.std.specs.Prelude.{◌≡◌, ◌⊎◌, ◌≤◌, ◌<◌, ◌==◌, ◌&&◌, ◌||◌, false, length, take, Option, is_some, Ok, Some, None, IfOk, IfErr, IfSome};
+ghost use Rattle.std.specs.Prelude.{◌≡◌, ◌⊎◌, ◌≤◌, ◌<◌, ◌==◌, ◌&&◌, ◌||◌, false, length, take, Option, is_some, Ok};
+ghost use Rattle.std.specs.Prelude.{Some, None, IfOk, IfErr, IfSome};
 ghost use Rattle.std.specs.IoError.{error_kind};
 ghost use Rattle.tiny_http_io.specs.Device.{AnswersStop, Feed, Reads};
 ghost use Rattle.tiny_http_io.specs.declared.device.Stop.TheVariants.{End, Fault};
-ghost use Rattle.tiny_http_body.specs.Body.{is_streaming, is_whole, bytes_left, remainder, stream_body, body_stop, BodyStops, ReadsOn, remaining, prepended_body};
+ghost use Rattle.tiny_http_body.specs.Body.{is_streaming, is_whole, bytes_left, remainder, stream_body, body_stop};
+ghost use Rattle.tiny_http_body.specs.Body.{BodyStops, ReadsOn, remaining, prepended_body};
 ghost use Rattle.tiny_http_request.specs.Body.{ReadsUnread, outlasts_body};
 
 use std::io;
@@ -38,16 +40,17 @@ fn end_behind<R: ReadDevice + Drop, Rt: Wait + Drop>(
     }
 }
 
-/// The body of a request. While bytes of it are to be read from the connection it holds the connection's input, and the next
-/// head waits: a counted body gives the input on with its last byte, a chunked one once a read has answered 0. A dropped body
-/// gives it on too; but after a chunked one whose end wasn't reported, and after one that is cut or broken, no head follows. Under
-/// `Standard` the body of a request that asks for an upgrade holds the input until the request is answered or dropped, and no head
-/// follows if its raw writer is taken or it is upgraded. None follows, too, where a request is finished while its 100 is owed, or
-/// while more than 65,536 bytes of its body are unread. Once it is upgraded its body reads all that follows.
+/// The body of a request. While bytes of it are to be read from the connection it holds the connection's input, and
+/// the next head waits: a counted body gives the input on with its last byte, a chunked one once a read has answered
+/// 0. A dropped body gives it on too; but after a chunked one whose end wasn't reported, and after one that is cut or
+/// broken, no head follows. Under `Standard` the body of a request that asks for an upgrade holds the input until the
+/// request is answered or dropped, and no head follows if its raw writer is taken or it is upgraded. None follows,
+/// too, where a request is finished while its 100 is owed, or while more than 65,536 bytes of its body are unread.
+/// Once it is upgraded its body reads all that follows.
 ///
-/// After its end each read answers 0. A fault, the client's or the body's own, is answered by each read from then on, and so is
-/// one of kind `Interrupted`. The standard library's `read_to_end` and `read_to_string` try again after that kind, without an
-/// end: where the client's reader may be interrupted use `read` or `read_exact`.
+/// After its end each read answers 0. A fault, the client's or the body's own, is answered by each read from then on,
+/// and so is one of kind `Interrupted`. The standard library's `read_to_end` and `read_to_string` try again after
+/// that kind, without an end: where the client's reader may be interrupted use `read` or `read_exact`.
 pub struct Body<R: ReadDevice + Drop, Rt: Wait + Drop> {
     unread: Unread,
     reader: Option<SequentialReader<Source<R>, Rt>>,
@@ -133,8 +136,9 @@ impl<R: ReadDevice + Drop, Rt: Wait + Drop> Body<R, Rt> {
         }
     }
 
-    /// Has no head follow this request: it asks for an upgrade, owes a 100, or has more of its body unread than is skipped, so
-    /// that its body holds the input. Where the body isn't read from there any more, the input is given on at once.
+    /// Has no head follow this request: it asks for an upgrade, owes a 100, or has more of its body unread than is
+    /// skipped, so that its body holds the input. Where the body isn't read from there any more, the input is given
+    /// on at once.
     pub(crate) fn end_requests(&mut self)
         ensures { self.new ≡ self.old }
     {
@@ -152,10 +156,13 @@ impl<R: ReadDevice + Drop, Rt: Wait + Drop> Body<R, Rt> {
         ensures bound { IfOk result (λ n. n ≤ length buf.new) }
         ensures held { is_streaming self.old ≡ false → (feed : Option Feed)
             → IfOk result (λ n. remaining self.old feed ≡ prepended_body (take n buf.new) (remaining self.new feed)) }
-        ensures end { is_streaming self.old ≡ false → (feed : Option Feed) → IfOk result (λ n. n ≡ 0 → 0 < length buf.new → BodyStops End (remaining self.old feed)) }
+        ensures end { is_streaming self.old ≡ false
+            → (feed : Option Feed)
+            → IfOk result (λ n. n ≡ 0 → 0 < length buf.new → BodyStops End (remaining self.old feed)) }
         ensures moves { IfOk result (λ n. ReadsOn self.old n (n == 0) self.new) }
         ensures broken { IfErr result (λ e. body_stop self.new ≡ Some (Fault (error_kind e))) }
-        ensures reports_stop { IfSome (body_stop self.old) (λ stop. AnswersStop stop result × (body_stop self.new ≡ Some stop)) }
+        ensures reports_stop { IfSome (body_stop self.old) (λ stop. AnswersStop stop result
+            × (body_stop self.new ≡ Some stop)) }
     {
         if !self.unread.holds_reader() {
             return self.unread.read_held(buf);
@@ -170,8 +177,8 @@ impl<R: ReadDevice + Drop, Rt: Wait + Drop> Body<R, Rt> {
 }
 
 impl<R: ReadDevice + Drop, Rt: Wait + Drop> ReadDevice for Body<R, Rt> {
-    /// Reads some bytes of the body: 0 after its last one, or the fault by which it is cut or broken. After the end or a fault
-    /// each later read answers the same.
+    /// Reads some bytes of the body: 0 after its last one, or the fault by which it is cut or broken. After the end
+    /// or a fault each later read answers the same.
     fn read_in(&mut self, buf: &mut [u8]) -> Result<usize, io::Error>
         ensures reads { Reads None None result buf.new }
         ensures body { ReadsUnread self.old self.new result buf.new }
@@ -205,8 +212,8 @@ impl<R: ReadDevice + Drop, Rt: Wait + Drop> Read for Body<R, Rt> {
         self.read_in(buf)
     }
 
-    /// Fills the buffer. The first fault is the error, also one of kind `Interrupted`; a body that ends before is one of kind
-    /// `UnexpectedEof`.
+    /// Fills the buffer. The first fault is the error, also one of kind `Interrupted`; a body that ends before is one
+    /// of kind `UnexpectedEof`.
     fn read_exact(&mut self, buf: &mut [u8]) -> io::Result<()> {
         read_whole(self, buf)
     }

@@ -58,8 +58,9 @@ impl<Rt: Wait + Copy> ClientConnection<RefinedTcpStream, RefinedTcpStream, Rt> {
     ghost use Rattle.tiny_http_socket.specs.Stream.{MayHavePeer};
     ghost use Rattle.tiny_http_request.specs.Client.{IsOver, client_secure, client_address, client_profile};
 
-    /// A connection over the two halves of a client's socket, on which nothing was read yet, under `Lenient`. Its requests say
-    /// the client's address; none of a Unix socket, or where the system no longer knows it. An error where memory was refused.
+    /// A connection over the two halves of a client's socket, on which nothing was read yet, under `Lenient`. Its
+    /// requests say the client's address; none of a Unix socket, or where the system no longer knows it. An error
+    /// where memory was refused.
     pub fn new(
         rt: Rt,
         alloc: Global,
@@ -96,8 +97,8 @@ impl<Rt: Wait + Copy> ClientConnection<RefinedTcpStream, RefinedTcpStream, Rt> {
 impl<R: ReadDevice + Drop, W: WriteDevice + Drop, Rt: Wait + Copy> ClientConnection<R, W, Rt> {
     ghost use Rattle.tiny_http_request.specs.Client.{IsOver, HandsOut, client_secure, client_address, client_profile};
 
-    /// A connection over a writer and a reader, on which nothing was read yet, under `Lenient`. `remote_addr` and `secure` are
-    /// what its requests say. An error where memory was refused.
+    /// A connection over a writer and a reader, on which nothing was read yet, under `Lenient`. `remote_addr` and
+    /// `secure` are what its requests say. An error where memory was refused.
     pub fn over(
         rt: Rt,
         alloc: Global,
@@ -151,47 +152,56 @@ impl<R: ReadDevice + Drop, W: WriteDevice + Drop, Rt: Wait + Copy> ClientConnect
         self.secure
     }
 
-    /// Has answers leave together: flushes leave their bytes where this lets them. It does for a request whose turn has come as
-    /// it is handed out, whose body isn't read from the connection, and which asks for no upgrade under `Standard`; else it
-    /// doesn't, from the moment at which the request is handed out. A raw writer, an upgrade and a 100 end it too. The caller
-    /// has what was left sent by the `Cork` of this policy: by `send_unless_leaving` after each `next`, and by `send` at the
-    /// end.
+    /// Has answers leave together: flushes leave their bytes where this lets them. It does for a request whose turn
+    /// has come as it is handed out, whose body isn't read from the connection, and which asks for no upgrade under
+    /// `Standard`; else it doesn't, from the moment at which the request is handed out. A raw writer, an upgrade and
+    /// a 100 end it too. The caller has what was left sent by the `Cork` of this policy: by `send_unless_leaving`
+    /// after each `next`, and by `send` at the end.
     pub fn set_flush_policy(&mut self, flush_policy: Arc<FlushPolicy>)
         ensures over { IsOver self.new ↔ IsOver self.old }
-        ensures same { (client_secure self.new ≡ client_secure self.old) × (client_address self.new ≡ client_address self.old) × (client_profile self.new ≡ client_profile self.old) }
+        ensures same { (client_secure self.new ≡ client_secure self.old)
+            × (client_address self.new ≡ client_address self.old)
+            × (client_profile self.new ≡ client_profile self.old) }
     {
         self.flush_policy = Some(flush_policy);
     }
 
-    /// Has `next` say here when it waits for a head and when it hands out a request. It keeps the limit of open requests from now on, 2
-    /// at least: in front of a head, and of the answer to a refused one, it waits until fewer are open. Once this was stopped, `next`
-    /// answers `None`. A `PacedReader` and a `PacedWriter` keep the other limits. An error where no handle is left.
+    /// Has `next` say here when it waits for a head and when it hands out a request. It keeps the limit of open
+    /// requests from now on, 2 at least: in front of a head, and of the answer to a refused one, it waits until fewer
+    /// are open. Once this was stopped, `next` answers `None`. A `PacedReader` and a `PacedWriter` keep the other
+    /// limits. An error where no handle is left.
     pub fn set_pace(&mut self, pace: Arc<Pace>) -> Result<(), AllocError>
         ensures over { IsOver self.new ↔ IsOver self.old }
-        ensures same { (client_secure self.new ≡ client_secure self.old) × (client_address self.new ≡ client_address self.old) × (client_profile self.new ≡ client_profile self.old) }
+        ensures same { (client_secure self.new ≡ client_secure self.old)
+            × (client_address self.new ≡ client_address self.old)
+            × (client_profile self.new ≡ client_profile self.old) }
     {
         count_open_writers(&self.sink, Arc::try_clone(pace.open())?);
         self.pace = Some(pace);
         Ok(())
     }
 
-    /// Goes to the next request, and hands it out; `None` once the connection has no further one, from then on. It waits for
-    /// the client, and while the last request's body holds the input: until that was read to its end or given up. Under
-    /// `Standard` it waits, too, until a request that asks for an upgrade is answered or dropped: a program does that before it
-    /// makes this call on the same thread. It answers `None` behind such a request whose raw writer was taken or which was
-    /// upgraded; if the stream of an upgrade still reads, once that has ended. Under `Standard` it answers `None`, too, behind
-    /// a request that was finished while its 100 was owed, or while more than 65,536 bytes of its body were unread. It does so,
-    /// too, once an answer was sent that was made by `with_close`; a call that waits for the client then answers `None` when the
-    /// client sends a head or ends. The client of a socket sees the end behind the last answer, as `Request::respond` tells.
-    /// Refused heads are answered in their turn, without waiting for it, and end the requests; but behind one of a version above
-    /// 1.1 the next head is read, unless it names an upgrade or its body is chunked. An error where memory was refused; then each
-    /// later call answers `None`. `now` dates the answers to refused heads, and the 500 of this request if it is dropped.
+    /// Goes to the next request, and hands it out; `None` once the connection has no further one, from then on. It
+    /// waits for the client, and while the last request's body holds the input: until that was read to its end or
+    /// given up. Under `Standard` it waits, too, until a request that asks for an upgrade is answered or dropped: a
+    /// program does that before it makes this call on the same thread. It answers `None` behind such a request whose
+    /// raw writer was taken or which was upgraded; if the stream of an upgrade still reads, once that has ended.
+    /// Under `Standard` it answers `None`, too, behind a request that was finished while its 100 was owed, or while
+    /// more than 65,536 bytes of its body were unread. It does so, too, once an answer was sent that was made by
+    /// `with_close`; a call that waits for the client then answers `None` when the client sends a head or ends. The
+    /// client of a socket sees the end behind the last answer, as `Request::respond` tells. Refused heads are
+    /// answered in their turn, without waiting for it, and end the requests; but behind one of a version above 1.1
+    /// the next head is read, unless it names an upgrade or its body is chunked. An error where memory was refused;
+    /// then each later call answers `None`. `now` dates the answers to refused heads, and the 500 of this request if
+    /// it is dropped.
     pub fn next(&mut self, now: HttpDate) -> Result<Option<Request<R, W, Rt>>, AllocError>
         ensures over { IsOver self.old → (result ≡ Ok None) × IsOver self.new }
         ensures none { IfOk result (λ r. IfNone r (IsOver self.new)) }
         ensures err { OnErr result (IsOver self.new) }
         ensures handed { IfOk result (λ r. IfSome r (HandsOut self.old self.new now)) }
-        ensures same { (client_secure self.new ≡ client_secure self.old) × (client_address self.new ≡ client_address self.old) × (client_profile self.new ≡ client_profile self.old) }
+        ensures same { (client_secure self.new ≡ client_secure self.old)
+            × (client_address self.new ≡ client_address self.old)
+            × (client_profile self.new ≡ client_profile self.old) }
     {
         let Some(mut reader) = self.next_head.take() else {
             return Ok(None);
@@ -226,20 +236,22 @@ impl<R: ReadDevice + Drop, W: WriteDevice + Drop, Rt: Wait + Copy> ClientConnect
         }
     }
 
-    /// Waits until all that was handed out is answered: each request was answered or dropped, or its raw writer or stream was,
-    /// and the refused heads were answered. Nobody reads or writes the connection then, if no further request is asked for. An
-    /// error where memory was refused.
+    /// Waits until all that was handed out is answered: each request was answered or dropped, or its raw writer or
+    /// stream was, and the refused heads were answered. Nobody reads or writes the connection then, if no further
+    /// request is asked for. An error where memory was refused.
     pub fn wait_for_answers(&mut self) -> Result<(), AllocError>
         ensures over { IsOver self.old → IsOver self.new }
-        ensures same { (client_secure self.new ≡ client_secure self.old) × (client_address self.new ≡ client_address self.old) × (client_profile self.new ≡ client_profile self.old) }
+        ensures same { (client_secure self.new ≡ client_secure self.old)
+            × (client_address self.new ≡ client_address self.old)
+            × (client_profile self.new ≡ client_profile self.old) }
     {
         let mut writer = self.sink.next()?;
         let _ = hold_writer(&mut writer);
         Ok(())
     }
 
-    // Hands out a request that was read by this reader, and answers on this writer. The reader goes with a body that is read from it,
-    // and with a request before whose answer the next head isn't read.
+    // Hands out a request that was read by this reader, and answers on this writer. The reader goes with a body that
+    // is read from it, and with a request before whose answer the next head isn't read.
     fn hand_out(
         &mut self,
         reader: SequentialReader<Source<R>, Rt>,
@@ -247,12 +259,16 @@ impl<R: ReadDevice + Drop, W: WriteDevice + Drop, Rt: Wait + Copy> ClientConnect
         exchange: Exchange,
     ) -> Result<Request<R, W, Rt>, AllocError>
         requires { IsOver self.old }
-        ensures exchange { IfOk result (λ request. exchange ≡ exchange_of (request_head request) (request_open request)) }
+        ensures exchange { IfOk result
+            (λ request. exchange ≡ exchange_of (request_head request) (request_open request)) }
         ensures err { OnErr result (IsOver self.new) }
         ensures last { IfOk result (λ request. (request_head request).is_last ≡ true → IsOver self.new) }
         ensures open { IfOk result (λ request. (request_head request).is_last ≡ false → IsOver self.new → ⊥) }
-        ensures client { IfOk result (λ request. (request_secure request ≡ client_secure self.old) × (request_address request ≡ client_address self.old)) }
-        ensures same { (client_secure self.new ≡ client_secure self.old) × (client_address self.new ≡ client_address self.old) × (client_profile self.new ≡ client_profile self.old) }
+        ensures client { IfOk result (λ request. (request_secure request ≡ client_secure self.old)
+            × (request_address request ≡ client_address self.old)) }
+        ensures same { (client_secure self.new ≡ client_secure self.old)
+            × (client_address self.new ≡ client_address self.old)
+            × (client_profile self.new ≡ client_profile self.old) }
     {
         let (head, open_request) = exchange.into_parts();
         let holds_reader = open_request.body.holds_reader() || open_request.holds_next_head;
@@ -354,8 +370,8 @@ impl<W: WriteDevice + Drop, Rt: Wait + Copy> RefusalPlace<SequentialWriterBuilde
     // Nothing is stated of what goes behind a lock.
     ghost refuses = { λ _ _ _ _ _ _. ⊤ };
 
-    // Takes the next turn, and leaves the answer in it. An error where memory was refused, or 2^64 - 1 writers were given out, or
-    // an answer asked that the connection ends.
+    // Takes the next turn, and leaves the answer in it. An error where memory was refused, or 2^64 - 1 writers were
+    // given out, or an answer asked that the connection ends.
     fn refuse(
         &mut self,
         sink: &mut SequentialWriterBuilder<Outlet<W>, Rt>,

@@ -1,6 +1,6 @@
-//! What threads hold of one connection: requests that any thread may read, answer, drop or upgrade, in any order, while the
-//! connection reads on. It stands on `tiny_http_open_request`, `tiny_http_socket` and `tiny_http_threads`; `tiny_http` names its
-//! modules again.
+//! What threads hold of one connection: requests that any thread may read, answer, drop or upgrade, in any order,
+//! while the connection reads on. It stands on `tiny_http_open_request`, `tiny_http_socket` and `tiny_http_threads`;
+//! `tiny_http` names its modules again.
 #![tactic(auto)]
 
 mod body;

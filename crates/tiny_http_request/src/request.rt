@@ -1,5 +1,6 @@
 //! A request that threads may hold: its head, its body on the connection's input, and its turn at the output.
-ghost use Rattle.std.specs.Prelude.{◌≡◌, ◌<◌, ◌≤◌, ◌||◌, ◌⊎◌, ℕ, length, true, false, Option, Ok, Err, Some, None, IfOk, IfErr, IsErrOf, IfSome, OnOk, is_some};
+ghost use Rattle.std.specs.Prelude.{◌≡◌, ◌<◌, ◌≤◌, ◌||◌, ◌⊎◌, ℕ, length, true, false, Option, Ok, Err, Some, None};
+ghost use Rattle.std.specs.Prelude.{IfOk, IfErr, IsErrOf, IfSome, OnOk, is_some};
 ghost use Rattle.std.specs.IoError.{error_kind};
 ghost use Rattle.std.specs.List.{list_all};
 ghost use Rattle.std.specs.Option.{option_copied};
@@ -13,10 +14,13 @@ ghost use Rattle.tiny_http_body.specs.Framing.{value_of};
 ghost use Rattle.tiny_http_text.specs.Bytes.{is_ascii};
 ghost use Rattle.tiny_http_open_request.specs.HeadValues.{is_upgrade};
 ghost use Rattle.tiny_http_body.specs.FramingReading.{framing};
-ghost use Rattle.tiny_http_body.specs.Body.{is_streaming, is_whole, bytes_left, body_stop, IsBodyOver, remaining, prepended_body};
+ghost use Rattle.tiny_http_body.specs.Body.{is_streaming, is_whole, bytes_left, body_stop, IsBodyOver, remaining};
+ghost use Rattle.tiny_http_body.specs.Body.{prepended_body};
 ghost use Rattle.tiny_http_open_request.specs.OpenRequest.{request_check, refuses_code};
 ghost use Rattle.tiny_http_open_request.specs.HeadReads.{head_framing, Begins};
-ghost use Rattle.tiny_http_request.specs.Request.{IsInvalidInput, asks_for, request_head, request_secure, request_address, request_open, is_expectation_failed, IfCreationIo, cut_kind, IsCutShort, BeginsWith, Says, IsFramed, FailsBy};
+ghost use Rattle.tiny_http_request.specs.Request.{IsInvalidInput, asks_for, request_head, request_secure};
+ghost use Rattle.tiny_http_request.specs.Request.{request_address, request_open, is_expectation_failed, IfCreationIo};
+ghost use Rattle.tiny_http_request.specs.Request.{cut_kind, IsCutShort, BeginsWith, Says, IsFramed, FailsBy};
 ghost use Rattle.tiny_http_request.specs.WholeBody.{FailsWhole};
 
 pub use crate::body::Body;
@@ -60,7 +64,8 @@ pub enum RequestCreationError {
     /// The headers expect something else than a 100 (RFC 9110, section 10.1.1).
     #[error("the expectation can't be met")]
     ExpectationFailed,
-    /// A body of up to 1024 bytes couldn't be read: the reader's fault, or `ConnectionAborted` where its bytes end early.
+    /// A body of up to 1024 bytes couldn't be read: the reader's fault, or `ConnectionAborted` where its bytes end
+    /// early.
     #[error("{0}")]
     CreationIoError(io::Error),
     /// Memory was refused.
@@ -104,8 +109,8 @@ pub struct RefusedUpgrade<R: ReadDevice + Drop, W: WriteDevice + Drop, Rt: Wait 
     pub request: Request<R, W, Rt>,
 }
 
-/// A request. Any thread may hold it, read its body and answer it, while the connection reads on. Answers are sent in the order
-/// of the requests. If it is dropped it is answered by an empty 500, in its turn.
+/// A request. Any thread may hold it, read its body and answer it, while the connection reads on. Answers are sent in
+/// the order of the requests. If it is dropped it is answered by an empty 500, in its turn.
 pub struct Request<R: ReadDevice + Drop, W: WriteDevice + Drop, Rt: Wait + Drop> {
     alloc: Global,
     secure: bool,
@@ -219,44 +224,48 @@ impl<R: ReadDevice + Drop, W: WriteDevice + Drop, Rt: Wait + Drop> Request<R, W,
         self.head.headers.as_slice()
     }
 
-    /// The value of the first header of this name, which is compared without regard to the case of ASCII letters (RFC 9110, section
-    /// 5.1). `None` where there is no header of that name. Further headers of that name are passed over.
+    /// The value of the first header of this name, which is compared without regard to the case of ASCII letters (RFC
+    /// 9110, section 5.1). `None` where there is no header of that name. Further headers of that name are passed
+    /// over.
     pub fn header(&self, name: &str) -> Option<&str>
         ensures { option_copied result ≡ value_of name.now (request_head self.now).headers.items }
     {
         self.head.header(name)
     }
 
-    /// Whether the headers of this name list this token. All of them are one list (RFC 9110, section 5.3), whose elements stand between
-    /// commas, with spaces and tabs round them left out (RFC 9110, section 5.6.1). Name and token are compared without regard to the
-    /// case of ASCII letters. An element has to be the token alone: `gzip;q=1` isn't `gzip`.
+    /// Whether the headers of this name list this token. All of them are one list (RFC 9110, section 5.3), whose
+    /// elements stand between commas, with spaces and tabs round them left out (RFC 9110, section 5.6.1). Name and
+    /// token are compared without regard to the case of ASCII letters. An element has to be the token alone:
+    /// `gzip;q=1` isn't `gzip`.
     pub fn header_lists(&self, name: &str, token: &str) -> bool
         ensures { result ≡ has_element name.now token.now (request_head self.now).headers.items }
     {
         self.head.header_lists(name, token)
     }
 
-    /// The path of the target, without its query, as it was sent: percent-encoded, and with `.` and `..` among its segments (RFC 9112,
-    /// section 3.2). It is `/a` of `/a?b` and of `http://host/a?b`, and `/` of `http://host`. `*`, and the host and port of a `CONNECT`,
-    /// are their own path. An empty target, which `Standard` refuses, has an empty path.
+    /// The path of the target, without its query, as it was sent: percent-encoded, and with `.` and `..` among its
+    /// segments (RFC 9112, section 3.2). It is `/a` of `/a?b` and of `http://host/a?b`, and `/` of `http://host`.
+    /// `*`, and the host and port of a `CONNECT`, are their own path. An empty target, which `Standard` refuses, has
+    /// an empty path.
     pub fn path(&self) -> &str
         ensures { IsPath (request_head self.now).path result.now }
     {
         self.head.target_path()
     }
 
-    /// The query of the target: what stands behind its first `?`, as it was sent; it may be empty. `None` where there is no `?` (RFC
-    /// 3986, section 3.4).
+    /// The query of the target: what stands behind its first `?`, as it was sent; it may be empty. `None` where there
+    /// is no `?` (RFC 3986, section 3.4).
     pub fn query(&self) -> Option<&str>
         ensures { IsQuery (request_head self.now).path (option_copied result) }
     {
         self.head.query()
     }
 
-    /// Whether the head asks for an upgrade that its profile takes (RFC 9110, section 7.8). Under `Standard` it does by `upgrade` in
-    /// `Connection`, and a protocol in `Upgrade`, in version 1.1, unless the connection ends after the request. Then `upgrade` to a
-    /// protocol that is named isn't `NotAsked`. Under the other profiles it does by a first `Connection` that has `upgrade` in it
-    /// somewhere: then all that follows the head is the body, whatever `Upgrade` names.
+    /// Whether the head asks for an upgrade that its profile takes (RFC 9110, section 7.8). Under `Standard` it does
+    /// by `upgrade` in `Connection`, and a protocol in `Upgrade`, in version 1.1, unless the connection ends after
+    /// the request. Then `upgrade` to a protocol that is named isn't `NotAsked`. Under the other profiles it does by
+    /// a first `Connection` that has `upgrade` in it somewhere: then all that follows the head is the body, whatever
+    /// `Upgrade` names.
     pub fn is_upgrade(&self) -> bool
         ensures { result ≡ is_upgrade (request_head self.now) }
     {
@@ -295,7 +304,8 @@ impl<R: ReadDevice + Drop, W: WriteDevice + Drop, Rt: Wait + Drop> Request<R, W,
     fn send_continue(&mut self, now: HttpDate)
         ensures open { request_open self.new ≡ record (request_open self.old) { owes_continue = false } }
         ensures head { request_head self.new ≡ request_head self.old }
-        ensures client { (request_secure self.new ≡ request_secure self.old) × (request_address self.new ≡ request_address self.old) }
+        ensures client { (request_secure self.new ≡ request_secure self.old)
+            × (request_address self.new ≡ request_address self.old) }
     {
         if self.open_request.owes_continue {
             self.send_at_flush();
@@ -304,8 +314,8 @@ impl<R: ReadDevice + Drop, W: WriteDevice + Drop, Rt: Wait + Drop> Request<R, W,
         }
     }
 
-    /// The body. If a 100 is owed it is sent first, dated `now`, in the turn of the request: that waits until the requests
-    /// before are finished. A fault of the writer isn't reported there.
+    /// The body. If a 100 is owed it is sent first, dated `now`, in the turn of the request: that waits until the
+    /// requests before are finished. A fault of the writer isn't reported there.
     pub fn as_reader(&mut self, now: HttpDate) -> &mut Body<R, Rt>
         ensures { result.now ≡ (request_open self.old).body }
     {
@@ -313,8 +323,8 @@ impl<R: ReadDevice + Drop, W: WriteDevice + Drop, Rt: Wait + Drop> Request<R, W,
         &mut self.open_request.body
     }
 
-    /// What the head says, and the body, so that the head can be looked at while the body is read. An owed 100 is sent first, as by
-    /// `as_reader`.
+    /// What the head says, and the body, so that the head can be looked at while the body is read. An owed 100 is
+    /// sent first, as by `as_reader`.
     pub fn parts(&mut self, now: HttpDate) -> (&Head, &mut Body<R, Rt>)
         ensures head { result.0.now ≡ request_head self.old }
         ensures body { result.1.now ≡ (request_open self.old).body }
@@ -328,37 +338,51 @@ impl<R: ReadDevice + Drop, W: WriteDevice + Drop, Rt: Wait + Drop> Request<R, W,
         (head, &mut open_request.body)
     }
 
-    /// Reads the body to its end, of at most `most` bytes. If a 100 is owed it is sent first, dated `now`, in the turn of the request:
-    /// that waits until the requests before are finished. What was read of the body before isn't in the result.
+    /// Reads the body to its end, of at most `most` bytes. If a 100 is owed it is sent first, dated `now`, in the
+    /// turn of the request: that waits until the requests before are finished. What was read of the body before isn't
+    /// in the result.
     ///
-    /// It is `TooLong` where more than `most` bytes are left: at once where the length is known, and then nothing is sent or read; else
-    /// once `most` bytes and one more have been read. It is `Cut` where the client's bytes end within a body of a known length or within
-    /// chunks, `Broken` where chunks break the grammar (RFC 9112, section 7.1), and `Io` for any other fault of the reader, one of kind
-    /// `Interrupted` too. It is `Memory` where memory was refused. Memory is taken as bytes come, and not for a length that is stated.
+    /// It is `TooLong` where more than `most` bytes are left: at once where the length is known, and then nothing is
+    /// sent or read; else once `most` bytes and one more have been read. It is `Cut` where the client's bytes end
+    /// within a body of a known length or within chunks, `Broken` where chunks break the grammar (RFC 9112, section
+    /// 7.1), and `Io` for any other fault of the reader, one of kind `Interrupted` too. It is `Memory` where memory
+    /// was refused. Memory is taken as bytes come, and not for a length that is stated.
     ///
-    /// After `TooLong` at once nothing has changed. After any other error the bytes that were read are lost, and the body goes on where
-    /// it stands. A fault is reported again by a later call. So is `Cut`, except of a body of a known length under `Lenient` and
-    /// `Strict`: it is over then, and a later call answers no byte.
+    /// After `TooLong` at once nothing has changed. After any other error the bytes that were read are lost, and the
+    /// body goes on where it stands. A fault is reported again by a later call. So is `Cut`, except of a body of a
+    /// known length under `Lenient` and `Strict`: it is over then, and a later call answers no byte.
     ///
-    /// The request isn't answered by an error: a handler that passes it on by `?` drops the request, which sends a 500. The code of
-    /// each error stands at `BodyError`. A body that is all that follows the head, as that of an upgrade under each profile except
-    /// `Standard`, ends with the client's bytes.
+    /// The request isn't answered by an error: a handler that passes it on by `?` drops the request, which sends a
+    /// 500. The code of each error stands at `BodyError`. A body that is all that follows the head, as that of an
+    /// upgrade under each profile except `Standard`, ends with the client's bytes.
     pub fn read_body(
         &mut self,
         alloc: Global,
         most: usize,
         now: HttpDate,
     ) -> Result<Vec<u8>, BodyError>
-        ensures refused { (n : ℕ) → bytes_left (request_open self.old).body ≡ Some n → most < n → IsErrOf result BodyError.TooLong × (self.new ≡ self.old) }
+        ensures refused { (n : ℕ)
+            → bytes_left (request_open self.old).body ≡ Some n
+            → most < n
+            → IsErrOf result BodyError.TooLong × (self.new ≡ self.old) }
         ensures bound { IfOk result (λ bytes. length bytes.items ≤ most) }
-        ensures sized { (n : ℕ) → bytes_left (request_open self.old).body ≡ Some n → IfOk result (λ bytes. length bytes.items ≡ n) }
+        ensures sized { (n : ℕ)
+            → bytes_left (request_open self.old).body ≡ Some n
+            → IfOk result (λ bytes. length bytes.items ≡ n) }
         // Of a body that isn't read from the connection the bytes are known.
         ensures held { is_streaming (request_open self.old).body ≡ false → (feed : Option Feed)
-            → IfOk result (λ bytes. remaining (request_open self.old).body feed ≡ prepended_body bytes.items (remaining (request_open self.new).body feed)) }
-        ensures again { (kind : ErrorKind) → body_stop (request_open self.old).body ≡ Some (Fault kind) → OnOk result ⊥ }
+            → IfOk result
+            (λ bytes. remaining (request_open self.old).body feed
+            ≡ prepended_body bytes.items (remaining (request_open self.new).body feed)) }
+        ensures again { (kind : ErrorKind)
+            → body_stop (request_open self.old).body ≡ Some (Fault kind)
+            → OnOk result ⊥ }
         // A body that is read from the connection was read to its end.
-        ensures over { OnOk result (is_streaming (request_open self.old).body ≡ true → (bytes_left (request_open self.old).body ≡ Some 0) ⊎ IsBodyOver (request_open self.new).body) }
-        ensures fails { IfErr result (λ e. FailsWhole (request_head self.old).form most (request_open self.old).body (request_open self.new).body e) }
+        ensures over { OnOk result (is_streaming (request_open self.old).body ≡ true
+            → (bytes_left (request_open self.old).body ≡ Some 0) ⊎ IsBodyOver (request_open self.new).body) }
+        ensures fails { IfErr result
+            (λ e. FailsWhole (request_head self.old).form most (request_open self.old).body
+            (request_open self.new).body e) }
         ensures continued { OnOk result ((request_open self.new).owes_continue ≡ false) }
         ensures head { request_head self.new ≡ request_head self.old }
     {
@@ -371,30 +395,32 @@ impl<R: ReadDevice + Drop, W: WriteDevice + Drop, Rt: Wait + Drop> Request<R, W,
         read_left(alloc, &mut self.open_request.body, self.head.form, most)
     }
 
-    /// Sends the answer, dated `now`, in the turn of the request, and then gives the body up. It waits until the requests
-    /// before are finished. The first fault is the error: the data's, or the writer's; after it nothing more is sent on the
-    /// connection. One of kind `BrokenPipe`, `ConnectionAborted`, `ConnectionRefused` or `ConnectionReset` isn't reported, also
-    /// one of the data. Under `Standard` a code below 200 or above 999, or a 2xx to `CONNECT`, is an error of kind
-    /// `InvalidInput`, and the request is dropped.
+    /// Sends the answer, dated `now`, in the turn of the request, and then gives the body up. It waits until the
+    /// requests before are finished. The first fault is the error: the data's, or the writer's; after it nothing more
+    /// is sent on the connection. One of kind `BrokenPipe`, `ConnectionAborted`, `ConnectionRefused` or
+    /// `ConnectionReset` isn't reported, also one of the data. Under `Standard` a code below 200 or above 999, or a
+    /// 2xx to `CONNECT`, is an error of kind `InvalidInput`, and the request is dropped.
     ///
-    /// Under `Standard` no request follows one that is answered or dropped while its 100 is owed, or while more than 65,536
-    /// bytes of its body are unread. Then the answer says `Connection: close`, as it does where the request is the last by its head or
-    /// the end of its body isn't known (RFC 9112, section 9.6).
+    /// Under `Standard` no request follows one that is answered or dropped while its 100 is owed, or while more than
+    /// 65,536 bytes of its body are unread. Then the answer says `Connection: close`, as it does where the request is
+    /// the last by its head or the end of its body isn't known (RFC 9112, section 9.6).
     ///
-    /// Where the response was made by `with_close`, no further request is handed out. Under `Standard` the answer to the last
-    /// number says `Connection: close`: this answer, or that of a later request or refused head. A later request says nothing of
-    /// it that was dropped before, is upgraded or gives its raw writer.
+    /// Where the response was made by `with_close`, no further request is handed out. Under `Standard` the answer to
+    /// the last number says `Connection: close`: this answer, or that of a later request or refused head. A later
+    /// request says nothing of it that was dropped before, is upgraded or gives its raw writer.
     ///
-    /// Behind that last answer the writer says that no byte follows, under each profile, once the answer is flushed: the client of
-    /// a socket sees the end then, also where a thread waits for its next head. Nothing is said behind a raw writer or an upgrade,
-    /// nor behind a text that was left and is written as their turn ends.
+    /// Behind that last answer the writer says that no byte follows, under each profile, once the answer is flushed:
+    /// the client of a socket sees the end then, also where a thread waits for its next head. Nothing is said behind
+    /// a raw writer or an upgrade, nor behind a text that was left and is written as their turn ends.
     pub fn respond<D: ReadDevice + Drop>(
         self,
         response: Response<D>,
         now: HttpDate,
     ) -> Result<(), io::Error>
         ensures reported { IfErr result (λ e. is_closed_client (error_kind e) ≡ false) }
-        ensures refused { refuses_code (request_open self).by_standard (request_open self).is_connect response.answer.status ≡ true → IsInvalidInput result }
+        ensures refused { refuses_code (request_open self).by_standard (request_open self).is_connect
+            response.answer.status ≡ true
+            → IsInvalidInput result }
     {
         if self.open_request.refuses(response.status_code()) {
             return Err(ErrorKind::InvalidInput.into());
@@ -408,22 +434,25 @@ impl<R: ReadDevice + Drop, W: WriteDevice + Drop, Rt: Wait + Drop> Request<R, W,
         reported(sent)
     }
 
-    /// Begins an answer whose body grows while it is sent, as that of server-sent events: writes its head, dated `now`, in the turn of
-    /// the request, and gives the request's body up. It waits until the requests before are finished. The response's data are let go,
-    /// and it says no length. The body is sent in chunks (RFC 9112, section 7.1); to a version up to 1.0 as it is, so that the
-    /// connection's end ends it (section 6.3): no further request is handed out, and answers to those that were are lost. It isn't sent
-    /// at all where none is asked for (`HEAD`) or the code has no content: where `StreamedBody::form` is `Absent`, `finish` at once,
-    /// since no call would tell that the client has gone. The client sees the head with the first flush, or once 8192 bytes have come.
+    /// Begins an answer whose body grows while it is sent, as that of server-sent events: writes its head, dated
+    /// `now`, in the turn of the request, and gives the request's body up. It waits until the requests before are
+    /// finished. The response's data are let go, and it says no length. The body is sent in chunks (RFC 9112, section
+    /// 7.1); to a version up to 1.0 as it is, so that the connection's end ends it (section 6.3): no further request
+    /// is handed out, and answers to those that were are lost. It isn't sent at all where none is asked for (`HEAD`)
+    /// or the code has no content: where `StreamedBody::form` is `Absent`, `finish` at once, since no call would tell
+    /// that the client has gone. The client sees the head with the first flush, or once 8192 bytes have come.
     ///
-    /// The code is refused that `respond` refuses: `InvalidInput`, and the request is dropped. Any other error is a fault of the
-    /// client's writer, or `BrokenPipe` where one ended the connection's output before. What is said of the connection's end by
-    /// `respond`, and of `with_close`, holds here.
+    /// The code is refused that `respond` refuses: `InvalidInput`, and the request is dropped. Any other error is a
+    /// fault of the client's writer, or `BrokenPipe` where one ended the connection's output before. What is said of
+    /// the connection's end by `respond`, and of `with_close`, holds here.
     pub fn respond_streaming<D: Drop>(
         self,
         response: Response<D>,
         now: HttpDate,
     ) -> Result<StreamedBody<W, Rt>, io::Error>
-        ensures refused { refuses_code (request_open self).by_standard (request_open self).is_connect response.answer.status ≡ true → IsInvalidInput result }
+        ensures refused { refuses_code (request_open self).by_standard (request_open self).is_connect
+            response.answer.status ≡ true
+            → IsInvalidInput result }
     {
         let status = response.status_code();
         if self.open_request.refuses(status) {
@@ -442,9 +471,10 @@ impl<R: ReadDevice + Drop, W: WriteDevice + Drop, Rt: Wait + Drop> Request<R, W,
         Ok(StreamedBody::new(writer, form))
     }
 
-    /// Takes the raw writer in place of an answer, and gives the body up. What is written is all that the client gets for the
-    /// request, but for a 100 that was sent before. The turn ends as the writer is dropped. Under `Standard` no request follows one
-    /// that asks for an upgrade, or whose 100 is owed, or of whose body more than 65,536 bytes are unread.
+    /// Takes the raw writer in place of an answer, and gives the body up. What is written is all that the client gets
+    /// for the request, but for a 100 that was sent before. The turn ends as the writer is dropped. Under `Standard`
+    /// no request follows one that asks for an upgrade, or whose 100 is owed, or of whose body more than 65,536 bytes
+    /// are unread.
     pub fn into_writer(self) -> SequentialWriter<Outlet<W>, Rt> {
         self.send_at_flush();
         let (mut open_request, writer) = self.into_parts();
@@ -456,23 +486,28 @@ impl<R: ReadDevice + Drop, W: WriteDevice + Drop, Rt: Wait + Drop> Request<R, W,
         writer
     }
 
-    /// Answers by a response that upgrades the connection to this protocol (RFC 9110, section 7.8), in the turn of the request:
-    /// its head alone is sent, dated `now`, and its data are let go unread. It waits until the requests before are finished.
-    /// The stream then reads the body, and writes in the turn of the request, which ends as the stream is dropped. Under `Standard`
-    /// it reads all that follows the body, and no request follows. A fault of the writer isn't reported.
+    /// Answers by a response that upgrades the connection to this protocol (RFC 9110, section 7.8), in the turn of
+    /// the request: its head alone is sent, dated `now`, and its data are let go unread. It waits until the requests
+    /// before are finished. The stream then reads the body, and writes in the turn of the request, which ends as the
+    /// stream is dropped. Under `Standard` it reads all that follows the body, and no request follows. A fault of the
+    /// writer isn't reported.
     ///
-    /// It is an error where the protocol isn't ASCII, and the request is dropped. Under `Standard` it is one, too, where the
-    /// request doesn't ask for this protocol or is its connection's last, where the code isn't 101, and where the body wasn't
-    /// read until a read answered 0, or was cut or is broken. A body without bytes or of up to 1024 bytes that came with its
-    /// head needn't be read, and a counted one only to its last byte.
+    /// It is an error where the protocol isn't ASCII, and the request is dropped. Under `Standard` it is one, too,
+    /// where the request doesn't ask for this protocol or is its connection's last, where the code isn't 101, and
+    /// where the body wasn't read until a read answered 0, or was cut or is broken. A body without bytes or of up to
+    /// 1024 bytes that came with its head needn't be read, and a counted one only to its last byte.
     pub fn upgrade<D: Drop>(
         self,
         protocol: &str,
         response: Response<D>,
         now: HttpDate,
     ) -> Result<CustomStream<Body<R, Rt>, SequentialWriter<Outlet<W>, Rt>>, UpgradeError>
-        ensures granted { OnOk result (request_check (request_open self) protocol.now response.answer.status (is_whole (request_open self).body) ≡ Ok tt) }
-        ensures refused { IfErr result (λ e. request_check (request_open self) protocol.now response.answer.status (is_whole (request_open self).body) ≡ Err e) }
+        ensures granted { OnOk result
+            (request_check (request_open self) protocol.now response.answer.status
+            (is_whole (request_open self).body) ≡ Ok tt) }
+        ensures refused { IfErr result
+            (λ e. request_check (request_open self) protocol.now response.answer.status
+            (is_whole (request_open self).body) ≡ Err e) }
     {
         let status = response.status_code();
         let is_whole = self.open_request.body.is_whole();
@@ -480,9 +515,9 @@ impl<R: ReadDevice + Drop, W: WriteDevice + Drop, Rt: Wait + Drop> Request<R, W,
         Ok(self.begin_stream(protocol, response, is_whole, now))
     }
 
-    /// Upgrades as `upgrade` does, but only where the head asks for this protocol, under each profile: by `is_upgrade`, and by an
-    /// `Upgrade` header that lists it. Else it is `NotAsked`. Where it is refused nothing was sent, and the request is handed back,
-    /// to be answered. The response is let go.
+    /// Upgrades as `upgrade` does, but only where the head asks for this protocol, under each profile: by
+    /// `is_upgrade`, and by an `Upgrade` header that lists it. Else it is `NotAsked`. Where it is refused nothing was
+    /// sent, and the request is handed back, to be answered. The response is let go.
     pub fn try_upgrade<D: Drop>(
         self,
         protocol: &str,
@@ -492,10 +527,15 @@ impl<R: ReadDevice + Drop, W: WriteDevice + Drop, Rt: Wait + Drop> Request<R, W,
         CustomStream<Body<R, Rt>, SequentialWriter<Outlet<W>, Rt>>,
         RefusedUpgrade<R, W, Rt>,
     >
-        ensures granted { OnOk result ((request_check (request_open self) protocol.now response.answer.status (is_whole (request_open self).body) ≡ Ok tt)
+        ensures granted { OnOk result
+            ((request_check (request_open self) protocol.now response.answer.status
+            (is_whole (request_open self).body) ≡ Ok tt)
             × (asks_for (request_head self) protocol.now ≡ true)) }
         ensures handed_back { IfErr result (λ e. e.request ≡ self) }
-        ensures refused { IfErr result (λ e. (request_check (request_open self) protocol.now response.answer.status (is_whole (request_open self).body) ≡ Err e.error)
+        ensures refused { IfErr result
+            (λ e.
+            (request_check (request_open self) protocol.now response.answer.status
+            (is_whole (request_open self).body) ≡ Err e.error)
             ⊎ ((asks_for (request_head self) protocol.now ≡ false) × (e.error ≡ UpgradeError.NotAsked))) }
     {
         let status = response.status_code();
@@ -552,9 +592,9 @@ impl<R: ReadDevice + Drop, W: WriteDevice + Drop, Rt: Wait + Drop> Request<R, W,
 }
 
 impl<R: ReadDevice + Drop, W: WriteDevice + Drop, Rt: Wait + Drop> Drop for Request<R, W, Rt> {
-    /// Leaves the turn with an empty 500, and then gives the body up. Under `Standard` the 500 says `Connection: close` as an
-    /// answer by `respond` does. Where this 500 is the last answer behind one that asked for the close, the writer says that no
-    /// byte follows, as `respond` tells.
+    /// Leaves the turn with an empty 500, and then gives the body up. Under `Standard` the 500 says `Connection:
+    /// close` as an answer by `respond` does. Where this 500 is the last answer behind one that asked for the close,
+    /// the writer says that no byte follows, as `respond` tells.
     fn drop(self) {
         let (mut open_request, writer) = self.into_parts();
         let left = open_request.body.remainder();
@@ -581,8 +621,8 @@ impl<R: ReadDevice + Drop, W: WriteDevice + Drop, Rt: Wait + Drop> fmt::Debug
     }
 }
 
-// Waits for the turn of a request that is to be answered, which may end the connection. No head is read behind it where it is the last
-// so. What is left of its body.
+// Waits for the turn of a request that is to be answered, which may end the connection. No head is read behind it
+// where it is the last so. What is left of its body.
 fn begin_answer<R: ReadDevice + Drop, W: WriteDevice + Drop, Rt: Wait + Drop>(
     open_request: &mut OpenRequest<Body<R, Rt>>,
     writer: &mut SequentialWriter<Outlet<W>, Rt>,
@@ -649,9 +689,9 @@ fn alone<R: ReadDevice + Drop, Rt: Wait + Copy>(
     Ok(Some(reader))
 }
 
-/// A request of these parts, on a connection of its own: its body is read from `source_data`, and it is answered on `writer`.
-/// A body of up to 1024 bytes is read at once, unless a 100 is owed. `now` dates the 500 that is sent if the request is
-/// dropped. Any version is accepted, and the framing is judged under `Lenient`.
+/// A request of these parts, on a connection of its own: its body is read from `source_data`, and it is answered on
+/// `writer`. A body of up to 1024 bytes is read at once, unless a 100 is owed. `now` dates the 500 that is sent if
+/// the request is dropped. Any version is accepted, and the framing is judged under `Lenient`.
 #[allow(clippy::too_many_arguments)]
 pub fn new_request<R: ReadDevice + Drop, W: WriteDevice + Drop, Rt: Wait + Copy>(
     rt: Rt,
@@ -666,10 +706,13 @@ pub fn new_request<R: ReadDevice + Drop, W: WriteDevice + Drop, Rt: Wait + Copy>
     writer: W,
     now: HttpDate,
 ) -> Result<Request<R, W, Rt>, RequestCreationError>
-    ensures says { IfOk result (λ r. Says r secure remote_addr method path version × ((request_head r).headers ≡ headers)) }
+    ensures says { IfOk result (λ r. Says r secure remote_addr method path version
+        × ((request_head r).headers ≡ headers)) }
     ensures framed { IfOk result (λ r. IsFramed r Profile.Lenient now) }
-    ensures body { IfOk result (λ r. BeginsWith (head_framing (request_head r)) (R.feed source_data) (request_open r).body) }
-    ensures refused { framing HeadRules.Lenient version headers.items ≡ Err FramingFault.Expectation → result ≡ Err RequestCreationError.ExpectationFailed }
+    ensures body { IfOk result
+        (λ r. BeginsWith (head_framing (request_head r)) (R.feed source_data) (request_open r).body) }
+    ensures refused { framing HeadRules.Lenient version headers.items ≡ Err FramingFault.Expectation
+        → result ≡ Err RequestCreationError.ExpectationFailed }
     ensures fails { IfErr result (λ e. FailsBy e version headers.items (R.feed source_data)) }
 {
     let framing = match framing_of(HeadRules::Lenient, version, headers.as_slice()) {

@@ -8,14 +8,15 @@ use tiny_http_io::outlet::Outlet;
 use tiny_http_threads::sequential::SequentialWriter;
 use tiny_http_threads::turn::pass_writer;
 
-/// The body of an answer that `Request::respond_streaming` began. It is written in the turn of its request, and is sent as `Streamed`
-/// says: what is written is held until it fills a piece of 8192 bytes, and `flush` sends what is there, with the head in front of the
-/// first byte. `finish` ends the body. Where it is dropped instead the connection ends within the body: one in chunks is visibly cut;
-/// that of a version up to 1.0, which goes on up to the connection's end, can't be told from a whole one.
+/// The body of an answer that `Request::respond_streaming` began. It is written in the turn of its request, and is
+/// sent as `Streamed` says: what is written is held until it fills a piece of 8192 bytes, and `flush` sends what is
+/// there, with the head in front of the first byte. `finish` ends the body. Where it is dropped instead the
+/// connection ends within the body: one in chunks is visibly cut; that of a version up to 1.0, which goes on up to
+/// the connection's end, can't be told from a whole one.
 ///
-/// The first fault of the client's writer is the error of the call that met it. Then each later call is an error of kind `BrokenPipe`,
-/// and nothing more is sent on the connection. Where the body isn't sent at all no call tells a fault: a program whose body has no end
-/// asks `form` first.
+/// The first fault of the client's writer is the error of the call that met it. Then each later call is an error of
+/// kind `BrokenPipe`, and nothing more is sent on the connection. Where the body isn't sent at all no call tells a
+/// fault: a program whose body has no end asks `form` first.
 pub struct StreamedBody<W: WriteDevice + Drop, Rt: Wait + Drop> {
     body: Streamed<SequentialWriter<Outlet<W>, Rt>>,
 }
@@ -31,13 +32,14 @@ impl<W: WriteDevice + Drop, Rt: Wait + Drop> StreamedBody<W, Rt> {
         }
     }
 
-    /// How the body is sent: in chunks; up to the connection's end; or not at all, and then what is written is left out.
+    /// How the body is sent: in chunks; up to the connection's end; or not at all, and then what is written is left
+    /// out.
     pub fn form(&self) -> StreamedForm {
         self.body.form()
     }
 
-    /// Sends what is held, and the end of the body, flushes, and ends the turn of its request. A body that goes on up to the
-    /// connection's end ends the connection. An error as in `write`.
+    /// Sends what is held, and the end of the body, flushes, and ends the turn of its request. A body that goes on up
+    /// to the connection's end ends the connection. An error as in `write`.
     pub fn finish(self) -> io::Result<()> {
         let Self { body } = self;
         let form = body.form();
@@ -61,7 +63,8 @@ impl<W: WriteDevice + Drop, Rt: Wait + Drop> Write for StreamedBody<W, Rt> {
         self.body.write(buf)
     }
 
-    /// Takes all the bytes. It stops at the first fault and reports it, also one of kind `Interrupted`: after it the body is broken.
+    /// Takes all the bytes. It stops at the first fault and reports it, also one of kind `Interrupted`: after it the
+    /// body is broken.
     fn write_all(&mut self, buf: &[u8]) -> io::Result<()> {
         let mut at = 0;
         while at < buf.len() {

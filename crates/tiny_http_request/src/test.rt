@@ -46,8 +46,8 @@ impl WriteDevice for Nowhere {
     }
 }
 
-/// A writer that keeps all bytes, so that a test sees what was answered: one copy goes to the request, and the other is asked for
-/// the bytes.
+/// A writer that keeps all bytes, so that a test sees what was answered: one copy goes to the request, and the other
+/// is asked for the bytes.
 #[derive(Drop)]
 pub struct Recorder<Rt: Wait + Drop> {
     rt: Rt,
@@ -78,8 +78,8 @@ impl<Rt: Wait + Copy> Recorder<Rt> {
         })
     }
 
-    /// All bytes that were written by now, by this one and its copies. `answer::read_answer` reads the answers in them. An error
-    /// where memory was refused.
+    /// All bytes that were written by now, by this one and its copies. `answer::read_answer` reads the answers in
+    /// them. An error where memory was refused.
     pub fn bytes(&self) -> Result<Vec<u8>, AllocError> {
         self.bytes.lock(&self.rt).as_slice().to_vec(self.alloc)
     }
@@ -131,8 +131,8 @@ impl TestBody {
     }
 }
 
-/// A request to be made: `GET /` in version 1.1 with no header and no body, from 127.0.0.1:23456, not encrypted, unless a
-/// call below changes it.
+/// A request to be made: `GET /` in version 1.1 with no header and no body, from 127.0.0.1:23456, not encrypted,
+/// unless a call below changes it.
 #[derive(Drop)]
 pub struct TestRequest {
     body: TestBody,
@@ -172,8 +172,8 @@ fn with_length(
 }
 
 impl TestRequest {
-    /// `GET /` in version 1.1 with no header and no body, from 127.0.0.1:23456, not encrypted. An error where memory was
-    /// refused.
+    /// `GET /` in version 1.1 with no header and no body, from 127.0.0.1:23456, not encrypted. An error where memory
+    /// was refused.
     pub fn new(alloc: Global) -> Result<TestRequest, AllocError>
         ensures head { IfOk result (λ r. (r.method ≡ Method.Get) × (r.path ≡ 47 ∷ []) × (r.version ≡ version 1 1)) }
         ensures none { IfOk result (λ r. (r.headers.items ≡ []) × (body_bytes r.body ≡ [])) }
@@ -289,15 +289,20 @@ impl TestRequest {
         ensures says { IfOk result (λ r. Says r self.secure (Some self.remote_addr) self.method self.path self.version
             × ((request_head r).headers.items ≡ with_length (length (body_bytes self.body)) self.headers.items)) }
         ensures framed { IfOk result (λ r. IsFramed r Profile.Lenient now) }
-        ensures body { IfOk result (λ r. BeginsWith (head_framing (request_head r)) (Some (whole_feed (body_bytes self.body))) (request_open r).body) }
-        ensures fails { IfErr result (λ e. FailsBy e self.version (with_length (length (body_bytes self.body)) self.headers.items) (Some (whole_feed (body_bytes self.body)))) }
+        ensures body { IfOk result
+            (λ r. BeginsWith (head_framing (request_head r)) (Some (whole_feed (body_bytes self.body)))
+            (request_open r).body) }
+        ensures fails { IfErr result
+            (λ e. FailsBy e self.version (with_length (length (body_bytes self.body)) self.headers.items)
+            (Some (whole_feed (body_bytes self.body)))) }
     {
         self.into_request_over(rt, alloc, now, Nowhere)
     }
 
-    /// The request, which is answered on this writer, as a `Recorder`. It has the header `Content-Length` with the body's length
-    /// behind its others, if it has none of that name. `now` dates the 500 that is sent if it is dropped. It is framed as under
-    /// `Lenient`, also where its handler is a strict server's. Errors are those of `new_request`.
+    /// The request, which is answered on this writer, as a `Recorder`. It has the header `Content-Length` with the
+    /// body's length behind its others, if it has none of that name. `now` dates the 500 that is sent if it is
+    /// dropped. It is framed as under `Lenient`, also where its handler is a strict server's. Errors are those of
+    /// `new_request`.
     pub fn into_request_over<W: WriteDevice + Drop, Rt: Wait + Copy>(
         self,
         rt: Rt,
@@ -308,8 +313,12 @@ impl TestRequest {
         ensures says { IfOk result (λ r. Says r self.secure (Some self.remote_addr) self.method self.path self.version
             × ((request_head r).headers.items ≡ with_length (length (body_bytes self.body)) self.headers.items)) }
         ensures framed { IfOk result (λ r. IsFramed r Profile.Lenient now) }
-        ensures body { IfOk result (λ r. BeginsWith (head_framing (request_head r)) (Some (whole_feed (body_bytes self.body))) (request_open r).body) }
-        ensures fails { IfErr result (λ e. FailsBy e self.version (with_length (length (body_bytes self.body)) self.headers.items) (Some (whole_feed (body_bytes self.body)))) }
+        ensures body { IfOk result
+            (λ r. BeginsWith (head_framing (request_head r)) (Some (whole_feed (body_bytes self.body)))
+            (request_open r).body) }
+        ensures fails { IfErr result
+            (λ e. FailsBy e self.version (with_length (length (body_bytes self.body)) self.headers.items)
+            (Some (whole_feed (body_bytes self.body)))) }
     {
         let TestRequest {
             body,

@@ -67,8 +67,8 @@ impl From<BodyError> for io::Error {
 
     ghost from_gives = { IsFaultOfBody };
 
-    /// The reader's fault itself; of kind `InvalidInput` for `TooLong`, `UnexpectedEof` for `Cut`, `InvalidData` for `Broken` and
-    /// `OutOfMemory` for `Memory`.
+    /// The reader's fault itself; of kind `InvalidInput` for `TooLong`, `UnexpectedEof` for `Cut`, `InvalidData` for
+    /// `Broken` and `OutOfMemory` for `Memory`.
     fn from(error: BodyError) -> io::Error {
         match error {
             BodyError::TooLong => ErrorKind::InvalidInput.into(),
@@ -84,7 +84,9 @@ impl From<BodyError> for io::Error {
 fn fault_error(form: Form, fault: io::Error) -> BodyError
     ensures error { result ≡ fault_error form fault }
     // It fails the whole body, where each later read reports this fault.
-    ensures fails { (most : ℕ) (old new : Unread) → body_stop new ≡ Some (Fault (error_kind fault)) → FailsWhole form most old new result }
+    ensures fails { (most : ℕ) (old new : Unread)
+        → body_stop new ≡ Some (Fault (error_kind fault))
+        → FailsWhole form most old new result }
 {
     match (form, fault.kind()) {
         (Form::Chunked, ErrorKind::InvalidData) => BodyError::Broken,

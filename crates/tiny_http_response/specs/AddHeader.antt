@@ -1,5 +1,6 @@
 -- An answer with one header more (RFC 9110, sections 7.6.1, 7.8 and 8.3; RFC 9112, section 6).
-use Rattle.std.specs.Prelude.{ℕ, Bool, true, false, ◌&&◌, ◌||◌, List, [], ◌∷◌, ◌++◌, Option, Some, None, codes, if◌then◌else◌}
+use Rattle.std.specs.Prelude.{ℕ, Bool, true, false, ◌&&◌, ◌||◌, List, [], ◌∷◌, ◌++◌, Option, Some, None, codes}
+use Rattle.std.specs.Prelude.{if◌then◌else◌}
 use Rattle.tiny_http_head.specs.declared.common.Header.{Header}
 use Rattle.tiny_http_head.specs.Common.{same_name}
 use Rattle.tiny_http_head.specs.Heads.{length_in}
@@ -9,12 +10,16 @@ use Rattle.tiny_http_response.specs.Answer.{Answer, has_header}
 -- names of headers that are never added: how the answer is sent is said by the server itself
 abbrev pub is_reserved : List ℕ → Bool
 is_reserved name =
-    same_name name (codes "Connection") || (same_name name (codes "Trailer") || (same_name name (codes "Transfer-Encoding") || same_name name (codes "Upgrade")))
+    same_name name (codes "Connection")
+    ||
+    (same_name name (codes "Trailer")
+    || (same_name name (codes "Transfer-Encoding") || same_name name (codes "Upgrade")))
 
 -- the first header of this name has this value, at its place
 abbrev pub with_value : List ℕ → List ℕ → List Header → List Header
 with_value name value [] = []
-with_value name value (h ∷ hs) = if same_name h.field name then record h { value = value } ∷ hs else h ∷ with_value name value hs
+with_value name value (h ∷ hs) =
+    if same_name h.field name then record h { value = value } ∷ hs else h ∷ with_value name value hs
 
 -- a Content-Type, where the list has one
 abbrev pub is_second_type : Header → List Header → Bool
@@ -39,7 +44,8 @@ add_header h a =
     if same_name h.field (codes "Content-Length") then with_length (length_in h.value) a else
     record a { headers = headers_with h a.headers }
 
--- whether a header is put last, which alone takes memory: it isn't reserved, no Content-Length and no second Content-Type
+-- whether a header is put last, which alone takes memory: it isn't reserved, no Content-Length and no second
+-- Content-Type
 abbrev pub is_put_last : Header → List Header → Bool
 is_put_last h headers =
     if is_reserved h.field then false else
@@ -53,7 +59,17 @@ with_headers (h ∷ hs) a = with_headers hs (add_header h a)
 
 -- an answer as it is made: these headers are added to none, and the threshold is the first
 abbrev pub first_answer : ℕ → List Header → Option ℕ → Answer
-first_answer status headers length = with_headers headers (record { status = status; headers = []; data_length = length; threshold = THRESHOLD; closes = false; offered = None; contentless = false })
+first_answer status headers length =
+    with_headers headers
+    (record {
+      status = status;
+      headers = [];
+      data_length = length;
+      threshold = THRESHOLD;
+      closes = false;
+      offered = None;
+      contentless = false;
+    })
 
 -- whether one of these headers is put last when they are added one after another
 abbrev pub is_some_put_last : List Header → Answer → Bool

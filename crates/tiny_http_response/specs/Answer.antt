@@ -1,5 +1,6 @@
 -- Answers, and the text that is sent for one (RFC 9112, sections 4, 5 and 6).
-use Rattle.std.specs.Prelude.{◌≡◌, ℕ, Bool, ◌||◌, ◌&&◌, List, [], ◌++◌, length, Option, Some, None, Result, Ok, Err, codes, decimal, ◌==◌, if◌then◌else◌, ◌⊎◌, true, false}
+use Rattle.std.specs.Prelude.{◌≡◌, ℕ, Bool, ◌||◌, ◌&&◌, List, [], ◌++◌, length, Option, Some, None, Result, Ok, Err}
+use Rattle.std.specs.Prelude.{codes, decimal, ◌==◌, if◌then◌else◌, ◌⊎◌, true, false}
 use Rattle.std.specs.List.{flat_map, list_any, list_all}
 use Rattle.std.specs.IoError.{error_kind}
 use Rattle.std.specs.declared.io.Error.{Error}
@@ -19,7 +20,8 @@ use Rattle.tiny_http_io.specs.Device.{Feed, Sink}
 use Rattle.tiny_http_io.specs.declared.device.Stop.{Stop}
 use Rattle.tiny_http_io.specs.declared.device.Stop.TheVariants.{End, Fault}
 use Rattle.tiny_http_response.specs.declared.answer_context.Persistence.{Persistence}
-use Rattle.tiny_http_response.specs.ByStandard.{status_version, own_headers, listed_headers, has_no_content, contentless_framing}
+use Rattle.tiny_http_response.specs.ByStandard.{status_version, own_headers, listed_headers, has_no_content}
+use Rattle.tiny_http_response.specs.ByStandard.{contentless_framing}
 use Rattle.tiny_http_response.specs.declared.response.TheConstants.{THRESHOLD}
 use Rattle.tiny_http_body.specs.Text.{Text, prepend_text, whole, nothing_sent, identity_body, chunked_body, Prints}
 
@@ -38,7 +40,16 @@ pub record Answer : Type 0 where
 
 -- an answer whose data has so many bytes, with the threshold that holds until another is set
 abbrev pub answer_with : ℕ → List Header → ℕ → Answer
-answer_with status headers length = record { status = status; headers = headers; data_length = Some length; threshold = THRESHOLD; closes = false; offered = None; contentless = false }
+answer_with status headers length =
+    record {
+      status = status;
+      headers = headers;
+      data_length = Some length;
+      threshold = THRESHOLD;
+      closes = false;
+      offered = None;
+      contentless = false;
+    }
 
 -- an answer without data that says no length, if its code has no content
 abbrev pub contentless_answer : ℕ → Answer
@@ -54,7 +65,9 @@ has_header headers name = list_any (λ h. same_name h.field name) headers
 
 -- HTTP/, the version, the code, its phrase (RFC 9112, section 4)
 unfoldable pub status_line : HTTPVersion → ℕ → List ℕ
-status_line version status = codes "HTTP/" ++ version_text version ++ codes " " ++ decimal status ++ codes " " ++ reason_phrase status ++ codes "\r\n"
+status_line version status =
+    codes "HTTP/" ++ version_text version ++ codes " " ++ decimal status ++ codes " " ++ reason_phrase status
+    ++ codes "\r\n"
 
 -- the text of an answer that is made of a code: the code and its phrase
 unfoldable pub status_text : ℕ → List ℕ
@@ -77,7 +90,8 @@ upgrade_lines (Some protocol) = protocol_lines protocol
 
 -- the server's name and the date, each only where the list has none (RFC 9110, sections 10.2.4 and 6.6.1)
 unfoldable pub server_line : List Header → List ℕ
-server_line headers = if has_header headers (codes "Server") then [] else field_line (codes "Server") (codes "tiny-http (Rust)")
+server_line headers =
+    if has_header headers (codes "Server") then [] else field_line (codes "Server") (codes "tiny-http (Rust)")
 
 unfoldable pub date_line : List Header → HttpDate → List ℕ
 date_line headers date = if has_header headers (codes "Date") then [] else field_line (codes "Date") (date_text date)
@@ -91,11 +105,19 @@ framing_line Neither = []
 framing_line TransferEncoding = field_line (codes "Transfer-Encoding") (codes "chunked")
 framing_line (ContentLength n) = length_line n
 
--- The head of an answer with these headers of its own: the status line, an upgrade's lines, the server's name and the date, these
--- headers that are listed, the framing, and an empty line.
-unfoldable pub answer_head_text : HTTPVersion → ℕ → Option (List ℕ) → List Header → List Header → HttpDate → FramingHeader → List ℕ
+-- The head of an answer with these headers of its own: the status line, an upgrade's lines, the server's name and the
+-- date, these headers that are listed, the framing, and an empty line.
+unfoldable pub answer_head_text : HTTPVersion
+    → ℕ
+    → Option (List ℕ)
+    → List Header
+    → List Header
+    → HttpDate
+    → FramingHeader
+    → List ℕ
 answer_head_text version status upgrade headers listed date framing =
-    status_line version status ++ upgrade_lines upgrade ++ server_line headers ++ date_line headers date ++ flat_map field_line_of listed ++ framing_line framing ++ codes "\r\n"
+    status_line version status ++ upgrade_lines upgrade ++ server_line headers ++ date_line headers date
+    ++ flat_map field_line_of listed ++ framing_line framing ++ codes "\r\n"
 
 -- whether the body is not sent: where the caller says so, and for the codes 100 to 199, 204 and 304 (RFC 9112, section
 -- 6.3)
@@ -123,12 +145,15 @@ gathered_body (Fault kind) front withheld bytes = nothing_sent kind
 -- Head and body by the coding and the known length, where `top` is the head with what it says of the
 -- body's length.
 abbrev pub uncoded_text : Option ℕ → (FramingHeader → List ℕ) → Bool → Feed → Text
-uncoded_text (Some n) top withheld feed = prepend_text (top (ContentLength n)) (body_unless_withheld withheld (identity_body n feed))
-uncoded_text None top withheld feed = gathered_body feed.stop (top (ContentLength (length feed.bytes))) withheld feed.bytes
+uncoded_text (Some n) top withheld feed =
+    prepend_text (top (ContentLength n)) (body_unless_withheld withheld (identity_body n feed))
+uncoded_text None top withheld feed =
+    gathered_body feed.stop (top (ContentLength (length feed.bytes))) withheld feed.bytes
 
 abbrev pub coded_text : Coding → Option ℕ → (FramingHeader → List ℕ) → Bool → Feed → Text
 coded_text Identity length top withheld feed = uncoded_text length top withheld feed
-coded_text Chunked length top withheld feed = prepend_text (top TransferEncoding) (body_unless_withheld withheld (chunked_body feed))
+coded_text Chunked length top withheld feed =
+    prepend_text (top TransferEncoding) (body_unless_withheld withheld (chunked_body feed))
 
 -- the headers behind the date: an upgrade says nothing more of its connection
 abbrev pub listed_with : Option (List ℕ) → Option Persistence → HTTPVersion → Answer → List Header
@@ -137,7 +162,9 @@ listed_with (Some protocol) says version a = own_headers says a.headers
 
 -- the head of an answer
 abbrev pub head_text_of : Answer → Printing → FramingHeader → List ℕ
-head_text_of a p framing = answer_head_text (status_version p.persistence p.version) a.status p.upgrade a.headers (listed_with p.upgrade p.persistence p.version a) p.date framing
+head_text_of a p framing =
+    answer_head_text (status_version p.persistence p.version) a.status p.upgrade a.headers
+    (listed_with p.upgrade p.persistence p.version a) p.date framing
 
 -- THE CODING of an answer's body (RFC 9112, sections 6.1 and 7.4)
 unfoldable pub answer_coding : Answer → Printing → Coding
@@ -146,12 +173,15 @@ answer_coding a p = chosen_coding p.version p.asked_coding a.status a.threshold 
 -- an answer that has content, or is a head alone that is framed so
 abbrev pub text_by_code : Option FramingHeader → Answer → Feed → Printing → Text
 text_by_code (Some framing) a feed p = whole (head_text_of a p framing)
-text_by_code None a feed p = coded_text (answer_coding a p) a.data_length (head_text_of a p) (is_withheld p.no_body a.status) feed
+text_by_code None a feed p =
+    coded_text (answer_coding a p) a.data_length (head_text_of a p) (is_withheld p.no_body a.status) feed
 
 -- an upgrade is a head alone, and its protocol is ASCII
 abbrev pub with_upgrade : Option (List ℕ) → Answer → Feed → Printing → Text
-with_upgrade (Some protocol) a feed p = if list_all is_ascii protocol then whole (head_text_of a p Neither) else nothing_sent InvalidInput
-with_upgrade None a feed p = text_by_code (contentless_framing p.persistence a.contentless a.status a.data_length) a feed p
+with_upgrade (Some protocol) a feed p =
+    if list_all is_ascii protocol then whole (head_text_of a p Neither) else nothing_sent InvalidInput
+with_upgrade None a feed p =
+    text_by_code (contentless_framing p.persistence a.contentless a.status a.data_length) a feed p
 
 -- the text of an answer with this data
 unfoldable pub text_of : Answer → Feed → Printing → Text
@@ -170,9 +200,14 @@ LacksMemory old new (Err e) = (error_kind e ≡ OutOfMemory) × (new ≡ old)
 abbrev pub PrintsUncoded : {T : Type 0} → Sink → Sink → Result T Error → Option ℕ → Text → Type 0
 PrintsUncoded old new r length text = PrintsText old new r text ⊎ ((length ≡ None) × LacksMemory old new r)
 
--- the data of an answer is read whole before its head: it is no upgrade, has content that isn't coded, and its length isn't known
+-- the data of an answer is read whole before its head: it is no upgrade, has content that isn't coded, and its length
+-- isn't known
 abbrev pub IsGathered : Answer → Printing → Type 0
-IsGathered a p = (p.upgrade ≡ None) × (contentless_framing p.persistence a.contentless a.status a.data_length ≡ None) × (answer_coding a p ≡ Identity) × (a.data_length ≡ None)
+IsGathered a p =
+    (p.upgrade ≡ None)
+    × (contentless_framing p.persistence a.contentless a.status a.data_length ≡ None)
+    × (answer_coding a p ≡ Identity)
+    × (a.data_length ≡ None)
 
 -- a call that prints an answer: its text, or it finds no memory to gather the data
 abbrev pub PrintsAnswer : {T : Type 0} → Sink → Sink → Result T Error → Answer → Feed → Printing → Type 0
@@ -180,7 +215,8 @@ PrintsAnswer old new r a feed p = PrintsText old new r (text_of a feed p) ⊎ (I
 
 -- an answer whose data was gathered
 abbrev pub PrintsGathered : {T : Type 0} → Sink → Sink → Result T Error → List ℕ → Bool → Feed → Type 0
-PrintsGathered old new r front withheld feed = PrintsText old new r (gathered_body feed.stop front withheld feed.bytes) ⊎ LacksMemory old new r
+PrintsGathered old new r front withheld feed =
+    PrintsText old new r (gathered_body feed.stop front withheld feed.bytes) ⊎ LacksMemory old new r
 
 -- what a contract sees of a response: the answer, and its data
 pub record ResponseState (R : Type 0) : Type 0 where

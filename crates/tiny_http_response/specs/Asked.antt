@@ -15,8 +15,8 @@ TeElement = List ℕ × ℕ
 abbrev pub IsSupported : TeElement → Type 0
 IsSupported e = coding_named e.0 ≢ None
 
--- one of the elements names the coding, with a quality above 0: no supported one has a greater quality, and no supported
--- one before it an equal one
+-- one of the elements names the coding, with a quality above 0: no supported one has a greater quality, and no
+-- supported one before it an equal one
 pub record IsChosen (elements : List TeElement) (coding : Coding) : Type 0 where
   pub before : List TeElement
   pub chosen : TeElement
@@ -39,4 +39,5 @@ IsTe h = IsTrue (same_name h.field (codes "TE"))
 abbrev pub AsksFor : List Header → Option Coding → Type 0
 AsksFor [] asked = asked ≡ None
 AsksFor (h ∷ hs) asked =
-    (IsTe h × (elements : List TeElement) × ListsQualities h.value elements × Choose elements asked) ⊎ (¬ (IsTe h) × AsksFor hs asked)
+    (IsTe h × (elements : List TeElement) × ListsQualities h.value elements × Choose elements asked)
+    ⊎ (¬ (IsTe h) × AsksFor hs asked)

@@ -1,6 +1,7 @@
--- What an answer says by the standard: of its connection, in its headers, and by its code (RFC 9112, sections 9.3, 9.6 and 11.1; RFC 9110,
--- sections 5.5, 6.2, 7.8, 8.6 and 15).
-use Rattle.std.specs.Prelude.{ℕ, Bool, ◌||◌, ◌&&◌, ◌==◌, nat_lt, nat_le, List, [], ◌∷◌, ◌++◌, map, filter_map, Option, Some, None, option_map, codes, if◌then◌else◌}
+-- What an answer says by the standard: of its connection, in its headers, and by its code (RFC 9112, sections 9.3,
+-- 9.6 and 11.1; RFC 9110, sections 5.5, 6.2, 7.8, 8.6 and 15).
+use Rattle.std.specs.Prelude.{ℕ, Bool, ◌||◌, ◌&&◌, ◌==◌, nat_lt, nat_le, List, [], ◌∷◌, ◌++◌, map, filter_map, Option}
+use Rattle.std.specs.Prelude.{Some, None, option_map, codes, if◌then◌else◌}
 use Rattle.httparse.specs.Grammar.{is_token, is_value_byte}
 use Rattle.tiny_http_head.specs.declared.common.HTTPVersion.{HTTPVersion}
 use Rattle.tiny_http_head.specs.declared.common.Header.{Header}
@@ -35,7 +36,8 @@ options_with_upgrade (Some option) = option ++ codes ", upgrade"
 abbrev pub connection_headers : Option (List ℕ) → Option (List ℕ) → List Header
 connection_headers None None = []
 connection_headers None (Some option) = connection_header option ∷ []
-connection_headers (Some protocols) option = connection_header (options_with_upgrade option) ∷ upgrade_header protocols ∷ []
+connection_headers (Some protocols) option =
+    connection_header (options_with_upgrade option) ∷ upgrade_header protocols ∷ []
 
 -- each byte that may not stand in a value is a space
 abbrev pub safe_byte : ℕ → ℕ
@@ -56,12 +58,13 @@ abbrev pub own_headers : Option Persistence → List Header → List Header
 own_headers None headers = headers
 own_headers (Some _) headers = safe_headers headers
 
--- The headers that are listed behind the date of an answer that upgrades nothing: its own. By the standard `Connection` and `Upgrade`
--- stand in front, but for a code below 200.
+-- The headers that are listed behind the date of an answer that upgrades nothing: its own. By the standard
+-- `Connection` and `Upgrade` stand in front, but for a code below 200.
 abbrev pub listed_headers : Option Persistence → HTTPVersion → ℕ → Option (List ℕ) → List Header → List Header
 listed_headers None version status offered headers = headers
 listed_headers (Some says) version status offered headers =
-    (if nat_lt status 200 then [] else connection_headers (option_map safe_value offered) (persistence_option version says)) ++ safe_headers headers
+    (if nat_lt status 200 then [] else connection_headers (option_map safe_value offered)
+    (persistence_option version says)) ++ safe_headers headers
 
 -- a 304 says a length that is known and isn't 0
 abbrev pub framing_of_304 : Option ℕ → FramingHeader
@@ -84,7 +87,8 @@ framing_by_standard (Some _) status length = framing_without_content status leng
 abbrev pub has_no_content : ℕ → Bool
 has_no_content status = (nat_le 100 status && nat_lt status 200) || (status == 204 || status == 304)
 
--- So is an answer with such a code that was made to say no length, whether it is printed by the standard or not. It has no framing.
+-- So is an answer with such a code that was made to say no length, whether it is printed by the standard or not. It
+-- has no framing.
 abbrev pub contentless_framing : Option Persistence → Bool → ℕ → Option ℕ → Option FramingHeader
 contentless_framing says contentless status length =
     if contentless && has_no_content status then Some Neither else framing_by_standard says status length

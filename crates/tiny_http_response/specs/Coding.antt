@@ -1,5 +1,6 @@
 -- The transfer coding of an answer's body (RFC 9112, sections 6.1 and 7.4; RFC 9110, sections 10.1.4 and 12.4.2).
-use Rattle.std.specs.Prelude.{ℕ, max, Bool, ◌&&◌, ◌||◌, ◌==◌, nat_lt, nat_le, List, [], ◌∷◌, find, filter_map, Option, Some, None, option_map, option_and_then, codes, if◌then◌else◌}
+use Rattle.std.specs.Prelude.{ℕ, max, Bool, ◌&&◌, ◌||◌, ◌==◌, nat_lt, nat_le, List, [], ◌∷◌, find, filter_map, Option}
+use Rattle.std.specs.Prelude.{Some, None, option_map, option_and_then, codes, if◌then◌else◌}
 use Rattle.tiny_http_head.specs.declared.common.HTTPVersion.{HTTPVersion}
 use Rattle.tiny_http_head.specs.declared.common.Header.{Header}
 use Rattle.tiny_http_head.specs.Common.{same_name}
@@ -13,7 +14,9 @@ Weighed = Coding × ℕ
 
 -- the supported coding of a name
 abbrev pub coding_named : List ℕ → Option Coding
-coding_named name = if same_name name (codes "identity") then Some Identity else if same_name name (codes "chunked") then Some Chunked else None
+coding_named name =
+    if same_name name (codes "identity") then Some Identity
+    else if same_name name (codes "chunked") then Some Chunked else None
 
 -- the supported codings among names with their qualities
 abbrev pub supported_codings : List (List ℕ × ℕ) → List Weighed
@@ -25,11 +28,14 @@ greatest_quality (w ∷ ws) = max w.1 (greatest_quality ws)
 
 -- the first coding that has the greatest quality, where that is above 0
 abbrev pub most_wanted : List Weighed → Option Coding
-most_wanted ws = if nat_lt 0 (greatest_quality ws) then option_map (λ w. w.0) (find (λ w. w.1 == greatest_quality ws) ws) else None
+most_wanted ws =
+    if nat_lt 0 (greatest_quality ws) then option_map (λ w. w.0) (find (λ w. w.1 == greatest_quality ws) ws) else None
 
 -- the coding that the first TE header asks for
 unfoldable pub coding_asked : List Header → Option Coding
-coding_asked request_headers = option_and_then (λ h. most_wanted (supported_codings (qualities h.value))) (find (λ h. same_name h.field (codes "TE")) request_headers)
+coding_asked request_headers =
+    option_and_then (λ h. most_wanted (supported_codings (qualities h.value)))
+    (find (λ h. same_name h.field (codes "TE")) request_headers)
 
 -- where the request asks for none: chunked, unless the length is known and below the threshold
 abbrev pub coding_by_length : ℕ → Option ℕ → Coding

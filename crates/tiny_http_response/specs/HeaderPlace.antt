@@ -28,12 +28,27 @@ placed Last h a = record a { headers = a.headers ++ h ∷ [] }
 
 -- an answer of these parts
 abbrev pub answer_of : ℕ → ℕ → Bool → Option (List ℕ) → Bool → List Header → Option ℕ → Answer
-answer_of status threshold closes offered contentless headers length = record { status = status; headers = headers; data_length = length; threshold = threshold; closes = closes; offered = offered; contentless = contentless }
+answer_of status threshold closes offered contentless headers length =
+    record {
+      status = status;
+      headers = headers;
+      data_length = length;
+      threshold = threshold;
+      closes = closes;
+      offered = offered;
+      contentless = contentless;
+    }
 
 -- a list and a length after a header was added to an answer that had these, whatever else it has
 abbrev pub Adds : Header → List Header → Option ℕ → List Header → Option ℕ → Type 0
-Adds h headers length more known = (status threshold : ℕ) (closes : Bool) (offered : Option (List ℕ)) (contentless : Bool) → answer_of status threshold closes offered contentless more known ≡ add_header h (answer_of status threshold closes offered contentless headers length)
+Adds h headers length more known =
+    (status threshold : ℕ) (closes : Bool) (offered : Option (List ℕ)) (contentless : Bool)
+    → answer_of status threshold closes offered contentless more known
+    ≡ add_header h (answer_of status threshold closes offered contentless headers length)
 
 -- the same of headers that were added one after another
 abbrev pub AddsAll : List Header → List Header → Option ℕ → List Header → Option ℕ → Type 0
-AddsAll hs headers length more known = (status threshold : ℕ) (closes : Bool) (offered : Option (List ℕ)) (contentless : Bool) → answer_of status threshold closes offered contentless more known ≡ with_headers hs (answer_of status threshold closes offered contentless headers length)
+AddsAll hs headers length more known =
+    (status threshold : ℕ) (closes : Bool) (offered : Option (List ℕ)) (contentless : Bool)
+    → answer_of status threshold closes offered contentless more known
+    ≡ with_headers hs (answer_of status threshold closes offered contentless headers length)

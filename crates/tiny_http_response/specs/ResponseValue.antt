@@ -17,14 +17,23 @@ pub record ResponseValue : Type 0 where
 
 -- a response with these headers, whose data are a text
 abbrev pub response_of : ℕ → List Header → List ℕ → ResponseValue
-response_of status headers text = record { answer = answer_with status headers (length text); content = whole_feed text }
+response_of status headers text =
+    record { answer = answer_with status headers (length text); content = whole_feed text }
 
 abbrev pub response_text : ResponseValue → Printing → Text
 response_text r p = text_of r.answer r.content p
 
 -- how an answer to a request is printed that asks for this coding, and what it says of its connection, by the standard
 abbrev pub printing_to : Option Coding → HTTPVersion → Bool → Option Persistence → HttpDate → Printing
-printing_to asked version no_body persistence date = record { version = version; asked_coding = asked; no_body = no_body; persistence = persistence; upgrade = None; date = date }
+printing_to asked version no_body persistence date =
+    record {
+      version = version;
+      asked_coding = asked;
+      no_body = no_body;
+      persistence = persistence;
+      upgrade = None;
+      date = date;
+    }
 
 -- how the answer to a request is printed, by what is kept of it
 abbrev pub printing_in : AnswerContext → HttpDate → Printing

@@ -1,12 +1,15 @@
 -- What sending an answer makes of an outlet.
-use Rattle.std.specs.Prelude.{◌≡◌, ℕ, ◌-◌, ◌^◌, ◌<◌, ◌⊎◌, ⊤, Bool, true, false, List, [], length, Option, None, Some, Result, Ok, Err, IfErr, OnErr, MatchBool, if◌then◌else◌}
+use Rattle.std.specs.Prelude.{◌≡◌, ℕ, ◌-◌, ◌^◌, ◌<◌, ◌⊎◌, ⊤, Bool, true, false, List, [], length, Option, None, Some}
+use Rattle.std.specs.Prelude.{Result, Ok, Err, IfErr, OnErr, MatchBool, if◌then◌else◌}
 use Rattle.std.specs.IoError.{error_kind}
 use Rattle.std.specs.declared.io.Error.{Error}
 use Rattle.std.specs.declared.io.ErrorKind.{ErrorKind}
-use Rattle.std.specs.declared.io.ErrorKind.TheVariants.{OutOfMemory, BrokenPipe, ConnectionAborted, ConnectionRefused, ConnectionReset}
+use Rattle.std.specs.declared.io.ErrorKind.TheVariants.{OutOfMemory, BrokenPipe, ConnectionAborted, ConnectionRefused}
+use Rattle.std.specs.declared.io.ErrorKind.TheVariants.{ConnectionReset}
 use Rattle.std.specs.Io.KnownBytes.{append_known}
 use Rattle.tiny_http_io.specs.Outlet.{OutletState, output_of, SentOn}
-use Rattle.tiny_http_io.specs.Device.{Feed, Sink, IsFront, BeginsKnown, HoldsNothing, IsKnownFront, StatesKind, next_count}
+use Rattle.tiny_http_io.specs.Device.{Feed, Sink, IsFront, BeginsKnown, HoldsNothing, IsKnownFront, StatesKind}
+use Rattle.tiny_http_io.specs.Device.{next_count}
 use Rattle.tiny_http_response.specs.Answer.{Answer, ResponseState, Printing, text_of, IsGathered}
 use Rattle.tiny_http_body.specs.Text.{Text, Whole, Broken, nothing_sent}
 
@@ -21,7 +24,8 @@ pub record OutletTook (old new : Sink) (text : List ℕ) : Type 0 where
   pub sent : IsFront old.sent new.sent
   pub failures : new.failures ≡ old.failures
 
--- the writer failed once, with this kind, and states a front of its bytes before and these, with all that it had sent on
+-- the writer failed once, with this kind, and states a front of its bytes before and these, with all that it had sent
+-- on
 pub record OutletFailed (old new : Sink) (text : List ℕ) (kind : ErrorKind) : Type 0 where
   pub bytes : IsKnownFront new.taken (append_known old.taken text)
   pub keeps : BeginsKnown old.sent new.taken
@@ -40,24 +44,29 @@ pub record DropsHeld (old new : Sink) : Type 0 where
   pub failures : new.failures ≡ old.failures
   pub last_kind : new.last_kind ≡ old.last_kind
 
--- A call that sends a text and flushes it. All was sent. Or the text broke off, and its fault is reported; what there is was
--- sent, or the writer failed in it. Or the writer failed in a text that has a byte, and its fault is reported. After a fault
--- the outlet has ended.
+-- A call that sends a text and flushes it. All was sent. Or the text broke off, and its fault is reported; what there
+-- is was sent, or the writer failed in it. Or the writer failed in a text that has a byte, and its fault is reported.
+-- After a fault the outlet has ended.
 abbrev pub SendsText : {T : Type 0} → Sink → Sink → Bool → Result T Error → Text → Type 0
-SendsText old new ended (Ok x) text = (text.ending ≡ Whole) × OutletTook old new text.bytes × (ended ≡ false) × (new.has_ended ≡ false)
+SendsText old new ended (Ok x) text =
+    (text.ending ≡ Whole) × OutletTook old new text.bytes × (ended ≡ false) × (new.has_ended ≡ false)
 SendsText old new ended (Err e) text =
     (ended ≡ true) × (new.has_ended ≡ true)
-    × (((text.ending ≡ Broken (error_kind e)) × (OutletTook old new text.bytes ⊎ ((kind : ErrorKind) × OutletFailed old new text.bytes kind)))
+    × (((text.ending ≡ Broken (error_kind e))
+    × (OutletTook old new text.bytes ⊎ ((kind : ErrorKind) × OutletFailed old new text.bytes kind)))
     ⊎ ((text.bytes ≡ [] → ⊥) × OutletFailed old new text.bytes (error_kind e)))
 
 -- a call that sends an answer with this data
 abbrev pub Sends : {T : Type 0} → Sink → Sink → Bool → Result T Error → Answer → Feed → Printing → Type 0
-Sends old new ended r a feed p = SendsText old new ended r (text_of a feed p) ⊎ (IsGathered a p × SendsText old new ended r (nothing_sent OutOfMemory))
+Sends old new ended r a feed p =
+    SendsText old new ended r (text_of a feed p)
+    ⊎ (IsGathered a p × SendsText old new ended r (nothing_sent OutOfMemory))
 
 -- a call that sends a text, and reports no fault
 abbrev pub SendsQuietly : Sink → Sink → Bool → List ℕ → Type 0
 SendsQuietly old new ended text =
-    ((ended ≡ false) × (new.has_ended ≡ false) × OutletTook old new text) ⊎ ((ended ≡ true) × (new.has_ended ≡ true) × (kind : ErrorKind) × OutletFailed old new text kind)
+    ((ended ≡ false) × (new.has_ended ≡ false) × OutletTook old new text)
+    ⊎ ((ended ≡ true) × (new.has_ended ≡ true) × (kind : ErrorKind) × OutletFailed old new text kind)
 
 -- a writer that goes on holds nothing back
 abbrev pub IsFlushed : Sink → Type 0
@@ -72,23 +81,28 @@ pub record Idles (old new : Sink) : Type 0 where
 
 -- a call that sends a text and reports no fault, where an outlet that has ended sends nothing
 abbrev pub SendsUnlessEnded : Bool → Sink → Sink → Bool → List ℕ → Type 0
-SendsUnlessEnded was old new ended text = MatchBool was (Idles old new × (ended ≡ true)) (SendsQuietly old new ended text)
+SendsUnlessEnded was old new ended text =
+    MatchBool was (Idles old new × (ended ≡ true)) (SendsQuietly old new ended text)
 
--- A TEXT IS SENT ON AN OUTLET, and no fault is reported. One that had ended sends nothing. Of another it is said if its writer takes
--- bytes and its count can rise.
+-- A TEXT IS SENT ON AN OUTLET, and no fault is reported. One that had ended sends nothing. Of another it is said if
+-- its writer takes bytes and its count can rise.
 abbrev pub SendsQuietlyOn : {W : Type 0} → OutletState W → OutletState W → List ℕ → Type 0
-SendsQuietlyOn old new text = (old.ended ≡ false → CanSend (output_of old)) → SendsUnlessEnded old.ended (output_of old) (output_of new) new.ended text
+SendsQuietlyOn old new text =
+    (old.ended ≡ false → CanSend (output_of old))
+    → SendsUnlessEnded old.ended (output_of old) (output_of new) new.ended text
 
 -- the writer's count is as it was, or it failed once, and the outlet has ended
 abbrev pub SinkFailsOnce : Sink → Sink → Bool → Type 0
-SinkFailsOnce old new ended = (new.failures ≡ old.failures) ⊎ ((new.failures ≡ next_count old.failures) × (ended ≡ true))
+SinkFailsOnce old new ended =
+    (new.failures ≡ old.failures) ⊎ ((new.failures ≡ next_count old.failures) × (ended ≡ true))
 
 -- the same for an outlet that may have ended: then the writer isn't used
 abbrev pub FailsOnceUnlessEnded : Bool → Sink → Sink → Bool → Type 0
-FailsOnceUnlessEnded was old new ended = MatchBool was ((new.failures ≡ old.failures) × (ended ≡ true)) (SinkFailsOnce old new ended)
+FailsOnceUnlessEnded was old new ended =
+    MatchBool was ((new.failures ≡ old.failures) × (ended ≡ true)) (SinkFailsOnce old new ended)
 
--- A CALL THAT USES AN OUTLET, whatever its reader and writer state: the writer's count rises by one at most, and then the outlet has
--- ended. One that had ended stays so, and the count stays.
+-- A CALL THAT USES AN OUTLET, whatever its reader and writer state: the writer's count rises by one at most, and then
+-- the outlet has ended. One that had ended stays so, and the count stays.
 abbrev pub FailsOnce : {W : Type 0} → OutletState W → OutletState W → Type 0
 FailsOnce old new = FailsOnceUnlessEnded old.ended (output_of old) (output_of new) new.ended
 
@@ -96,8 +110,8 @@ FailsOnce old new = FailsOnceUnlessEnded old.ended (output_of old) (output_of ne
 abbrev pub FailsAtMostOnce : Sink → Sink → Type 0
 FailsAtMostOnce old new = (new.failures ≡ old.failures) ⊎ (new.failures ≡ next_count old.failures)
 
--- The text of the answer breaks off by this kind, which is that of its data; or no memory is found to read them whole before
--- its head.
+-- The text of the answer breaks off by this kind, which is that of its data; or no memory is found to read them whole
+-- before its head.
 abbrev pub BreaksOff : Answer → Feed → Printing → ErrorKind → Type 0
 BreaksOff a f p kind = ((text_of a f p).ending ≡ Broken kind) ⊎ (IsGathered a p × (kind ≡ OutOfMemory))
 
@@ -110,19 +124,23 @@ MayBreakOff a (Some f) p kind = length f.bytes < 2 ^ 63 → BreaksOff a f p kind
 abbrev pub IsHonest : Sink → Sink → Answer → Option Feed → Printing → ErrorKind → Type 0
 IsHonest old new a feed p kind = (new.failures ≡ next_count old.failures) ⊎ MayBreakOff a feed p kind
 
--- ONE ANSWER, sent on an outlet and flushed. One that had ended is left alone, and no fault is reported. On another the text of the
--- answer is sent, if the data state a feed of fewer than 2^63 bytes, the writer takes bytes, and its count can rise.
+-- ONE ANSWER, sent on an outlet and flushed. One that had ended is left alone, and no fault is reported. On another
+-- the text of the answer is sent, if the data state a feed of fewer than 2^63 bytes, the writer takes bytes, and its
+-- count can rise.
 pub record SendsAnswer {W D : Type 0}
-    (stated : D → Option Feed) (old new : OutletState W) (r : Result (Unit {0}) Error) (response : ResponseState D) (p : Printing) : Type 0 where
+    (stated : D
+    → Option Feed) (old new : OutletState W) (r : Result (Unit {0}) Error) (response : ResponseState D)
+    (p : Printing) : Type 0 where
   pub past : old.ended ≡ true → (new ≡ old) × (r ≡ Ok tt)
   pub sends : (content : Feed) → stated response.data_reader ≡ Some content → length content.bytes < 2 ^ 63
       → old.ended ≡ false → CanSend (output_of old)
       → Sends (output_of old) (output_of new) new.ended r response.answer content p
-  -- Whatever writer and data state: the writer fails once at most. A fault that is reported is the writer's, or that of data that
-  -- state fewer than 2^63 bytes; of other data nothing is said. After a fault the outlet has ended. Nothing is held, and a writer
-  -- that goes on has sent all on.
+  -- Whatever writer and data state: the writer fails once at most. A fault that is reported is the writer's, or that
+  -- of data that state fewer than 2^63 bytes; of other data nothing is said. After a fault the outlet has ended.
+  -- Nothing is held, and a writer that goes on has sent all on.
   pub fails_once : FailsOnce old new
-  pub honest : IfErr r (λ e. IsHonest (output_of old) (output_of new) response.answer (stated response.data_reader) p (error_kind e))
+  pub honest : IfErr r
+      (λ e. IsHonest (output_of old) (output_of new) response.answer (stated response.data_reader) p (error_kind e))
   pub ended : OnErr r (new.ended ≡ true)
   pub flushed : new.held ≡ []
   pub sent_on : SentOn new

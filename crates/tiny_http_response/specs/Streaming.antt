@@ -10,8 +10,8 @@ use Rattle.tiny_http_response.specs.declared.answer_context.AnswerContext.{Answe
 use Rattle.tiny_http_response.specs.ByStandard.{status_version, listed_headers, contentless_framing}
 use Rattle.tiny_http_response.specs.Answer.{Answer, answer_head_text}
 
--- by what the code says of the content, whether none is asked for, and whether the version is one up to 1.0: no body; one as it is; or
--- one in chunks
+-- by what the code says of the content, whether none is asked for, and whether the version is one up to 1.0: no body;
+-- one as it is; or one in chunks
 abbrev pub form_by : Option FramingHeader → Bool → Bool → StreamedForm
 form_by (Some framing) no_body is_old = Absent
 form_by None true is_old = Absent
@@ -20,18 +20,23 @@ form_by None false false = Chunks
 
 -- HOW SUCH A BODY IS SENT with this code (RFC 9112, sections 6.3 and 7.1)
 abbrev pub streamed_form : AnswerContext → ℕ → StreamedForm
-streamed_form context status = form_by (contentless_framing context.persistence true status None) context.no_body (is_up_to_1_0 context.version)
+streamed_form context status =
+    form_by (contentless_framing context.persistence true status None) context.no_body (is_up_to_1_0 context.version)
 
--- the head says neither length nor coding to a version up to 1.0, and chunks to a later one, also where no body is asked for
+-- the head says neither length nor coding to a version up to 1.0, and chunks to a later one, also where no body is
+-- asked for
 abbrev pub framing_by : Option FramingHeader → Bool → FramingHeader
 framing_by (Some framing) is_old = framing
 framing_by None true = Neither
 framing_by None false = TransferEncoding
 
 abbrev pub streamed_framing : AnswerContext → ℕ → FramingHeader
-streamed_framing context status = framing_by (contentless_framing context.persistence true status None) (is_up_to_1_0 context.version)
+streamed_framing context status =
+    framing_by (contentless_framing context.persistence true status None) (is_up_to_1_0 context.version)
 
 -- THE HEAD of such an answer
 abbrev pub streamed_head : Answer → AnswerContext → HttpDate → List ℕ
 streamed_head a context date =
-    answer_head_text (status_version context.persistence context.version) a.status None a.headers (listed_headers context.persistence context.version a.status a.offered a.headers) date (streamed_framing context a.status)
+    answer_head_text (status_version context.persistence context.version) a.status None a.headers
+    (listed_headers context.persistence context.version a.status a.offered a.headers) date
+    (streamed_framing context a.status)

@@ -13,4 +13,6 @@ top_listed top (Some protocol) = own_headers top.persistence top.headers.now
 
 -- the head, with what an upgrade puts in front, and how it says the length of the body
 abbrev pub top_text : Top → Option (List ℕ) → FramingHeader → List ℕ
-top_text top upgrade framing = answer_head_text (status_version top.persistence top.version) top.status.0 upgrade top.headers.now (top_listed top upgrade) top.date framing
+top_text top upgrade framing =
+    answer_head_text (status_version top.persistence top.version) top.status.0 upgrade top.headers.now
+    (top_listed top upgrade) top.date framing

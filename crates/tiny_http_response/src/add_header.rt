@@ -1,5 +1,6 @@
 //! Headers that are added to an answer (RFC 9110, sections 7.6.1, 7.8 and 8.3; RFC 9112, section 6).
-ghost use Rattle.std.specs.Prelude.{◌≡◌, ℕ, Bool, List, Option, ◌≤◌, ◌<◌, ◌+◌, IfErr, OnOk, OnErr, IsTrue, [], length, take, drop, slice_index_or, codes};
+ghost use Rattle.std.specs.Prelude.{◌≡◌, ℕ, Bool, List, Option, ◌≤◌, ◌<◌, ◌+◌, IfErr, OnOk, OnErr, IsTrue, []};
+ghost use Rattle.std.specs.Prelude.{length, take, drop, slice_index_or, codes};
 ghost use Rattle.tiny_http_response.specs.Answer.{has_header};
 ghost use Rattle.tiny_http_response.specs.AddHeader.{is_reserved, is_put_last, is_some_put_last, with_value};
 ghost use Rattle.tiny_http_response.specs.ResponseHeaders.{IsResponseHeaders};
@@ -73,7 +74,9 @@ pub(crate) fn add(
     mut header: Header,
 ) -> Result<(), Header>
     ensures added { OnOk result (Adds header headers.old.items data_length.old headers.new.items data_length.new) }
-    ensures refused { IfErr result (λ h. (h ≡ header) × (headers.new.items ≡ headers.old.items) × (data_length.new ≡ data_length.old)) }
+    ensures refused { IfErr result (λ h. (h ≡ header)
+        × (headers.new.items ≡ headers.old.items)
+        × (data_length.new ≡ data_length.old)) }
     ensures memory { OnErr result (IsTrue (is_put_last header headers.old.items)) }
 {
     match place_of(&header, headers) {
@@ -96,9 +99,14 @@ pub(crate) fn add_all(
     data_length: &mut Option<usize>,
     more: Vec<Header>,
 ) -> Result<(), Header>
-    ensures added { OnOk result (AddsAll more.items headers.old.items data_length.old headers.new.items data_length.new) }
+    ensures added { OnOk result
+        (AddsAll more.items headers.old.items data_length.old headers.new.items data_length.new) }
     ensures law { OnOk result (IsResponseHeaders headers.old.items → IsResponseHeaders headers.new.items) }
-    ensures memory { OnErr result ((status threshold : ℕ) (closes : Bool) (offered : Option (List ℕ)) (contentless : Bool) → IsTrue (is_some_put_last more.items (answer_of status threshold closes offered contentless headers.old.items data_length.old))) }
+    ensures memory { OnErr result
+        ((status threshold : ℕ) (closes : Bool) (offered : Option (List ℕ)) (contentless : Bool)
+        → IsTrue
+        (is_some_put_last more.items
+        (answer_of status threshold closes offered contentless headers.old.items data_length.old))) }
 {
     for header in more {
         add(headers, data_length, header)?;
@@ -119,7 +127,9 @@ fn place_at(headers: &[Header], kept: usize, at: usize) -> Place
 fn replace_type(headers: &mut [Header], kept: usize, at: usize)
     requires order { kept ≤ at }
     requires within { at < length headers.old }
-    ensures front { (d : Header) → take kept headers.new ≡ with_value (codes "Content-Type") (slice_index_or headers.old at d).value (take kept headers.old) }
+    ensures front { (d : Header)
+        → take kept headers.new ≡ with_value (codes "Content-Type") (slice_index_or headers.old at d).value
+        (take kept headers.old) }
     ensures behind { drop (at + 1) headers.new ≡ drop (at + 1) headers.old }
 {
     let (front, rest) = headers.split_at_mut(at);
@@ -133,7 +143,9 @@ fn add_at(headers: &mut [Header], data_length: &mut Option<usize>, kept: usize, 
     requires within { at < length headers.old }
     ensures bound { result ≤ at + 1 }
     ensures behind { drop (at + 1) headers.new ≡ drop (at + 1) headers.old }
-    ensures added { (d : Header) → Adds (slice_index_or headers.old at d) (take kept headers.old) data_length.old (take result headers.new) data_length.new }
+    ensures added { (d : Header)
+        → Adds (slice_index_or headers.old at d) (take kept headers.old) data_length.old (take result headers.new)
+        data_length.new }
 {
     match place_at(headers, kept, at) {
         Place::Nowhere => kept,

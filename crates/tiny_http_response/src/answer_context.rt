@@ -25,16 +25,16 @@ pub struct AnswerContext {
     pub asked_coding: Option<Coding>,
     /// The request is a `HEAD`, whose answer has no body.
     pub no_body: bool,
-    /// What the answer says of its connection, where it is printed by the standard (RFC 9112, section 9.6). Without it the answer
-    /// is printed as by tiny_http: in the version of the request, with its headers as they are, and with a length or a coding
-    /// whatever its code is.
+    /// What the answer says of its connection, where it is printed by the standard (RFC 9112, section 9.6). Without
+    /// it the answer is printed as by tiny_http: in the version of the request, with its headers as they are, and
+    /// with a length or a coding whatever its code is.
     pub persistence: Option<Persistence>,
 }
 
 impl AnswerContext {
-    /// How a body is sent that grows behind the head of an answer with this code: not at all where none is asked for or the code has no
-    /// content; as it is to a version up to 1.0, so that the connection's end ends it (RFC 9112, section 6.3); else in chunks (section
-    /// 7.1).
+    /// How a body is sent that grows behind the head of an answer with this code: not at all where none is asked for
+    /// or the code has no content; as it is to a version up to 1.0, so that the connection's end ends it (RFC 9112,
+    /// section 6.3); else in chunks (section 7.1).
     pub fn streamed_form(&self, status: StatusCode) -> StreamedForm
         ensures { result ≡ streamed_form self.now status.0 }
     {

@@ -5,7 +5,8 @@ ghost use Rattle.std.specs.Option.{option_copied};
 ghost use Rattle.tiny_http_io.specs.Device.{Puts};
 ghost use Rattle.tiny_http_response.specs.Top.{top_text, top_listed};
 ghost use Rattle.tiny_http_response.specs.ByStandard.{status_version};
-ghost use Rattle.tiny_http_response.specs.Answer.{has_header, status_line, field_line, field_line_of, protocol_lines, upgrade_lines, server_line, date_line, length_line, framing_line};
+ghost use Rattle.tiny_http_response.specs.Answer.{has_header, status_line, field_line, field_line_of, protocol_lines};
+ghost use Rattle.tiny_http_response.specs.Answer.{upgrade_lines, server_line, date_line, length_line, framing_line};
 
 use crate::answer_context::Persistence;
 use crate::by_standard::{persistence_option, put_connection, put_safe_headers};
@@ -186,7 +187,8 @@ fn put_framing<W: WriteDevice>(writer: &mut W, framing: FramingHeader) -> Result
 
 // The status line of a head.
 fn put_status<W: WriteDevice>(writer: &mut W, top: &Top<'_>) -> Result<(), io::Error>
-    ensures { Puts (W.sink writer.old) (W.sink writer.new) result (status_line (status_version top.now.persistence top.now.version) top.now.status.0) }
+    ensures { Puts (W.sink writer.old) (W.sink writer.new) result
+        (status_line (status_version top.now.persistence top.now.version) top.now.status.0) }
 {
     match top.persistence {
         None => put_status_line(writer, top.version, top.status),
@@ -200,7 +202,8 @@ fn put_listed<W: WriteDevice>(
     top: &Top<'_>,
     upgrade: Option<&str>,
 ) -> Result<(), io::Error>
-    ensures { Puts (W.sink writer.old) (W.sink writer.new) result (flat_map field_line_of (top_listed top.now (option_copied upgrade.entry))) }
+    ensures { Puts (W.sink writer.old) (W.sink writer.new) result
+        (flat_map field_line_of (top_listed top.now (option_copied upgrade.entry))) }
 {
     let Some(persistence) = top.persistence else {
         return put_headers(writer, top.headers);
@@ -234,11 +237,11 @@ fn put_lines<W: WriteDevice>(
     put(writer, b"\r\n")
 }
 
-/// Writes the head of an answer: the status line, the header lines in their order, and an empty
-/// line (RFC 9112, sections 4 and 5). By the standard the status line is in version 1.1;
-/// `Connection` says that the connection ends, or to a version up to 1.0 that it persists, and that
-/// protocols are offered, but for an upgrade and a code below 200; and a header whose name isn't a token is left out, and makes
-/// one line else. A head of up to 512 bytes is written as one piece.
+/// Writes the head of an answer: the status line, the header lines in their order, and an empty line (RFC 9112,
+/// sections 4 and 5). By the standard the status line is in version 1.1; `Connection` says that the connection ends,
+/// or to a version up to 1.0 that it persists, and that protocols are offered, but for an upgrade and a code below
+/// 200; and a header whose name isn't a token is left out, and makes one line else. A head of up to 512 bytes is
+/// written as one piece.
 pub(crate) fn put_head<W: WriteDevice>(
     writer: &mut W,
     top: &Top<'_>,

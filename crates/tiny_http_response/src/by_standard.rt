@@ -1,11 +1,14 @@
-//! What the head of an answer says by the standard: of its connection, and each header on one line (RFC 9112, sections 9.3, 9.6 and
-//! 11.1; RFC 9110, sections 5.5, 7.8 and 15).
+//! What the head of an answer says by the standard: of its connection, and each header on one line (RFC 9112,
+//! sections 9.3, 9.6 and 11.1; RFC 9110, sections 5.5, 7.8 and 15).
 ghost use Rattle.std.specs.Prelude.{◌≡◌, ◌∷◌, [], Some, option_map};
 ghost use Rattle.std.specs.List.{flat_map};
 ghost use Rattle.std.specs.Option.{option_copied};
 ghost use Rattle.tiny_http_io.specs.Device.{Puts};
 ghost use Rattle.tiny_http_response.specs.Answer.{field_line, field_line_of};
-ghost use Rattle.tiny_http_response.specs.ByStandard.{persistence_option, connection_header, connection_headers, options_with_upgrade, safe_byte, safe_value, safe_headers, contentless_framing, framing_by_standard, has_no_content, framing_of_304};
+ghost use Rattle.tiny_http_response.specs.ByStandard.{persistence_option, connection_header, connection_headers};
+ghost use Rattle.tiny_http_response.specs.ByStandard.{options_with_upgrade, safe_byte, safe_value, safe_headers};
+ghost use Rattle.tiny_http_response.specs.ByStandard.{contentless_framing, framing_by_standard, has_no_content};
+ghost use Rattle.tiny_http_response.specs.ByStandard.{framing_of_304};
 
 use crate::answer_context::Persistence;
 use crate::answer_head::put_field;
@@ -81,7 +84,8 @@ fn put_safe_field<W: WriteDevice>(
 
 // The line of a header, unless its name isn't a token.
 fn put_safe_header<W: WriteDevice>(writer: &mut W, header: &Header) -> Result<(), io::Error>
-    ensures { Puts (W.sink writer.old) (W.sink writer.new) result (flat_map field_line_of (safe_headers (header.now ∷ []))) }
+    ensures { Puts (W.sink writer.old) (W.sink writer.new) result
+        (flat_map field_line_of (safe_headers (header.now ∷ []))) }
 {
     let field = header.field.as_str();
     let field = field.as_str().as_bytes();
@@ -131,7 +135,8 @@ fn put_offer<W: WriteDevice>(
     put_safe_field(writer, b"Upgrade", protocols.as_bytes())
 }
 
-/// The headers that say what becomes of the connection, and offer protocols (RFC 9112, section 9.6; RFC 9110, section 7.8).
+/// The headers that say what becomes of the connection, and offer protocols (RFC 9112, section 9.6; RFC 9110, section
+/// 7.8).
 pub(crate) fn put_connection<W: WriteDevice>(
     writer: &mut W,
     offered: &Option<AsciiString>,
@@ -159,8 +164,9 @@ fn framing_of_304(data_length: Option<usize>) -> FramingHeader
     }
 }
 
-// How an answer is framed that is a head alone by its code, by the standard (RFC 9110, sections 8.6 and 15.3.6; RFC 9112, section
-// 6.1). A 1xx and a 204 have neither header, a 205 the length 0, and a 304 the length of its data, if that is known and isn't 0.
+// How an answer is framed that is a head alone by its code, by the standard (RFC 9110, sections 8.6 and 15.3.6; RFC
+// 9112, section 6.1). A 1xx and a 204 have neither header, a 205 the length 0, and a 304 the length of its data, if
+// that is known and isn't 0.
 fn framing_by_standard(
     persistence: Option<Persistence>,
     status: StatusCode,
@@ -188,8 +194,8 @@ pub(crate) fn has_no_content(status: StatusCode) -> bool
     (status.0 >= 100 && status.0 < 200) || status.0 == 204 || status.0 == 304
 }
 
-/// How an answer is framed that is a head alone by its code: by the standard, and where it was made to say no length and its code has
-/// no content. That one has neither header.
+/// How an answer is framed that is a head alone by its code: by the standard, and where it was made to say no length
+/// and its code has no content. That one has neither header.
 pub(crate) fn contentless_framing(
     persistence: Option<Persistence>,
     contentless: bool,

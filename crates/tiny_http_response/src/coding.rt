@@ -1,7 +1,8 @@
 //! How the body of an answer is sent (RFC 9112, sections 6 and 7).
 ghost use Rattle.std.specs.Prelude.{◌≡◌, Option};
 ghost use Rattle.tiny_http_text.specs.QualityReading.{qualities};
-ghost use Rattle.tiny_http_response.specs.Coding.{coding_named, supported_codings, most_wanted, coding_asked, chosen_coding};
+ghost use Rattle.tiny_http_response.specs.Coding.{coding_named, supported_codings, most_wanted, coding_asked};
+ghost use Rattle.tiny_http_response.specs.Coding.{chosen_coding};
 
 use tiny_http_head::common::{HTTPVersion, Header, StatusCode};
 use tiny_http_text::header_value::parse_element;
@@ -73,9 +74,9 @@ pub fn asked_coding(request_headers: &[Header]) -> Option<Coding>
     None
 }
 
-/// The coding of an answer (RFC 9112, sections 6.1 and 7.4; as tiny_http): the bytes as they are for a version up to 1.0,
-/// a status under 200 and a 204; else what the request asks for, as `asked_coding` says; else chunks where the length of
-/// the data, in bytes, isn't known or is at least the threshold.
+/// The coding of an answer (RFC 9112, sections 6.1 and 7.4; as tiny_http): the bytes as they are for a version up to
+/// 1.0, a status under 200 and a 204; else what the request asks for, as `asked_coding` says; else chunks where the
+/// length of the data, in bytes, isn't known or is at least the threshold.
 pub fn choose(
     version: HTTPVersion,
     asked: Option<Coding>,

@@ -23,11 +23,14 @@ pub fn sizes_of_bodies()
     ensures threshold { THRESHOLD ≡ 32768 }
 {}
 
-/// The headers of a request ask for one coding, or for none, in one way: for that of the element of the first `TE` header
-/// which no other one outdoes (RFC 9110, sections 10.1.4 and 12.4.2).
+/// The headers of a request ask for one coding, or for none, in one way: for that of the element of the first `TE`
+/// header which no other one outdoes (RFC 9110, sections 10.1.4 and 12.4.2).
 pub fn one_coding_asked()
     ensures some { (headers : List Header) → AsksFor headers (coding_asked headers) }
-    ensures one { (headers : List Header) (asked other : Option Coding) → AsksFor headers asked → AsksFor headers other → asked ≡ other }
+    ensures one { (headers : List Header) (asked other : Option Coding)
+        → AsksFor headers asked
+        → AsksFor headers other
+        → asked ≡ other }
 {}
 
 /// The list of an answer's headers never holds `Connection`, `Trailer`, `Transfer-Encoding`,
@@ -36,13 +39,19 @@ pub fn one_coding_asked()
 /// 8.3; RFC 9112, section 6).
 pub fn response_headers()
     ensures none { IsResponseHeaders [] }
-    ensures one_more { (h : Header) (a : AnyAnswer) → IsResponseHeaders a.headers → IsResponseHeaders (add_header h a).headers }
-    ensures more { (hs : List Header) (a : AnyAnswer) → IsResponseHeaders a.headers → IsResponseHeaders (with_headers hs a).headers }
+    ensures one_more { (h : Header) (a : AnyAnswer)
+        → IsResponseHeaders a.headers
+        → IsResponseHeaders (add_header h a).headers }
+    ensures more { (hs : List Header) (a : AnyAnswer)
+        → IsResponseHeaders a.headers
+        → IsResponseHeaders (with_headers hs a).headers }
 {}
 
-/// A header that is made of a name and a value, as by `Header::new`, is readable, and by the standard it is printed as it is (RFC
-/// 9110, sections 5.5 and 5.6.2).
+/// A header that is made of a name and a value, as by `Header::new`, is readable, and by the standard it is printed
+/// as it is (RFC 9110, sections 5.5 and 5.6.2).
 pub fn header_of_texts()
     ensures readable { (name value : List ℕ) → AreHeaderTexts name value → IsReadable (header_of name value) }
-    ensures kept { (name value : List ℕ) → AreHeaderTexts name value → safe_header (header_of name value) ≡ Some (header_of name value) }
+    ensures kept { (name value : List ℕ)
+        → AreHeaderTexts name value
+        → safe_header (header_of name value) ≡ Some (header_of name value) }
 {}

@@ -25,11 +25,13 @@ fn status_text(alloc: Global, status: StatusCode) -> Result<String, AllocError>
 }
 
 impl Response<Cursor<Vec<u8>>> {
-    /// An answer with this code, whose text is the code and its reason phrase, as `404 Not Found`, under `Content-Type: text/plain;
-    /// charset=UTF-8` (RFC 9110, section 15). An error where memory was refused. For a code whose answers have no content, as a 204
-    /// or a 304, there is `contentless`: here the text isn't sent, and its length may be said.
+    /// An answer with this code, whose text is the code and its reason phrase, as `404 Not Found`, under
+    /// `Content-Type: text/plain; charset=UTF-8` (RFC 9110, section 15). An error where memory was refused. For a
+    /// code whose answers have no content, as a 204 or a 304, there is `contentless`: here the text isn't sent, and
+    /// its length may be said.
     pub fn status(alloc: Global, code: StatusCode) -> Result<Response<Cursor<Vec<u8>>>, AllocError>
-        ensures answer { IfOk result (λ r. r.answer ≡ answer_with code.0 (text_plain ∷ []) (length (status_text code.0))) }
+        ensures answer { IfOk result
+            (λ r. r.answer ≡ answer_with code.0 (text_plain ∷ []) (length (status_text code.0))) }
         ensures bytes { IfOk result (λ r. cursor_bytes r.data_reader ≡ status_text code.0) }
     {
         let response = Response::from_string(alloc, status_text(alloc, code)?)?;
@@ -38,14 +40,16 @@ impl Response<Cursor<Vec<u8>>> {
 }
 
 impl<R> Response<R> {
-    /// The same answer with a header more. It is made of a name and a value as by `Header::new`, and added as by `add_header`: so
-    /// `Connection`, `Trailer`, `Transfer-Encoding` and `Upgrade` are left out. `Refused` where no header is made of the texts,
-    /// and for no other reason; `Memory` where memory was refused. In both cases the answer is let go; `with_header` hands it back.
-    /// In a function that answers an `io::Result`, `?` makes `InvalidInput` and `OutOfMemory` of them.
+    /// The same answer with a header more. It is made of a name and a value as by `Header::new`, and added as by
+    /// `add_header`: so `Connection`, `Trailer`, `Transfer-Encoding` and `Upgrade` are left out. `Refused` where no
+    /// header is made of the texts, and for no other reason; `Memory` where memory was refused. In both cases the
+    /// answer is let go; `with_header` hands it back. In a function that answers an `io::Result`, `?` makes
+    /// `InvalidInput` and `OutOfMemory` of them.
     pub fn with(self, alloc: Global, name: &str, value: &str) -> Result<Response<R>, ParseError>
     where
         R: Drop,
-        ensures added { IfOk result (λ r. r ≡ record self { answer = add_header (header_of name.now value.now) self.answer }) }
+        ensures added { IfOk result
+            (λ r. r ≡ record self { answer = add_header (header_of name.now value.now) self.answer }) }
         ensures texts { OnOk result (AreHeaderTexts name.now value.now) }
         ensures refused { IsErrOf result ParseError.Refused ↔ ¬ (AreHeaderTexts name.now value.now) }
     {

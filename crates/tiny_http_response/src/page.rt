@@ -23,7 +23,8 @@ impl Page {
 
     /// An empty page.
     pub(crate) fn new() -> Page
-        ensures { page_sink result ≡ record { taken = Some []; sent = []; failures = 0; last_kind = None; has_ended = false } }
+        ensures { page_sink result ≡ record
+            { taken = Some []; sent = []; failures = 0; last_kind = None; has_ended = false } }
     {
         Page {
             bytes: [0; ROOM],

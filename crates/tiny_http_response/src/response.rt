@@ -1,12 +1,17 @@
 //! Answers to requests, and how they are printed.
-ghost use Rattle.std.specs.Prelude.{◌≡◌, true, Option, Some, None, IfSome, if◌then◌else◌, ◌∷◌, IfOk, IfErr, OnOk, OnErr, IsTrue, ◌↔◌, vec_len, string_len, string_bytes, [], ◌<◌, ◌^◌, ◌++◌, length};
+ghost use Rattle.std.specs.Prelude.{◌≡◌, true, Option, Some, None, IfSome, if◌then◌else◌, ◌∷◌, IfOk, IfErr, OnOk};
+ghost use Rattle.std.specs.Prelude.{OnErr, IsTrue, ◌↔◌, vec_len, string_len, string_bytes, [], ◌<◌, ◌^◌, ◌++◌};
+ghost use Rattle.std.specs.Prelude.{length};
 ghost use Rattle.std.specs.Option.{option_copied};
 ghost use Rattle.std.specs.List.{list_all, AllByRecursion};
 ghost use Rattle.tiny_http_text.specs.Bytes.{is_ascii};
-ghost use Rattle.tiny_http_response.specs.AddHeader.{add_header, is_put_last, is_some_put_last, with_headers, first_answer};
+ghost use Rattle.tiny_http_response.specs.AddHeader.{add_header, is_put_last, is_some_put_last, with_headers};
+ghost use Rattle.tiny_http_response.specs.AddHeader.{first_answer};
 ghost use Rattle.tiny_http_response.specs.ResponseHeaders.{IsResponseHeaders};
 ghost use Rattle.tiny_http_response.specs.Readable.{IsReadable};
-ghost use Rattle.tiny_http_response.specs.Answer.{Answer, ResponseState, is_withheld, PrintsText, PrintsGathered, PrintsUncoded, PrintsAnswer, uncoded_text, body_unless_withheld, text_plain, answer_with, contentless_answer};
+ghost use Rattle.tiny_http_response.specs.Answer.{Answer, ResponseState, is_withheld, PrintsText, PrintsGathered};
+ghost use Rattle.tiny_http_response.specs.Answer.{PrintsUncoded, PrintsAnswer, uncoded_text, body_unless_withheld};
+ghost use Rattle.tiny_http_response.specs.Answer.{text_plain, answer_with, contentless_answer};
 ghost use Rattle.tiny_http_response.specs.Streaming.{streamed_head};
 ghost use Rattle.tiny_http_body.specs.Text.{Prints, prepend_text, whole, identity_body, chunked_body, nothing_sent};
 ghost use Rattle.tiny_http_io.specs.Cursor.{cursor_bytes};
@@ -59,13 +64,24 @@ impl<R> Model for Response<R> {
 
     ghost Value = { ResponseState R };
 
-    ghost view = { λ r. record { answer = record { status = r.status.0; headers = r.headers.items; data_length = r.data_length; threshold = r.threshold; closes = r.closes; offered = r.offered; contentless = r.contentless }; data_reader = r.reader } };
+    ghost view = { λ r. record {
+      answer = record {
+        status = r.status.0;
+        headers = r.headers.items;
+        data_length = r.data_length;
+        threshold = r.threshold;
+        closes = r.closes;
+        offered = r.offered;
+        contentless = r.contentless;
+      };
+      data_reader = r.reader;
+    } };
 
     ghost invariant = { λ r. IsResponseHeaders r.headers.items };
 }
 
-/// The length in bytes from which data is sent in chunks, until another is set (as tiny_http). An answer that is to say its length
-/// however long it is, as that of a file, is given another one: `with_chunked_threshold(usize::MAX)`.
+/// The length in bytes from which data is sent in chunks, until another is set (as tiny_http). An answer that is to
+/// say its length however long it is, as that of a file, is given another one: `with_chunked_threshold(usize::MAX)`.
 pub const THRESHOLD: usize = 32768;
 
 // The header of a plain text.
@@ -79,9 +95,9 @@ fn text_plain(alloc: Global) -> Result<Header, AllocError>
 }
 
 impl<F: Read + OpenFile> Response<Metered<F>> {
-    /// An answer 200 with an open file as its data, and no headers (as tiny_http). The length is the
-    /// file's, by its metadata, and unknown where that can't be read. A file of `THRESHOLD` bytes or more is sent in chunks, and
-    /// its length isn't said; after `with_chunked_threshold(usize::MAX)` it is. It takes no memory.
+    /// An answer 200 with an open file as its data, and no headers (as tiny_http). The length is the file's, by its
+    /// metadata, and unknown where that can't be read. A file of `THRESHOLD` bytes or more is sent in chunks, and its
+    /// length isn't said; after `with_chunked_threshold(usize::MAX)` it is. It takes no memory.
     pub fn from_file(alloc: Global, file: F) -> Response<Metered<F>>
         ensures status { result.answer.status ≡ 200 }
         ensures headers { result.answer.headers ≡ [] }
@@ -124,10 +140,11 @@ impl Response<io::Empty> {
         Response::of(alloc, status, io::empty(), Some(0))
     }
 
-    /// An answer without data that says no length, for a code whose answers have no content: one from 100 to 199, a 204 or a 304 (RFC 9110,
-    /// sections 6.4.1, 8.6, 15.3.5 and 15.4.5). Such an answer has neither `Content-Length` nor `Transfer-Encoding`, under each
-    /// profile and whatever the request asks for. `empty` says the length 0, but by the standard. With another code this answer
-    /// is printed as that of `empty`. It has no headers, and takes no memory.
+    /// An answer without data that says no length, for a code whose answers have no content: one from 100 to 199, a
+    /// 204 or a 304 (RFC 9110, sections 6.4.1, 8.6, 15.3.5 and 15.4.5). Such an answer has neither `Content-Length`
+    /// nor `Transfer-Encoding`, under each profile and whatever the request asks for. `empty` says the length 0, but
+    /// by the standard. With another code this answer is printed as that of `empty`. It has no headers, and takes no
+    /// memory.
     pub fn contentless(alloc: Global, status: StatusCode) -> Response<io::Empty>
         ensures { result.answer ≡ contentless_answer status.0 }
     {
@@ -233,9 +250,15 @@ impl<R> Response<R> {
         data_length: Option<usize>,
         more: Vec<Header>,
     ) -> Result<Response<R>, Refused<R>>
-        ensures made { IfOk result (λ r. r ≡ record { answer = with_headers more.items (first_answer status.0 headers.items data_length); data_reader = reader }) }
+        ensures made { IfOk result
+            (λ r. r
+            ≡ record {
+              answer = with_headers more.items (first_answer status.0 headers.items data_length);
+              data_reader = reader;
+            }) }
         ensures refused { IfErr result (λ e. e.reader ≡ reader) }
-        ensures memory { OnErr result (IsTrue (is_some_put_last more.items (first_answer status.0 headers.items data_length))) }
+        ensures memory { OnErr result
+            (IsTrue (is_some_put_last more.items (first_answer status.0 headers.items data_length))) }
     {
         let mut data_length = add_in_place(&mut headers, data_length);
         match add_all(&mut headers, &mut data_length, more) {
@@ -290,10 +313,10 @@ impl<R> Response<R> {
         response
     }
 
-    /// The same answer, which offers to upgrade to these protocols, in place of those that it offered: a list such as `websocket` or
-    /// `h2c, foo/2`, as a 426 has to (RFC 9110, sections 7.8 and 15.5.22). An answer by the standard has it as its `Upgrade` header,
-    /// with a space in place of each byte that may not stand there, and names it in `Connection`. Other answers, an upgrade's own
-    /// and one with a code below 200 leave it out.
+    /// The same answer, which offers to upgrade to these protocols, in place of those that it offered: a list such as
+    /// `websocket` or `h2c, foo/2`, as a 426 has to (RFC 9110, sections 7.8 and 15.5.22). An answer by the standard
+    /// has it as its `Upgrade` header, with a space in place of each byte that may not stand there, and names it in
+    /// `Connection`. Other answers, an upgrade's own and one with a code below 200 leave it out.
     pub fn with_upgrade_offer(self, protocols: AsciiString) -> Response<R>
         ensures { result ≡ record self { answer = record self.answer { offered = Some protocols } } }
     {
@@ -302,11 +325,11 @@ impl<R> Response<R> {
         response
     }
 
-    /// The same answer, behind which the connection is to end (RFC 9112, section 9.6). Where a `Connection` or a `Request` sends it
-    /// as its answer, no further request is handed out; those that were are answered. By the standard the last answer of the
-    /// connection says `Connection: close`: this one, if nothing was read behind its request. Behind the last answer that `Request`s
-    /// send the client of a socket sees the end; a `Connection` closes nothing. An upgrade and an `Exchange` pass it
-    /// over, and what `raw_print` and `print` print is the same.
+    /// The same answer, behind which the connection is to end (RFC 9112, section 9.6). Where a `Connection` or a
+    /// `Request` sends it as its answer, no further request is handed out; those that were are answered. By the
+    /// standard the last answer of the connection says `Connection: close`: this one, if nothing was read behind its
+    /// request. Behind the last answer that `Request`s send the client of a socket sees the end; a `Connection`
+    /// closes nothing. An upgrade and an `Exchange` pass it over, and what `raw_print` and `print` print is the same.
     pub fn with_close(self) -> Response<R>
         ensures { result ≡ record self { answer = record self.answer { closes = true } } }
     {
@@ -362,18 +385,18 @@ impl<R> Response<R> {
     /// The headers, in the order in which they are sent.
     pub fn headers(&self) -> &[Header]
         ensures value { result.now ≡ self.now.answer.headers }
-        // It never holds `Connection`, `Trailer`, `Transfer-Encoding`, `Upgrade` or `Content-Length`, and `Content-Type`
-        // at most once.
+        // It never holds `Connection`, `Trailer`, `Transfer-Encoding`, `Upgrade` or `Content-Length`, and
+        // `Content-Type` at most once.
         ensures law { IsResponseHeaders result.now }
     {
         self.headers.as_slice()
     }
 
-    /// Whether a client reads each of the headers as it was meant. The name has no white space (bytes 9 to 13 and 32) and no
-    /// colon. The value has no white space at its ends, and no CR LF. Both are ASCII (RFC 9110, section 5.5; RFC 9112, section
-    /// 5). Check it where a header has a client's text in it, such as a `Location` that is made of a decoded path: what stands
-    /// behind a CR LF is read as a header of its own. The client theorem asks this of the headers of an answer that isn't
-    /// printed by the standard.
+    /// Whether a client reads each of the headers as it was meant. The name has no white space (bytes 9 to 13 and 32)
+    /// and no colon. The value has no white space at its ends, and no CR LF. Both are ASCII (RFC 9110, section 5.5;
+    /// RFC 9112, section 5). Check it where a header has a client's text in it, such as a `Location` that is made of
+    /// a decoded path: what stands behind a CR LF is read as a header of its own. The client theorem asks this of the
+    /// headers of an answer that isn't printed by the standard.
     pub fn is_readable(&self) -> bool
         ensures { IsTrue result ↔ AllByRecursion IsReadable self.now.answer.headers }
     {
@@ -401,13 +424,15 @@ impl<R> Response<R> {
         self.threshold
     }
 
-    /// Prints head and body for a request of this version with these headers, dated `now` (RFC 9112, sections 4 to 7); for
-    /// an upgrade to a protocol the head alone. The body is withheld for `no_body` (HEAD) and the codes 100 to 199, 204 and
+    /// Prints head and body for a request of this version with these headers, dated `now` (RFC 9112, sections 4 to
+    /// 7); for an upgrade to a protocol the head alone. The body is withheld for `no_body` (HEAD) and the codes 100
+    /// to 199, 204 and
     /// 304. What the request's `TE` header asks for decides how the body is coded, as `coding::choose` says.
     ///
-    /// The first fault, of the writer or of the data, is reported, and nothing is written after it. Data that end before
-    /// their length are UnexpectedEof. Data of unknown length that aren't sent in chunks are read whole first: a fault of
-    /// them, or OutOfMemory, leaves nothing written, as InvalidInput does for a protocol that isn't ASCII. It doesn't flush.
+    /// The first fault, of the writer or of the data, is reported, and nothing is written after it. Data that end
+    /// before their length are UnexpectedEof. Data of unknown length that aren't sent in chunks are read whole first:
+    /// a fault of them, or OutOfMemory, leaves nothing written, as InvalidInput does for a protocol that isn't ASCII.
+    /// It doesn't flush.
     pub fn raw_print<W: WriteDevice>(
         self,
         alloc: Global,
@@ -442,10 +467,10 @@ impl<R> Response<R> {
         self.print(alloc, writer, context, upgrade, now)
     }
 
-    /// Prints head and body as `raw_print` does, for a request of which `context` has what the answer needs. Where the context says
-    /// what becomes of the connection it is printed by the standard: the status line in version 1.1; `Connection` behind the
-    /// date where there is something to say, but for an upgrade and a code below 200; no header of more than one line. No data
-    /// are read for a code below 200, a 204, a 205 and a 304.
+    /// Prints head and body as `raw_print` does, for a request of which `context` has what the answer needs. Where
+    /// the context says what becomes of the connection it is printed by the standard: the status line in version 1.1;
+    /// `Connection` behind the date where there is something to say, but for an upgrade and a code below 200; no
+    /// header of more than one line. No data are read for a code below 200, a 204, a 205 and a 304.
     pub fn print<W: WriteDevice>(
         self,
         alloc: Global,
@@ -507,11 +532,11 @@ impl<R> Response<R> {
         }
     }
 
-    /// Prints the head alone of an answer whose body comes later, and grows while it is sent: `AnswerContext::streamed_form` says how
-    /// that is to be sent. The head says chunks to a version from 1.1 on, also where no body is asked for, and neither a length nor a
-    /// coding to an earlier one (RFC 9112, section 6). The answer's data, their length and its threshold are passed over. It is printed
-    /// by the standard where `print` would be. The error is the writer's first fault, after which nothing more is written. It doesn't
-    /// flush.
+    /// Prints the head alone of an answer whose body comes later, and grows while it is sent:
+    /// `AnswerContext::streamed_form` says how that is to be sent. The head says chunks to a version from 1.1 on,
+    /// also where no body is asked for, and neither a length nor a coding to an earlier one (RFC 9112, section 6).
+    /// The answer's data, their length and its threshold are passed over. It is printed by the standard where `print`
+    /// would be. The error is the writer's first fault, after which nothing more is written. It doesn't flush.
     pub fn print_head<W: WriteDevice>(
         &self,
         writer: &mut W,

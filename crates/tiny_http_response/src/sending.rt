@@ -6,7 +6,9 @@ ghost use Rattle.tiny_http_response.specs.Answer.{text_of};
 ghost use Rattle.tiny_http_io.specs.Device.{Feed};
 ghost use Rattle.tiny_http_response.specs.ResponseValue.{printing_in, printing_with, upgrading};
 ghost use Rattle.tiny_http_io.specs.Outlet.{output_of, outlet_ended, outlet_held, SentOn};
-ghost use Rattle.tiny_http_response.specs.Sending.{Sends, SendsText, EndsQuietly, DropsHeld, CanSend, SinkFailsOnce, IsHonest, is_closed_client, reported, FailsOnce, SendsQuietlyOn, SendsAnswer};
+ghost use Rattle.tiny_http_response.specs.Sending.{Sends, SendsText, EndsQuietly, DropsHeld, CanSend, SinkFailsOnce};
+ghost use Rattle.tiny_http_response.specs.Sending.{IsHonest, is_closed_client, reported, FailsOnce, SendsQuietlyOn};
+ghost use Rattle.tiny_http_response.specs.Sending.{SendsAnswer};
 
 use crate::answer_context::AnswerContext;
 use crate::response::Response;
@@ -45,10 +47,12 @@ fn send_printed<W: WriteDevice, D: ReadDevice + Drop>(
 ) -> Result<(), io::Error>
     ensures sends { (content : Feed) → D.feed response.data_reader ≡ Some content → length content.bytes < 2 ^ 63
         → CanSend (output_of outlet.old)
-        → Sends (output_of outlet.old) (output_of outlet.new) (outlet_ended outlet.new) result response.answer content (printing_with answer_context (option_copied upgrade.entry) now) }
+        → Sends (output_of outlet.old) (output_of outlet.new) (outlet_ended outlet.new) result response.answer
+        content (printing_with answer_context (option_copied upgrade.entry) now) }
     ensures fails_once { SinkFailsOnce (output_of outlet.old) (output_of outlet.new) (outlet_ended outlet.new) }
     ensures honest { IfErr result (λ e.
-        IsHonest (output_of outlet.old) (output_of outlet.new) response.answer (D.feed response.data_reader) (printing_with answer_context (option_copied upgrade.entry) now) (error_kind e)) }
+        IsHonest (output_of outlet.old) (output_of outlet.new) response.answer (D.feed response.data_reader)
+        (printing_with answer_context (option_copied upgrade.entry) now) (error_kind e)) }
     ensures ended { OnErr result (outlet_ended outlet.new ≡ true) }
     ensures flushed { outlet_held outlet.new ≡ [] }
     ensures sent_on { SentOn outlet.new }
@@ -62,8 +66,8 @@ fn send_printed<W: WriteDevice, D: ReadDevice + Drop>(
     outlet.flush()
 }
 
-/// Prints an answer and flushes it. The first fault is the error: the data's, or the writer's. After it nothing more is sent
-/// on the connection; what was held before a fault of the data is sent.
+/// Prints an answer and flushes it. The first fault is the error: the data's, or the writer's. After it nothing more
+/// is sent on the connection; what was held before a fault of the data is sent.
 pub fn send<W: WriteDevice, D: ReadDevice + Drop>(
     alloc: Global,
     outlet: &mut Outlet<W>,
@@ -73,10 +77,12 @@ pub fn send<W: WriteDevice, D: ReadDevice + Drop>(
 ) -> Result<(), io::Error>
     ensures sends { (content : Feed) → D.feed response.data_reader ≡ Some content → length content.bytes < 2 ^ 63
         → CanSend (output_of outlet.old)
-        → Sends (output_of outlet.old) (output_of outlet.new) (outlet_ended outlet.new) result response.answer content (printing_in answer_context now) }
+        → Sends (output_of outlet.old) (output_of outlet.new) (outlet_ended outlet.new) result response.answer
+        content (printing_in answer_context now) }
     ensures fails_once { SinkFailsOnce (output_of outlet.old) (output_of outlet.new) (outlet_ended outlet.new) }
     ensures honest { IfErr result (λ e.
-        IsHonest (output_of outlet.old) (output_of outlet.new) response.answer (D.feed response.data_reader) (printing_in answer_context now) (error_kind e)) }
+        IsHonest (output_of outlet.old) (output_of outlet.new) response.answer (D.feed response.data_reader)
+        (printing_in answer_context now) (error_kind e)) }
     ensures ended { OnErr result (outlet_ended outlet.new ≡ true) }
     ensures flushed { outlet_held outlet.new ≡ [] }
     ensures sent_on { SentOn outlet.new }
@@ -84,8 +90,8 @@ pub fn send<W: WriteDevice, D: ReadDevice + Drop>(
     send_printed(alloc, outlet, response, answer_context, None, now)
 }
 
-/// Sends an answer as `send` does, unless the output has ended: then nothing is sent, the data aren't read, and the result is
-/// `Ok`.
+/// Sends an answer as `send` does, unless the output has ended: then nothing is sent, the data aren't read, and the
+/// result is `Ok`.
 pub fn send_unless_ended<W: WriteDevice, D: ReadDevice + Drop>(
     alloc: Global,
     outlet: &mut Outlet<W>,
@@ -115,8 +121,8 @@ pub fn is_closed_client(kind: ErrorKind) -> bool
     )
 }
 
-/// What is reported of an answer that was sent so: its fault, unless that is of a kind which says that the client has closed the
-/// connection, also where it is one of the data.
+/// What is reported of an answer that was sent so: its fault, unless that is of a kind which says that the client has
+/// closed the connection, also where it is one of the data.
 pub fn reported(sent: Result<(), io::Error>) -> Result<(), io::Error>
     ensures { result ≡ reported sent }
 {
@@ -126,10 +132,10 @@ pub fn reported(sent: Result<(), io::Error>) -> Result<(), io::Error>
     }
 }
 
-/// Prints an answer that upgrades the connection to a protocol, and flushes it (RFC 9110, section 7.8): its head alone, with
-/// `Connection: upgrade` and `Upgrade: PROTOCOL` in front of the other headers. The data are let go unread. The writer's first
-/// fault is the error. So is InvalidInput for a protocol that isn't ASCII, of which nothing is sent. After an error nothing
-/// more is sent on the connection. The call takes no memory.
+/// Prints an answer that upgrades the connection to a protocol, and flushes it (RFC 9110, section 7.8): its head
+/// alone, with `Connection: upgrade` and `Upgrade: PROTOCOL` in front of the other headers. The data are let go
+/// unread. The writer's first fault is the error. So is InvalidInput for a protocol that isn't ASCII, of which
+/// nothing is sent. After an error nothing more is sent on the connection. The call takes no memory.
 pub fn send_upgrade<W: WriteDevice, D: Drop>(
     alloc: Global,
     outlet: &mut Outlet<W>,
@@ -140,7 +146,8 @@ pub fn send_upgrade<W: WriteDevice, D: Drop>(
 ) -> Result<(), io::Error>
     // Whatever the data are.
     ensures sends { (content : Feed) → CanSend (output_of outlet.old)
-        → SendsText (output_of outlet.old) (output_of outlet.new) (outlet_ended outlet.new) result (text_of response.answer content (upgrading protocol.now (printing_in answer_context now))) }
+        → SendsText (output_of outlet.old) (output_of outlet.new) (outlet_ended outlet.new) result
+        (text_of response.answer content (upgrading protocol.now (printing_in answer_context now))) }
     ensures fails_once { SinkFailsOnce (output_of outlet.old) (output_of outlet.new) (outlet_ended outlet.new) }
     ensures ended { OnErr result (outlet_ended outlet.new ≡ true) }
     ensures flushed { outlet_held outlet.new ≡ [] }

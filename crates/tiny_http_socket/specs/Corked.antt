@@ -1,5 +1,6 @@
 -- What a contract sees of a `Corked`.
-use Rattle.std.specs.Prelude.{◌≡◌, ℕ, ◌<◌, ◌≤◌, Bool, true, false, List, ◌++◌, length, take, Option, Some, None, Result, Ok, Err}
+use Rattle.std.specs.Prelude.{◌≡◌, ℕ, ◌<◌, ◌≤◌, Bool, true, false, List, ◌++◌, length, take, Option, Some, None}
+use Rattle.std.specs.Prelude.{Result, Ok, Err}
 use Rattle.std.specs.IoError.{error_kind}
 use Rattle.std.specs.declared.io.Error.{Error}
 use Rattle.std.specs.declared.io.ErrorKind.{ErrorKind}
@@ -7,8 +8,8 @@ use Rattle.tiny_http_io.specs.Device.{Sink, IsFront, IsKnownFront, HoldsNothing,
 use Rattle.tiny_http_socket.specs.declared.corked.State.{State}
 use Rattle.tiny_http_socket.specs.declared.corked.State.TheVariants.{Open, Broken, Ended}
 
--- What a clause sees of a `Corked`: the bytes that wait, whether it takes more, the failures that it reported and the kind of the
--- last one, the writer inside, and what that reports.
+-- What a clause sees of a `Corked`: the bytes that wait, whether it takes more, the failures that it reported and the
+-- kind of the last one, the writer inside, and what that reports.
 pub record CorkedState (W : Type 0) : Type 0 where
   pub waiting : List ℕ
   pub state : State
@@ -40,11 +41,19 @@ takes_none Ended s = true
 
 -- what its writer took and what waits, as one sink
 abbrev pub corked_sink : {W : Type 0} → CorkedState W → Sink
-corked_sink c = record { taken = taken_by c.state c.sink c.waiting; sent = c.sink.sent; failures = c.failures; last_kind = c.last; has_ended = takes_none c.state c.sink }
+corked_sink c =
+    record {
+      taken = taken_by c.state c.sink c.waiting;
+      sent = c.sink.sent;
+      failures = c.failures;
+      last_kind = c.last;
+      has_ended = takes_none c.state c.sink;
+    }
 
 -- a writer took what waited and then so many bytes of a text behind it, or it failed within them
 abbrev pub PassesBehind : Sink → Sink → List ℕ → Result ℕ Error → List ℕ → Type 0
-PassesBehind old new waiting (Ok n) text = (n ≤ length text) × (0 < length text → 0 < n) × Took old new (waiting ++ take n text)
+PassesBehind old new waiting (Ok n) text =
+    (n ≤ length text) × (0 < length text → 0 < n) × Took old new (waiting ++ take n text)
 PassesBehind old new waiting (Err e) text = Failed old new (waiting ++ text) (error_kind e)
 
 -- a fault of this kind that was met before is reported, and the writer isn't called
@@ -54,7 +63,8 @@ ReportsFault old new (Err e) kind = (error_kind e ≡ kind) × (new.writer ≡ o
 
 -- all that was taken is sent; or a front of it is, and the fault isn't reported yet
 abbrev pub SentOrBroken : Sink → Sink → Option ErrorKind → Type 0
-SentOrBroken old new None = (new.taken ≡ old.taken) × (new.has_ended ≡ old.has_ended) × (new.has_ended ≡ false → HoldsNothing new)
+SentOrBroken old new None =
+    (new.taken ≡ old.taken) × (new.has_ended ≡ old.has_ended) × (new.has_ended ≡ false → HoldsNothing new)
 SentOrBroken old new (Some kind) = IsKnownFront new.taken old.taken × (new.has_ended ≡ false)
 
 -- WHAT WAITS IS SENT, or the writer failed within it. No fault is reported, and so none is counted.

@@ -30,4 +30,5 @@ paced_sink w = record { taken = None; sent = []; failures = w.failures; last_kin
 
 -- the same after one more failure, of this kind
 abbrev pub failed_sink : PacedWriter → ErrorKind → Sink
-failed_sink w kind = record { taken = None; sent = []; failures = next_count w.failures; last_kind = Some kind; has_ended = false }
+failed_sink w kind =
+    record { taken = None; sent = []; failures = next_count w.failures; last_kind = Some kind; has_ended = false }

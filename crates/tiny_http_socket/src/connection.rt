@@ -1,6 +1,7 @@
 //! TCP and Unix sockets under one name, and their addresses.
 ghost use Rattle.std.specs.Prelude.{◌≡◌, ◌≤◌, ◌++◌, length, IfOk};
-ghost use Rattle.tiny_http_socket.specs.Connection.{IsBoundAs, HasAddressOf, IsAcceptedBy, HasPeerOf, IsSameKind, IsCopyOf, ip_of, unix_of};
+ghost use Rattle.tiny_http_socket.specs.Connection.{IsBoundAs, HasAddressOf, IsAcceptedBy, HasPeerOf, IsSameKind};
+ghost use Rattle.tiny_http_socket.specs.Connection.{IsCopyOf, ip_of, unix_of};
 
 use std::alloc::{AllocError, Global};
 use std::io::{IoSlice, Read, Write};
@@ -12,8 +13,8 @@ use std::rt::Files;
 use std::time::Duration;
 use std::{fmt, fs, io};
 
-/// What a server needs of the file system: the files of Unix sockets. Any runtime with files and sockets has it. A bound by
-/// `Files` in its place would not let generic code share a server among threads.
+/// What a server needs of the file system: the files of Unix sockets. Any runtime with files and sockets has it. A
+/// bound by `Files` in its place would not let generic code share a server among threads.
 pub trait SocketFiles {
     /// Listens at this path, at which it makes a file. The system's fault where it can't.
     fn bind_unix(&self, path: Path<'_>) -> io::Result<unix_net::UnixListener>;
@@ -65,8 +66,8 @@ impl Listener {
         }
     }
 
-    /// Waits for a client, and gives the connection to it, of the listener's kind, and the client's address, where it is a
-    /// TCP one. The system's fault, where it has no client to give.
+    /// Waits for a client, and gives the connection to it, of the listener's kind, and the client's address, where it
+    /// is a TCP one. The system's fault, where it has no client to give.
     pub fn accept(&self) -> io::Result<(Connection, Option<SocketAddr>)>
         ensures { IfOk result (λ client. IsAcceptedBy self.now client.0 client.1) }
     {
@@ -125,8 +126,8 @@ impl Connection {
         }
     }
 
-    /// Shuts down one direction or both, for this and each other handle of the connection. The system's fault, where the peer
-    /// has gone.
+    /// Shuts down one direction or both, for this and each other handle of the connection. The system's fault, where
+    /// the peer has gone.
     pub fn shutdown(&self, how: Shutdown) -> io::Result<()> {
         match self {
             Connection::Tcp(stream) => stream.shutdown(how),
@@ -154,8 +155,8 @@ impl Connection {
 }
 
 impl Connection {
-    /// Has each later read, by this and each other handle, wait for so long at most, and then report `WouldBlock`. The system's
-    /// fault, and `InvalidInput` of no time.
+    /// Has each later read, by this and each other handle, wait for so long at most, and then report `WouldBlock`.
+    /// The system's fault, and `InvalidInput` of no time.
     pub fn set_read_timeout(&self, timeout: Duration) -> io::Result<()> {
         match self {
             Connection::Tcp(stream) => stream.set_read_timeout(Some(timeout)),
@@ -171,8 +172,8 @@ impl Connection {
         }
     }
 
-    /// Has each later write, by this and each other handle, wait for so long at most, and then report `WouldBlock`, or what was
-    /// taken until then. The system's fault, and `InvalidInput` of no time.
+    /// Has each later write, by this and each other handle, wait for so long at most, and then report `WouldBlock`,
+    /// or what was taken until then. The system's fault, and `InvalidInput` of no time.
     pub fn set_write_timeout(&self, timeout: Duration) -> io::Result<()> {
         match self {
             Connection::Tcp(stream) => stream.set_write_timeout(Some(timeout)),
@@ -289,8 +290,8 @@ pub enum ConfigListenAddr {
 }
 
 impl ConfigListenAddr {
-    /// The addresses that these stand for. An error where a host's name isn't found or the text is no address, and of kind
-    /// `OutOfMemory` where memory was refused.
+    /// The addresses that these stand for. An error where a host's name isn't found or the text is no address, and of
+    /// kind `OutOfMemory` where memory was refused.
     pub fn from_socket_addrs<R: Net, A: ToSocketAddrs>(
         rt: &R,
         alloc: Global,
@@ -320,8 +321,9 @@ impl ConfigListenAddr {
         }
     }
 
-    /// Listens there: at the first address that can be bound, or at the path, at which it makes a file. The system's fault
-    /// where it can't: the last address's, or of kind `InvalidInput` where there is no address or the path is too long.
+    /// Listens there: at the first address that can be bound, or at the path, at which it makes a file. The system's
+    /// fault where it can't: the last address's, or of kind `InvalidInput` where there is no address or the path is
+    /// too long.
     pub fn bind<R: Net<Listener = TcpListener, Stream = TcpStream> + SocketFiles>(
         &self,
         rt: &R,

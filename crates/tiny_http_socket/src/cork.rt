@@ -12,7 +12,8 @@ use std::sync::atomic::{AtomicBool, Ordering};
 use std::sync::{Arc, Mutex, Wait};
 use tiny_http_io::device::{ReadDevice, WriteDevice};
 
-/// Whether a flush of a connection may leave its bytes where they wait. Whoever lets it has them sent soon, by `Cork::send`.
+/// Whether a flush of a connection may leave its bytes where they wait. Whoever lets it has them sent soon, by
+/// `Cork::send`.
 #[derive(Drop)]
 pub struct FlushPolicy {
     may_leave: AtomicBool,
@@ -50,8 +51,8 @@ impl FlushPolicy {
         self.may_wait.swap(false, Ordering::SeqCst)
     }
 
-    // Whether bytes that are written or flushed now are left. It is asked again once they count as left, since `stop_and_take` may
-    // have come between.
+    // Whether bytes that are written or flushed now are left. It is asked again once they count as left, since
+    // `stop_and_take` may have come between.
     fn leaves(&self) -> bool {
         if !self.may_leave() {
             return false;
@@ -61,8 +62,9 @@ impl FlushPolicy {
     }
 }
 
-/// What the two halves of a connection share: the writer, and what waits in front of it. Bytes are written under the lock. Only
-/// the thread whose turn it is waits for it; one that sends what waits, so that it may read, asks that thread in its place.
+/// What the two halves of a connection share: the writer, and what waits in front of it. Bytes are written under the
+/// lock. Only the thread whose turn it is waits for it; one that sends what waits, so that it may read, asks that
+/// thread in its place.
 #[derive(Drop)]
 pub struct Cork<W: WriteBoth + Drop> {
     flush_policy: Arc<FlushPolicy>,
@@ -88,9 +90,9 @@ impl<W: WriteBoth + Drop> Cork<W> {
         &self.flush_policy
     }
 
-    /// From now on each flush sends; and what was left is sent. It waits for no other thread, though it may wait for the
-    /// socket: where another thread has the lock, that one is asked to send it. A fault is reported by the next write, or by the
-    /// next flush that sends.
+    /// From now on each flush sends; and what was left is sent. It waits for no other thread, though it may wait for
+    /// the socket: where another thread has the lock, that one is asked to send it. A fault is reported by the next
+    /// write, or by the next flush that sends.
     pub fn send(&self) {
         if !self.flush_policy.stop_and_take() {
             return;
@@ -163,8 +165,8 @@ impl<W: WriteBoth + Drop> Cork<W> {
     }
 }
 
-/// The half of a connection that is written. Bytes wait where a flush may leave them, and are sent at once where it may not. As a
-/// `WriteDevice` it counts its failures and states no bytes, since others may send what waits.
+/// The half of a connection that is written. Bytes wait where a flush may leave them, and are sent at once where it
+/// may not. As a `WriteDevice` it counts its failures and states no bytes, since others may send what waits.
 #[derive(Drop)]
 pub struct CorkedWriter<W: WriteBoth + Drop, Rt: Wait> {
     rt: Rt,
@@ -200,8 +202,8 @@ impl<W: WriteBoth + Drop, Rt: Wait> WriteDevice for CorkedWriter<W, Rt> {
         self.failures
     }
 
-    /// Takes some of these bytes. They wait where they may and there is room for them; else what waits is sent, and with it some of
-    /// them. A fault that was met as what waits was sent is reported.
+    /// Takes some of these bytes. They wait where they may and there is room for them; else what waits is sent, and
+    /// with it some of them. A fault that was met as what waits was sent is reported.
     fn write_out(&mut self, buf: &[u8]) -> Result<usize, io::Error> {
         let written = self.cork.write(&self.rt, buf);
         self.count(&written);
@@ -215,7 +217,8 @@ impl<W: WriteBoth + Drop, Rt: Wait> WriteDevice for CorkedWriter<W, Rt> {
         sent
     }
 
-    /// Sends what waits, also where it may be left, and has the writer say that no byte follows. A fault isn't reported here.
+    /// Sends what waits, also where it may be left, and has the writer say that no byte follows. A fault isn't
+    /// reported here.
     fn end_out(&mut self) {
         self.cork.end(&self.rt);
     }
@@ -237,7 +240,8 @@ impl<W: WriteBoth + Drop> BeforeRead for Sending<W> {
     }
 }
 
-/// The half of a connection that is read. Before it calls the socket it has what waits sent, and from then on each flush sends.
+/// The half of a connection that is read. Before it calls the socket it has what waits sent, and from then on each
+/// flush sends.
 #[derive(Drop)]
 pub struct CorkedReader<R: ReadDevice + Drop, W: WriteBoth + Drop> {
     ahead: ReadAhead<R>,

@@ -1,5 +1,6 @@
 //! A writer in front of which bytes wait.
-ghost use Rattle.std.specs.Prelude.{◌≡◌, ◌≢◌, ◌≤◌, ◌++◌, false, [], length, vec_len, None, Some, Ok, IfOk, IfErr, IfSome, OnOk, OnErr, IsOk};
+ghost use Rattle.std.specs.Prelude.{◌≡◌, ◌≢◌, ◌≤◌, ◌++◌, false, [], length, vec_len, None, Some, Ok, IfOk, IfErr};
+ghost use Rattle.std.specs.Prelude.{IfSome, OnOk, OnErr, IsOk};
 ghost use Rattle.std.specs.IoError.{error_kind};
 ghost use Rattle.tiny_http_io.specs.Device.{BeginsKnown, Failed, Puts, PutsFront, HoldsNothing, next_count};
 ghost use Rattle.tiny_http_socket.specs.declared.corked.TheConstants.{ROOM};
@@ -26,9 +27,9 @@ enum State {
     Ended,
 }
 
-/// A writer in front of which up to 16,384 bytes wait. They are sent where more come than there is room for, by a flush, by
-/// `write_past`, and by `send_waiting`. After its first fault it sends nothing; the call that meets the fault reports it, or the next one where
-/// `send_waiting` met it. From then on it takes nothing, and answers `Ok`.
+/// A writer in front of which up to 16,384 bytes wait. They are sent where more come than there is room for, by a
+/// flush, by `write_past`, and by `send_waiting`. After its first fault it sends nothing; the call that meets the
+/// fault reports it, or the next one where `send_waiting` met it. From then on it takes nothing, and answers `Ok`.
 #[derive(Drop)]
 pub struct Corked<W: WriteBoth> {
     writer: W,
@@ -45,7 +46,14 @@ impl<W: WriteBoth> Model for Corked<W> {
 
     ghost Value = { CorkedState W };
 
-    ghost view = { λ c. record { waiting = c.waiting.items; state = c.state; failures = c.failures; last = c.last; writer = c.writer; sink = W.sink c.writer } };
+    ghost view = { λ c. record {
+      waiting = c.waiting.items;
+      state = c.state;
+      failures = c.failures;
+      last = c.last;
+      writer = c.writer;
+      sink = W.sink c.writer;
+    } };
 }
 
 impl<W: WriteBoth + Drop> Corked<W> {
@@ -91,7 +99,8 @@ impl<W: WriteBoth> Corked<W> {
     fn end(&mut self, fault: io::Error) -> io::Error
         ensures kind { error_kind result ≡ error_kind fault }
         ensures begins { BeginsKnown self.old.sink.sent self.old.sink.taken }
-        ensures ended { self.new ≡ record self.old { waiting = []; state = Ended; failures = next_count self.old.failures; last = Some (error_kind fault) } }
+        ensures ended { self.new ≡ record self.old
+            { waiting = []; state = Ended; failures = next_count self.old.failures; last = Some (error_kind fault) } }
     {
         let _ = self.writer.failures();
         self.waiting.clear();
@@ -143,7 +152,8 @@ impl<W: WriteBoth> Corked<W> {
     fn take_past(&mut self, buf: &[u8]) -> Result<usize, io::Error>
         requires open { self.old.state ≡ Open }
         ensures puts { PutsFront (corked_sink self.old) (corked_sink self.new) result buf.now }
-        ensures fault { IfErr result (λ e. Failed self.old.sink self.new.sink (self.old.waiting ++ buf.now) (error_kind e)) }
+        ensures fault { IfErr result
+            (λ e. Failed self.old.sink self.new.sink (self.old.waiting ++ buf.now) (error_kind e)) }
         ensures none { self.new.waiting ≡ [] }
         ensures ends { OnErr result (self.new.state ≡ Ended) }
     {
@@ -157,7 +167,8 @@ impl<W: WriteBoth> Corked<W> {
     fn take_some(&mut self, buf: &[u8]) -> Result<usize, io::Error>
         requires open { self.old.state ≡ Open }
         ensures puts { PutsFront (corked_sink self.old) (corked_sink self.new) result buf.now }
-        ensures fault { IfErr result (λ e. Failed self.old.sink self.new.sink (self.old.waiting ++ buf.now) (error_kind e)) }
+        ensures fault { IfErr result
+            (λ e. Failed self.old.sink self.new.sink (self.old.waiting ++ buf.now) (error_kind e)) }
         ensures ends { OnErr result (self.new.state ≡ Ended) }
     {
         let room = ROOM.saturating_sub(self.waiting.len());
@@ -186,7 +197,8 @@ impl<W: WriteBoth> Corked<W> {
     pub fn write_past(&mut self, buf: &[u8]) -> Result<usize, io::Error>
         ensures puts { PutsFront (corked_sink self.old) (corked_sink self.new) result buf.now }
         ensures none { self.new.waiting ≡ [] }
-        ensures fault { self.old.state ≡ Open → IfErr result (λ e. Failed self.old.sink self.new.sink (self.old.waiting ++ buf.now) (error_kind e)) }
+        ensures fault { self.old.state ≡ Open
+            → IfErr result (λ e. Failed self.old.sink self.new.sink (self.old.waiting ++ buf.now) (error_kind e)) }
         ensures reported { IfSome (unreported self.old) (λ kind. ReportsFault self.old self.new result kind) }
         // After a fault nothing more is taken.
         ensures ends { OnErr result (self.new.state ≡ Ended) }
@@ -199,14 +211,15 @@ impl<W: WriteBoth> Corked<W> {
         }
     }
 
-    /// Sends what waits, and has the writer send it on. Nothing waits then. A fault isn't reported here: the next write or flush
-    /// reports it. After a fault nothing is done.
+    /// Sends what waits, and has the writer send it on. Nothing waits then. A fault isn't reported here: the next
+    /// write or flush reports it. After a fault nothing is done.
     pub fn send_waiting(&mut self)
         ensures sends { SendsWaiting (corked_sink self.old) (corked_sink self.new) (unreported self.new) }
         ensures none { self.new.waiting ≡ [] }
         ensures kept { self.old.state ≢ Open → self.new ≡ self.old }
         // The fault is the writer's.
-        ensures fault { self.old.state ≡ Open → IfSome (unreported self.new) (λ kind. Failed self.old.sink self.new.sink self.old.waiting kind) }
+        ensures fault { self.old.state ≡ Open
+            → IfSome (unreported self.new) (λ kind. Failed self.old.sink self.new.sink self.old.waiting kind) }
     {
         if self.state != State::Open {
             return;
@@ -228,11 +241,12 @@ impl<W: WriteBoth> WriteDevice for Corked<W> {
         self.failures
     }
 
-    /// Takes all the bytes where there is room for them: they wait. Else what waits is sent, and with it some of them. A fault
-    /// that `send_waiting` met is reported, and none is taken.
+    /// Takes all the bytes where there is room for them: they wait. Else what waits is sent, and with it some of
+    /// them. A fault that `send_waiting` met is reported, and none is taken.
     fn write_out(&mut self, buf: &[u8]) -> Result<usize, io::Error>
         ensures puts { PutsFront (corked_sink self.old) (corked_sink self.new) result buf.now }
-        ensures fault { self.old.state ≡ Open → IfErr result (λ e. Failed self.old.sink self.new.sink (self.old.waiting ++ buf.now) (error_kind e)) }
+        ensures fault { self.old.state ≡ Open
+            → IfErr result (λ e. Failed self.old.sink self.new.sink (self.old.waiting ++ buf.now) (error_kind e)) }
         ensures reported { IfSome (unreported self.old) (λ kind. ReportsFault self.old self.new result kind) }
         // After a fault nothing more is taken.
         ensures ends { OnErr result (self.new.state ≡ Ended) }
@@ -250,7 +264,8 @@ impl<W: WriteBoth> WriteDevice for Corked<W> {
         ensures puts { Puts (corked_sink self.old) (corked_sink self.new) result [] }
         ensures sent { OnOk result ((corked_sink self.new).has_ended ≡ false → HoldsNothing (corked_sink self.new)) }
         ensures none { self.new.waiting ≡ [] }
-        ensures fault { self.old.state ≡ Open → IfErr result (λ e. Failed self.old.sink self.new.sink self.old.waiting (error_kind e)) }
+        ensures fault { self.old.state ≡ Open
+            → IfErr result (λ e. Failed self.old.sink self.new.sink self.old.waiting (error_kind e)) }
         ensures reported { IfSome (unreported self.old) (λ kind. ReportsFault self.old self.new result kind) }
         ensures ends { OnErr result (self.new.state ≡ Ended) }
         ensures ended { self.old.state ≡ Ended → IsOk result × (self.new ≡ self.old) }

@@ -14,7 +14,8 @@ use tiny_http_limits::limits::Limits;
 // So many requests of a connection may be open at least.
 const LEAST_OPEN: usize = 2;
 
-/// A fault as it is reported under limits: the system's time-out, `WouldBlock`, as `TimedOut`, and each other one as it is.
+/// A fault as it is reported under limits: the system's time-out, `WouldBlock`, as `TimedOut`, and each other one as
+/// it is.
 pub fn fault_in_time(fault: io::Error) -> io::Error
     ensures { error_kind result ≡ kind_in_time (error_kind fault) }
 {
@@ -84,8 +85,8 @@ fn closing_of(number: u8) -> Option<Closing> {
     }
 }
 
-/// What threads share of a connection beside its halves: the limits, for what the client is waited for, and what became of the
-/// connection so far.
+/// What threads share of a connection beside its halves: the limits, for what the client is waited for, and what
+/// became of the connection so far.
 #[derive(Drop)]
 pub struct Pace {
     limits: Option<Limits>,
@@ -126,8 +127,8 @@ impl Pace {
         self.open.load(Ordering::SeqCst) > 0
     }
 
-    /// How many requests and refused heads may be open, where that is bounded, and as many are: 2 at least, since an answer that waits to
-    /// leave is sent as the connection is read.
+    /// How many requests and refused heads may be open, where that is bounded, and as many are: 2 at least, since an
+    /// answer that waits to leave is sent as the connection is read.
     pub fn full_at(&self) -> Option<usize> {
         let most = self.limits.as_ref()?.open_requests.max(LEAST_OPEN);
         if self.open.load(Ordering::SeqCst) < most as u64 {
@@ -146,8 +147,8 @@ impl Pace {
         Phase::of(self.phase.load(Ordering::SeqCst))
     }
 
-    /// The next head is to be read; bytes of it, or of what is skipped in front of it, may be there. False where the connection was
-    /// stopped: the caller doesn't read it then.
+    /// The next head is to be read; bytes of it, or of what is skipped in front of it, may be there. False where the
+    /// connection was stopped: the caller doesn't read it then.
     pub fn begin_head(&self, has_begun: bool) -> bool {
         let phase = if has_begun {
             Phase::Head
@@ -177,8 +178,8 @@ impl Pace {
         self.phase.store(Phase::Stream.number(), Ordering::SeqCst);
     }
 
-    /// Has no further head read. Whether the connection waits for a head now: then nothing is read any more, and the caller shuts
-    /// down what the client sends.
+    /// Has no further head read. Whether the connection waits for a head now: then nothing is read any more, and the
+    /// caller shuts down what the client sends.
     pub fn stop(&self) -> bool {
         self.is_stopped.store(true, Ordering::SeqCst);
         self.stop_from(Phase::Between) || self.stop_from(Phase::Head)

@@ -15,8 +15,9 @@ use tiny_http_limits::times::{Stall, time_left};
 // The milliseconds that a socket is told to wait at least, since 0 stands for no end.
 const LEAST_MILLIS: u64 = 1;
 
-/// A reader over the socket of a client, whose reads end in time where its connection has limits. The end of the time for a head's
-/// first byte counts as the client's end. That of a head or a body is a fault of kind `TimedOut`. It states no feed.
+/// A reader over the socket of a client, whose reads end in time where its connection has limits. The end of the time
+/// for a head's first byte counts as the client's end. That of a head or a body is a fault of kind `TimedOut`. It
+/// states no feed.
 #[derive(Drop)]
 pub struct PacedReader<R: ReadDevice + Drop, Rt: Clock> {
     rt: Rt,
@@ -94,7 +95,8 @@ impl<R: ReadDevice + Drop, Rt: Clock> PacedReader<R, Rt> {
         Ok(0)
     }
 
-    // Reads where the rest of a head is waited for. Its time begins at the first such read: a head that came in one piece needs no clock.
+    // Reads where the rest of a head is waited for. Its time begins at the first such read: a head that came in one
+    // piece needs no clock.
     fn read_head(&mut self, time: Duration, buf: &mut [u8]) -> io::Result<usize>
         ensures { IfOk result (λ n. n ≤ length buf.new) }
     {

@@ -15,13 +15,13 @@ use tiny_http_io::device::WriteDevice;
 use tiny_http_limits::counts::Closing;
 use tiny_http_limits::times::Stall;
 
-// So many milliseconds one call of the system waits at most, and less where a write may take less. It reports that it timed out also
-// where there is some room by then, which the next call finds.
+// So many milliseconds one call of the system waits at most, and less where a write may take less. It reports that it
+// timed out also where there is some room by then, which the next call finds.
 const STEP_MILLIS: u64 = 1_000;
 
-/// A writer to the socket of a client, whose writes end in time where its connection has limits, by a fault of kind `TimedOut`. The
-/// connection is shut down then. No clock is read: a call of the system that takes less than it is given has waited for a second. As
-/// a `WriteDevice` it counts its failures and states no bytes.
+/// A writer to the socket of a client, whose writes end in time where its connection has limits, by a fault of kind
+/// `TimedOut`. The connection is shut down then. No clock is read: a call of the system that takes less than it is
+/// given has waited for a second. As a `WriteDevice` it counts its failures and states no bytes.
 #[derive(Drop)]
 pub struct PacedWriter {
     socket: RefinedTcpStream,
@@ -70,7 +70,8 @@ impl PacedWriter {
         written
     }
 
-    // The same, where the time of the write counts: a fault of it, `TimedOut`, is reported in the place of the system's.
+    // The same, where the time of the write counts: a fault of it, `TimedOut`, is reported in the place of the
+    // system's.
     fn in_time(
         &mut self,
         time: Duration,
@@ -158,8 +159,8 @@ impl WriteDevice for PacedWriter {
         self.failures
     }
 
-    /// Writes once to the client, and not at all from an empty buffer. Under limits it ends in time, which is counted in steps of a
-    /// second.
+    /// Writes once to the client, and not at all from an empty buffer. Under limits it ends in time, which is counted
+    /// in steps of a second.
     fn write_out(&mut self, buf: &[u8]) -> Result<usize, io::Error> {
         if buf.is_empty() {
             return Ok(0);
@@ -189,7 +190,8 @@ impl WriteDevice for PacedWriter {
 }
 
 impl WriteBoth for PacedWriter {
-    /// Writes once to the client, by one call of the system, and not at all where both texts are empty. Else as `write_out`.
+    /// Writes once to the client, by one call of the system, and not at all where both texts are empty. Else as
+    /// `write_out`.
     fn write_both(&mut self, front: &[u8], back: &[u8]) -> Result<usize, io::Error> {
         if front.is_empty() && back.is_empty() {
             return Ok(0);

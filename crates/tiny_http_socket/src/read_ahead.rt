@@ -1,5 +1,6 @@
 //! A reader by large pieces.
-ghost use Rattle.std.specs.Prelude.{◌≡◌, ◌≢◌, ◌<◌, ◌≤◌, ◌++◌, min, [], length, take, drop, Ok, Err, IfOk, IfErr, OnOk, OnErr, vec_len};
+ghost use Rattle.std.specs.Prelude.{◌≡◌, ◌≢◌, ◌<◌, ◌≤◌, ◌++◌, min, [], length, take, drop, Ok, Err, IfOk, IfErr};
+ghost use Rattle.std.specs.Prelude.{OnOk, OnErr, vec_len};
 ghost use Rattle.std.specs.IoError.{error_kind};
 ghost use Rattle.tiny_http_io.specs.Device.{Reads, prepended, StopsBy};
 ghost use Rattle.tiny_http_io.specs.declared.device.Stop.TheVariants.{End, Fault};
@@ -39,7 +40,8 @@ impl<R: ReadDevice> Model for ReadAhead<R> {
 
     ghost Value = { AheadState R };
 
-    ghost view = { λ a. record { held = take (a.end - a.start) (drop a.start a.piece.items); reader = a.reader; feed = R.feed a.reader } };
+    ghost view = { λ a. record
+        { held = take (a.end - a.start) (drop a.start a.piece.items); reader = a.reader; feed = R.feed a.reader } };
 
     ghost invariant = { λ a. (a.start ≤ a.end) × (a.end ≤ PIECE) × (vec_len a.piece ≡ PIECE) };
 }
@@ -98,9 +100,9 @@ impl<R: ReadDevice> ReadAhead<R> {
         Ok(())
     }
 
-    /// Reads some bytes into the front of `buf`, and says how many: those that are held, if there are some. Else `before` is
-    /// done, and the reader is called: for a piece, or for as many bytes as `buf` has room for where that is as many or more.
-    /// An empty `buf` changes nothing.
+    /// Reads some bytes into the front of `buf`, and says how many: those that are held, if there are some. Else
+    /// `before` is done, and the reader is called: for a piece, or for as many bytes as `buf` has room for where that
+    /// is as many or more. An empty `buf` changes nothing.
     pub fn read_after<B: BeforeRead>(
         &mut self,
         before: &mut B,

@@ -33,9 +33,9 @@ impl Half {
     }
 }
 
-/// A half of a client's connection. Where it is dropped it shuts its direction down: the other half is as it was. It reads and
-/// writes the connection itself; as a `ReadDevice` it states no feed, and as a `WriteDevice` it counts its failures and states
-/// no bytes.
+/// A half of a client's connection. Where it is dropped it shuts its direction down: the other half is as it was. It
+/// reads and writes the connection itself; as a `ReadDevice` it states no feed, and as a `WriteDevice` it counts its
+/// failures and states no bytes.
 pub struct RefinedTcpStream {
     connection: Arc<Connection>,
     half: Half,
@@ -44,10 +44,11 @@ pub struct RefinedTcpStream {
 }
 
 impl RefinedTcpStream {
-    ghost use Rattle.tiny_http_socket.specs.Stream.{IsReadingHalf, IsWritingHalf, stream_sink, connection_of, HasSamePeer};
+    ghost use Rattle.tiny_http_socket.specs.Stream.{IsReadingHalf, IsWritingHalf, stream_sink, connection_of};
+    ghost use Rattle.tiny_http_socket.specs.Stream.{HasSamePeer};
 
-    /// The reading half of a connection, and its writing half. They share it: it is closed once both are dropped, and whoever
-    /// else holds it. An error where memory was refused; the connection is closed then.
+    /// The reading half of a connection, and its writing half. They share it: it is closed once both are dropped, and
+    /// whoever else holds it. An error where memory was refused; the connection is closed then.
     pub fn new(
         alloc: Global,
         connection: Connection,
@@ -98,7 +99,8 @@ impl RefinedTcpStream {
     // What a write is reported as, and counted if it is a fault. That it took no byte is one.
     fn report(&mut self, written: io::Result<usize>) -> io::Result<usize>
         ensures taken { IfOk result (λ n. (0 < n) × (written ≡ Ok n) × (self.new ≡ self.old)) }
-        ensures fault { IfErr result (λ e. self.new ≡ record self.old { failures = next_count self.old.failures; last = Some (error_kind e) }) }
+        ensures fault { IfErr result
+            (λ e. self.new ≡ record self.old { failures = next_count self.old.failures; last = Some (error_kind e) }) }
     {
         let written = match written {
             Ok(0) => Err(ErrorKind::WriteZero.into()),
@@ -175,8 +177,8 @@ impl RefinedTcpStream {
     ghost use Rattle.tiny_http_io.specs.Device.{PutsFront};
     ghost use Rattle.tiny_http_socket.specs.Stream.{stream_sink};
 
-    /// Writes once to the client from the front of two texts, one behind the other, and not at all where both are empty. Else as
-    /// `write_out`.
+    /// Writes once to the client from the front of two texts, one behind the other, and not at all where both are
+    /// empty. Else as `write_out`.
     pub fn write_both(&mut self, front: &[u8], back: &[u8]) -> Result<usize, io::Error>
         ensures puts { PutsFront (stream_sink self.old) (stream_sink self.new) result (front.now ++ back.now) }
     {
@@ -208,8 +210,8 @@ impl Write for RefinedTcpStream {
 }
 
 impl ReadDevice for RefinedTcpStream {
-    /// Reads once from the client, and not at all into an empty buffer: 0 at the end of what the client sends. A call that a
-    /// signal interrupts is made again.
+    /// Reads once from the client, and not at all into an empty buffer: 0 at the end of what the client sends. A call
+    /// that a signal interrupts is made again.
     fn read_in(&mut self, buf: &mut [u8]) -> Result<usize, io::Error> {
         if buf.is_empty() {
             return Ok(0);
@@ -229,8 +231,8 @@ impl WriteDevice for RefinedTcpStream {
         self.failures
     }
 
-    /// Writes once to the client, and not at all from an empty buffer. That no byte is taken is a fault of kind `WriteZero`. A
-    /// call that a signal interrupts is made again.
+    /// Writes once to the client, and not at all from an empty buffer. That no byte is taken is a fault of kind
+    /// `WriteZero`. A call that a signal interrupts is made again.
     fn write_out(&mut self, buf: &[u8]) -> Result<usize, io::Error>
         ensures puts { PutsFront (stream_sink self.old) (stream_sink self.new) result buf.now }
         ensures empty { length buf.now ≡ 0 → (result ≡ Ok 0) × (self.new ≡ self.old) }
@@ -252,8 +254,8 @@ impl WriteDevice for RefinedTcpStream {
         Ok(())
     }
 
-    /// Shuts the direction to the client down, so that the client sees the end. What the system answers is passed over. A drop, and
-    /// a server that closes the connection, may do it again.
+    /// Shuts the direction to the client down, so that the client sees the end. What the system answers is passed
+    /// over. A drop, and a server that closes the connection, may do it again.
     fn end_out(&mut self)
         ensures sink { stream_sink self.new ≡ stream_sink self.old }
         ensures unchanged { self.new ≡ self.old }

@@ -8,7 +8,8 @@ use tiny_http_io::device::{Budget, WriteDevice};
 
 /// A writer that may take two texts by one call.
 pub trait WriteBoth: WriteDevice {
-    /// Writes some bytes from the front of the two texts, one behind the other, and says how many: at least one if there is one.
+    /// Writes some bytes from the front of the two texts, one behind the other, and says how many: at least one if
+    /// there is one.
     fn write_both(&mut self, front: &[u8], back: &[u8]) -> Result<usize, io::Error>
         ensures puts { PutsFront (Self.sink self.old) (Self.sink self.new) result (front.now ++ back.now) };
 }

@@ -11,7 +11,10 @@ use Rattle.tiny_http_standard_head.specs.declared.heads.NoLine.TheVariants as no
 use Rattle.tiny_http_standard_head.specs.declared.heads.Stop.{Stop}
 use Rattle.tiny_http_standard_head.specs.declared.heads.Stop.TheVariants as stop
 use Rattle.tiny_http_standard_head.specs.Lines.{IsNoRequestLine}
-use Rattle.tiny_http_standard_head.specs.Heads.{Line, line_feed, BeginsWithBareLine, behind_empty_line, BeginsWithFieldLines, BeginsWithBadLine, IsNoFieldOrEnd, HasBadLine, HasOpenRequestLine, HasOpenField, BeginsWithHead, HasGoodRequestLine, message_of}
+use Rattle.tiny_http_standard_head.specs.Heads.{Line, line_feed, BeginsWithBareLine, behind_empty_line}
+use Rattle.tiny_http_standard_head.specs.Heads.{BeginsWithFieldLines, BeginsWithBadLine, IsNoFieldOrEnd, HasBadLine}
+use Rattle.tiny_http_standard_head.specs.Heads.{HasOpenRequestLine, HasOpenField, BeginsWithHead, HasGoodRequestLine}
+use Rattle.tiny_http_standard_head.specs.Heads.{message_of}
 use Rattle.tiny_http_standard_head.specs.Judging.{Judges}
 
 -- why the bytes don't begin with a line
@@ -28,9 +31,14 @@ StopsRequest bytes stop.Memory = HasGoodRequestLine bytes
 
 -- why they don't begin with field lines and an empty line
 abbrev pub StopsFields : List ℕ → Stop → Type 0
-StopsFields bytes stop.Bad = (headers : List Header) × (rest : List ℕ) × BeginsWithFieldLines bytes headers rest × BeginsWithBadLine IsNoFieldOrEnd rest
+StopsFields bytes stop.Bad =
+    (headers : List Header)
+    × (rest : List ℕ)
+    × BeginsWithFieldLines bytes headers rest
+    × BeginsWithBadLine IsNoFieldOrEnd rest
 StopsFields bytes stop.OpenRequest = ⊥
-StopsFields bytes stop.OpenField = (headers : List Header) × (rest : List ℕ) × BeginsWithFieldLines bytes headers rest × HasNo line_feed rest
+StopsFields bytes stop.OpenField =
+    (headers : List Header) × (rest : List ℕ) × BeginsWithFieldLines bytes headers rest × HasNo line_feed rest
 StopsFields bytes stop.Memory = ⊤
 
 -- the bytes are field lines, an empty line, and what is behind them
@@ -46,6 +54,14 @@ StopsHead bytes stop.Memory = HasGoodRequestLine bytes
 
 -- a head that has come whole: how many bytes it has, and how it is judged
 abbrev pub ReadsWhole : List ℕ → HeadRead → Type 0
-ReadsWhole bytes (Whole h) = (after : List ℕ) × BeginsWithHead bytes (message_of h) after × (h.length + length after ≡ length bytes) × Judges h.version h.method h.headers.items (Ok h.summary)
-ReadsWhole bytes (Refused (Judged refusal)) = (m : Message) × (after : List ℕ) × BeginsWithHead bytes m after × Judges m.version m.method m.headers (Err refusal)
+ReadsWhole bytes (Whole h) =
+    (after : List ℕ)
+    × BeginsWithHead bytes (message_of h) after
+    × (h.length + length after ≡ length bytes)
+    × Judges h.version h.method h.headers.items (Ok h.summary)
+ReadsWhole bytes (Refused (Judged refusal)) =
+    (m : Message)
+    × (after : List ℕ)
+    × BeginsWithHead bytes m after
+    × Judges m.version m.method m.headers (Err refusal)
 ReadsWhole bytes _ = ⊥

@@ -1,5 +1,7 @@
--- A whole head by the standard (RFC 9112, sections 2.2, 3 and 5), and what is read of the first bytes that a client sends.
-use Rattle.std.specs.Prelude.{◌≡◌, ◌≢◌, ℕ, ◌+◌, ◌<◌, ◌≤◌, ◌⊎◌, Bool, not, ◌&&◌, ◌==◌, List, [], ◌∷◌, ◌++◌, length, take, true, false, Result, Ok, Err, IsTrue, if◌then◌else◌}
+-- A whole head by the standard (RFC 9112, sections 2.2, 3 and 5), and what is read of the first bytes that a client
+-- sends.
+use Rattle.std.specs.Prelude.{◌≡◌, ◌≢◌, ℕ, ◌+◌, ◌<◌, ◌≤◌, ◌⊎◌, Bool, not, ◌&&◌, ◌==◌, List, [], ◌∷◌, ◌++◌, length}
+use Rattle.std.specs.Prelude.{take, true, false, Result, Ok, Err, IsTrue, if◌then◌else◌}
 use Rattle.tiny_http_text.specs.Bytes.{HasNo, has_bare_end}
 use Rattle.tiny_http_head.specs.declared.common.Method.{Method}
 use Rattle.tiny_http_head.specs.declared.common.HTTPVersion.{HTTPVersion}
@@ -7,12 +9,14 @@ use Rattle.tiny_http_head.specs.declared.common.Header.{Header}
 use Rattle.tiny_http_head.specs.Heads.{Message}
 use Rattle.tiny_http_standard_head.specs.declared.heads.Head.{Head}
 use Rattle.tiny_http_standard_head.specs.declared.heads.HeadFault.{HeadFault}
-use Rattle.tiny_http_standard_head.specs.declared.heads.HeadFault.TheVariants.{BadLine, RequestLineTooLong, HeaderFieldsTooLarge, Judged}
+use Rattle.tiny_http_standard_head.specs.declared.heads.HeadFault.TheVariants.{BadLine, RequestLineTooLong}
+use Rattle.tiny_http_standard_head.specs.declared.heads.HeadFault.TheVariants.{HeaderFieldsTooLarge, Judged}
 use Rattle.tiny_http_standard_head.specs.declared.heads.HeadRead.{HeadRead}
 use Rattle.tiny_http_standard_head.specs.declared.heads.HeadRead.TheVariants.{Whole, Refused, Unfinished}
 use Rattle.tiny_http_standard_head.specs.declared.judging.HeadSummary.{HeadSummary}
 use Rattle.tiny_http_standard_head.specs.declared.judging.Refusal.{Refusal}
-use Rattle.tiny_http_standard_head.specs.declared.judging.Refusal.TheVariants.{UnsupportedVersion, InvalidHead, UnknownCoding, UnknownExpectation}
+use Rattle.tiny_http_standard_head.specs.declared.judging.Refusal.TheVariants.{UnsupportedVersion, InvalidHead}
+use Rattle.tiny_http_standard_head.specs.declared.judging.Refusal.TheVariants.{UnknownCoding, UnknownExpectation}
 use Rattle.tiny_http_standard_head.specs.Lines.{ReadsRequestLine, IsNoRequestLine, ReadsFieldLine, IsNoFieldLine}
 use Rattle.tiny_http_standard_head.specs.Judging.{Judges}
 
@@ -45,7 +49,8 @@ behind_empty_line (a ∷ []) = a ∷ []
 behind_empty_line (a ∷ b ∷ bs) = if (a == carriage_return && b == line_feed) then bs else a ∷ b ∷ bs
 
 -- the bytes begin with a request line, in front of which one empty line is passed over; the field lines follow
-pub record BeginsWithRequestLine (bytes : List ℕ) (method : Method) (target : List ℕ) (v : HTTPVersion) (fields : List ℕ) : Type 0 where
+pub record BeginsWithRequestLine (bytes : List ℕ) (method : Method) (target : List ℕ) (v : HTTPVersion)
+    (fields : List ℕ) : Type 0 where
   pub text : List ℕ
   pub line : Line (behind_empty_line bytes) text fields
   pub reads : ReadsRequestLine text method target v
@@ -53,7 +58,12 @@ pub record BeginsWithRequestLine (bytes : List ℕ) (method : Method) (target : 
 -- the bytes begin with these field lines; the rest follows
 abbrev pub BeginsWithFieldLines : List ℕ → List Header → List ℕ → Type 0
 BeginsWithFieldLines bytes [] rest = rest ≡ bytes
-BeginsWithFieldLines bytes (h ∷ hs) rest = (text : List ℕ) × (next : List ℕ) × Line bytes text next × ReadsFieldLine text h × BeginsWithFieldLines next hs rest
+BeginsWithFieldLines bytes (h ∷ hs) rest =
+    (text : List ℕ)
+    × (next : List ℕ)
+    × Line bytes text next
+    × ReadsFieldLine text h
+    × BeginsWithFieldLines next hs rest
 
 -- A HEAD: a request line, field lines and an empty line
 pub record BeginsWithHead (bytes : List ℕ) (m : Message) (after : List ℕ) : Type 0 where
@@ -72,7 +82,8 @@ pub record HasGoodRequestLine (bytes : List ℕ) : Type 0 where
 
 -- A LINE THAT IS NO GOOD: no CR stands in front of its LF, or it isn't what has to stand there.
 abbrev pub BeginsWithBadLine : (List ℕ → Type 0) → List ℕ → Type 0
-BeginsWithBadLine IsBad bytes = BeginsWithBareLine bytes ⊎ ((text : List ℕ) × (rest : List ℕ) × Line bytes text rest × IsBad text)
+BeginsWithBadLine IsBad bytes =
+    BeginsWithBareLine bytes ⊎ ((text : List ℕ) × (rest : List ℕ) × Line bytes text rest × IsBad text)
 
 -- neither the empty line nor a field line
 abbrev pub IsNoFieldOrEnd : List ℕ → Type 0
@@ -90,7 +101,9 @@ pub record ComesToField (bytes rest : List ℕ) : Type 0 where
 
 -- the first bad line of a head
 abbrev pub HasBadLine : List ℕ → Type 0
-HasBadLine bytes = BeginsWithBadLine IsNoRequestLine (behind_empty_line bytes) ⊎ ((rest : List ℕ) × ComesToField bytes rest × BeginsWithBadLine IsNoFieldOrEnd rest)
+HasBadLine bytes =
+    BeginsWithBadLine IsNoRequestLine (behind_empty_line bytes)
+    ⊎ ((rest : List ℕ) × ComesToField bytes rest × BeginsWithBadLine IsNoFieldOrEnd rest)
 
 -- the request line hasn't ended; a line behind it hasn't
 abbrev pub HasOpenRequestLine : List ℕ → Type 0
@@ -99,8 +112,8 @@ HasOpenRequestLine bytes = HasNo line_feed (behind_empty_line bytes)
 abbrev pub HasOpenField : List ℕ → Type 0
 HasOpenField bytes = (rest : List ℕ) × ComesToField bytes rest × HasNo line_feed rest
 
--- what bytes are read as: a whole head, with what follows it and how it is judged; a bad line; or a line that hasn't ended, the
--- request line or one behind it
+-- what bytes are read as: a whole head, with what follows it and how it is judged; a bad line; or a line that hasn't
+-- ended, the request line or one behind it
 pub data Reading : Type 0 where
   ReadWhole : (message : Message) (after : List ℕ) (judged : Result HeadSummary Refusal) → Reading
   ReadBad : Reading
@@ -133,14 +146,23 @@ is_begun bytes = not (length (behind_empty_line bytes) == 0)
 -- WHAT IS READ of these bytes, where a head has at most `limit` of them
 abbrev pub Reads : ℕ → List ℕ → HeadRead → Type 0
 Reads limit bytes (Whole h) =
-    (after : List ℕ) × BeginsWithHead (take limit bytes) (message_of h) after × (h.length + length after ≡ length (take limit bytes)) × Judges h.version h.method h.headers.items (Ok h.summary)
+    (after : List ℕ)
+    × BeginsWithHead (take limit bytes) (message_of h) after
+    × (h.length + length after ≡ length (take limit bytes))
+    × Judges h.version h.method h.headers.items (Ok h.summary)
 Reads limit bytes (Refused BadLine) = HasBadLine (take limit bytes)
-Reads limit bytes (Refused (Judged refusal)) = (m : Message) × (after : List ℕ) × BeginsWithHead (take limit bytes) m after × Judges m.version m.method m.headers (Err refusal)
+Reads limit bytes (Refused (Judged refusal)) =
+    (m : Message)
+    × (after : List ℕ)
+    × BeginsWithHead (take limit bytes) m after
+    × Judges m.version m.method m.headers (Err refusal)
 Reads limit bytes (Refused RequestLineTooLong) = (limit ≤ length bytes) × HasOpenRequestLine (take limit bytes)
 Reads limit bytes (Refused HeaderFieldsTooLarge) = (limit ≤ length bytes) × HasOpenField (take limit bytes)
-Reads limit bytes (Unfinished has_begun) = (length bytes < limit) × (HasOpenRequestLine bytes ⊎ HasOpenField bytes) × (has_begun ≡ is_begun bytes)
+Reads limit bytes (Unfinished has_begun) =
+    (length bytes < limit) × (HasOpenRequestLine bytes ⊎ HasOpenField bytes) × (has_begun ≡ is_begun bytes)
 
--- Two readings say the same: the same head, of the same length and judged alike; the same fault; or unfinished, begun alike.
+-- Two readings say the same: the same head, of the same length and judged alike; the same fault; or unfinished, begun
+-- alike.
 abbrev pub IsSameRead : HeadRead → HeadRead → Type 0
 IsSameRead (Whole h) (Whole k) = (message_of h ≡ message_of k) × (h.length ≡ k.length) × (h.summary ≡ k.summary)
 IsSameRead (Refused e) (Refused f) = e ≡ f

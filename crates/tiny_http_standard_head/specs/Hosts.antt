@@ -1,5 +1,6 @@
 -- Hosts and their ports (RFC 3986, section 3.2; RFC 9112, section 3.2).
-use Rattle.std.specs.Prelude.{◌≡◌, ◌≢◌, ℕ, ◌⊎◌, Bool, true, false, ◌&&◌, ◌||◌, ◌==◌, nat_lt, List, [], ◌∷◌, ◌++◌, Option, Some, None, IsTrue, codes}
+use Rattle.std.specs.Prelude.{◌≡◌, ◌≢◌, ℕ, ◌⊎◌, Bool, true, false, ◌&&◌, ◌||◌, ◌==◌, nat_lt, List, [], ◌∷◌, ◌++◌}
+use Rattle.std.specs.Prelude.{Option, Some, None, IsTrue, codes}
 use Rattle.std.specs.List.{list_all, list_any}
 use Rattle.std.specs.Char.{is_ascii_alphanumeric, is_ascii_digit, is_ascii_hexdigit}
 use Rattle.tiny_http_text.specs.Bytes.{colon, point}
@@ -24,7 +25,8 @@ is_registered_name_byte b = is_ascii_alphanumeric b || list_any (λ c. c == b) (
 -- reg-name: such bytes, and percent signs, each with two hexadecimal digits behind it
 abbrev pub is_registered_name : List ℕ → Bool
 is_registered_name [] = true
-is_registered_name (b ∷ bs) = (is_registered_name_byte b || (b == percent && begins_with_two_hexadecimal_digits bs)) && is_registered_name bs
+is_registered_name (b ∷ bs) =
+    (is_registered_name_byte b || (b == percent && begins_with_two_hexadecimal_digits bs)) && is_registered_name bs
 
 -- a byte of an address
 abbrev pub is_address_byte : ℕ → Bool
@@ -58,4 +60,5 @@ is_port_number (Some n) = nat_lt 0 n && nat_lt n 65536
 
 -- authority-form, the target of a CONNECT: a host, and a port from 1 to 65535
 abbrev pub IsAuthority : List ℕ → Type 0
-IsAuthority target = (host : List ℕ) × (port : List ℕ) × HostAndPort target host port × IsTrue (is_port_number (length_of port))
+IsAuthority target =
+    (host : List ℕ) × (port : List ℕ) × HostAndPort target host port × IsTrue (is_port_number (length_of port))

@@ -1,6 +1,7 @@
--- What a whole head says, and in which order it is judged (RFC 9112, sections 3.2, 6 and 9.3; RFC 9110, sections 7.8, 10.1.1
--- and 15).
-use Rattle.std.specs.Prelude.{◌≡◌, ◌≢◌, ℕ, ◌⊎◌, Bool, true, false, not, ◌&&◌, ◌||◌, ◌==◌, nat_lt, List, [], ◌∷◌, ◌++◌, Option, Some, None, Result, Ok, Err, IsTrue, IsFalse, codes}
+-- What a whole head says, and in which order it is judged (RFC 9112, sections 3.2, 6 and 9.3; RFC 9110, sections 7.8,
+-- 10.1.1 and 15).
+use Rattle.std.specs.Prelude.{◌≡◌, ◌≢◌, ℕ, ◌⊎◌, Bool, true, false, not, ◌&&◌, ◌||◌, ◌==◌, nat_lt, List, [], ◌∷◌, ◌++◌}
+use Rattle.std.specs.Prelude.{Option, Some, None, Result, Ok, Err, IsTrue, IsFalse, codes}
 use Rattle.std.specs.List.{list_all}
 use Rattle.std.specs.Str.{bytes_eq}
 use Rattle.httparse.specs.Grammar.{is_token}
@@ -12,7 +13,8 @@ use Rattle.tiny_http_head.specs.Common.{same_name, method_text}
 use Rattle.tiny_http_head.specs.Heads.{length_of}
 use Rattle.tiny_http_standard_head.specs.declared.judging.HeadSummary.{HeadSummary}
 use Rattle.tiny_http_standard_head.specs.declared.judging.Refusal.{Refusal}
-use Rattle.tiny_http_standard_head.specs.declared.judging.Refusal.TheVariants.{UnsupportedVersion, InvalidHead, UnknownCoding, UnknownExpectation}
+use Rattle.tiny_http_standard_head.specs.declared.judging.Refusal.TheVariants.{UnsupportedVersion, InvalidHead}
+use Rattle.tiny_http_standard_head.specs.declared.judging.Refusal.TheVariants.{UnknownCoding, UnknownExpectation}
 use Rattle.tiny_http_standard_head.specs.Hosts.{percent, slash, IsHostValue}
 use Rattle.tiny_http_standard_head.specs.Lists.{values_of, elements_of, has_element_that, has_element}
 
@@ -43,12 +45,14 @@ is_chunked coding = same_name coding (codes "chunked")
 abbrev pub is_unknown_coding : List ℕ → Bool
 is_unknown_coding coding = not (is_chunked coding) && not (bytes_eq coding [])
 
--- THE BODY, by the elements of Content-Length and of Transfer-Encoding: neither stands there; or lengths alone, all the same one;
--- or chunked alone, in version 1.1.
+-- THE BODY, by the elements of Content-Length and of Transfer-Encoding: neither stands there; or lengths alone, all
+-- the same one; or chunked alone, in version 1.1.
 abbrev pub IsBodyFraming : HTTPVersion → List (List ℕ) → List (List ℕ) → Option ℕ → Bool → Type 0
 IsBodyFraming v [] [] n chunked = (n ≡ None) × (chunked ≡ false)
-IsBodyFraming v (length ∷ lengths) [] n chunked = (m : ℕ) × (n ≡ Some m) × IsTrue (list_all (is_length m) (length ∷ lengths)) × (chunked ≡ false)
-IsBodyFraming v [] (coding ∷ codings) n chunked = IsTrue (not (is_1_0 v)) × IsTrue (is_chunked coding) × (codings ≡ []) × (n ≡ None) × (chunked ≡ true)
+IsBodyFraming v (length ∷ lengths) [] n chunked =
+    (m : ℕ) × (n ≡ Some m) × IsTrue (list_all (is_length m) (length ∷ lengths)) × (chunked ≡ false)
+IsBodyFraming v [] (coding ∷ codings) n chunked =
+    IsTrue (not (is_1_0 v)) × IsTrue (is_chunked coding) × (codings ≡ []) × (n ≡ None) × (chunked ≡ true)
 IsBodyFraming v (length ∷ lengths) (coding ∷ codings) n chunked = ⊥
 
 -- codings that aren't understood, and chunked behind them: no length, in version 1.1
@@ -73,7 +77,8 @@ is_unknown_expectation element = not (same_name element (codes "100-continue")) 
 
 -- a 100 is owed: in version 1.1, where a body follows, and is expected
 abbrev pub owes_continue : HTTPVersion → List Header → Option ℕ → Bool → Bool
-owes_continue v headers n chunked = not (is_1_0 v) && (has_body n chunked && has_element (codes "Expect") (codes "100-continue") headers)
+owes_continue v headers n chunked =
+    not (is_1_0 v) && (has_body n chunked && has_element (codes "Expect") (codes "100-continue") headers)
 
 -- one token, or two
 abbrev pub is_one_or_two_tokens : List (List ℕ) → Bool
@@ -88,7 +93,11 @@ is_protocol text = is_one_or_two_tokens (parts slash text) && list_all (λ b. no
 
 -- the head asks for an upgrade: in version 1.1, by upgrade in Connection, and a protocol
 abbrev pub asks_upgrade : HTTPVersion → List Header → Bool
-asks_upgrade v headers = not (is_1_0 v) && (has_element (codes "Connection") (codes "upgrade") headers && has_element_that (codes "Upgrade") is_protocol headers)
+asks_upgrade v headers =
+    not (is_1_0 v)
+    &&
+    (has_element (codes "Connection") (codes "upgrade") headers
+    && has_element_that (codes "Upgrade") is_protocol headers)
 
 -- this is a protocol, and this one, without case
 abbrev pub is_protocol_named : List ℕ → List ℕ → Bool
@@ -112,24 +121,34 @@ is_last v method headers =
 pub record IsFramedRequest (v : HTTPVersion) (headers : List Header) (n : Option ℕ) (chunked : Bool) : Type 0 where
   pub version : v.0 ≡ 1
   pub host : HasValidHost v (values_of (codes "Host") headers)
-  pub body : IsBodyFraming v (elements_of (codes "Content-Length") headers) (elements_of (codes "Transfer-Encoding") headers) n chunked
+  pub body : IsBodyFraming v (elements_of (codes "Content-Length") headers)
+      (elements_of (codes "Transfer-Encoding") headers) n chunked
 
 -- the codings of a head, where they aren't understood
 abbrev pub NamesUnknownCodings : HTTPVersion → List Header → Type 0
-NamesUnknownCodings v headers = HasUnknownCodings v (elements_of (codes "Content-Length") headers) (elements_of (codes "Transfer-Encoding") headers)
+NamesUnknownCodings v headers =
+    HasUnknownCodings v (elements_of (codes "Content-Length") headers)
+    (elements_of (codes "Transfer-Encoding") headers)
 
 -- the host is valid, and the body is framed, or would be if its codings were understood
 abbrev pub IsValid : HTTPVersion → List Header → Type 0
-IsValid v headers = HasValidHost v (values_of (codes "Host") headers) × (NamesUnknownCodings v headers ⊎ ((n : Option ℕ) × (chunked : Bool) × IsFramedRequest v headers n chunked))
+IsValid v headers =
+    HasValidHost v (values_of (codes "Host") headers)
+    × (NamesUnknownCodings v headers ⊎ ((n : Option ℕ) × (chunked : Bool) × IsFramedRequest v headers n chunked))
 
 -- THE ORDER OF JUDGEMENT: the version, host and body, codings, expectations
 abbrev pub Judges : HTTPVersion → Method → List Header → Result HeadSummary Refusal → Type 0
 Judges v method headers (Err UnsupportedVersion) = v.0 ≢ 1
 Judges v method headers (Err InvalidHead) = (v.0 ≡ 1) × (IsValid v headers → ⊥)
-Judges v method headers (Err UnknownCoding) = (v.0 ≡ 1) × HasValidHost v (values_of (codes "Host") headers) × NamesUnknownCodings v headers
+Judges v method headers (Err UnknownCoding) =
+    (v.0 ≡ 1) × HasValidHost v (values_of (codes "Host") headers) × NamesUnknownCodings v headers
 Judges v method headers (Err UnknownExpectation) =
-    (n : Option ℕ) × (chunked : Bool) × IsFramedRequest v headers n chunked × IsTrue (has_element_that (codes "Expect") is_unknown_expectation headers)
+    (n : Option ℕ)
+    × (chunked : Bool)
+    × IsFramedRequest v headers n chunked
+    × IsTrue (has_element_that (codes "Expect") is_unknown_expectation headers)
 Judges v method headers (Ok head) =
-    IsFramedRequest v headers head.body_length head.is_chunked × IsFalse (has_element_that (codes "Expect") is_unknown_expectation headers)
+    IsFramedRequest v headers head.body_length head.is_chunked
+    × IsFalse (has_element_that (codes "Expect") is_unknown_expectation headers)
     × (head.owes_continue ≡ owes_continue v headers head.body_length head.is_chunked)
     × (head.asks_upgrade ≡ asks_upgrade v headers) × (head.is_last ≡ is_last v method headers)

@@ -1,11 +1,13 @@
 -- What a whole head says, computed from element to element.
-use Rattle.std.specs.Prelude.{ℕ, Bool, true, false, ◌||◌, ◌==◌, List, [], ◌∷◌, Option, Some, None, is_some, Result, Ok, Err, codes, if◌then◌else◌}
+use Rattle.std.specs.Prelude.{ℕ, Bool, true, false, ◌||◌, ◌==◌, List, [], ◌∷◌, Option, Some, None, is_some, Result}
+use Rattle.std.specs.Prelude.{Ok, Err, codes, if◌then◌else◌}
 use Rattle.std.specs.Str.{bytes_eq}
 use Rattle.tiny_http_head.specs.declared.common.HTTPVersion.{HTTPVersion}
 use Rattle.tiny_http_head.specs.Common.{same_name}
 use Rattle.tiny_http_head.specs.Heads.{length_of}
 use Rattle.tiny_http_standard_head.specs.declared.judging.Wanted.{Wanted}
-use Rattle.tiny_http_standard_head.specs.declared.judging.Wanted.TheVariants.{Close, KeepAlive, Upgrade, Continue, Protocol, UnknownExpectation, Chunks}
+use Rattle.tiny_http_standard_head.specs.declared.judging.Wanted.TheVariants.{Close, KeepAlive, Upgrade, Continue}
+use Rattle.tiny_http_standard_head.specs.declared.judging.Wanted.TheVariants.{Protocol, UnknownExpectation, Chunks}
 use Rattle.tiny_http_standard_head.specs.declared.judging.Codings.{Codings}
 use Rattle.tiny_http_standard_head.specs.declared.judging.Codings.TheVariants.{Absent, Others, Chunked, Behind, Bad}
 use Rattle.tiny_http_standard_head.specs.declared.judging.Refusal.{Refusal}
@@ -35,7 +37,8 @@ if_length (Some n) more = more n
 
 abbrev pub lengths_on : Option ℕ → List (List ℕ) → Result (Option ℕ) Refusal
 lengths_on found [] = Ok found
-lengths_on found (length ∷ lengths) = if_length (same_length (length_of length) found) (λ n. lengths_on (Some n) lengths)
+lengths_on found (length ∷ lengths) =
+    if_length (same_length (length_of length) found) (λ n. lengths_on (Some n) lengths)
 
 -- what the codings are after a further one
 abbrev pub coding_after : Codings → List ℕ → Codings

@@ -1,6 +1,7 @@
--- The lines of a head by the standard (RFC 9112, sections 2.3, 3 and 5; RFC 9110, sections 5.5 and 5.6.2), each a joining of
--- named parts. A token, a byte of a value and optional white space are those of the crate `httparse`.
-use Rattle.std.specs.Prelude.{◌≡◌, ℕ, ◌+◌, ◌-◌, ◌<◌, Bool, false, not, ◌&&◌, ◌||◌, ◌==◌, nat_lt, ◌/◌, ◌%◌, List, [], ◌∷◌, ◌++◌, length, take, drop, IsTrue, codes, MatchBool, if◌then◌else◌}
+-- The lines of a head by the standard (RFC 9112, sections 2.3, 3 and 5; RFC 9110, sections 5.5 and 5.6.2), each a
+-- joining of named parts. A token, a byte of a value and optional white space are those of the crate `httparse`.
+use Rattle.std.specs.Prelude.{◌≡◌, ℕ, ◌+◌, ◌-◌, ◌<◌, Bool, false, not, ◌&&◌, ◌||◌, ◌==◌, nat_lt, ◌/◌, ◌%◌, List, []}
+use Rattle.std.specs.Prelude.{◌∷◌, ◌++◌, length, take, drop, IsTrue, codes, MatchBool, if◌then◌else◌}
 use Rattle.std.specs.List.{list_all, flat_map, starts_with}
 use Rattle.std.specs.Str.{bytes_eq}
 use Rattle.std.specs.Char.{is_ascii_graphic}
@@ -42,7 +43,8 @@ begins_authority (b ∷ bs) = not (b == slash || (b == question_mark || b == num
 
 -- the scheme stands in front, without case, and an authority begins behind it
 abbrev pub has_scheme : List ℕ → List ℕ → Bool
-has_scheme scheme target = same_name (take (length scheme) target) scheme && begins_authority (drop (length scheme) target)
+has_scheme scheme target =
+    same_name (take (length scheme) target) scheme && begins_authority (drop (length scheme) target)
 
 -- In place of absolute-form: http:// or https://, and a byte that begins an authority, which isn't judged.
 abbrev pub is_absolute_form : List ℕ → Bool
@@ -56,12 +58,13 @@ is_origin_form target = starts_with ◌==◌ target (codes "/")
 abbrev pub is_asterisk_form : List ℕ → List ℕ → Bool
 is_asterisk_form method target = bytes_eq target (codes "*") && bytes_eq method (codes "OPTIONS")
 
--- request-target: of the bytes 33 to 126. That of a CONNECT is in authority-form, and that of another method in one of the other
--- three forms.
+-- request-target: of the bytes 33 to 126. That of a CONNECT is in authority-form, and that of another method in one
+-- of the other three forms.
 abbrev pub IsTarget : List ℕ → List ℕ → Type 0
 IsTarget method target =
     IsTrue (list_all is_ascii_graphic target)
-    × MatchBool (bytes_eq method (codes "CONNECT")) (IsAuthority target) (IsTrue (is_origin_form target || (is_asterisk_form method target || is_absolute_form target)))
+    × MatchBool (bytes_eq method (codes "CONNECT")) (IsAuthority target)
+    (IsTrue (is_origin_form target || (is_asterisk_form method target || is_absolute_form target)))
 
 -- request-line = method SP request-target SP HTTP-version
 pub record RequestLine (text method target : List ℕ) (v : HTTPVersion) : Type 0 where
@@ -79,7 +82,8 @@ ReadsRequestLine text method target v = (name : List ℕ) × RequestLine text na
 abbrev pub IsNoRequestLine : List ℕ → Type 0
 IsNoRequestLine text = (method : List ℕ) → (target : List ℕ) → (v : HTTPVersion) → RequestLine text method target v → ⊥
 
--- In these headers a byte from 128 on has to be refused before it is handed out as a percent sign and digits, which are good there.
+-- In these headers a byte from 128 on has to be refused before it is handed out as a percent sign and digits, which
+-- are good there.
 abbrev pub must_be_ascii : List ℕ → Bool
 must_be_ascii field = same_name field (codes "Host") || same_name field (codes "Transfer-Encoding")
 
@@ -98,7 +102,9 @@ uppercase_hexadecimal_digit d = if nat_lt d 10 then digit_zero + d else capital_
 
 -- a byte of a value as it is handed out: one from 128 on as a percent sign and its two hexadecimal digits
 abbrev pub percent_encoded_byte : ℕ → List ℕ
-percent_encoded_byte b = if is_ascii b then b ∷ [] else percent ∷ uppercase_hexadecimal_digit (b / 16) ∷ uppercase_hexadecimal_digit (b % 16) ∷ []
+percent_encoded_byte b =
+    if is_ascii b then b ∷ [] else percent ∷ uppercase_hexadecimal_digit (b / 16) ∷ uppercase_hexadecimal_digit
+    (b % 16) ∷ []
 
 -- a value as it is handed out
 abbrev pub percent_encoded : List ℕ → List ℕ

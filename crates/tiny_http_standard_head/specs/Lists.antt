@@ -18,7 +18,8 @@ between_commas value = map (trimmed is_ows) (parts comma value)
 -- the elements of all headers of that name, the empty ones too
 abbrev pub elements_of : List ℕ → List Header → List (List ℕ)
 elements_of name [] = []
-elements_of name (h ∷ hs) = if same_name h.field name then between_commas h.value ++ elements_of name hs else elements_of name hs
+elements_of name (h ∷ hs) =
+    if same_name h.field name then between_commas h.value ++ elements_of name hs else elements_of name hs
 
 -- some element of the headers of that name passes the test
 abbrev pub has_element_that : List ℕ → (List ℕ → Bool) → List Header → Bool

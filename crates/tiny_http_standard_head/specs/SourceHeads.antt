@@ -1,5 +1,6 @@
 -- A head that is read from a source: what it is, and what is left of the input behind it.
-use Rattle.std.specs.Prelude.{◌≡◌, ◌≢◌, ℕ, ◌+◌, ◌<◌, ◌≤◌, ◌⊎◌, ⊤, Bool, true, ◌||◌, ◌==◌, not, List, [], ◌∷◌, ◌++◌, length, take, drop, Option, Some, None, Result, Ok, Err, IsTrue, IsErr}
+use Rattle.std.specs.Prelude.{◌≡◌, ◌≢◌, ℕ, ◌+◌, ◌<◌, ◌≤◌, ◌⊎◌, ⊤, Bool, true, ◌||◌, ◌==◌, not, List, [], ◌∷◌, ◌++◌}
+use Rattle.std.specs.Prelude.{length, take, drop, Option, Some, None, Result, Ok, Err, IsTrue, IsErr}
 use Rattle.std.specs.Global.{Vec}
 use Rattle.std.specs.declared.alloc.AllocError.{AllocError}
 use Rattle.tiny_http_text.specs.Bytes.{HasNo, has_bare_end}
@@ -9,7 +10,8 @@ use Rattle.tiny_http_head.specs.declared.common.Method.{Method}
 use Rattle.tiny_http_head.specs.declared.common.HTTPVersion.{HTTPVersion}
 use Rattle.tiny_http_head.specs.declared.common.Header.{Header}
 use Rattle.tiny_http_standard_head.specs.declared.heads.HeadFault.{HeadFault}
-use Rattle.tiny_http_standard_head.specs.declared.heads.HeadFault.TheVariants.{BadLine, RequestLineTooLong, HeaderFieldsTooLarge}
+use Rattle.tiny_http_standard_head.specs.declared.heads.HeadFault.TheVariants.{BadLine, RequestLineTooLong}
+use Rattle.tiny_http_standard_head.specs.declared.heads.HeadFault.TheVariants.{HeaderFieldsTooLarge}
 use Rattle.tiny_http_standard_head.specs.declared.heads.HeadRead.{HeadRead}
 use Rattle.tiny_http_standard_head.specs.declared.heads.HeadRead.TheVariants as read
 use Rattle.tiny_http_standard_head.specs.declared.source_lines.NoLine.{NoLine}
@@ -20,11 +22,16 @@ use Rattle.tiny_http_standard_head.specs.Lines.{ReadsRequestLine, IsNoRequestLin
 use Rattle.tiny_http_standard_head.specs.declared.heads.Stop.TheVariants as stop
 use Rattle.tiny_http_standard_head.specs.Judging.{Judges}
 use Rattle.tiny_http_standard_head.specs.HeadParts.{StopsFields, EndsFields}
-use Rattle.tiny_http_standard_head.specs.Heads.{line_feed, carriage_return, is_carriage_return, Line, behind_empty_line, BeginsWithRequestLine, BeginsWithFieldLines, BeginsWithBadLine, IsNoFieldOrEnd, HasOpenRequestLine, is_begun, Reads}
+use Rattle.tiny_http_standard_head.specs.Heads.{line_feed, carriage_return, is_carriage_return, Line}
+use Rattle.tiny_http_standard_head.specs.Heads.{behind_empty_line, BeginsWithRequestLine, BeginsWithFieldLines}
+use Rattle.tiny_http_standard_head.specs.Heads.{BeginsWithBadLine, IsNoFieldOrEnd, HasOpenRequestLine, is_begun}
+use Rattle.tiny_http_standard_head.specs.Heads.{Reads}
 
 -- a line that is no good: no CR stands at its end, or its text isn't what has to stand there
 abbrev pub IsBadLine : (List ℕ → Type 0) → List ℕ → Type 0
-IsBadLine IsBad line = IsTrue (has_bare_end is_carriage_return line) ⊎ ((text : List ℕ) × (line ≡ text ++ carriage_return ∷ []) × IsBad text)
+IsBadLine IsBad line =
+    IsTrue (has_bare_end is_carriage_return line)
+    ⊎ ((text : List ℕ) × (line ≡ text ++ carriage_return ∷ []) × IsBad text)
 
 -- a text of a request line that isn't one, nor the empty line
 abbrev pub IsNoRequestOrEmpty : List ℕ → Type 0
@@ -33,7 +40,8 @@ IsNoRequestOrEmpty text = (text ≢ []) × IsNoRequestLine text
 -- what a line is read as: a request line, or the empty line
 abbrev pub RequestIn : List ℕ → Result (Option (Method × List ℕ × HTTPVersion)) NoHead → Type 0
 RequestIn line (Ok None) = line ≡ carriage_return ∷ []
-RequestIn line (Ok (Some r)) = (text : List ℕ) × (line ≡ text ++ carriage_return ∷ []) × ReadsRequestLine text r.0 r.1 r.2
+RequestIn line (Ok (Some r)) =
+    (text : List ℕ) × (line ≡ text ++ carriage_return ∷ []) × ReadsRequestLine text r.0 r.1 r.2
 RequestIn line (Err (Refused BadLine)) = IsBadLine IsNoRequestOrEmpty line
 RequestIn line (Err Memory) = ⊤
 RequestIn line (Err _) = ⊥
@@ -81,13 +89,16 @@ abbrev pub IsShort : ℕ → List ℕ → Type 0
 IsShort limit bytes = HasNo line_feed bytes × (length bytes < limit)
 
 -- a request line, or an empty one
-abbrev pub ReadsRequest : ℕ → ℕ → Option Feed → Option Feed → Result (Option (Method × List ℕ × HTTPVersion)) NoHead → Type 0
+abbrev pub ReadsRequest : ℕ → ℕ → Option Feed → Option Feed → Result (Option (Method × List ℕ × HTTPVersion)) NoHead
+    → Type 0
 ReadsRequest limit left None new r = ⊤
 ReadsRequest limit left (Some f) new (Ok None) = TakesText limit left f new []
-ReadsRequest limit left (Some f) new (Ok (Some r)) = (text : List ℕ) × TakesText limit left f new text × ReadsRequestLine text r.0 r.1 r.2
+ReadsRequest limit left (Some f) new (Ok (Some r)) =
+    (text : List ℕ) × TakesText limit left f new text × ReadsRequestLine text r.0 r.1 r.2
 ReadsRequest limit left (Some f) new (Err (Refused BadLine)) = BeginsWithBadLine IsNoRequestOrEmpty (take limit f.bytes)
 ReadsRequest limit left (Some f) new (Err (Refused RequestLineTooLong)) = IsLong limit f.bytes
-ReadsRequest limit left (Some f) new (Err (Unfinished has_begun)) = IsShort limit f.bytes × (has_begun ≡ not (length f.bytes == 0))
+ReadsRequest limit left (Some f) new (Err (Unfinished has_begun)) =
+    IsShort limit f.bytes × (has_begun ≡ not (length f.bytes == 0))
 ReadsRequest limit left (Some f) new (Err Memory) = ⊤
 ReadsRequest limit left (Some f) new (Err _) = ⊥
 
@@ -95,7 +106,8 @@ ReadsRequest limit left (Some f) new (Err _) = ⊥
 abbrev pub ReadsField : ℕ → ℕ → Option Feed → Option Feed → Result (Option Header) NoHead → Type 0
 ReadsField limit left None new r = ⊤
 ReadsField limit left (Some f) new (Ok None) = TakesText limit left f new []
-ReadsField limit left (Some f) new (Ok (Some h)) = (text : List ℕ) × TakesText limit left f new text × ReadsFieldLine text h
+ReadsField limit left (Some f) new (Ok (Some h)) =
+    (text : List ℕ) × TakesText limit left f new text × ReadsFieldLine text h
 ReadsField limit left (Some f) new (Err (Refused BadLine)) = BeginsWithBadLine IsNoFieldOrEnd (take limit f.bytes)
 ReadsField limit left (Some f) new (Err (Refused HeaderFieldsTooLarge)) = IsLong limit f.bytes
 ReadsField limit left (Some f) new (Err (Unfinished has_begun)) = IsShort limit f.bytes × (has_begun ≡ true)
@@ -106,10 +118,16 @@ ReadsField limit left (Some f) new (Err _) = ⊥
 abbrev pub ReadsStart : ℕ → ℕ → Option Feed → Option Feed → Result (Method × List ℕ × HTTPVersion) NoHead → Type 0
 ReadsStart limit left None new r = ⊤
 ReadsStart limit left (Some f) new (Ok r) =
-    (rest : List ℕ) × BeginsWithRequestLine (take limit f.bytes) r.0 r.1 r.2 (take left rest) × (new ≡ feed_from f rest) × IsSpent limit f.bytes left rest
-ReadsStart limit left (Some f) new (Err (Refused BadLine)) = BeginsWithBadLine IsNoRequestLine (behind_empty_line (take limit f.bytes))
-ReadsStart limit left (Some f) new (Err (Refused RequestLineTooLong)) = HasOpenRequestLine (take limit f.bytes) × (limit ≤ length f.bytes)
-ReadsStart limit left (Some f) new (Err (Unfinished has_begun)) = HasOpenRequestLine (take limit f.bytes) × (length f.bytes < limit) × (has_begun ≡ is_begun f.bytes)
+    (rest : List ℕ)
+    × BeginsWithRequestLine (take limit f.bytes) r.0 r.1 r.2 (take left rest)
+    × (new ≡ feed_from f rest)
+    × IsSpent limit f.bytes left rest
+ReadsStart limit left (Some f) new (Err (Refused BadLine)) =
+    BeginsWithBadLine IsNoRequestLine (behind_empty_line (take limit f.bytes))
+ReadsStart limit left (Some f) new (Err (Refused RequestLineTooLong)) =
+    HasOpenRequestLine (take limit f.bytes) × (limit ≤ length f.bytes)
+ReadsStart limit left (Some f) new (Err (Unfinished has_begun)) =
+    HasOpenRequestLine (take limit f.bytes) × (length f.bytes < limit) × (has_begun ≡ is_begun f.bytes)
 ReadsStart limit left (Some f) new (Err Memory) = ⊤
 ReadsStart limit left (Some f) new (Err _) = ⊥
 
@@ -117,16 +135,24 @@ ReadsStart limit left (Some f) new (Err _) = ⊥
 abbrev pub HasReadFields : ℕ → ℕ → Option Feed → Option Feed → List Header → Type 0
 HasReadFields limit left None new headers = ⊤
 HasReadFields limit left (Some f) new headers =
-    (rest : List ℕ) × BeginsWithFieldLines (take limit f.bytes) headers (take left rest) × (new ≡ feed_from f rest) × IsSpent limit f.bytes left rest
+    (rest : List ℕ)
+    × BeginsWithFieldLines (take limit f.bytes) headers (take left rest)
+    × (new ≡ feed_from f rest)
+    × IsSpent limit f.bytes left rest
 
 -- all headers and the empty line
 abbrev pub ReadsFields : ℕ → ℕ → Option Feed → Option Feed → Result (Vec Header) NoHead → Type 0
 ReadsFields limit left None new r = ⊤
 ReadsFields limit left (Some f) new (Ok headers) =
-    (rest : List ℕ) × EndsFields (take limit f.bytes) headers.items (take left rest) × (new ≡ feed_from f rest) × IsSpent limit f.bytes left rest
+    (rest : List ℕ)
+    × EndsFields (take limit f.bytes) headers.items (take left rest)
+    × (new ≡ feed_from f rest)
+    × IsSpent limit f.bytes left rest
 ReadsFields limit left (Some f) new (Err (Refused BadLine)) = StopsFields (take limit f.bytes) stop.Bad
-ReadsFields limit left (Some f) new (Err (Refused HeaderFieldsTooLarge)) = StopsFields (take limit f.bytes) stop.OpenField × (limit ≤ length f.bytes)
-ReadsFields limit left (Some f) new (Err (Unfinished has_begun)) = StopsFields (take limit f.bytes) stop.OpenField × (length f.bytes < limit) × (has_begun ≡ true)
+ReadsFields limit left (Some f) new (Err (Refused HeaderFieldsTooLarge)) =
+    StopsFields (take limit f.bytes) stop.OpenField × (limit ≤ length f.bytes)
+ReadsFields limit left (Some f) new (Err (Unfinished has_begun)) =
+    StopsFields (take limit f.bytes) stop.OpenField × (length f.bytes < limit) × (has_begun ≡ true)
 ReadsFields limit left (Some f) new (Err Memory) = ⊤
 ReadsFields limit left (Some f) new (Err _) = ⊥
 

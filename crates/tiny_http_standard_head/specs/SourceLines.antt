@@ -38,6 +38,11 @@ IsCut _ = ⊥
 
 -- why there is no line within the limit
 abbrev pub HasNoLine : ℕ → Option Feed → Option Feed → NoLine → Type 0
-HasNoLine limit old new (Cut has_begun) = (gone : List ℕ) × Passes old new gone × (length gone < limit) × HasNoByte new × (has_begun ≡ not (length gone == 0))
+HasNoLine limit old new (Cut has_begun) =
+    (gone : List ℕ)
+    × Passes old new gone
+    × (length gone < limit)
+    × HasNoByte new
+    × (has_begun ≡ not (length gone == 0))
 HasNoLine limit old new TooLong = (gone : List ℕ) × Passes old new gone × (length gone ≡ limit)
 HasNoLine limit old new Memory = TakesFront old new

@@ -28,7 +28,8 @@ is_zero value = list_any (bytes_eq value) (codes "0" ∷ codes "0." ∷ codes "0
 -- among parameters, the first weight is zero
 abbrev pub has_zero_weight : List (List ℕ) → Bool
 has_zero_weight [] = false
-has_zero_weight (parameter ∷ more) = if is_weight parameter then is_zero (weight_value parameter) else has_zero_weight more
+has_zero_weight (parameter ∷ more) =
+    if is_weight parameter then is_zero (weight_value parameter) else has_zero_weight more
 
 -- a coding with its parameters asks for chunks: it is chunked, and its weight isn't zero
 abbrev pub coding_asks_chunked : List (List ℕ) → Bool

@@ -1,7 +1,9 @@
 //! Whole heads by the standard, read from bytes (RFC 9112, sections 2.2, 3 and 5).
 ghost use Rattle.std.specs.Prelude.{◌≡◌, ◌<◌, ◌≤◌, IfOk, IfErr, OnErr, length, take};
-ghost use Rattle.tiny_http_standard_head.specs.Heads.{Line, behind_empty_line, is_begun, BeginsWithRequestLine, HasGoodRequestLine, Reads, status_of};
-ghost use Rattle.tiny_http_standard_head.specs.HeadParts.{HasNoLine, StopsRequest, StopsFields, EndsFields, ReadsWhole, StopsHead};
+ghost use Rattle.tiny_http_standard_head.specs.Heads.{Line, behind_empty_line, is_begun, BeginsWithRequestLine};
+ghost use Rattle.tiny_http_standard_head.specs.Heads.{HasGoodRequestLine, Reads, status_of};
+ghost use Rattle.tiny_http_standard_head.specs.HeadParts.{HasNoLine, StopsRequest, StopsFields, EndsFields};
+ghost use Rattle.tiny_http_standard_head.specs.HeadParts.{ReadsWhole, StopsHead};
 
 use crate::judging::{HeadSummary, Refusal, judge};
 use crate::lines::{parse_field_line, parse_request_line};
@@ -65,8 +67,8 @@ pub enum HeadRead {
     Refused(HeadFault),
     /// More bytes are needed.
     Unfinished {
-        /// Whether a byte of a head has come. A lone CR has begun one, and the LF behind it makes both an empty line, so the last
-        /// answer counts.
+        /// Whether a byte of a head has come. A lone CR has begun one, and the LF behind it makes both an empty line,
+        /// so the last answer counts.
         has_begun: bool,
     },
 }
@@ -205,12 +207,13 @@ fn not_ended(bytes: &[u8], limit: usize, fault: HeadFault) -> HeadRead
 
 /// Reads the head that begins where `bytes` do. A head has at most `limit` bytes, its empty lines included.
 ///
-/// A line ends at its first LF, in front of which a CR has to stand. One empty line in front of the request line is passed over.
-/// The first bad line is refused, whatever follows. Where `limit` bytes have come and the head hasn't ended, the fault is
-/// `RequestLineTooLong` in its request line, and else `HeaderFieldsTooLarge`; a limit below 3 so refuses where no byte of a head
-/// has come. A whole head is judged by `judging::judge`. While fewer bytes have come, more are needed: call again with the same
-/// bytes and those that came since. Each call reads them from the start, so a head that comes byte by byte wants a reader that
-/// keeps its lines. An error where there is no memory for what is read, which is so only behind a good request line.
+/// A line ends at its first LF, in front of which a CR has to stand. One empty line in front of the request line is
+/// passed over. The first bad line is refused, whatever follows. Where `limit` bytes have come and the head hasn't
+/// ended, the fault is `RequestLineTooLong` in its request line, and else `HeaderFieldsTooLarge`; a limit below 3 so
+/// refuses where no byte of a head has come. A whole head is judged by `judging::judge`. While fewer bytes have come,
+/// more are needed: call again with the same bytes and those that came since. Each call reads them from the start, so
+/// a head that comes byte by byte wants a reader that keeps its lines. An error where there is no memory for what is
+/// read, which is so only behind a good request line.
 pub fn read_head(alloc: Global, bytes: &[u8], limit: usize) -> Result<HeadRead, AllocError>
     ensures reads { IfOk result (λ read. Reads limit bytes.now read) }
     ensures begun { OnErr result (HasGoodRequestLine (take limit bytes.now)) }

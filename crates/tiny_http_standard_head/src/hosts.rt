@@ -1,9 +1,12 @@
 //! Hosts and their ports (RFC 3986, section 3.2; RFC 9112, section 3.2).
-ghost use Rattle.std.specs.Prelude.{◌≡◌, ◌≤◌, ◌<◌, ◌↔◌, ℕ, List, ◌∷◌, ◌++◌, length, drop, take, IsTrue, IfSome, IfNone, slice_index};
+ghost use Rattle.std.specs.Prelude.{◌≡◌, ◌≤◌, ◌<◌, ◌↔◌, ℕ, List, ◌∷◌, ◌++◌, length, drop, take, IsTrue, IfSome};
+ghost use Rattle.std.specs.Prelude.{IfNone, slice_index};
 ghost use Rattle.std.specs.List.{list_all};
 ghost use Rattle.std.specs.Char.{is_ascii_digit};
 ghost use Rattle.tiny_http_text.specs.Bytes.{HasNo};
-ghost use Rattle.tiny_http_standard_head.specs.Hosts.{begins_with_two_hexadecimal_digits, is_registered_name_byte, is_registered_name, is_address_byte, IsBracketedAddress, IsHost, IsHostValue, IsAuthority, is_port_number};
+ghost use Rattle.tiny_http_standard_head.specs.Hosts.{begins_with_two_hexadecimal_digits, is_registered_name_byte};
+ghost use Rattle.tiny_http_standard_head.specs.Hosts.{is_registered_name, is_address_byte, IsBracketedAddress};
+ghost use Rattle.tiny_http_standard_head.specs.Hosts.{IsHost, IsHostValue, IsAuthority, is_port_number};
 
 use crate::numbers::number_in;
 
@@ -60,8 +63,9 @@ fn is_bracketed_address(text: &[u8]) -> bool
     are_address_bytes(&text[1..n - 1])
 }
 
-/// Whether the text is a host (RFC 3986, section 3.2.2): one or more of hexadecimal digits, `:` and `.` in brackets, which aren't
-/// judged further; or one or more of letters, digits, ``-._~!$&'()*+,;=``, and `%` with two hexadecimal digits behind it.
+/// Whether the text is a host (RFC 3986, section 3.2.2): one or more of hexadecimal digits, `:` and `.` in brackets,
+/// which aren't judged further; or one or more of letters, digits, ``-._~!$&'()*+,;=``, and `%` with two hexadecimal
+/// digits behind it.
 pub fn is_host(text: &[u8]) -> bool
     ensures { IsTrue result ↔ IsHost text.now }
 {
@@ -96,8 +100,8 @@ fn are_digits(text: &[u8]) -> bool
     text.iter().all(|b| b.is_ascii_digit())
 }
 
-/// Whether the text may be the value of a `Host` header: empty, or a host, which may be followed by a colon and any number of
-/// digits, also none (RFC 9110, section 7.2; RFC 9112, section 3.2). `:80` alone isn't one.
+/// Whether the text may be the value of a `Host` header: empty, or a host, which may be followed by a colon and any
+/// number of digits, also none (RFC 9110, section 7.2; RFC 9112, section 3.2). `:80` alone isn't one.
 pub fn is_host_value(text: &[u8]) -> bool
     ensures { IsTrue result ↔ IsHostValue text.now }
 {
@@ -120,8 +124,8 @@ fn is_port_number(number: Option<usize>) -> bool
     }
 }
 
-/// Whether the text is the target of a `CONNECT`: a host, a colon, and digits whose number is 1 to 65535 (RFC 9112, section
-/// 3.2.3; RFC 9110, section 9.3.6).
+/// Whether the text is the target of a `CONNECT`: a host, a colon, and digits whose number is 1 to 65535 (RFC 9112,
+/// section 3.2.3; RFC 9110, section 9.3.6).
 pub fn is_authority(text: &[u8]) -> bool
     ensures { IsTrue result ↔ IsAuthority text.now }
 {

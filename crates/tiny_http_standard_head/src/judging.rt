@@ -1,14 +1,18 @@
-//! What a whole head says, and why it is refused (RFC 9112, sections 3.2, 6 and 9.3; RFC 9110, sections 7.8, 10.1.1 and 15),
-//! and whether it asks for chunks (RFC 9110, section 10.1.4).
+//! What a whole head says, and why it is refused (RFC 9112, sections 3.2, 6 and 9.3; RFC 9110, sections 7.8, 10.1.1
+//! and 15), and whether it asks for chunks (RFC 9110, section 10.1.4).
 ghost use Rattle.std.specs.Prelude.{◌≡◌, ◌↔◌, ◌==◌, not, IsTrue, IsFalse, IfSome, IfNone, codes, None};
 ghost use Rattle.std.specs.List.{list_all, list_any};
 ghost use Rattle.httparse.specs.Grammar.{is_ows};
 ghost use Rattle.tiny_http_text.specs.Bytes.{trimmed, parts};
 ghost use Rattle.tiny_http_standard_head.specs.Hosts.{percent, slash};
 ghost use Rattle.tiny_http_standard_head.specs.Lists.{values_of, between_commas, elements_of, has_element_that};
-ghost use Rattle.tiny_http_standard_head.specs.Judging.{HasValidHost, is_1_0, is_chunked, is_one_or_two_tokens, is_protocol, has_body, owes_continue, is_connect, is_last, asks_upgrade, is_protocol_named, names_protocol, Judges};
-ghost use Rattle.tiny_http_standard_head.specs.Te.{between_semicolons, is_weight, weight_value, is_zero, has_zero_weight, element_asks_chunked, asks_chunked};
-ghost use Rattle.tiny_http_standard_head.specs.JudgingReading.{is_wanted, same_length, lengths_on, coding_after, codings_on, body_by};
+ghost use Rattle.tiny_http_standard_head.specs.Judging.{HasValidHost, is_1_0, is_chunked, is_one_or_two_tokens};
+ghost use Rattle.tiny_http_standard_head.specs.Judging.{is_protocol, has_body, owes_continue, is_connect, is_last};
+ghost use Rattle.tiny_http_standard_head.specs.Judging.{asks_upgrade, is_protocol_named, names_protocol, Judges};
+ghost use Rattle.tiny_http_standard_head.specs.Te.{between_semicolons, is_weight, weight_value, is_zero};
+ghost use Rattle.tiny_http_standard_head.specs.Te.{has_zero_weight, element_asks_chunked, asks_chunked};
+ghost use Rattle.tiny_http_standard_head.specs.JudgingReading.{is_wanted, same_length, lengths_on, coding_after};
+ghost use Rattle.tiny_http_standard_head.specs.JudgingReading.{codings_on, body_by};
 ghost use Rattle.tiny_http_standard_head.specs.declared.judging.Codings.TheVariants.{Absent};
 
 use crate::hosts::is_host_value;
@@ -38,10 +42,11 @@ pub struct HeadSummary {
 pub enum Refusal {
     /// Its major version isn't 1: 505 (RFC 9110, section 15.6.6).
     UnsupportedVersion,
-    /// Its host is missing or invalid, or there is a second one, or what frames its body is invalid: 400 (RFC 9112, sections 3.2
-    /// and 6).
+    /// Its host is missing or invalid, or there is a second one, or what frames its body is invalid: 400 (RFC 9112,
+    /// sections 3.2 and 6).
     InvalidHead,
-    /// Codings are named in front of a last `chunked`, in version 1.1 or later and without a length: 501 (RFC 9112, section 6.1).
+    /// Codings are named in front of a last `chunked`, in version 1.1 or later and without a length: 501 (RFC 9112,
+    /// section 6.1).
     UnknownCoding,
     /// It expects something else than a 100: 417 (RFC 9110, section 10.1.1).
     UnknownExpectation,
@@ -114,7 +119,8 @@ fn is_protocol(text: &[u8]) -> bool
 
 // The value of a parameter that is a weight: what stands behind `q=` or `Q=` (RFC 9110, section 12.4.2).
 fn weight_value(parameter: &[u8]) -> Option<&[u8]>
-    ensures some { IfSome result (λ value. IsTrue (is_weight parameter.now) × (value.now ≡ weight_value parameter.now)) }
+    ensures some { IfSome result (λ value. IsTrue (is_weight parameter.now)
+        × (value.now ≡ weight_value parameter.now)) }
     ensures none { IfNone result (IsFalse (is_weight parameter.now)) }
 {
     if parameter.len() < 2 || !parameter[..2].eq_ignore_ascii_case(b"q=") {
@@ -300,7 +306,8 @@ fn codings_of(headers: &[Header]) -> Codings
 
 // The body by the codings and the length: its length, and whether it comes in chunks.
 fn body_of(version: HTTPVersion, headers: &[Header]) -> Result<(Option<usize>, bool), Refusal>
-    ensures { result ≡ body_by version (codings_on Absent (elements_of (codes "Transfer-Encoding") headers.now)) (lengths_on None (elements_of (codes "Content-Length") headers.now)) }
+    ensures { result ≡ body_by version (codings_on Absent (elements_of (codes "Transfer-Encoding") headers.now))
+        (lengths_on None (elements_of (codes "Content-Length") headers.now)) }
 {
     let length = one_length(headers)?;
     let codings = codings_of(headers);
@@ -374,8 +381,9 @@ fn names_in(value: &str, protocol: &str) -> bool
     false
 }
 
-/// Whether the `Upgrade` headers name this protocol, without case: an element of theirs is wholly it (RFC 9110, section 7.8). An
-/// element is passed over that isn't a token, or two with a slash between, or that has a percent sign.
+/// Whether the `Upgrade` headers name this protocol, without case: an element of theirs is wholly it (RFC 9110,
+/// section 7.8). An element is passed over that isn't a token, or two with a slash between, or that has a percent
+/// sign.
 pub fn names_protocol(headers: &[Header], protocol: &str) -> bool
     ensures { result ≡ names_protocol headers.now protocol.now }
 {
@@ -387,11 +395,12 @@ pub fn names_protocol(headers: &[Header], protocol: &str) -> bool
     false
 }
 
-/// Whether the `TE` headers of a request ask for chunks (RFC 9110, section 10.1.4). The headers of that name are one list, whose
-/// empty elements are passed over (RFC 9110, sections 5.3 and 5.6.1.2). An element asks for chunks if its coding is `chunked`,
-/// without case, and its weight isn't zero. The weight is the first parameter that begins with `q=` or `Q=` (RFC 9110, section
-/// 12.4.2). Its value is zero as `0`, `0.`, `0.0`, `0.00` or `0.000`. Any other value asks for chunks, also one that isn't a number.
-/// Other parameters are passed over, and so are those behind the weight. A comma or a semicolon in a quoted text divides as well.
+/// Whether the `TE` headers of a request ask for chunks (RFC 9110, section 10.1.4). The headers of that name are one
+/// list, whose empty elements are passed over (RFC 9110, sections 5.3 and 5.6.1.2). An element asks for chunks if its
+/// coding is `chunked`, without case, and its weight isn't zero. The weight is the first parameter that begins with
+/// `q=` or `Q=` (RFC 9110, section 12.4.2). Its value is zero as `0`, `0.`, `0.0`, `0.00` or `0.000`. Any other value
+/// asks for chunks, also one that isn't a number. Other parameters are passed over, and so are those behind the
+/// weight. A comma or a semicolon in a quoted text divides as well.
 pub fn asks_chunked(headers: &[Header]) -> bool
     ensures { result ≡ asks_chunked headers.now }
 {
@@ -414,16 +423,16 @@ fn is_last(version: HTTPVersion, method: &Method, headers: &[Header]) -> bool
 /// Judges a head whose lines are good, in this order. Each minor version after 1.0 counts as 1.1.
 ///
 /// - Another major version than 1 is `UnsupportedVersion`.
-/// - `InvalidHead`: no `Host` in 1.1, two of them, or one whose value is neither empty nor a host; elements of `Content-Length`
-///   that aren't one number, the empty one too; a `Transfer-Encoding` in 1.0, or beside a `Content-Length`, or whose last element
-///   isn't `chunked`, or with another one that is empty or `chunked`.
+/// - `InvalidHead`: no `Host` in 1.1, two of them, or one whose value is neither empty nor a host; elements of
+///   `Content-Length` that aren't one number, the empty one too; a `Transfer-Encoding` in 1.0, or beside a
+///   `Content-Length`, or whose last element isn't `chunked`, or with another one that is empty or `chunked`.
 /// - Codings in front of `chunked` are `UnknownCoding`.
-/// - An element of `Expect` that isn't empty or `100-continue` is `UnknownExpectation`. A 100 is owed in 1.1, where a body follows
-///   and `Expect` has `100-continue`.
+/// - An element of `Expect` that isn't empty or `100-continue` is `UnknownExpectation`. A 100 is owed in 1.1, where a
+///   body follows and `Expect` has `100-continue`.
 ///
-/// A head asks for an upgrade in 1.1, if `Connection` has `upgrade`, and `Upgrade` has a protocol: a token, or two with a slash
-/// between, without `%`, which may stand for a byte from 128 on. The head makes its request the last by `close`, in 1.0 without
-/// `keep-alive`, and by the method `CONNECT`.
+/// A head asks for an upgrade in 1.1, if `Connection` has `upgrade`, and `Upgrade` has a protocol: a token, or two
+/// with a slash between, without `%`, which may stand for a byte from 128 on. The head makes its request the last by
+/// `close`, in 1.0 without `keep-alive`, and by the method `CONNECT`.
 pub fn judge(
     version: HTTPVersion,
     method: &Method,

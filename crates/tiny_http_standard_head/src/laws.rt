@@ -12,24 +12,37 @@ ghost use Rattle.tiny_http_standard_head.specs.Judging.{Judges};
 
 /// A text is one request line at most: one method, one target and one version.
 pub fn one_request_line()
-    ensures { (text m t m' t' : List ℕ) (v v' : HTTPVersion) → RequestLine text m t v → RequestLine text m' t' v' → (m ≡ m') × (t ≡ t') × (v ≡ v') }
+    ensures { (text m t m' t' : List ℕ) (v v' : HTTPVersion)
+        → RequestLine text m t v
+        → RequestLine text m' t' v'
+        → (m ≡ m') × (t ≡ t') × (v ≡ v') }
 {}
 
 /// A text is one field line at most: one name and one value.
 pub fn one_field_line()
-    ensures { (text field value field' value' : List ℕ) → FieldLine text field value → FieldLine text field' value' → (field ≡ field') × (value ≡ value') }
+    ensures { (text field value field' value' : List ℕ)
+        → FieldLine text field value
+        → FieldLine text field' value'
+        → (field ≡ field') × (value ≡ value') }
 {}
 
 /// A head has a judgement, and one.
 pub fn one_judgement()
-    ensures some { (v : HTTPVersion) (method : Method) (headers : List Header) → (r : Result HeadSummary Refusal) × Judges v method headers r }
-    ensures one { (v : HTTPVersion) (method : Method) (headers : List Header) (r r' : Result HeadSummary Refusal) → Judges v method headers r → Judges v method headers r' → r ≡ r' }
+    ensures some { (v : HTTPVersion) (method : Method) (headers : List Header)
+        → (r : Result HeadSummary Refusal) × Judges v method headers r }
+    ensures one { (v : HTTPVersion) (method : Method) (headers : List Header) (r r' : Result HeadSummary Refusal)
+        → Judges v method headers r
+        → Judges v method headers r'
+        → r ≡ r' }
 {}
 
-/// The first bytes of a client are read in one way: they are a whole head, which is judged, or they have a bad line, or one that
-/// hasn't ended; and no two of these.
+/// The first bytes of a client are read in one way: they are a whole head, which is judged, or they have a bad line,
+/// or one that hasn't ended; and no two of these.
 pub fn one_reading()
     ensures some { (bytes : List ℕ) → (r : Reading) × AreReadAs bytes r }
     ensures read { (bytes : List ℕ) (r r' : Reading) → AreReadAs bytes r → AreReadAs bytes r' → r ≡ r' }
-    ensures one { (limit : ℕ) (bytes : List ℕ) (r r' : HeadRead) → Reads limit bytes r → Reads limit bytes r' → IsSameRead r r' }
+    ensures one { (limit : ℕ) (bytes : List ℕ) (r r' : HeadRead)
+        → Reads limit bytes r
+        → Reads limit bytes r'
+        → IsSameRead r r' }
 {}

@@ -4,7 +4,11 @@ ghost use Rattle.std.specs.List.{list_all};
 ghost use Rattle.std.specs.Char.{is_ascii_graphic};
 ghost use Rattle.httparse.specs.Grammar.{is_ows};
 ghost use Rattle.tiny_http_text.specs.Bytes.{skip_while, skip_end_while};
-ghost use Rattle.tiny_http_standard_head.specs.Lines.{IsVersion, IsNoVersion, begins_authority, has_scheme, is_absolute_form, is_asterisk_form, IsTarget, RequestLine, ReadsRequestLine, IsNoRequestLine, must_be_ascii, uppercase_hexadecimal_digit, percent_encoded_byte, percent_encoded, FieldLine, ReadsFieldLine, IsNoFieldLine};
+ghost use Rattle.tiny_http_standard_head.specs.Lines.{IsVersion, IsNoVersion, begins_authority, has_scheme};
+ghost use Rattle.tiny_http_standard_head.specs.Lines.{is_absolute_form, is_asterisk_form, IsTarget, RequestLine};
+ghost use Rattle.tiny_http_standard_head.specs.Lines.{ReadsRequestLine, IsNoRequestLine, must_be_ascii};
+ghost use Rattle.tiny_http_standard_head.specs.Lines.{uppercase_hexadecimal_digit, percent_encoded_byte};
+ghost use Rattle.tiny_http_standard_head.specs.Lines.{percent_encoded, FieldLine, ReadsFieldLine, IsNoFieldLine};
 
 use crate::hosts::is_authority;
 use httparse::{is_header_value, is_space_or_tab, is_token};
@@ -103,11 +107,12 @@ fn split_request_line(text: &[u8]) -> Option<(&[u8], &[u8], HTTPVersion)>
     Some((method, target, version))
 }
 
-/// Reads a request line: a token, a space, the target, a space and the version, and nothing else (RFC 9112, section 3). The
-/// target has the bytes 33 to 126 alone. That of a `CONNECT` is a host with a port. Another begins with a slash, or is `*` with
-/// `OPTIONS`, or begins with `http://` or `https://`, without case, and a byte that isn't `/`, `?` or `#`: the host itself isn't
-/// judged there. The version is `HTTP/`, a digit, a point and a digit: `judging::judge` says whether it is served. `None` for any
-/// other text. An error where the text is a request line and there is no memory for the answer.
+/// Reads a request line: a token, a space, the target, a space and the version, and nothing else (RFC 9112, section
+/// 3). The target has the bytes 33 to 126 alone. That of a `CONNECT` is a host with a port. Another begins with a
+/// slash, or is `*` with `OPTIONS`, or begins with `http://` or `https://`, without case, and a byte that isn't `/`,
+/// `?` or `#`: the host itself isn't judged there. The version is `HTTP/`, a digit, a point and a digit:
+/// `judging::judge` says whether it is served. `None` for any other text. An error where the text is a request line
+/// and there is no memory for the answer.
 pub fn parse_request_line(
     alloc: Global,
     text: &[u8],
@@ -207,11 +212,11 @@ fn split_field_line(text: &[u8]) -> Option<(&[u8], &[u8])>
     Some((field, value))
 }
 
-/// Reads a field line: a token, a colon at once, and the value, round which spaces and tabs are left out (RFC 9112, section 5).
-/// The value has no byte 0 to 8, 10 to 31 or 127. A byte from 128 on is handed out as `%` and two hexadecimal digits, in
-/// capitals, so the byte 233 and the three bytes `%E9` give the same text. In a `Host` and a `Transfer-Encoding` such a byte isn't
-/// good, whatever the version of the head. `None` for any other text. An error where the text is a field line and there is no
-/// memory for the answer.
+/// Reads a field line: a token, a colon at once, and the value, round which spaces and tabs are left out (RFC 9112,
+/// section 5). The value has no byte 0 to 8, 10 to 31 or 127. A byte from 128 on is handed out as `%` and two
+/// hexadecimal digits, in capitals, so the byte 233 and the three bytes `%E9` give the same text. In a `Host` and a
+/// `Transfer-Encoding` such a byte isn't good, whatever the version of the head. `None` for any other text. An error
+/// where the text is a field line and there is no memory for the answer.
 pub fn parse_field_line(alloc: Global, text: &[u8]) -> Result<Option<Header>, AllocError>
     ensures some { IfOk result (λ found. IfSome found (λ h. ReadsFieldLine text.now h)) }
     ensures none { result ≡ Ok None → IsNoFieldLine text.now }

@@ -26,10 +26,10 @@ fn has_word(value: &str, word: &str) -> bool
     false
 }
 
-/// Whether the headers of this name list this word. They are one list, however many there are (RFC 9110, section 5.3). Its
-/// elements stand between commas, with spaces and tabs round them left out (RFC 9110, section 5.6.1). Name and word are compared
-/// without regard to the case of ASCII letters. An element is wholly the word: one with parameters isn't. A comma in a quoted text
-/// divides as well. The empty word is listed where an element is empty.
+/// Whether the headers of this name list this word. They are one list, however many there are (RFC 9110, section
+/// 5.3). Its elements stand between commas, with spaces and tabs round them left out (RFC 9110, section 5.6.1). Name
+/// and word are compared without regard to the case of ASCII letters. An element is wholly the word: one with
+/// parameters isn't. A comma in a quoted text divides as well. The empty word is listed where an element is empty.
 pub fn has_element(headers: &[Header], name: &str, word: &str) -> bool
     ensures { result ≡ has_element name.now word.now headers.now }
 {

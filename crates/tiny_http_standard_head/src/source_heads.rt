@@ -3,7 +3,9 @@ ghost use Rattle.std.specs.Prelude.{◌≡◌, ◌<◌, ◌≤◌, ◌++◌, ◌
 ghost use Rattle.tiny_http_text.specs.Bytes.{has_bare_end};
 ghost use Rattle.tiny_http_io.specs.Source.{GoesOn, IsCutOff};
 ghost use Rattle.tiny_http_standard_head.specs.Heads.{carriage_return, is_carriage_return};
-ghost use Rattle.tiny_http_standard_head.specs.SourceHeads.{RequestIn, FieldIn, ReadsRequest, ReadsField, ReadsStart, ReadsFields, ReadsFrom, IsJudged, no_head, IsWithoutHead, IsUnfinished, IsUnfinishedRead};
+ghost use Rattle.tiny_http_standard_head.specs.SourceHeads.{RequestIn, FieldIn, ReadsRequest, ReadsField, ReadsStart};
+ghost use Rattle.tiny_http_standard_head.specs.SourceHeads.{ReadsFields, ReadsFrom, IsJudged, no_head, IsWithoutHead};
+ghost use Rattle.tiny_http_standard_head.specs.SourceHeads.{IsUnfinished, IsUnfinishedRead};
 
 use crate::heads::{Head, HeadFault, HeadRead};
 use crate::judging::judge;
@@ -212,10 +214,10 @@ fn without_head(why: NoHead) -> Result<HeadRead, AllocError>
 }
 
 /// Reads the next head of a source. A head has at most `limit` bytes, its empty lines included. What is read is what
-/// `heads::read_head` makes of all the bytes that the source still gives. No byte behind the head is taken off, and none is read
-/// ahead but what one call of the reader gives. A line that lies whole in the buffer of the source is parsed there. A bad line is
-/// refused as soon as its LF has come. `Unfinished` says that the source has stopped, which then is over. An error where memory
-/// was refused; then the source may stand within the head.
+/// `heads::read_head` makes of all the bytes that the source still gives. No byte behind the head is taken off, and
+/// none is read ahead but what one call of the reader gives. A line that lies whole in the buffer of the source is
+/// parsed there. A bad line is refused as soon as its LF has come. `Unfinished` says that the source has stopped,
+/// which then is over. An error where memory was refused; then the source may stand within the head.
 pub fn read_head_from<R: ReadDevice>(
     alloc: Global,
     source: &mut Source<R>,

@@ -89,14 +89,15 @@ fn take_line<R: ReadDevice>(
     Err(NoLine::TooLong)
 }
 
-/// Finds the next line, within so many bytes with its LF. A line that lies whole in the buffer stays there, to be parsed in its
-/// place, and takes no memory.
+/// Finds the next line, within so many bytes with its LF. A line that lies whole in the buffer stays there, to be
+/// parsed in its place, and takes no memory.
 pub(crate) fn find_line<R: ReadDevice>(
     alloc: Global,
     source: &mut Source<R>,
     limit: usize,
 ) -> Result<FoundLine, NoLine>
-    ensures finds { IfOk result (λ line. FindsLine limit source.old.feed source.new.feed source.new.held source.new.skip line) }
+    ensures finds { IfOk result
+        (λ line. FindsLine limit source.old.feed source.new.feed source.new.held source.new.skip line) }
     ensures none { IfErr result (λ why. HasNoLine limit source.old.feed source.new.feed why) }
     ensures goes_on { GoesOn source.old.feed source.new.feed }
     ensures cut { IfErr result (λ why. IsCut why → IsCutOff source.old source.new) }

@@ -29,7 +29,8 @@ pub record GivesQuality (parameter : List ℕ) (thousandths : ℕ) : Type 0 wher
 -- the first of the parameters that gives a quality gives this one; where none does it is 1000
 abbrev pub FirstQuality : List (List ℕ) → ℕ → Type 0
 FirstQuality [] q = q ≡ 1000
-FirstQuality (parameter ∷ more) q = GivesQuality parameter q ⊎ (((n : ℕ) → GivesQuality parameter n → ⊥) × FirstQuality more q)
+FirstQuality (parameter ∷ more) q =
+    GivesQuality parameter q ⊎ (((n : ℕ) → GivesQuality parameter n → ⊥) × FirstQuality more q)
 
 -- an element: its first part round the semicolons, trimmed, is the name, and the others are parameters
 pub record Element (text name : List ℕ) (q : ℕ) : Type 0 where

@@ -1,5 +1,6 @@
 //! Texts whose bytes are all below 128.
-ghost use Rattle.std.specs.Prelude.{◌≡◌, ◌==◌, ◌≤◌, ◌<◌, ◌↔◌, ℕ, List, length, map, Some, IsTrue, IsOk, IfOk, IfErr, OnOk, OnErr, IsAscii, nat_eq, take};
+ghost use Rattle.std.specs.Prelude.{◌≡◌, ◌==◌, ◌≤◌, ◌<◌, ◌↔◌, ℕ, List, length, map, Some, IsTrue, IsOk, IfOk, IfErr};
+ghost use Rattle.std.specs.Prelude.{OnOk, OnErr, IsAscii, nat_eq, take};
 ghost use Rattle.std.specs.Cmp.Lexicographic.{pointwise};
 ghost use Rattle.std.specs.Cmp.Rules.{comparing, hashing};
 ghost use Rattle.std.specs.Hash as fed;
@@ -34,8 +35,8 @@ enum TextBytes {
     Long(Vec<u8>),
 }
 
-/// A text that owns its bytes, all below 128. One of up to 30 bytes that is made by a copy takes no memory of its own. A
-/// contract sees it as the list of its bytes.
+/// A text that owns its bytes, all below 128. One of up to 30 bytes that is made by a copy takes no memory of its
+/// own. A contract sees it as the list of its bytes.
 #[derive(Drop)]
 pub struct AsciiString {
     text: TextBytes,

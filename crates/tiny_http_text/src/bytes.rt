@@ -1,8 +1,10 @@
 //! Bytes of a text, trimmed and cut.
-ghost use Rattle.std.specs.Prelude.{◌≡◌, ◌↔◌, ℕ, ◌≤◌, ◌<◌, List, ◌∷◌, ◌++◌, length, take, IfSome, IfNone, IsTrue, slice_index, not};
+ghost use Rattle.std.specs.Prelude.{◌≡◌, ◌↔◌, ℕ, ◌≤◌, ◌<◌, List, ◌∷◌, ◌++◌, length, take, IfSome, IfNone, IsTrue};
+ghost use Rattle.std.specs.Prelude.{slice_index, not};
 ghost use Rattle.std.specs.List.{list_all};
 ghost use Rattle.std.specs.Str.{bytes_eq};
-ghost use Rattle.tiny_http_text.specs.Bytes.{HasNo, IsTrimmed, is_ascii, is_blank, parts, skip_while, skip_end_while, trimmed};
+ghost use Rattle.tiny_http_text.specs.Bytes.{HasNo, IsTrimmed, is_ascii, is_blank, parts, skip_while, skip_end_while};
+ghost use Rattle.tiny_http_text.specs.Bytes.{trimmed};
 
 // White space: bytes 9 to 13 and 32.
 fn is_blank(b: u8) -> bool

@@ -4,7 +4,8 @@ ghost use Rattle.std.specs.Option.{SomeIff};
 ghost use Rattle.std.specs.Str.Parse.{IsNumeral, digits_value};
 ghost use Rattle.tiny_http_text.specs.Bytes.{parts, semicolon};
 ghost use Rattle.tiny_http_text.specs.Qualities.{Element, ListsQualities};
-ghost use Rattle.tiny_http_text.specs.QualityReading.{short_number, thousandths, quality, parameter_quality, first_quality, element};
+ghost use Rattle.tiny_http_text.specs.QualityReading.{short_number, thousandths, quality, parameter_quality};
+ghost use Rattle.tiny_http_text.specs.QualityReading.{first_quality, element};
 
 use crate::text::{cut, trim, trim_front};
 use std::alloc::{AllocError, Global};

@@ -5,5 +5,8 @@ ghost use Rattle.tiny_http_text.specs.Qualities.{ListsQualities};
 /// Each value lists names with qualities in one way.
 pub fn one_quality_list()
     ensures some { (value : List ℕ) → (list : List (List ℕ × ℕ)) × ListsQualities value list }
-    ensures one { (value : List ℕ) (list other : List (List ℕ × ℕ)) → ListsQualities value list → ListsQualities value other → list ≡ other }
+    ensures one { (value : List ℕ) (list other : List (List ℕ × ℕ))
+        → ListsQualities value list
+        → ListsQualities value other
+        → list ≡ other }
 {}

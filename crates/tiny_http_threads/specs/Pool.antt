@@ -1,5 +1,6 @@
 -- A POOL OF WORKERS: jobs that wait for one, and how many workers there are.
-use Rattle.std.specs.Prelude.{◌≡◌, ℕ, ◌+◌, ◌-◌, ◌^◌, ◌<◌, ◌≤◌, ◌⊎◌, Bool, true, false, List, [], ◌∷◌, ◌++◌, length, Option, Some, None}
+use Rattle.std.specs.Prelude.{◌≡◌, ℕ, ◌+◌, ◌-◌, ◌^◌, ◌<◌, ◌≤◌, ◌⊎◌, Bool, true, false, List, [], ◌∷◌, ◌++◌, length}
+use Rattle.std.specs.Prelude.{Option, Some, None}
 use Rattle.tiny_http_threads.specs.declared.task_pool.TheConstants.{MIN_THREADS}
 use Rattle.tiny_http_threads.specs.declared.task_pool.Offered.{Offered}
 use Rattle.tiny_http_threads.specs.declared.task_pool.Offered.TheVariants.{Queued, Start, Back}
@@ -21,16 +22,20 @@ module _ {J : Type 0} where
   abbrev pub new_pool : ℕ → Pool J
   new_pool running = record { jobs = []; idle = 0; running = running; closed = false }
 
-  -- Where more workers are idle than jobs wait, the job waits after these, or comes back if room for it was refused. Else
-  -- it is to start on a worker more, or comes back if 2^64 - 1 run.
+  -- Where more workers are idle than jobs wait, the job waits after these, or comes back if room for it was refused.
+  -- Else it is to start on a worker more, or comes back if 2^64 - 1 run.
   abbrev pub Offers : Pool J → J → Offered J → Pool J → Type 0
   Offers old job Queued new = (length old.jobs < old.idle) × (new ≡ record old { jobs = old.jobs ++ job ∷ [] })
-  Offers old job (Start same) new = (same ≡ job) × (old.idle ≤ length old.jobs) × (old.running < 2 ^ 64 - 1) × (new ≡ record old { running = old.running + 1 })
+  Offers old job (Start same) new = (same ≡ job)
+      × (old.idle ≤ length old.jobs)
+      × (old.running < 2 ^ 64 - 1)
+      × (new ≡ record old { running = old.running + 1 })
   Offers old job (Back same) new = (same ≡ job) × (old.idle ≤ length old.jobs → old.running ≡ 2 ^ 64 - 1) × (new ≡ old)
 
   -- a worker that was to start doesn't run
   abbrev pub NotStarted : Pool J → Pool J → Type 0
-  NotStarted old new = (old.idle < old.running → new ≡ record old { running = old.running - 1 }) × (old.running ≤ old.idle → new ≡ old)
+  NotStarted old new = (old.idle < old.running → new ≡ record old { running = old.running - 1 })
+      × (old.running ≤ old.idle → new ≡ old)
 
   -- a worker that isn't idle takes the job at the front, if one waits
   abbrev pub TakesJob : Pool J → Option J → Pool J → Type 0
@@ -45,9 +50,15 @@ module _ {J : Type 0} where
   -- an idle worker takes the job at the front, if one waits, and is idle no more
   abbrev pub Wakes : Pool J → Option J → Pool J → Type 0
   Wakes old None new = (old.jobs ≡ []) × (new ≡ old)
-  Wakes old (Some job) new = (old.jobs ≡ job ∷ new.jobs) × (0 < old.idle) × (new ≡ record old { jobs = new.jobs; idle = old.idle - 1 })
+  Wakes old (Some job) new = (old.jobs ≡ job ∷ new.jobs)
+      × (0 < old.idle)
+      × (new ≡ record old { jobs = new.jobs; idle = old.idle - 1 })
 
   -- an idle worker ends, where nothing waits, and more run than are kept or the pool is closed
   abbrev pub EndsIdle : Pool J → Bool → Pool J → Type 0
-  EndsIdle old true new = (0 < old.idle) × (old.jobs ≡ []) × ((MIN_THREADS < old.running) ⊎ (old.closed ≡ true)) × (new ≡ record old { idle = old.idle - 1; running = old.running - 1 })
-  EndsIdle old false new = (0 < old.idle → old.jobs ≡ [] → (old.running ≤ MIN_THREADS) × (old.closed ≡ false)) × (new ≡ old)
+  EndsIdle old true new = (0 < old.idle)
+      × (old.jobs ≡ [])
+      × ((MIN_THREADS < old.running) ⊎ (old.closed ≡ true))
+      × (new ≡ record old { idle = old.idle - 1; running = old.running - 1 })
+  EndsIdle old false new = (0 < old.idle → old.jobs ≡ [] → (old.running ≤ MIN_THREADS) × (old.closed ≡ false))
+      × (new ≡ old)

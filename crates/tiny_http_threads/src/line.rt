@@ -41,7 +41,8 @@ fn find_waiter(waiters: &[Waiter], number: u64) -> Option<&Waiter> {
     None
 }
 
-// Takes out what wakes the thread of this number, if it waits: it is listed no more. That it is that of this number, tests show.
+// Takes out what wakes the thread of this number, if it waits: it is listed no more. That it is that of this number,
+// tests show.
 fn take_waiter(waiters: &mut Vec<Waiter>, number: u64) -> Option<Arc<Condvar>>
     ensures taken { IfSome result (λ _. length waiters.new.items + 1 ≡ length waiters.old.items) }
     ensures none { IfNone result (waiters.new ≡ waiters.old) }
@@ -98,11 +99,12 @@ impl<T: Drop> Queue<T> {
         Ok(theirs)
     }
 
-    // Finishes a held number, as `Turns` does. Where the item then rests, the thread that waits for the next turn is to be
-    // woken.
+    // Finishes a held number, as `Turns` does. Where the item then rests, the thread that waits for the next turn is
+    // to be woken.
     fn finish(&mut self, number: u64, item: Box<T>) -> (Finishing<Box<T>>, Option<Arc<Condvar>>)
         ensures marks { self.new.turns.marks ≡ marks_after_step (Finish number) self.old.turns.marks }
-        ensures item { Finishes (turn_answer (Finish number) self.old.turns.marks) item self.old.turns.resting result.0 self.new.turns.resting }
+        ensures item { Finishes (turn_answer (Finish number) self.old.turns.marks) item self.old.turns.resting
+            result.0 self.new.turns.resting }
     {
         let finishing = self.turns.finish(number, item);
         if matches!(finishing, Finishing::Passed) {
@@ -114,8 +116,8 @@ impl<T: Drop> Queue<T> {
     }
 }
 
-/// The item and its numbers, which threads share. A number's text and its item are handed out, so nothing is read or written
-/// under the lock.
+/// The item and its numbers, which threads share. A number's text and its item are handed out, so nothing is read or
+/// written under the lock.
 #[derive(Drop)]
 pub(crate) struct Line<T> {
     queue: Mutex<Queue<T>>,
@@ -151,8 +153,8 @@ impl<T: Drop> Line<T> {
         Ok((number, queue.turns.first_unfinished() == number))
     }
 
-    /// The next number, and whether its turn has come; none once the line was closed. An error where memory was refused, or no
-    /// number is left.
+    /// The next number, and whether its turn has come; none once the line was closed. An error where memory was
+    /// refused, or no number is left.
     pub fn issue_unless_closed<R: Wait>(&self, rt: &R) -> Result<Option<(u64, bool)>, AllocError> {
         let mut queue = self.queue.lock(rt);
         if self.is_closed() {
@@ -199,7 +201,8 @@ impl<T: Drop> Line<T> {
         self.is_closed() && self.queue.lock(rt).last == Some(number)
     }
 
-    /// Waits until the number's turn has come, and holds it. Where memory for the wait was refused it tries again and again.
+    /// Waits until the number's turn has come, and holds it. Where memory for the wait was refused it tries again and
+    /// again.
     pub fn take<R: Wait>(&self, rt: &R, alloc: Global, number: u64) -> Box<T> {
         let mut queue = self.queue.lock(rt);
         for _ in rt.forever() {
@@ -218,8 +221,8 @@ impl<T: Drop> Line<T> {
         unreachable!()
     }
 
-    /// Leaves a number with a text, which is written in its turn; or holds it, and gives the item and the text, where its turn
-    /// has come. It waits for no turn.
+    /// Leaves a number with a text, which is written in its turn; or holds it, and gives the item and the text, where
+    /// its turn has come. It waits for no turn.
     pub fn leave<R: Wait>(&self, rt: &R, number: u64, text: Vec<u8>) -> Option<(Box<T>, Vec<u8>)> {
         let left = self.queue.lock(rt).turns.leave(number, text);
         match left {
@@ -228,8 +231,8 @@ impl<T: Drop> Line<T> {
         }
     }
 
-    /// Finishes a held number. If the next one was left, that one is held: the item, and its text. Else the thread that waits
-    /// for the next turn is woken, if one does.
+    /// Finishes a held number. If the next one was left, that one is held: the item, and its text. Else the thread
+    /// that waits for the next turn is woken, if one does.
     pub fn finish<R: Wait>(&self, rt: &R, number: u64, item: Box<T>) -> Option<(Box<T>, Vec<u8>)> {
         let mut queue = self.queue.lock(rt);
         let (finishing, woken) = queue.finish(number, item);
@@ -276,7 +279,8 @@ impl<T: Drop, R: Wait + Drop> Turn<T, R> {
         })
     }
 
-    /// The next number of this line; none once that was closed. An error where memory was refused, or no number is left.
+    /// The next number of this line; none once that was closed. An error where memory was refused, or no number is
+    /// left.
     pub fn new_unless_closed(
         rt: R,
         alloc: Global,

@@ -1,5 +1,6 @@
 //! A queue that threads share, and that can be told to wake one who waits.
-ghost use Rattle.std.specs.Prelude.{◌≡◌, ◌++◌, ◌∷◌, [], Some, None, OnOk, OnErr, IfOk, IfErr, IfSome, IsSome, IsSomeAnd, ◌↔◌, ◌+◌, ◌≤◌};
+ghost use Rattle.std.specs.Prelude.{◌≡◌, ◌++◌, ◌∷◌, [], Some, None, OnOk, OnErr, IfOk, IfErr, IfSome, IsSome};
+ghost use Rattle.std.specs.Prelude.{IsSomeAnd, ◌↔◌, ◌+◌, ◌≤◌};
 ghost use Rattle.std.specs.Duration.{as_nanos};
 ghost use Rattle.tiny_http_threads.specs.Queue.{popped_value};
 
@@ -96,9 +97,9 @@ impl<T> QueueState<T> {
     }
 }
 
-/// A queue that threads share: a `QueueState` under a lock. Each call is one step on it, but for the pops that wait, which
-/// try again until there is something to pop. The lock is let go before one who waits is woken. What a call did to the queue
-/// no contract here says.
+/// A queue that threads share: a `QueueState` under a lock. Each call is one step on it, but for the pops that wait,
+/// which try again until there is something to pop. The lock is let go before one who waits is woken. What a call did
+/// to the queue no contract here says.
 #[derive(Drop)]
 pub struct MessagesQueue<T> {
     state: Mutex<QueueState<T>>,
@@ -118,8 +119,8 @@ impl<T: Drop> MessagesQueue<T> {
         Ok(Arc::new(alloc, queue)?)
     }
 
-    /// Adds a mark at the back, which one pop answers by `None`, and wakes one who waits. An error comes where room for it
-    /// was refused.
+    /// Adds a mark at the back, which one pop answers by `None`, and wakes one who waits. An error comes where room
+    /// for it was refused.
     pub fn unblock<R: Wait>(&self, rt: &R) -> Result<(), AllocError> {
         self.state.lock(rt).unblock()?;
         self.woken.notify_one();
@@ -167,8 +168,8 @@ impl<T> MessagesQueue<T> {
     }
 
     /// As `pop`, for so long at most, and then `None`. Each wait is for what remains of that time. Less than a
-    /// millisecond counts as nothing, and nothing remains where the clock can't be read. The queue is looked at before the
-    /// first wait and after each one.
+    /// millisecond counts as nothing, and nothing remains where the clock can't be read. The queue is looked at
+    /// before the first wait and after each one.
     pub fn pop_timeout<R: Wait + Clock>(&self, rt: &R, timeout: Duration) -> Option<T> {
         let mut state = self.state.lock(rt);
         match state.pop() {
@@ -202,7 +203,8 @@ fn popped_value<T>(found: Popped<T>) -> Option<T>
 // What remains of a time, if it is a millisecond or more and it is known how much has elapsed.
 fn time_left(timeout: Duration, elapsed: Option<Duration>) -> Option<Duration>
     ensures enough { IsSome result ↔ IsSomeAnd elapsed (λ spent. as_nanos spent + 1_000_000 ≤ as_nanos timeout) }
-    ensures rest { IfSome result (λ left. IsSomeAnd elapsed (λ spent. as_nanos left + as_nanos spent ≡ as_nanos timeout)) }
+    ensures rest { IfSome result
+        (λ left. IsSomeAnd elapsed (λ spent. as_nanos left + as_nanos spent ≡ as_nanos timeout)) }
 {
     let left = timeout.checked_sub(elapsed?)?;
     if left.as_nanos() < 1_000_000 {

@@ -68,8 +68,8 @@ impl<L: Ledger> Roster<L> {
         }
     }
 
-    /// One more in the number and in the caller's share, which needs a part. False, and nothing has changed, only where the
-    /// number is 2^64 - 1.
+    /// One more in the number and in the caller's share, which needs a part. False, and nothing has changed, only
+    /// where the number is 2^64 - 1.
     pub fn enter<R: Wait>(&self, rt: &R, mine: &mut Share<L>) -> bool
         requires { 0 < mine.old.parts }
         ensures amount { mine.new.amount ≡ (if result then mine.old.amount + 1 else mine.old.amount) }

@@ -38,8 +38,8 @@ impl<I: Read + Drop, R: Wait + Copy> SequentialReaderBuilder<I, R> {
     }
 }
 
-/// Reads in its turn: its first read waits until those before it are dropped. Dropping it finishes its turn, or leaves it if
-/// the turn has not come: that waits for nobody's turn.
+/// Reads in its turn: its first read waits until those before it are dropped. Dropping it finishes its turn, or
+/// leaves it if the turn has not come: that waits for nobody's turn.
 pub struct SequentialReader<I: Read + Drop, R: Wait + Drop> {
     turn: Turn<I, R>,
 }
@@ -147,8 +147,8 @@ impl<I: Read + Drop, R: Wait + Drop> HeldTurn<(), ()> for Reading<I, R> {
     }
 }
 
-// A number of a writer that is held. Each text is flushed before its number is finished, since another thread may write from
-// then on.
+// A number of a writer that is held. Each text is flushed before its number is finished, since another thread may
+// write from then on.
 #[derive(Drop)]
 struct Writing<W, R: Wait> {
     held: Option<Held<W, R>>,
@@ -172,7 +172,8 @@ impl<W: Write + Drop, R: Wait + Drop> HeldTurn<(), ()> for Writing<W, R> {
     }
 }
 
-// The same for a writer that can say that no byte follows: it says so behind the text of the last number of a closed line.
+// The same for a writer that can say that no byte follows: it says so behind the text of the last number of a closed
+// line.
 #[derive(Drop)]
 struct Ending<W, R: Wait> {
     held: Option<Held<W, R>>,
@@ -211,9 +212,9 @@ fn leave_writer<W: Write + Drop, R: Wait + Drop>(turn: Turn<W, R>, text: Vec<u8>
     }
 }
 
-/// Writes in its turn: its first write or flush waits until those before it are dropped. Dropping it flushes and finishes its
-/// turn, or leaves it if the turn has not come: that waits for nobody's turn. As a `WriteDevice` it counts the
-/// failures of its own `write_out` and `flush_out`, and states no bytes.
+/// Writes in its turn: its first write or flush waits until those before it are dropped. Dropping it flushes and
+/// finishes its turn, or leaves it if the turn has not come: that waits for nobody's turn. As a `WriteDevice` it
+/// counts the failures of its own `write_out` and `flush_out`, and states no bytes.
 pub struct SequentialWriter<W: Write + Drop, R: Wait + Drop> {
     turn: Turn<W, R>,
     failures: u64,
@@ -242,8 +243,8 @@ impl<W: Write + Drop, R: Wait + Drop> SequentialWriter<W, R> {
 }
 
 impl<W: Write + WriteDevice + Drop, R: Wait + Drop> SequentialWriter<W, R> {
-    /// Ends its turn with a text, which is written once the turn has come. It waits for no turn. Behind the last text of a closed
-    /// line the writer says that no byte follows.
+    /// Ends its turn with a text, which is written once the turn has come. It waits for no turn. Behind the last text
+    /// of a closed line the writer says that no byte follows.
     pub(crate) fn leave(self, text: Vec<u8>) {
         let Self { turn, failures: _ } = self;
         if let Some((held, text)) = turn.leave(text) {
@@ -251,8 +252,8 @@ impl<W: Write + WriteDevice + Drop, R: Wait + Drop> SequentialWriter<W, R> {
         }
     }
 
-    /// Ends its turn. What was written must have been flushed. It waits for no turn. Where it is the last of a closed line, the
-    /// writer says that no byte follows.
+    /// Ends its turn. What was written must have been flushed. It waits for no turn. Where it is the last of a closed
+    /// line, the writer says that no byte follows.
     pub(crate) fn pass(self) {
         let Self { turn, failures: _ } = self;
         let none = Vec::new(turn.alloc());
@@ -268,9 +269,10 @@ impl<W: Write + WriteDevice + Drop, R: Wait + Drop> SequentialWriter<W, R> {
 }
 
 impl<W: WriteDevice + Drop, R: Wait + Drop> SequentialWriter<Outlet<W>, R> {
-    /// Waits for its turn, flushes, and ends the output: behind what was written the writer says that no byte follows, and what a later
-    /// writer of its connection writes is lost. No further request is read from that. So a raw answer ends that states no length (RFC
-    /// 9112, section 6.3). The error is the flush's; the output ends as well.
+    /// Waits for its turn, flushes, and ends the output: behind what was written the writer says that no byte
+    /// follows, and what a later writer of its connection writes is lost. No further request is read from that. So a
+    /// raw answer ends that states no length (RFC 9112, section 6.3). The error is the flush's; the output ends as
+    /// well.
     pub fn close(self) -> io::Result<()> {
         let mut writer = self;
         writer.turn.close_line();

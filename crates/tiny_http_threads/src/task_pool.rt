@@ -35,8 +35,9 @@ pub enum Offered<J> {
     Back(J),
 }
 
-/// The jobs that wait for a worker, how many workers run and how many of these are idle, and whether the pool is closed.
-/// At most as many jobs wait as workers are idle, and at most as many are idle as run. A contract sees a `Pool`.
+/// The jobs that wait for a worker, how many workers run and how many of these are idle, and whether the pool is
+/// closed. At most as many jobs wait as workers are idle, and at most as many are idle as run. A contract sees a
+/// `Pool`.
 #[derive(Drop)]
 pub struct PoolState<J> {
     jobs: VecDeque<J>,
@@ -52,12 +53,14 @@ impl<J> Model for PoolState<J> {
 
     ghost view = { λ p. record { jobs = p.jobs.items; idle = p.idle; running = p.running; closed = p.is_closed } };
 
-    ghost invariant = { λ p. IsSound (record { jobs = p.jobs.items; idle = p.idle; running = p.running; closed = p.is_closed }) };
+    ghost invariant = { λ p. IsSound
+        (record { jobs = p.jobs.items; idle = p.idle; running = p.running; closed = p.is_closed }) };
 }
 
 impl<J> PoolState<J> {
     ghost use Rattle.std.specs.Prelude.{true};
-    ghost use Rattle.tiny_http_threads.specs.Pool.{IsSound, new_pool, Offers, NotStarted, TakesJob, Rests, Wakes, EndsIdle};
+    ghost use Rattle.tiny_http_threads.specs.Pool.{IsSound, new_pool, Offers, NotStarted, TakesJob, Rests, Wakes};
+    ghost use Rattle.tiny_http_threads.specs.Pool.{EndsIdle};
 
     /// A pool of `running` workers, none of them idle. Nothing waits.
     pub fn new(alloc: Global, running: usize) -> PoolState<J>
@@ -71,8 +74,8 @@ impl<J> PoolState<J> {
         }
     }
 
-    /// Takes a job. Where more workers are idle than jobs wait, it waits, or comes back if room for it was refused. Else it
-    /// is to start on a new worker, which counts as running from now on, or comes back if 2^64 - 1 run.
+    /// Takes a job. Where more workers are idle than jobs wait, it waits, or comes back if room for it was refused.
+    /// Else it is to start on a new worker, which counts as running from now on, or comes back if 2^64 - 1 run.
     pub fn offer(&mut self, job: J) -> Offered<J>
         ensures sound { IsSound self.new }
         ensures offers { Offers self.old job result self.new }
@@ -120,8 +123,8 @@ impl<J> PoolState<J> {
         may_rest
     }
 
-    /// Takes the front job for an idle worker, which is idle no more. `None`, and nothing has changed, where no job waits;
-    /// so it is where no worker is idle.
+    /// Takes the front job for an idle worker, which is idle no more. `None`, and nothing has changed, where no job
+    /// waits; so it is where no worker is idle.
     pub fn wake(&mut self) -> Option<J>
         ensures sound { IsSound self.new }
         ensures wakes { Wakes self.old result self.new }
@@ -131,8 +134,8 @@ impl<J> PoolState<J> {
         Some(job)
     }
 
-    /// An idle worker ends. False, and nothing has changed, where none is idle, a job waits, or at most `MIN_THREADS` run
-    /// and the pool isn't closed.
+    /// An idle worker ends. False, and nothing has changed, where none is idle, a job waits, or at most `MIN_THREADS`
+    /// run and the pool isn't closed.
     pub fn give_up(&mut self) -> bool
         ensures sound { IsSound self.new }
         ensures gives_up { EndsIdle self.old result self.new }
@@ -248,9 +251,9 @@ fn work_unless<J: Job + Drop, R: Wait + Clock + Drop>(
     None
 }
 
-/// Workers that run jobs: four, and one more for each job for which no idle worker is left. One above the four that was idle
-/// for 5,000 ms ends. A dropped pool is closed: its workers run the jobs that wait, and end. What a call did to the pool no
-/// contract here says.
+/// Workers that run jobs: four, and one more for each job for which no idle worker is left. One above the four that
+/// was idle for 5,000 ms ends. A dropped pool is closed: its workers run the jobs that wait, and end. What a call did
+/// to the pool no contract here says.
 pub struct TaskPool<J: Drop, R: Wait + Drop> {
     rt: R,
     sharing: Arc<Sharing<J>>,
@@ -260,8 +263,8 @@ impl<J: Job + Drop + Send + 'static, R: Threads + Wait + Clock + Copy + Send + '
     J,
     R,
 > {
-    /// Starts four workers. An error is of kind `OutOfMemory`, or `WouldBlock` where a thread could not be made; the pool is
-    /// closed then, so that those that were started end.
+    /// Starts four workers. An error is of kind `OutOfMemory`, or `WouldBlock` where a thread could not be made; the
+    /// pool is closed then, so that those that were started end.
     pub fn new(rt: R, alloc: Global) -> io::Result<TaskPool<J, R>>
         ensures { IfErr result (λ e. (error_kind e ≡ ErrorKind.OutOfMemory) ⊎ (error_kind e ≡ ErrorKind.WouldBlock)) }
     {
@@ -303,8 +306,8 @@ impl<J: Job + Drop + Send + 'static, R: Threads + Wait + Clock + Copy + Send + '
         }
     }
 
-    // Starts a worker with a job. Where no thread could be made its closure comes back, which has the job: called with the
-    // mark set, it gives the job back in place of running it.
+    // Starts a worker with a job. Where no thread could be made its closure comes back, which has the job: called
+    // with the mark set, it gives the job back in place of running it.
     fn start(&self, rt: R, alloc: Global, job: J) -> Result<(), J>
         ensures { IfErr result (λ back. back ≡ job) }
     {

@@ -1,4 +1,5 @@
-//! The turn of a sequential reader or writer, for a request that sees to its own: `tiny_http` doesn't name this module again.
+//! The turn of a sequential reader or writer, for a request that sees to its own: `tiny_http` doesn't name this
+//! module again.
 use crate::sequential::{SequentialReader, SequentialWriter, SequentialWriterBuilder};
 use std::alloc::AllocError;
 use std::io::{Read, Write};
@@ -18,8 +19,8 @@ pub fn held_reader<I: Read + Drop, R: Wait + Drop>(
     reader.held()
 }
 
-/// The next writer; none once `end_behind_writer` was called for one of them. An error where memory was refused, or 2^64 - 1
-/// writers were given out.
+/// The next writer; none once `end_behind_writer` was called for one of them. An error where memory was refused, or
+/// 2^64 - 1 writers were given out.
 pub fn next_writer<W: Write + Drop, R: Wait + Copy>(
     builder: &mut SequentialWriterBuilder<W, R>,
 ) -> Result<Option<SequentialWriter<W, R>>, AllocError> {
@@ -67,9 +68,10 @@ pub fn hold_writer<W: Write + Drop, R: Wait + Drop>(writer: &mut SequentialWrite
     writer.hold()
 }
 
-/// Ends the turn of this writer with a text, which is written and flushed once the turn has come. It waits for no turn. Behind the
-/// text of the last writer (`is_last_writer`) `end_out` says that no byte follows, also where the line was closed only after this
-/// call. It doesn't where the text is written as a `SequentialWriter` before it is dropped.
+/// Ends the turn of this writer with a text, which is written and flushed once the turn has come. It waits for no
+/// turn. Behind the text of the last writer (`is_last_writer`) `end_out` says that no byte follows, also where the
+/// line was closed only after this call. It doesn't where the text is written as a `SequentialWriter` before it is
+/// dropped.
 pub fn leave_writer<W: Write + WriteDevice + Drop, R: Wait + Drop>(
     writer: SequentialWriter<W, R>,
     text: Vec<u8>,
@@ -77,8 +79,8 @@ pub fn leave_writer<W: Write + WriteDevice + Drop, R: Wait + Drop>(
     writer.leave(text);
 }
 
-/// Ends the turn of this writer, and flushes nothing: the caller has flushed what it wrote. It waits for no turn. Where it is the
-/// last writer (`is_last_writer`), `end_out` says before that no byte follows.
+/// Ends the turn of this writer, and flushes nothing: the caller has flushed what it wrote. It waits for no turn.
+/// Where it is the last writer (`is_last_writer`), `end_out` says before that no byte follows.
 pub fn pass_writer<W: Write + WriteDevice + Drop, R: Wait + Drop>(writer: SequentialWriter<W, R>) {
     writer.pass();
 }

@@ -20,22 +20,28 @@ FinishesNumber T N = T → N → Option (Vec ℕ) → T → N → Type 0
 
 -- a text is written, and the numbers stay
 abbrev pub WritesText : {T N O : Type 0} → Writes T O → Holds T N O → List ℕ → Holds T N O → Type 0
-WritesText writes here text there = writes here.turn here.output text there.turn there.output × (there.numbers ≡ here.numbers)
+WritesText writes here text there =
+    writes here.turn here.output text there.turn there.output × (there.numbers ≡ here.numbers)
 
 -- a number is finished, and nothing is written
 abbrev pub FinishesOne : {T N O : Type 0} → FinishesNumber T N → Holds T N O → Option (Vec ℕ) → Holds T N O → Type 0
-FinishesOne finishes here left there = finishes here.turn here.numbers left there.turn there.numbers × (there.output ≡ here.output)
+FinishesOne finishes here left there =
+    finishes here.turn here.numbers left there.turn there.numbers × (there.output ≡ here.output)
 
 -- this text is written, and those of so many numbers behind it that had been left
-abbrev pub WritesTexts : {T N O : Type 0} → Writes T O → FinishesNumber T N → ℕ → Holds T N O → List ℕ → Holds T N O → Type 0
+abbrev pub WritesTexts : {T N O : Type 0} → Writes T O → FinishesNumber T N → ℕ → Holds T N O → List ℕ → Holds T N O
+    → Type 0
 WritesTexts writes finishes zero here text there = WritesText writes here text there
 WritesTexts {T = T} {N = N} {O = O} writes finishes (suc n) here text there =
     (held : Holds T N O) × (left : Vec ℕ) × (next : Holds T N O)
-    × WritesTexts writes finishes n here text held × FinishesOne finishes held (Some left) next × WritesText writes next left.items there
+    × WritesTexts writes finishes n here text held
+    × FinishesOne finishes held (Some left) next
+    × WritesText writes next left.items there
 
--- A TURN PASSES ON, with this text and with those that waited directly behind it, until the next number had not been left. After 2^64
--- numbers it stays where it is.
-pub record PassesOn {T N O : Type 0} (writes : Writes T O) (finishes : FinishesNumber T N) (here : Holds T N O) (text : List ℕ) (there : Holds T N O) : Type 0 where
+-- A TURN PASSES ON, with this text and with those that waited directly behind it, until the next number had not been
+-- left. After 2^64 numbers it stays where it is.
+pub record PassesOn {T N O : Type 0} (writes : Writes T O) (finishes : FinishesNumber T N) (here : Holds T N O)
+    (text : List ℕ) (there : Holds T N O) : Type 0 where
   pub passed : ℕ
   pub last : Holds T N O
   pub texts : WritesTexts writes finishes passed here text last

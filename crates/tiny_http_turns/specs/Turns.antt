@@ -1,7 +1,8 @@
 -- THE TURN MACHINE: numbers that have one item in turn.
 use Prim.Native.Nat.{suc}
 use Rattle.std.specs.Global.{Vec}
-use Rattle.std.specs.Prelude.{◌≡◌, ℕ, Bool, true, false, not, List, [], ◌∷◌, ◌++◌, length, map, replicate, Option, Some, None, is_some, slice_get, slice_set, ◌==◌, if◌then◌else◌}
+use Rattle.std.specs.Prelude.{◌≡◌, ℕ, Bool, true, false, not, List, [], ◌∷◌, ◌++◌, length, map, replicate, Option}
+use Rattle.std.specs.Prelude.{Some, None, is_some, slice_get, slice_set, ◌==◌, if◌then◌else◌}
 use Rattle.tiny_http_turns.specs.declared.turns.Entry.{Entry}
 use Rattle.tiny_http_turns.specs.declared.turns.Entry.TheVariants.{Open as IsOpen, Held as IsHeld, Left as IsLeft}
 
@@ -132,7 +133,9 @@ finish_at (Some Finished) k marks = (Strange, marks)
 -- an open number is left with a text, or is held where its turn has come
 abbrev pub leave_at : Option Mark → ℕ → List ℕ → List Mark → TurnOutcome
 leave_at None k text marks = (Strange, marks)
-leave_at (Some Open) k text marks = if k == first_unfinished marks then (Goes k text, slice_set marks k Held) else (Waits, slice_set marks k (Left text))
+leave_at (Some Open) k text marks =
+    if k == first_unfinished marks then (Goes k text, slice_set marks k Held)
+    else (Waits, slice_set marks k (Left text))
 leave_at (Some Held) k text marks = (Strange, marks)
 leave_at (Some (Left was)) k text marks = (Strange, marks)
 leave_at (Some Finished) k text marks = (Strange, marks)

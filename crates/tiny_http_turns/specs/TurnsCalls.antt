@@ -3,9 +3,11 @@ use Rattle.std.specs.Global.{Vec}
 use Rattle.std.specs.Prelude.{◌≡◌, ℕ, [], Option, Some, None, IsSome, Result, Ok, Err}
 use Rattle.tiny_http_turns.specs.Turns.{TurnsState, TurnAnswer, Taken, Opened, Passed, Waits, Goes, Strange}
 use Rattle.tiny_http_turns.specs.declared.turns.Finishing.{Finishing}
-use Rattle.tiny_http_turns.specs.declared.turns.Finishing.TheVariants.{Passed as IsPassed, Go as FinishGo, Strange as FinishStrange}
+use Rattle.tiny_http_turns.specs.declared.turns.Finishing.TheVariants.{Passed as IsPassed, Go as FinishGo}
+use Rattle.tiny_http_turns.specs.declared.turns.Finishing.TheVariants.{Strange as FinishStrange}
 use Rattle.tiny_http_turns.specs.declared.turns.Leaving.{Leaving}
-use Rattle.tiny_http_turns.specs.declared.turns.Leaving.TheVariants.{Left as IsLeft, Go as LeaveGo, Strange as LeaveStrange}
+use Rattle.tiny_http_turns.specs.declared.turns.Leaving.TheVariants.{Left as IsLeft, Go as LeaveGo}
+use Rattle.tiny_http_turns.specs.declared.turns.Leaving.TheVariants.{Strange as LeaveStrange}
 
 module _ {T : Type 0} where
   -- no number is issued, and the item rests here

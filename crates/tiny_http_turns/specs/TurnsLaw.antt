@@ -2,7 +2,9 @@
 use Prim.Native.Nat.{zero, suc}
 use Rattle.std.specs.Prelude.{ℕ, List, [], ◌∷◌, ◌++◌, Option, Some, None, ◌==◌, if◌then◌else◌}
 use Rattle.std.specs.List.{list_any}
-use Rattle.tiny_http_turns.specs.Turns.{Mark, Open, Held, Left, Finished, TurnStep, Issue, Take, PutBack, Finish, Leave, TurnAnswer, Issued, Taken, Opened, Passed, Waits, Goes, Strange, turn_answer, marks_after_step}
+use Rattle.tiny_http_turns.specs.Turns.{Mark, Open, Held, Left, Finished, TurnStep, Issue, Take, PutBack, Finish}
+use Rattle.tiny_http_turns.specs.Turns.{Leave, TurnAnswer, Issued, Taken, Opened, Passed, Waits, Goes, Strange}
+use Rattle.tiny_http_turns.specs.Turns.{turn_answer, marks_after_step}
 
 -- the marks after these steps, one after another
 abbrev pub marks_after : List TurnStep → List Mark → List Mark
@@ -25,7 +27,8 @@ with_new seen (n ∷ ns) = with_new (if list_any (λ m. m == n) seen then seen e
 -- the numbers that are ever held, in the order in which each is first held, after those seen before
 abbrev pub first_held : List ℕ → List TurnStep → List Mark → List ℕ
 first_held seen [] marks = seen
-first_held seen (step ∷ steps) marks = first_held (with_new seen (held_from 0 (marks_after_step step marks))) steps (marks_after_step step marks)
+first_held seen (step ∷ steps) marks =
+    first_held (with_new seen (held_from 0 (marks_after_step step marks))) steps (marks_after_step step marks)
 
 -- 0, 1, 2 and so on
 abbrev pub numbers_below : ℕ → List ℕ
@@ -45,7 +48,8 @@ text_out n Strange = []
 -- all of them, in order
 abbrev pub texts_out : ℕ → List TurnStep → List Mark → List (List ℕ)
 texts_out n [] marks = []
-texts_out n (step ∷ steps) marks = text_out n (turn_answer step marks) ++ texts_out n steps (marks_after_step step marks)
+texts_out n (step ∷ steps) marks =
+    text_out n (turn_answer step marks) ++ texts_out n steps (marks_after_step step marks)
 
 -- the text with which the number is left, if that is not refused
 abbrev pub text_left : ℕ → TurnStep → TurnAnswer → List (List ℕ)
@@ -64,7 +68,8 @@ text_left n (Leave k text) Strange = []
 -- all of them, in order
 abbrev pub texts_left : ℕ → List TurnStep → List Mark → List (List ℕ)
 texts_left n [] marks = []
-texts_left n (step ∷ steps) marks = text_left n step (turn_answer step marks) ++ texts_left n steps (marks_after_step step marks)
+texts_left n (step ∷ steps) marks =
+    text_left n step (turn_answer step marks) ++ texts_left n steps (marks_after_step step marks)
 
 -- the text that waits at a mark
 abbrev pub text_waiting : Option Mark → List (List ℕ)

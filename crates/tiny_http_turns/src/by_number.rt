@@ -1,5 +1,6 @@
 //! Values under numbers. Nothing is kept of the numbers in front that have none.
-ghost use Rattle.std.specs.Prelude.{◌≡◌, ◌+◌, ◌-◌, ◌^◌, ◌<◌, ◌↔◌, ◌++◌, ◌∷◌, [], length, Some, None, Err, OnOk, OnErr, IfSome, IfNone, slice_get, slice_set};
+ghost use Rattle.std.specs.Prelude.{◌≡◌, ◌+◌, ◌-◌, ◌^◌, ◌<◌, ◌↔◌, ◌++◌, ◌∷◌, [], length, Some, None, Err, OnOk};
+ghost use Rattle.std.specs.Prelude.{OnErr, IfSome, IfNone, slice_get, slice_set};
 ghost use Rattle.std.specs.Option.{option_to_list};
 ghost use Rattle.tiny_http_turns.specs.ByNumber.{with_passed, BeginsWithValue, value_of};
 ghost use Rattle.tiny_http_turns.specs.declared.turns.TurnsError.TheVariants.{Exhausted};
@@ -10,8 +11,8 @@ use std::collections::VecDeque;
 use std::marker::Model;
 use std::mem;
 
-/// A queue of optional values, numbered from 0. The numbers before the first value are only counted. A contract sees an entry
-/// for each number.
+/// A queue of optional values, numbered from 0. The numbers before the first value are only counted. A contract sees
+/// an entry for each number.
 #[derive(Drop)]
 pub struct ByNumber<T> {
     // The numbers from `passed` on. The first of them has a value.
@@ -62,8 +63,8 @@ impl<T: Drop> ByNumber<T> {
         }
     }
 
-    /// Puts this under the next number. An error changes nothing: `Exhausted` where there are 2^64 - 1 numbers, and only
-    /// there; `Memory` where room for it was refused.
+    /// Puts this under the next number. An error changes nothing: `Exhausted` where there are 2^64 - 1 numbers, and
+    /// only there; `Memory` where room for it was refused.
     #[inline(always)]
     pub fn push(&mut self, value: Option<T>) -> Result<(), TurnsError>
         ensures ok { OnOk result (self.new ≡ self.old ++ (value ∷ [])) }
@@ -94,11 +95,12 @@ impl<T: Drop> ByNumber<T> {
         Some(None)
     }
 
-    /// Puts this in the place of the value under a number, and gives that value. Where there is none nothing changes, and
-    /// what was handed in is dropped.
+    /// Puts this in the place of the value under a number, and gives that value. Where there is none nothing changes,
+    /// and what was handed in is dropped.
     #[inline(always)]
     pub fn replace(&mut self, number: u64, value: Option<T>) -> Option<T>
-        ensures some { IfSome result (λ was. (slice_get self.old number ≡ Some (Some was)) × (self.new ≡ slice_set self.old number value)) }
+        ensures some { IfSome result (λ was. (slice_get self.old number ≡ Some (Some was))
+            × (self.new ≡ slice_set self.old number value)) }
         ensures none { IfNone result ((value_of (slice_get self.old number) ≡ None) × (self.new ≡ self.old)) }
     {
         let at = number.checked_sub(self.passed)?;
@@ -111,7 +113,8 @@ impl<T: Drop> ByNumber<T> {
 // Puts this in the place of the value that is kept here, and gives that value. Where there is none nothing changes.
 #[inline(always)]
 fn exchange<T: Drop>(kept: &mut VecDeque<Option<T>>, at: usize, value: Option<T>) -> Option<T>
-    ensures some { IfSome result (λ was. (slice_get kept.old.items at ≡ Some (Some was)) × (kept.new.items ≡ slice_set kept.old.items at value)) }
+    ensures some { IfSome result (λ was. (slice_get kept.old.items at ≡ Some (Some was))
+        × (kept.new.items ≡ slice_set kept.old.items at value)) }
     ensures none { IfNone result ((value_of (slice_get kept.old.items at) ≡ None) × (kept.new.items ≡ kept.old.items)) }
 {
     let entry = kept.get_mut(at)?;

@@ -1,7 +1,8 @@
 //! The law of turns, the contract of a function that does nothing.
 ghost use Rattle.std.specs.Prelude.{◌≡◌, ◌<◌, ◌++◌, ℕ, List, [], length, Some, slice_get};
 ghost use Rattle.tiny_http_turns.specs.Turns.{Held, Finished, TurnStep, Goes, turn_answer, marks_after_step};
-ghost use Rattle.tiny_http_turns.specs.TurnsLaw.{marks_after, first_held, numbers_below, texts_out, texts_left, text_waiting};
+ghost use Rattle.tiny_http_turns.specs.TurnsLaw.{marks_after, first_held, numbers_below, texts_out, texts_left};
+ghost use Rattle.tiny_http_turns.specs.TurnsLaw.{text_waiting};
 
 /// What every list of steps of a `Turns` comes to, from a new one on.
 ///
@@ -13,8 +14,17 @@ ghost use Rattle.tiny_http_turns.specs.TurnsLaw.{marks_after, first_held, number
 /// - `in_turn`: once all numbers before it are finished, each text of a number has come out.
 pub fn turns_pass_in_order()
     ensures order { (steps : List TurnStep) → let held = first_held [] steps [] in held ≡ numbers_below (length held) }
-    ensures one_at_a_time { (steps : List TurnStep) (early late : ℕ) → early < late → slice_get (marks_after steps []) late ≡ Some Held → slice_get (marks_after steps []) early ≡ Some Finished }
-    ensures once { (steps : List TurnStep) (n : ℕ) → texts_out n steps [] ++ text_waiting (slice_get (marks_after steps []) n) ≡ texts_left n steps [] }
-    ensures held { (steps : List TurnStep) (step : TurnStep) (n : ℕ) (text : List ℕ) → let marks = marks_after steps [] in turn_answer step marks ≡ Goes n text → (slice_get marks n ≡ Some Held → ⊥) × (slice_get (marks_after_step step marks) n ≡ Some Held) }
-    ensures in_turn { (steps : List TurnStep) (n : ℕ) → ((early : ℕ) → early < n → slice_get (marks_after steps []) early ≡ Some Finished) → texts_out n steps [] ≡ texts_left n steps [] }
+    ensures one_at_a_time { (steps : List TurnStep) (early late : ℕ)
+        → early < late
+        → slice_get (marks_after steps []) late ≡ Some Held
+        → slice_get (marks_after steps []) early ≡ Some Finished }
+    ensures once { (steps : List TurnStep) (n : ℕ)
+        → texts_out n steps [] ++ text_waiting (slice_get (marks_after steps []) n) ≡ texts_left n steps [] }
+    ensures held { (steps : List TurnStep) (step : TurnStep) (n : ℕ) (text : List ℕ)
+        → let marks = marks_after steps [] in
+        turn_answer step marks ≡ Goes n text
+        → (slice_get marks n ≡ Some Held → ⊥) × (slice_get (marks_after_step step marks) n ≡ Some Held) }
+    ensures in_turn { (steps : List TurnStep) (n : ℕ)
+        → ((early : ℕ) → early < n → slice_get (marks_after steps []) early ≡ Some Finished)
+        → texts_out n steps [] ≡ texts_left n steps [] }
 {}

@@ -1,6 +1,9 @@
 //! One item, and numbers that have it in turn.
-ghost use Rattle.std.specs.Prelude.{◌≡◌, ◌+◌, ◌-◌, ◌^◌, ◌<◌, ◌↔◌, length, map, IfOk, OnOk, OnErr, IsSome, IsTrue, slice_get, slice_set, Some};
-ghost use Rattle.tiny_http_turns.specs.Turns.{Issue, Take, PutBack, Finish, Leave, Issued, Open, Held, first_unfinished, mark_of, marks_after_step, turn_answer, pass_to, ReportsPass};
+ghost use Rattle.std.specs.Prelude.{◌≡◌, ◌+◌, ◌-◌, ◌^◌, ◌<◌, ◌↔◌, length, map, IfOk, OnOk, OnErr, IsSome, IsTrue};
+ghost use Rattle.std.specs.Prelude.{slice_get, slice_set, Some};
+ghost use Rattle.tiny_http_turns.specs.Turns.{Issue, Take, PutBack, Finish, Leave, Issued, Open, Held};
+ghost use Rattle.tiny_http_turns.specs.Turns.{first_unfinished, mark_of, marks_after_step, turn_answer, pass_to};
+ghost use Rattle.tiny_http_turns.specs.Turns.{ReportsPass};
 
 use std::alloc::Global;
 use std::collections::VecDeque;
@@ -24,8 +27,8 @@ pub enum TurnsError {
 pub enum Finishing<T> {
     /// It is finished. The item rests here, for the next number that takes it.
     Passed,
-    /// It is finished, and the next number, which was left, is held: the item, and the text that it was left with, which
-    /// is to be written before that number is finished.
+    /// It is finished, and the next number, which was left, is held: the item, and the text that it was left with,
+    /// which is to be written before that number is finished.
     Go(T, Vec<u8>),
     /// The number isn't held. The item comes back, and nothing has changed.
     Strange(T),
@@ -54,9 +57,9 @@ enum Entry {
     Left(Vec<u8>),
 }
 
-/// An item, as the output of a connection, that numbers from 0 on have in turn: each once all before it are finished. No
-/// call waits, and but for `issue` none takes memory. Nothing is kept of a finished number. A contract sees one mark a number,
-/// and the item where it rests.
+/// An item, as the output of a connection, that numbers from 0 on have in turn: each once all before it are finished.
+/// No call waits, and but for `issue` none takes memory. Nothing is kept of a finished number. A contract sees one
+/// mark a number, and the item where it rests.
 #[derive(Drop)]
 pub struct Turns<T> {
     // The numbers from `turn` on; all before it are finished.
@@ -73,7 +76,8 @@ impl<T> Model for Turns<T> {
 
     ghost view = { λ t. record { marks = marks_of t.turn t.entries.items; resting = t.resting } };
 
-    ghost invariant = { λ t. IsInOrder (record { marks = marks_of t.turn t.entries.items; resting = t.resting }) × (t.turn + length t.entries.items < 2 ^ 64) };
+    ghost invariant = { λ t. IsInOrder (record { marks = marks_of t.turn t.entries.items; resting = t.resting })
+        × (t.turn + length t.entries.items < 2 ^ 64) };
 }
 
 impl<T: Drop> Turns<T> {
@@ -92,8 +96,8 @@ impl<T: Drop> Turns<T> {
         }
     }
 
-    /// Issues the next number, from 0. An error changes nothing: `Exhausted` where 2^64 - 1 numbers were issued, and only
-    /// there; `Memory` where room for the number's mark was refused.
+    /// Issues the next number, from 0. An error changes nothing: `Exhausted` where 2^64 - 1 numbers were issued, and
+    /// only there; `Memory` where room for the number's mark was refused.
     pub fn issue(&mut self) -> Result<u64, TurnsError>
         ensures in_order { IsInOrder self.new }
         ensures number { IfOk result (λ n. turn_answer Issue self.old.marks ≡ Issued n) }
@@ -112,13 +116,14 @@ impl<T: Drop> Turns<T> {
         }
     }
 
-    /// Holds the number, and gives the item, if the number is the first unfinished one and open. `None` else, and nothing
-    /// has changed.
+    /// Holds the number, and gives the item, if the number is the first unfinished one and open. `None` else, and
+    /// nothing has changed.
     pub fn take(&mut self, number: u64) -> Option<T>
         ensures in_order { IsInOrder self.new }
         ensures marks { self.new.marks ≡ marks_after_step (Take number) self.old.marks }
         ensures item { TakesTurn (turn_answer (Take number) self.old.marks) self.old.resting result self.new.resting }
-        ensures held { IsSome result ↔ ((slice_get self.old.marks number ≡ Some Open) × (number ≡ first_unfinished self.old.marks)) }
+        ensures held { IsSome result ↔ ((slice_get self.old.marks number ≡ Some Open)
+            × (number ≡ first_unfinished self.old.marks)) }
     {
         if number == self.turn && is_open(&self.entries, 0) {
             set_entry(&mut self.entries, 0, Entry::Held);
@@ -133,7 +138,8 @@ impl<T: Drop> Turns<T> {
     pub fn put_back(&mut self, number: u64, item: T) -> Result<(), T>
         ensures in_order { IsInOrder self.new }
         ensures marks { self.new.marks ≡ marks_after_step (PutBack number) self.old.marks }
-        ensures item { PutsBack (turn_answer (PutBack number) self.old.marks) item self.old.resting result self.new.resting }
+        ensures item { PutsBack (turn_answer (PutBack number) self.old.marks) item self.old.resting result
+            self.new.resting }
     {
         if number != self.turn || !is_front_held(&self.entries) {
             return Err(item);
@@ -154,7 +160,8 @@ impl<T: Drop> Turns<T> {
     pub fn finish(&mut self, number: u64, item: T) -> Finishing<T>
         ensures in_order { IsInOrder self.new }
         ensures marks { self.new.marks ≡ marks_after_step (Finish number) self.old.marks }
-        ensures item { Finishes (turn_answer (Finish number) self.old.marks) item self.old.resting result self.new.resting }
+        ensures item { Finishes (turn_answer (Finish number) self.old.marks) item self.old.resting result
+            self.new.resting }
         // The number after it fits.
         ensures bound { length self.new.marks < 2 ^ 64 }
     {
@@ -176,7 +183,8 @@ impl<T: Drop> Turns<T> {
     pub fn leave(&mut self, number: u64, text: Vec<u8>) -> Leaving<T>
         ensures in_order { IsInOrder self.new }
         ensures marks { self.new.marks ≡ marks_after_step (Leave number text.items) self.old.marks }
-        ensures item { LeavesTurn (turn_answer (Leave number text.items) self.old.marks) self.old.resting result self.new.resting }
+        ensures item { LeavesTurn (turn_answer (Leave number text.items) self.old.marks) self.old.resting result
+            self.new.resting }
         ensures back { GivesBack result text }
     {
         if number < self.turn {
@@ -237,7 +245,8 @@ fn set_entry(entries: &mut VecDeque<Entry>, at: usize, entry: Entry)
 
 // Holds the first unfinished number, if it was left, and gives its text.
 fn hold_left(entries: &mut VecDeque<Entry>) -> Option<Vec<u8>>
-    ensures marks { let old = map mark_of entries.old.items in map mark_of entries.new.items ≡ (pass_to (slice_get old 0) 0 old).1 }
+    ensures marks { let old = map mark_of entries.old.items in
+        map mark_of entries.new.items ≡ (pass_to (slice_get old 0) 0 old).1 }
     ensures text { let old = map mark_of entries.old.items in ReportsPass (pass_to (slice_get old 0) 0 old).0 0 result }
 {
     let front = entries.front_mut()?;

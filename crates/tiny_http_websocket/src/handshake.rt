@@ -27,13 +27,16 @@ pub enum Handshake<R: ReadDevice + Drop, W: WriteDevice + Drop, Rt: Wait + Drop>
     Refused(RefusedUpgrade<R, W, Rt>),
 }
 
-/// The key that accepts a request for a WebSocket: the value of `Sec-WebSocket-Accept` (RFC 6455, section 4.2.2). None for any other
-/// request. One that asks is a `GET` in version 1.1 that asks for an upgrade to `websocket` (`Request::is_upgrade`, and the list of
-/// its `Upgrade` headers), whose `Sec-WebSocket-Version` is 13, and whose `Sec-WebSocket-Key` is one (RFC 6455, section 4.2.1).
+/// The key that accepts a request for a WebSocket: the value of `Sec-WebSocket-Accept` (RFC 6455, section 4.2.2).
+/// None for any other request. One that asks is a `GET` in version 1.1 that asks for an upgrade to `websocket`
+/// (`Request::is_upgrade`, and the list of its `Upgrade` headers), whose `Sec-WebSocket-Version` is 13, and whose
+/// `Sec-WebSocket-Key` is one (RFC 6455, section 4.2.1).
 pub fn accepting_key<R: ReadDevice + Drop, W: WriteDevice + Drop, Rt: Wait + Drop>(
     request: &Request<R, W, Rt>,
 ) -> Option<[u8; 28]>
-    ensures some { IfSome result (λ accepting. (key : List ℕ) × AsksForWebSocket (request_head request.now) key × (accepting ≡ accept_key_of key)) }
+    ensures some { IfSome result (λ accepting. (key : List ℕ)
+        × AsksForWebSocket (request_head request.now) key
+        × (accepting ≡ accept_key_of key)) }
     ensures none { IfNone result ((key : List ℕ) → AsksForWebSocket (request_head request.now) key → ⊥) }
 {
     let asks = *request.method() == Method::Get
@@ -48,8 +51,8 @@ pub fn accepting_key<R: ReadDevice + Drop, W: WriteDevice + Drop, Rt: Wait + Dro
     accept_key(key.as_bytes()).ok()
 }
 
-/// Makes a WebSocket of a request that asks for one: sends the 101, dated `now`, in its turn. Any other request is handed back. An
-/// error where memory was refused; the request is dropped then.
+/// Makes a WebSocket of a request that asks for one: sends the 101, dated `now`, in its turn. Any other request is
+/// handed back. An error where memory was refused; the request is dropped then.
 pub fn accept<R: ReadDevice + Drop, W: WriteDevice + Drop, Rt: Wait + Drop>(
     alloc: Global,
     request: Request<R, W, Rt>,
@@ -70,9 +73,9 @@ pub fn accept<R: ReadDevice + Drop, W: WriteDevice + Drop, Rt: Wait + Drop>(
     }
 }
 
-/// An answer to a request that isn't for a WebSocket of version 13: 426 with its phrase as its text, that says the version (RFC 6455,
-/// section 4.4), and offers the upgrade (RFC 9110, section 15.5.22), which an answer by the standard alone has. An error where memory
-/// was refused.
+/// An answer to a request that isn't for a WebSocket of version 13: 426 with its phrase as its text, that says the
+/// version (RFC 6455, section 4.4), and offers the upgrade (RFC 9110, section 15.5.22), which an answer by the
+/// standard alone has. An error where memory was refused.
 pub fn upgrade_required(alloc: Global) -> io::Result<Response<Cursor<Vec<u8>>>> {
     let response = Response::status(alloc, StatusCode(426))?;
     let response = response.with(alloc, "Sec-WebSocket-Version", "13")?;

@@ -1,7 +1,7 @@
 //! Sends each WebSocket message back: `websocket_echo ADDRESS`. Any other request is answered 426.
 //!
-//! The program shows an upgrade by `tiny_http_websocket`, frames by `tungstenite`, and `serve`, by which each connection has a thread:
-//! a WebSocket keeps its thread as long as it is open.
+//! The program shows an upgrade by `tiny_http_websocket`, frames by `tungstenite`, and `serve`, by which each
+//! connection has a thread: a WebSocket keeps its thread as long as it is open.
 #![tactic(auto)]
 
 use std::alloc::Global;

@@ -6,8 +6,8 @@ use std::test::Fail;
 use std::time::Clock;
 use tiny_http::{Handler, Header, Recorder, TestRequest, current_date};
 
-// The request and the answer of RFC 6455, section 1.2, and the frames of its section 5.7: a client's masked `Hello`, and the server's
-// own. Then each side closes.
+// The request and the answer of RFC 6455, section 1.2, and the frames of its section 5.7: a client's masked `Hello`,
+// and the server's own. Then each side closes.
 const ASKED: &[&str] = &[
     "Host: server.example.com",
     "Upgrade: websocket",

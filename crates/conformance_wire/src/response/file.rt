@@ -44,11 +44,13 @@ impl OpenFile for Stand {
 }
 
 const HELLO: &str =
-    "HTTP/1.1 200 OK\r\nServer: tiny-http (Rust)\r\nDate: Wed, 04 May 1983 11:17:00 GMT\r\nContent-Length: 5\r\n\r\nhello";
+    "HTTP/1.1 200 OK\r\nServer: tiny-http (Rust)\r\nDate: Wed, 04 May 1983 11:17:00 GMT\r\nContent-Length: 5\r\n\r\n\
+        hello";
 
 // Without a length.
 const HELLO_IN_CHUNKS: &str =
-    "HTTP/1.1 200 OK\r\nServer: tiny-http (Rust)\r\nDate: Wed, 04 May 1983 11:17:00 GMT\r\nTransfer-Encoding: chunked\r\n\r\n5\r\nhello\r\n0\r\n\r\n";
+    "HTTP/1.1 200 OK\r\nServer: tiny-http (Rust)\r\nDate: Wed, 04 May 1983 11:17:00 GMT\r\n\
+        Transfer-Encoding: chunked\r\n\r\n5\r\nhello\r\n0\r\n\r\n";
 
 #[test]
 fn a_file_by_its_metadata(rt: HostRuntime) -> Result<(), Fail> {

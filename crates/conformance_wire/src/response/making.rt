@@ -74,7 +74,8 @@ fn not_allowed(alloc: Global, allowed: &str) -> io::Result<Response<Cursor<Vec<u
 }
 
 const NOT_ALLOWED: &str =
-    "HTTP/1.1 405 Method Not Allowed\r\nServer: tiny-http (Rust)\r\nDate: Wed, 04 May 1983 11:17:00 GMT\r\nContent-Type: text/plain\r\nAllow: GET, HEAD\r\nContent-Length: 22\r\n\r\n405 Method Not Allowed";
+    "HTTP/1.1 405 Method Not Allowed\r\nServer: tiny-http (Rust)\r\nDate: Wed, 04 May 1983 11:17:00 GMT\r\n\
+        Content-Type: text/plain\r\nAllow: GET, HEAD\r\nContent-Length: 22\r\n\r\n405 Method Not Allowed";
 
 #[test]
 fn an_answer_with_headers_of_texts(rt: HostRuntime) -> Result<(), Fail> {
@@ -156,7 +157,8 @@ fn answers_without_content(rt: HostRuntime) -> Result<(), Fail> {
 }
 
 const EMPTY: &str =
-    "HTTP/1.1 304 Not Modified\r\nServer: tiny-http (Rust)\r\nDate: Wed, 04 May 1983 11:17:00 GMT\r\nContent-Length: 0\r\n\r\n";
+    "HTTP/1.1 304 Not Modified\r\nServer: tiny-http (Rust)\r\nDate: Wed, 04 May 1983 11:17:00 GMT\r\n\
+        Content-Length: 0\r\n\r\n";
 
 const OK: &str =
     "HTTP/1.1 200 OK\r\nServer: tiny-http (Rust)\r\nDate: Wed, 04 May 1983 11:17:00 GMT\r\nContent-Length: 0\r\n\r\n";

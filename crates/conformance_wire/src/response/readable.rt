@@ -1,4 +1,5 @@
-//! Headers that a client reads as they were meant, and headers that it doesn't (RFC 9110, section 5.5; RFC 9112, section 5).
+//! Headers that a client reads as they were meant, and headers that it doesn't (RFC 9110, section 5.5; RFC 9112,
+//! section 5).
 use crate::same::assert_same;
 use std::alloc::Global;
 use std::io;

@@ -2,7 +2,8 @@
 ghost use Rattle.std.specs.Prelude.{◌≡◌, [], ◌∷◌, IfOk, IfErr, OnErr};
 ghost use Rattle.tiny_http_io.specs.Device.{prepended};
 ghost use Rattle.tiny_http_body.specs.ChunkSize.{SizeFits};
-ghost use Rattle.tiny_http_body.specs.ChunkLine.{said_step, is_trailer_said, scan_step, breaks_line, OneLine, NoLine, CutBy};
+ghost use Rattle.tiny_http_body.specs.ChunkLine.{said_step, is_trailer_said, scan_step, breaks_line, OneLine, NoLine};
+ghost use Rattle.tiny_http_body.specs.ChunkLine.{CutBy};
 
 use crate::chunked::field::Field;
 use crate::chunked::size::Size;
@@ -116,9 +117,9 @@ fn breaks_line(rules: ChunkRules, b: u8) -> bool
     }
 }
 
-/// Takes the next line and its CR LF, if that begins behind at most `LONGEST_LINE` bytes. If none begins there, and two bytes
-/// more than so many follow, it is a fault of kind InvalidData; with fewer the stop is reported. By the standard an LF without a
-/// CR in front of it is a fault of that kind as soon as it was read.
+/// Takes the next line and its CR LF, if that begins behind at most `LONGEST_LINE` bytes. If none begins there, and
+/// two bytes more than so many follow, it is a fault of kind InvalidData; with fewer the stop is reported. By the
+/// standard an LF without a CR in front of it is a fault of that kind as soon as it was read.
 pub(crate) fn next_line<R: ReadDevice>(
     reader: &mut R,
     rules: ChunkRules,

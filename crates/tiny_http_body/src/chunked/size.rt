@@ -1,7 +1,8 @@
 //! The size that a size line gives, read byte by byte (RFC 9112, section 7.1).
 ghost use Rattle.std.specs.Prelude.{◌≡◌, ◌<◌, IfSome};
 ghost use Rattle.tiny_http_body.specs.Chunks.{is_bws};
-ghost use Rattle.tiny_http_body.specs.ChunkSize.{hex_of, digits_ended, size_step, standard_step, may_follow, size_value, SizeFits};
+ghost use Rattle.tiny_http_body.specs.ChunkSize.{hex_of, digits_ended, size_step, standard_step, may_follow};
+ghost use Rattle.tiny_http_body.specs.ChunkSize.{size_value, SizeFits};
 
 use httparse::is_header_value_token;
 
