@@ -2,7 +2,7 @@
 use crate::findings::{add, add_shown};
 use crate::row::Finding;
 use std::alloc::{AllocError, Global};
-use tiny_http_standard_head::heads::{HeadFault, HeadRead, read_head};
+use tiny_http_standard_head::heads::{StandardFault, StandardRead, read_head};
 use tiny_http_standard_head::hosts::{is_authority, is_host, is_host_value};
 use tiny_http_standard_head::judging::{HeadSummary, judge};
 use tiny_http_standard_head::lines::{parse_field_line, parse_request_line};
@@ -79,7 +79,12 @@ pub fn judge_head(
 ) -> Result<(), AllocError> {
     match judge(version, method, headers) {
         Ok(head) => add_head(alloc, to, head),
-        Err(refusal) => add_shown(alloc, to, "refused", &HeadFault::Judged(refusal).status()),
+        Err(refusal) => add_shown(
+            alloc,
+            to,
+            "refused",
+            &StandardFault::Judged(refusal).status(),
+        ),
     }
 }
 
@@ -92,10 +97,15 @@ pub fn read_first_head(
     to: &mut Vec<Finding>,
 ) -> Result<(), AllocError> {
     let head = match read_head(alloc, bytes, limit)? {
-        HeadRead::Whole(head) => head,
-        HeadRead::Refused(fault) => return add_shown(alloc, to, "refused", &fault.status()),
-        HeadRead::Unfinished { has_begun: true } => return add(alloc, to, "unfinished", b"begun"),
-        HeadRead::Unfinished { has_begun: false } => return add(alloc, to, "unfinished", b""),
+        StandardRead::Whole(head) => head,
+        StandardRead::Refused(fault) => return add_shown(alloc, to, "refused", &fault.status()),
+        StandardRead::Unfinished { has_begun: true } => return add(
+            alloc,
+            to,
+            "unfinished",
+            b"begun",
+        ),
+        StandardRead::Unfinished { has_begun: false } => return add(alloc, to, "unfinished", b""),
     };
     add_shown(alloc, to, "taken", &head.length)?;
     add(alloc, to, "method", head.method.as_str().as_bytes())?;

@@ -1,7 +1,7 @@
 //! The head of an answer, read alone (RFC 9112, sections 2.2, 4 and 5).
 use std::alloc::Global;
 use std::test::Fail;
-use tiny_http_client::answer_head::{AnswerHead, HeadFault, read_answer_head};
+use tiny_http_client::answer_head::{AnswerHead, AnswerHeadFault, read_answer_head};
 
 // The head that these bytes begin with, and its length.
 fn read(alloc: Global, bytes: &[u8]) -> Result<(AnswerHead, usize), Fail> {
@@ -36,15 +36,18 @@ fn a_head_is_unfinished_or_malformed(rt: HostRuntime) -> Result<(), Fail> {
     for (bytes, wanted) in [
         (b"".as_slice(), None),
         (b"HTTP/1.1 200 OK\r\nA: b\r\n", None),
-        (b"HTTP/2.0 200 OK\r\n\r\n", Some(HeadFault::Malformed)),
-        (b"HTTP/1.1 2000 OK\r\n\r\n", Some(HeadFault::Malformed)),
+        (b"HTTP/2.0 200 OK\r\n\r\n", Some(AnswerHeadFault::Malformed)),
+        (
+            b"HTTP/1.1 2000 OK\r\n\r\n",
+            Some(AnswerHeadFault::Malformed),
+        ),
         (
             b"HTTP/1.1 200 OK\r\nA b: c\r\n\r\n",
-            Some(HeadFault::Malformed),
+            Some(AnswerHeadFault::Malformed),
         ),
         (
             b"HTTP/1.1 200 OK\r\nA: \x80\r\n\r\n",
-            Some(HeadFault::Malformed),
+            Some(AnswerHeadFault::Malformed),
         ),
     ] {
         match read_answer_head(alloc, bytes) {

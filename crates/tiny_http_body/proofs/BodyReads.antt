@@ -9,8 +9,8 @@ use Rattle.tiny_http_io.specs.declared.device.Stop.{Stop}
 use Rattle.std.specs.declared.io.ErrorKind.{ErrorKind}
 use Rattle.tiny_http_io.specs.declared.device.Stop.TheVariants.{End, Fault}
 use Rattle.tiny_http_io.specs.Device.{Feed, prepended, prepend, StopsBy}
-use Rattle.tiny_http_body.specs.declared.body.Body.{Body}
-use Rattle.tiny_http_body.specs.declared.body.Body.TheVariants.{Over, WithHead, Counted, Chunked, Rest}
+use Rattle.tiny_http_body.specs.declared.body.UnreadBody.{UnreadBody}
+use Rattle.tiny_http_body.specs.declared.body.UnreadBody.TheVariants.{Over, WithHead, Counted, Chunked, Rest}
 use Rattle.tiny_http_io.specs.ToCome.{skipped, stopped}
 use Rattle.tiny_http_io.specs.FeedParts.{feed_front}
 use Rattle.tiny_http_body.specs.declared.chunked.ChunkRules.{ChunkRules}
@@ -84,7 +84,7 @@ nothing-read None bs e = refl
 nothing-read (Some r) bs e = rw e refl
 
 -- the input ended, or failed, in front of the last byte of a counted body: the body is over, and the input
-pub body-cut-is : (standard : Bool) (b : Body) (old mid new : Option Feed) (left : ℕ) (stop : Stop) → b ≡ Counted left standard → 0 < left → StopsBy stop old → mid ≡ old → new ≡ option_map (λ _. stopped End) mid
+pub body-cut-is : (standard : Bool) (b : UnreadBody) (old mid new : Option Feed) (left : ℕ) (stop : Stop) → b ≡ Counted left standard → 0 < left → StopsBy stop old → mid ≡ old → new ≡ option_map (λ _. stopped End) mid
     → remaining b old ≡ remaining (Over (cut_stop standard stop)) new
 body-cut-is standard b old mid new left stop e some stops same ends =
     let g : Option Feed → Option Remaining = λ o. option_map (taken_remaining (stopped (cut_stop standard stop))) (option_map (λ _. stopped End) o) in
@@ -95,7 +95,7 @@ pub cut-fault : (standard : Bool) (kind : ErrorKind) → cut_stop standard (Faul
 cut-fault true kind = refl
 cut-fault false kind = refl
 
-pub cut-stops : (standard : Bool) (b : Body) (old : Option Feed) (left : ℕ) (stop : Stop) → b ≡ Counted left standard → 0 < left → StopsBy stop old → BodyStops (cut_stop standard stop) (remaining b old)
+pub cut-stops : (standard : Bool) (b : UnreadBody) (old : Option Feed) (left : ℕ) (stop : Stop) → b ≡ Counted left standard → 0 < left → StopsBy stop old → BodyStops (cut_stop standard stop) (remaining b old)
 cut-stops standard b old left stop e some stops =
     taken-stops (cut_stop standard stop) (option_map (λ _. stopped End) old) (remaining b old) (ap (λ x. remaining x old) e ∙ counted-cut standard old left stop some stops)
 
@@ -103,9 +103,9 @@ pub read-nothing : (r q : Option Remaining) → r ≡ q → r ≡ prepended_body
 read-nothing r q e = e ∙ nothing-read q [] refl
 
 -- reads one after another
-pub reads-on : (a b c : Body) (m n : ℕ) (end_reported : Bool) → ReadsOn a m false b → ReadsOn b n end_reported c → ReadsOn a (m + n) end_reported c
+pub reads-on : (a b c : UnreadBody) (m n : ℕ) (end_reported : Bool) → ReadsOn a m false b → ReadsOn b n end_reported c → ReadsOn a (m + n) end_reported c
 reads-on (Over stop) b c m n end_reported h k =
-    let P : Body → Type 0 = λ x. ReadsOn x n end_reported c in
+    let P : UnreadBody → Type 0 = λ x. ReadsOn x n end_reported c in
     let l = subst P h.0 k in
     (l.0, omega (arith, h.1, l.1))
 reads-on (WithHead bytes) (WithHead more) c m n end_reported h k = k
@@ -113,7 +113,7 @@ reads-on (WithHead bytes) (Over stop) c m n end_reported h k = absurd h
 reads-on (WithHead bytes) (Counted left standard) c m n end_reported h k = absurd h
 reads-on (WithHead bytes) (Chunked d) c m n end_reported h k = absurd h
 reads-on (WithHead bytes) Rest c m n end_reported h k = absurd h
-reads-on Rest b c m n end_reported h k = let P : Body → Type 0 = λ x. ReadsOn x n end_reported c in subst P h k
+reads-on Rest b c m n end_reported h k = let P : UnreadBody → Type 0 = λ x. ReadsOn x n end_reported c in subst P h k
 reads-on (Chunked d) (Chunked more) c m n end_reported h k = let P : ChunkRules → Type 0 = λ r. MatchBool end_reported (IsBodyOver c) (IsChunkedBy r c) in subst P h k
 reads-on (Chunked d) (Over stop) c m n end_reported h k = absurd h
 reads-on (Chunked d) (Counted left standard) c m n end_reported h k = absurd h
@@ -124,18 +124,18 @@ reads-on (Counted left standard) b c m n end_reported h k = by (m == left) refl 
     by : (t : Bool) → (m == left) ≡ t → MatchBool t (IsBodyOver b) ((b ≡ Counted (left - m) standard) × (m < left)) → ReadsOn (Counted left standard) (m + n) end_reported c
     by true e h = over b e h k
       where
-        over : (b : Body) → (m == left) ≡ true → IsBodyOver b → ReadsOn b n end_reported c → ReadsOn (Counted left standard) (m + n) end_reported c
+        over : (b : UnreadBody) → (m == left) ≡ true → IsBodyOver b → ReadsOn b n end_reported c → ReadsOn (Counted left standard) (m + n) end_reported c
         over (Over stop) e h k =
             let all : ((m + n) == left) ≡ true = eq-eqb (m + n) left (omega (arith, eqb-true m left e, k.1)) in
             let P : Bool → Type 0 = λ t. MatchBool t (IsBodyOver c) ((c ≡ Counted (left - (m + n)) standard) × (m + n < left)) in
-            let over_now : IsBodyOver c = (let Q : Body → Type 0 = λ x. IsBodyOver x in subst Q (sym k.0) tt) in
+            let over_now : IsBodyOver c = (let Q : UnreadBody → Type 0 = λ x. IsBodyOver x in subst Q (sym k.0) tt) in
             subst P (sym (ap (λ x. end_reported || x) all ∙ or-true end_reported)) over_now
         over (WithHead bytes) e h k = absurd h
         over (Counted l standard) e h k = absurd h
         over (Chunked d) e h k = absurd h
         over Rest e h k = absurd h
     by false e h =
-        let P : Body → Type 0 = λ x. ReadsOn x n end_reported c in
+        let P : UnreadBody → Type 0 = λ x. ReadsOn x n end_reported c in
         let l = subst P h.0 k in
         more (end_reported || (n == (left - m))) refl l
       where
@@ -156,7 +156,7 @@ reads-on (Counted left standard) b c m n end_reported h k = by (m == left) refl 
             subst P (sym (ap (λ y. end_reported || y) (sym same) ∙ x)) (to t l)
 
 -- a body that isn't read from the input stays so
-pub stays-settled : (a b : Body) (n : ℕ) (end_reported : Bool) → ReadsOn a n end_reported b → is_streaming a ≡ false → is_streaming b ≡ false
+pub stays-settled : (a b : UnreadBody) (n : ℕ) (end_reported : Bool) → ReadsOn a n end_reported b → is_streaming a ≡ false → is_streaming b ≡ false
 stays-settled (Over stop) b n end_reported h e = ap is_streaming h.0
 stays-settled (WithHead bytes) (WithHead more) n end_reported h e = refl
 stays-settled (WithHead bytes) (Over stop) n end_reported h e = refl
@@ -216,7 +216,7 @@ goes-on_skipped left (Some f) = at (cases_lt (length f.bytes) left)
 pub goes-on_skips : (o n : Option Feed) (left : ℕ) → n ≡ option_map (skipped left) o → GoesOn o n
 goes-on_skips o n left h = let P : Option Feed → Type 0 = λ x. GoesOn o x in subst P (sym h) (goes-on_skipped left o)
 
-pub gives-up : {R : Type 0} (b : Body) (old new : SourceState R) → GivesUp b old new → GoesOn old.feed new.feed
+pub gives-up : {R : Type 0} (b : UnreadBody) (old new : SourceState R) → GivesUp b old new → GoesOn old.feed new.feed
 gives-up (Over stop) old new h = goes-on_equal old new h
 gives-up (WithHead bytes) old new h = goes-on_equal old new h
 gives-up Rest old new h = goes-on_equal old new h
@@ -224,9 +224,9 @@ gives-up (Counted left standard) old new h = goes-on_skips old.feed new.feed lef
 gives-up (Chunked d) old new h = let P : Option Feed → Type 0 = λ x. GoesOn old.feed x in subst P (sym h.0) (goes-on_stopped old.feed)
 
 -- reads after each other, the first of which may be none
-pub moves-more : (a b c : Body) (at n : ℕ) (end_reported : Bool) → (at ≡ 0 → b ≡ a) → (0 < at → ReadsOn a at false b) → ReadsOn b n end_reported c → ReadsOn a (at + n) end_reported c
+pub moves-more : (a b c : UnreadBody) (at n : ℕ) (end_reported : Bool) → (at ≡ 0 → b ≡ a) → (0 < at → ReadsOn a at false b) → ReadsOn b n end_reported c → ReadsOn a (at + n) end_reported c
 moves-more a b c zero n end_reported same moves h =
-    let P : Body → Type 0 = λ x. ReadsOn x n end_reported c in
+    let P : UnreadBody → Type 0 = λ x. ReadsOn x n end_reported c in
     let Q : ℕ → Type 0 = λ k. ReadsOn a k end_reported c in
     subst Q (omega arith) (subst P (same refl) h)
 moves-more a b c (suc at) n end_reported same moves h = reads-on a b c (suc at) n end_reported (moves (omega arith)) h
@@ -236,10 +236,10 @@ pub goes-on_end : (old new : Option Feed) → new ≡ option_map (λ _. stopped 
 goes-on_end old new e = let P : Option Feed → Type 0 = λ x. GoesOn old x in subst P (sym e) (goes-on_stopped old)
 
 -- a read after another, from a body that was read from the input
-pub standing-more : {R : Type 0} (b c : Body) (n : ℕ) (end_reported : Bool) (first : Standing) (mid new : SourceState R) → ReadsOn b n end_reported c → (is_streaming b ≡ false → new ≡ mid) → (is_streaming b ≡ true → new.standing ≡ body_standing c mid.standing)
+pub standing-more : {R : Type 0} (b c : UnreadBody) (n : ℕ) (end_reported : Bool) (first : Standing) (mid new : SourceState R) → ReadsOn b n end_reported c → (is_streaming b ≡ false → new ≡ mid) → (is_streaming b ≡ true → new.standing ≡ body_standing c mid.standing)
     → mid.standing ≡ body_standing b first → new.standing ≡ body_standing c first
 standing-more {R = R} (Over stop) c n end_reported first mid new on settled goes was =
-    let P : Body → Type 0 = λ x. new.standing ≡ body_standing x first in
+    let P : UnreadBody → Type 0 = λ x. new.standing ≡ body_standing x first in
     subst P (sym on.0) (ap (λ (s : SourceState R). s.standing) (settled refl) ∙ was)
 standing-more {R = R} (WithHead bytes) (WithHead more) n end_reported first mid new on settled goes was = ap (λ (s : SourceState R). s.standing) (settled refl) ∙ was
 standing-more (WithHead bytes) (Over stop) n end_reported first mid new on settled goes was = absurd on

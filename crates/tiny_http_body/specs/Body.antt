@@ -18,8 +18,8 @@ use Rattle.tiny_http_body.specs.declared.chunked.ChunkRules.TheVariants as chunk
 use Rattle.tiny_http_body.specs.declared.body.TheConstants.{MOST_SKIPPED}
 use Rattle.tiny_http_body.specs.declared.body.Remainder.{Remainder}
 use Rattle.tiny_http_body.specs.declared.body.Remainder.TheVariants as left
-use Rattle.tiny_http_body.specs.declared.body.Body.{Body}
-use Rattle.tiny_http_body.specs.declared.body.Body.TheVariants.{Over, WithHead, Counted, Chunked, Rest}
+use Rattle.tiny_http_body.specs.declared.body.UnreadBody.{UnreadBody}
+use Rattle.tiny_http_body.specs.declared.body.UnreadBody.TheVariants.{Over, WithHead, Counted, Chunked, Rest}
 use Rattle.tiny_http_body.specs.declared.framing.Form.{Form}
 use Rattle.tiny_http_body.specs.declared.framing.Form.TheVariants as form
 use Rattle.tiny_http_io.specs.ToCome.{skipped, stopped}
@@ -71,7 +71,7 @@ abbrev pub rest_remaining : Feed → Remaining
 rest_remaining feed = record { body = feed; behind = stopped End }
 
 -- what is still to come of the body, where the input still gives this
-abbrev pub remaining : Body → Option Feed → Option Remaining
+abbrev pub remaining : UnreadBody → Option Feed → Option Remaining
 remaining (Over stop) feed = option_map (taken_remaining (stopped stop)) feed
 remaining (WithHead bytes) feed = option_map (taken_remaining (whole_feed (cursor_bytes bytes))) feed
 remaining (Counted n by_standard) feed = option_map (counted_remaining by_standard n) feed
@@ -90,7 +90,7 @@ pub record IsNewDecoding (by_standard : Bool) (d : Decoding) : Type 0 where
       → decoding_coming d (Some (record { bytes = bytes; stop = stop }))
       ≡ Some (record { bytes = body; behind = Err kind })
 
-abbrev pub IsNewChunked : Bool → Body → Type 0
+abbrev pub IsNewChunked : Bool → UnreadBody → Type 0
 IsNewChunked by_standard b = (d : Decoding) × (b ≡ Chunked d) × IsNewDecoding by_standard d
 
 -- these bytes of the body, and then what remains
@@ -111,7 +111,7 @@ NoneRemains None = ⊤
 NoneRemains (Some r) = r.body.bytes ≡ []
 
 -- the body is read from the input
-abbrev pub is_streaming : Body → Bool
+abbrev pub is_streaming : UnreadBody → Bool
 is_streaming (Over stop) = false
 is_streaming (WithHead bytes) = false
 is_streaming (Counted n by_standard) = true
@@ -119,7 +119,7 @@ is_streaming (Chunked decoding) = true
 is_streaming Rest = true
 
 -- the body has come whole, and none of it is read from the input any more
-abbrev pub is_whole : Body → Bool
+abbrev pub is_whole : UnreadBody → Bool
 is_whole (Over End) = true
 is_whole (Over (Fault kind)) = false
 is_whole (WithHead bytes) = true
@@ -128,7 +128,7 @@ is_whole (Chunked decoding) = false
 is_whole Rest = false
 
 -- how many bytes of it are left, where a length says so
-abbrev pub bytes_left : Body → Option ℕ
+abbrev pub bytes_left : UnreadBody → Option ℕ
 bytes_left (Over End) = Some 0
 bytes_left (Over (Fault kind)) = None
 bytes_left (WithHead bytes) = Some (length (cursor_bytes bytes))
@@ -137,7 +137,7 @@ bytes_left (Chunked decoding) = None
 bytes_left Rest = None
 
 -- what is left of a body whose request is finished
-abbrev pub remainder : Body → Remainder
+abbrev pub remainder : UnreadBody → Remainder
 remainder (Over End) = left.Skipped
 remainder (Over (Fault kind)) = left.Endless
 remainder (WithHead bytes) = left.Skipped
@@ -154,33 +154,33 @@ is_skipped left.Skipped = true
 is_skipped _ = false
 
 -- what a connection reads that was upgraded: by the standard all that comes, else the body of its request
-abbrev pub stream_body : Bool → Body → Body
+abbrev pub stream_body : Bool → UnreadBody → UnreadBody
 stream_body true b = Rest
 stream_body false b = b
 
 -- what is reported from now on, where that is kept
-abbrev pub body_stop : Body → Option Stop
+abbrev pub body_stop : UnreadBody → Option Stop
 body_stop (Over stop) = Some stop
 body_stop (WithHead bytes) = None
 body_stop (Counted n by_standard) = None
 body_stop (Chunked decoding) = None
 body_stop Rest = None
 
-abbrev pub IsBodyOver : Body → Type 0
+abbrev pub IsBodyOver : UnreadBody → Type 0
 IsBodyOver (Over stop) = ⊤
 IsBodyOver _ = ⊥
 
-abbrev pub IsWithHead : Body → Type 0
+abbrev pub IsWithHead : UnreadBody → Type 0
 IsWithHead (WithHead bytes) = ⊤
 IsWithHead _ = ⊥
 
-abbrev pub IsChunkedBy : ChunkRules → Body → Type 0
+abbrev pub IsChunkedBy : ChunkRules → UnreadBody → Type 0
 IsChunkedBy rules (Chunked decoding) = decoding_rules decoding ≡ rules
 IsChunkedBy rules _ = ⊥
 
 -- So many bytes were read, and the end or the fault was reported or not. A counted body is over with its last byte,
 -- another one that is read from the input once its end or fault was reported.
-abbrev pub ReadsOn : Body → ℕ → Bool → Body → Type 0
+abbrev pub ReadsOn : UnreadBody → ℕ → Bool → UnreadBody → Type 0
 ReadsOn (Over stop) n end_reported new = (new ≡ Over stop) × (n ≡ 0)
 ReadsOn (WithHead bytes) n end_reported new = IsWithHead new
 ReadsOn (Counted left by_standard) n end_reported new =
@@ -198,7 +198,7 @@ body_finished form.Chunked n given end_reported = end_reported
 body_finished form.Rest n given end_reported = end_reported
 
 -- what was read of the body fits its profile, form and length
-abbrev pub Fits : Bool → Body → Form → ℕ → ℕ → Bool → Type 0
+abbrev pub Fits : Bool → UnreadBody → Form → ℕ → ℕ → Bool → Type 0
 Fits standard (Over stop) shape n given end_reported = body_finished shape n given end_reported ≡ true
 Fits standard (WithHead bytes) shape n given end_reported = shape ≡ form.WithHead
 Fits standard (Counted left by_standard) shape n given end_reported =
@@ -209,7 +209,7 @@ Fits standard Rest shape n given end_reported = (shape ≡ form.Rest) × (end_re
 
 -- A buffer was filled from the body: with all its bytes; or with fewer, and none is left; or a fault came before any
 -- byte.
-abbrev pub FillsFromBody : Body → Option Feed → Body → Option Feed → Result ℕ ErrorKind → List ℕ → Type 0
+abbrev pub FillsFromBody : UnreadBody → Option Feed → UnreadBody → Option Feed → Result ℕ ErrorKind → List ℕ → Type 0
 FillsFromBody old from new to (Ok n) buf =
     (remaining old from ≡ prepended_body (take n buf) (remaining new to))
     × (0 < length buf → ReadsOn old n (nat_lt n (length buf)) new)
@@ -218,7 +218,7 @@ FillsFromBody old from new to (Err kind) buf =
     (remaining new to ≡ remaining old from) × ReadsOn old 0 true new × BodyStops (Fault kind) (remaining old from)
 
 -- Where a source stands after a read that left this of the body.
-abbrev pub body_standing : Body → Standing → Standing
+abbrev pub body_standing : UnreadBody → Standing → Standing
 body_standing (Over End) standing = after_body standing
 body_standing (Over (Fault kind)) standing = after_fault kind standing
 body_standing (WithHead bytes) standing = after_body standing
@@ -230,7 +230,7 @@ body_standing Rest standing = standing
 -- buffer has room for; no byte into a buffer with room is the end of the body, and a fault is its own. A counted body
 -- is over with its last byte, another one that is read from the input once its end or fault was reported. After the
 -- first fault the source has ended. The input goes on, or stays.
-pub record ReadsRemaining {R : Type 0} (old new : Body) (from to : SourceState R) (r : Result ℕ Error)
+pub record ReadsRemaining {R : Type 0} (old new : UnreadBody) (from to : SourceState R) (r : Result ℕ Error)
     (buf : List ℕ) : Type 0 where
   pub bound : IfOk r (λ n. n ≤ length buf)
   pub bytes : IfOk r (λ n. remaining old from.feed ≡ prepended_body (take n buf) (remaining new to.feed))
@@ -245,7 +245,7 @@ pub record ReadsRemaining {R : Type 0} (old new : Body) (from to : SourceState R
 -- ONE READ of a body. Into an empty buffer it changes nothing. A body that isn't read from the source leaves it
 -- alone, and one that is over reports its end or fault again. Else the source stands by what is left of the body: at
 -- the next head once that is over.
-pub record ReadsBody {R : Type 0} (old new : Body) (from to : SourceState R) (r : Result ℕ Error)
+pub record ReadsBody {R : Type 0} (old new : UnreadBody) (from to : SourceState R) (r : Result ℕ Error)
     (buf : List ℕ) : Type 0 where
   pub reads : ReadsRemaining old new from to r buf
   pub empty : length buf ≡ 0 → (r ≡ Ok 0) × (new ≡ old) × (to ≡ from)
@@ -255,7 +255,7 @@ pub record ReadsBody {R : Type 0} (old new : Body) (from to : SourceState R) (r 
   pub standing : is_streaming old ≡ true → to.standing ≡ body_standing new from.standing
 
 -- One read, into a buffer with room, of a body that isn't read from the input. What is left isn't either.
-pub record ReadsHeld (old new : Body) (r : Result ℕ Error) (buf : List ℕ) : Type 0 where
+pub record ReadsHeld (old new : UnreadBody) (r : Result ℕ Error) (buf : List ℕ) : Type 0 where
   pub bound : IfOk r (λ n. n ≤ length buf)
   pub bytes : (feed : Option Feed) → IfOk r (λ n. remaining old feed ≡ prepended_body (take n buf) (remaining new feed))
   pub end : (feed : Option Feed) → IfOk r (λ n. n ≡ 0 → 0 < length buf → BodyStops End (remaining old feed))
@@ -267,7 +267,7 @@ pub record ReadsHeld (old new : Body) (r : Result ℕ Error) (buf : List ℕ) : 
 
 -- A body of which nothing was read is passed over: the bytes of a counted one are skipped before the next head. Else
 -- nothing changes: they were read with the head, or there are none.
-abbrev pub PassesOver : {R : Type 0} → Body → SourceState R → SourceState R → Type 0
+abbrev pub PassesOver : {R : Type 0} → UnreadBody → SourceState R → SourceState R → Type 0
 PassesOver (Counted left by_standard) old new =
     (new.feed ≡ option_map (skipped left) old.feed)
     × (new.standing ≡ old.standing)
@@ -279,7 +279,7 @@ PassesOver Rest old new = new ≡ old
 
 -- A body is given up: the rest of a counted one is skipped, and the reader isn't called for it; after a chunked one
 -- no head follows; else nothing changes, and the rest of the input is left to the source.
-abbrev pub GivesUp : {R : Type 0} → Body → SourceState R → SourceState R → Type 0
+abbrev pub GivesUp : {R : Type 0} → UnreadBody → SourceState R → SourceState R → Type 0
 GivesUp (Over stop) old new = new ≡ old
 GivesUp (WithHead bytes) old new = new ≡ old
 GivesUp Rest old new = new ≡ old

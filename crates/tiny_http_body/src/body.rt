@@ -30,7 +30,7 @@ pub enum Remainder {
 
 /// How far a request's body was read.
 #[derive(Drop)]
-pub enum Body {
+pub enum UnreadBody {
     /// No byte follows, and this is reported.
     Over(Stop),
     /// The bytes were read with the head.
@@ -59,30 +59,30 @@ fn report(stop: Stop) -> Result<usize, io::Error>
 }
 
 /// The body of which so many bytes of the input are left. By the standard an end of the input among them is a fault.
-pub fn counted(left: usize, by_standard: bool) -> Body
+pub fn counted(left: usize, by_standard: bool) -> UnreadBody
     ensures remaining { (feed : Option Feed)
         → remaining result feed ≡ option_map (counted_remaining by_standard left) feed }
-    ensures moves { ReadsOn (Body.Counted left by_standard) 0 false result }
+    ensures moves { ReadsOn (UnreadBody.Counted left by_standard) 0 false result }
 {
     if left == 0 {
-        Body::Over(Stop::End)
+        UnreadBody::Over(Stop::End)
     } else {
-        Body::Counted { left, by_standard }
+        UnreadBody::Counted { left, by_standard }
     }
 }
 
 /// The body whose chunks are the next bytes of the input. Their lines are read by the rules of the profile.
-pub fn chunked(by_standard: bool) -> Body
+pub fn chunked(by_standard: bool) -> UnreadBody
     ensures { IsNewChunked by_standard result }
 {
     if by_standard {
-        Body::Chunked(Decoding::new_with(ChunkRules::Standard))
+        UnreadBody::Chunked(Decoding::new_with(ChunkRules::Standard))
     } else {
-        Body::Chunked(Decoding::new_with(ChunkRules::Lenient))
+        UnreadBody::Chunked(Decoding::new_with(ChunkRules::Lenient))
     }
 }
 
-impl Body {
+impl UnreadBody {
     // Reads some of the bytes that are left of a body of a known length. After one that is cut no head follows.
     fn read_counted<R: ReadDevice>(
         &mut self,
@@ -91,22 +91,22 @@ impl Body {
         by_standard: bool,
         buf: &mut [u8],
     ) -> Result<usize, io::Error>
-        requires counted { self.old ≡ Body.Counted left by_standard }
+        requires counted { self.old ≡ UnreadBody.Counted left by_standard }
         requires room { 0 < length buf.old }
         ensures { ReadsRemaining self.old self.new source.old source.new result buf.new }
     {
         if left == 0 {
-            *self = Body::Over(Stop::End);
+            *self = UnreadBody::Over(Stop::End);
             return Ok(0);
         }
         match read_front(source, left, buf) {
             Ok(0) => {
                 source.end();
                 if by_standard {
-                    *self = Body::Over(Stop::Fault(ErrorKind::UnexpectedEof));
+                    *self = UnreadBody::Over(Stop::Fault(ErrorKind::UnexpectedEof));
                     return Err(ErrorKind::UnexpectedEof.into());
                 }
-                *self = Body::Over(Stop::End);
+                *self = UnreadBody::Over(Stop::End);
                 Ok(0)
             }
             Ok(n) => {
@@ -115,7 +115,7 @@ impl Body {
             }
             Err(e) => {
                 source.end();
-                *self = Body::Over(Stop::Fault(e.kind()));
+                *self = UnreadBody::Over(Stop::Fault(e.kind()));
                 Err(e)
             }
         }
@@ -128,23 +128,23 @@ impl Body {
         decoding: Decoding,
         buf: &mut [u8],
     ) -> Result<usize, io::Error>
-        requires chunked { self.old ≡ Body.Chunked decoding }
+        requires chunked { self.old ≡ UnreadBody.Chunked decoding }
         requires room { 0 < length buf.old }
         ensures { ReadsRemaining self.old self.new source.old source.new result buf.new }
     {
         let mut decoding = decoding;
         match decoding.read(source, buf) {
             Ok(0) => {
-                *self = Body::Over(Stop::End);
+                *self = UnreadBody::Over(Stop::End);
                 Ok(0)
             }
             Ok(n) => {
-                *self = Body::Chunked(decoding);
+                *self = UnreadBody::Chunked(decoding);
                 Ok(n)
             }
             Err(e) => {
                 source.end();
-                *self = Body::Over(Stop::Fault(e.kind()));
+                *self = UnreadBody::Over(Stop::Fault(e.kind()));
                 Err(e)
             }
         }
@@ -156,20 +156,20 @@ impl Body {
         source: &mut Source<R>,
         buf: &mut [u8],
     ) -> Result<usize, io::Error>
-        requires rest { self.old ≡ Body.Rest }
+        requires rest { self.old ≡ UnreadBody.Rest }
         requires room { 0 < length buf.old }
         ensures { ReadsRemaining self.old self.new source.old source.new result buf.new }
     {
         match source.read_in(buf) {
             Ok(0) => {
                 source.end();
-                *self = Body::Over(Stop::End);
+                *self = UnreadBody::Over(Stop::End);
                 Ok(0)
             }
             Ok(n) => Ok(n),
             Err(e) => {
                 source.end();
-                *self = Body::Over(Stop::Fault(e.kind()));
+                *self = UnreadBody::Over(Stop::Fault(e.kind()));
                 Err(e)
             }
         }
@@ -189,16 +189,16 @@ impl Body {
         }
         let standing = source.standing();
         let read = match self {
-            Body::Over(_) | Body::WithHead(_) => return self.read_held(buf),
-            Body::Counted { left, by_standard } => {
+            UnreadBody::Over(_) | UnreadBody::WithHead(_) => return self.read_held(buf),
+            UnreadBody::Counted { left, by_standard } => {
                 let (left, by_standard) = (*left, *by_standard);
                 self.read_counted(source, left, by_standard, buf)
             }
-            Body::Chunked(decoding) => {
+            UnreadBody::Chunked(decoding) => {
                 let decoding = *decoding;
                 self.read_chunked(source, decoding, buf)
             }
-            Body::Rest => self.read_rest(source, buf),
+            UnreadBody::Rest => self.read_rest(source, buf),
         };
         source.stand_at(self.standing_after(standing));
         read
@@ -211,9 +211,10 @@ impl Body {
         ensures { ReadsHeld self.old self.new result buf.new }
     {
         match self {
-            Body::Over(stop) => report(*stop),
-            Body::WithHead(bytes) => bytes.read_in(buf),
-            Body::Counted { .. } | Body::Chunked(_) | Body::Rest => unreachable!(),
+            UnreadBody::Over(stop) => report(*stop),
+            UnreadBody::WithHead(bytes) => bytes.read_in(buf),
+            UnreadBody::Counted { .. } | UnreadBody::Chunked(_) | UnreadBody::Rest =>
+                unreachable!(),
         }
     }
 
@@ -222,9 +223,9 @@ impl Body {
         ensures { result ≡ body_standing self.now standing }
     {
         match self {
-            Body::Over(Stop::End) | Body::WithHead(_) => standing.after_body(),
-            Body::Over(Stop::Fault(kind)) => standing.after_fault(*kind),
-            Body::Counted { .. } | Body::Chunked(_) | Body::Rest => standing,
+            UnreadBody::Over(Stop::End) | UnreadBody::WithHead(_) => standing.after_body(),
+            UnreadBody::Over(Stop::Fault(kind)) => standing.after_fault(*kind),
+            UnreadBody::Counted { .. } | UnreadBody::Chunked(_) | UnreadBody::Rest => standing,
         }
     }
 
@@ -278,7 +279,10 @@ impl Body {
     pub fn holds_reader(&self) -> bool
         ensures { result ≡ is_streaming self.now }
     {
-        matches!(self, Body::Counted { .. } | Body::Chunked(_) | Body::Rest)
+        matches!(
+            self,
+            UnreadBody::Counted { .. } | UnreadBody::Chunked(_) | UnreadBody::Rest
+        )
     }
 
     /// What is left of it, if its request is finished now.
@@ -286,8 +290,8 @@ impl Body {
         ensures { result ≡ remainder self.now }
     {
         match self {
-            Body::Counted { left, .. } if *left > MOST_SKIPPED => Remainder::Long,
-            Body::Chunked(_) | Body::Over(Stop::Fault(_)) => Remainder::Endless,
+            UnreadBody::Counted { left, .. } if *left > MOST_SKIPPED => Remainder::Long,
+            UnreadBody::Chunked(_) | UnreadBody::Over(Stop::Fault(_)) => Remainder::Endless,
             _ => Remainder::Skipped,
         }
     }
@@ -298,13 +302,13 @@ impl Body {
         ensures { result ≡ bytes_left self.now }
     {
         match self {
-            Body::Over(Stop::End) => Some(0),
-            Body::WithHead(bytes) => {
+            UnreadBody::Over(Stop::End) => Some(0),
+            UnreadBody::WithHead(bytes) => {
                 let position = bytes.position() as usize;
                 Some(bytes.get_ref().len().saturating_sub(position))
             }
-            Body::Counted { left, .. } => Some(*left),
-            Body::Over(Stop::Fault(_)) | Body::Chunked(_) | Body::Rest => None,
+            UnreadBody::Counted { left, .. } => Some(*left),
+            UnreadBody::Over(Stop::Fault(_)) | UnreadBody::Chunked(_) | UnreadBody::Rest => None,
         }
     }
 
@@ -312,7 +316,7 @@ impl Body {
     pub fn is_whole(&self) -> bool
         ensures { result ≡ is_whole self.now }
     {
-        matches!(self, Body::Over(Stop::End) | Body::WithHead(_))
+        matches!(self, UnreadBody::Over(Stop::End) | UnreadBody::WithHead(_))
     }
 
     /// The connection was upgraded: by the standard all that comes is read from now on, else still the body of the
@@ -321,30 +325,30 @@ impl Body {
         ensures { self.new ≡ stream_body by_standard self.old }
     {
         if by_standard {
-            *self = Body::Rest;
+            *self = UnreadBody::Rest;
         }
     }
 
     /// Gives the body up: what is left of a counted one is skipped by the next head; after a chunked one of which the
     /// end wasn't reported no head follows; one that is all the rest of the input is left to the source.
     pub fn give_up<R: ReadDevice>(&mut self, source: &mut Source<R>)
-        ensures over { self.new ≡ Body.Over Stop.End }
+        ensures over { self.new ≡ UnreadBody.Over Stop.End }
         ensures gives_up { GivesUp self.old source.old source.new }
     {
         let standing = source.standing();
         match self {
-            Body::Counted { left, .. } => {
+            UnreadBody::Counted { left, .. } => {
                 source.skip(*left);
                 source.stand_at(standing.after_body());
             }
-            Body::Chunked(_) => {
+            UnreadBody::Chunked(_) => {
                 source.end();
                 source.stand_at(standing.after_abandoned());
             }
-            Body::Over(_) => {}
-            Body::WithHead(_) => {}
-            Body::Rest => {}
+            UnreadBody::Over(_) => {}
+            UnreadBody::WithHead(_) => {}
+            UnreadBody::Rest => {}
         }
-        *self = Body::Over(Stop::End);
+        *self = UnreadBody::Over(Stop::End);
     }
 }

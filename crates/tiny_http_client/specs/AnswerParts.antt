@@ -10,14 +10,14 @@ use Rattle.tiny_http_text.specs.Lines.{Line}
 use Rattle.tiny_http_client.specs.declared.head.Fault.{Fault}
 use Rattle.tiny_http_client.specs.declared.head.Fault.TheVariants.{Unfinished as IsCut, Malformed as IsBad}
 use Rattle.tiny_http_client.specs.declared.head.Fault.TheVariants.{Memory as IsMemory}
-use Rattle.tiny_http_client.specs.declared.head.Head.{Head}
+use Rattle.tiny_http_client.specs.declared.head.HeadParts.{HeadParts}
 use Rattle.tiny_http_client.specs.declared.answer.Answer.{Answer}
 use Rattle.tiny_http_client.specs.ClientAnswer.{AnswerHead, ClientAnswer, FieldLine, BeginsWithFieldLines}
 use Rattle.tiny_http_client.specs.ClientAnswer.{BeginsWithAnswerHead, PassesOver, is_interim, Lack, Unfinished}
 use Rattle.tiny_http_client.specs.ClientAnswer.{Invalid, LacksLine, IsFieldLineOrEmpty, LacksHead}
 
 -- a head, and an answer, as the grammar sees them
-abbrev pub head_of : Head → AnswerHead
+abbrev pub head_of : HeadParts → AnswerHead
 head_of h = record { version = h.version; status = h.status.0; headers = h.headers.items }
 
 abbrev pub answer_of : Answer → ClientAnswer

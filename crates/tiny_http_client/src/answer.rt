@@ -5,7 +5,7 @@ ghost use Rattle.tiny_http_client.specs.ClientAnswer.{MalformedAnswer};
 ghost use Rattle.tiny_http_client.specs.AnswerParts.{head_of, LacksBy, answer_of, BeginsWithFinalHead, LacksFinalHead};
 
 use crate::body::read_body;
-use crate::head::{Fault, Head, read_head};
+use crate::head::{Fault, HeadParts, read_head};
 use crate::rest::Rest;
 use std::alloc::Global;
 use thiserror::Error;
@@ -43,7 +43,7 @@ fn is_interim(status: StatusCode) -> bool
 }
 
 // Takes heads up to the first that isn't passed over.
-fn read_final_head(alloc: Global, rest: &mut Rest<'_>) -> Result<Head, Fault>
+fn read_final_head(alloc: Global, rest: &mut Rest<'_>) -> Result<HeadParts, Fault>
     ensures read { IfOk result (λ head. BeginsWithFinalHead rest.old (head_of head) rest.new) }
     ensures lacks { IfErr result (LacksBy (LacksFinalHead rest.old)) }
 {
@@ -62,7 +62,7 @@ fn read_whole(alloc: Global, method: &Method, rest: &mut Rest<'_>) -> Result<Ans
 {
     let head = read_final_head(alloc, rest)?;
     let body = read_body(alloc, method, &head, rest)?;
-    let Head {
+    let HeadParts {
         version,
         status,
         headers,

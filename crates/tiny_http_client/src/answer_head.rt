@@ -27,7 +27,7 @@ pub struct AnswerHead {
 
 /// Why no head is read.
 #[derive(Clone, Copy, Debug, PartialEq, Eq, Error)]
-pub enum HeadFault {
+pub enum AnswerHeadFault {
     /// The bytes break a rule of the grammar, a value has a byte that isn't ASCII, or there are more than 64 headers.
     #[error("malformed")]
     Malformed,
@@ -36,19 +36,23 @@ pub enum HeadFault {
     Memory,
 }
 
-impl From<AllocError> for HeadFault {
-    ghost use Rattle.tiny_http_client.specs.declared.answer_head.HeadFault.TheVariants.{Memory};
+impl From<AllocError> for AnswerHeadFault {
+    ghost use Rattle.tiny_http_client.specs.declared.answer_head.AnswerHeadFault.TheVariants.{Memory};
 
     ghost from_gives = { λ _ fault. fault ≡ Memory };
 
     /// There is no memory.
-    fn from(_error: AllocError) -> HeadFault {
-        HeadFault::Memory
+    fn from(_error: AllocError) -> AnswerHeadFault {
+        AnswerHeadFault::Memory
     }
 }
 
 // The headers that stand there. It is malformed where a byte isn't ASCII.
-fn headers_at(alloc: Global, bytes: &[u8], spans: &[HeaderSpan]) -> Result<Vec<Header>, HeadFault>
+fn headers_at(
+    alloc: Global,
+    bytes: &[u8],
+    spans: &[HeaderSpan],
+) -> Result<Vec<Header>, AnswerHeadFault>
     requires { All (IsHeaderWithin (length bytes.now)) spans.now }
     ensures { IfOk result (λ headers. map header_pair headers.items ≡ map (header_bytes bytes.now) spans.now) }
 {
@@ -57,7 +61,7 @@ fn headers_at(alloc: Global, bytes: &[u8], spans: &[HeaderSpan]) -> Result<Vec<H
         let field = span.name.of(bytes).to_vec(alloc)?;
         let value = span.value.of(bytes).to_vec(alloc)?;
         let Ok(header) = Header::from_bytes(field, value) else {
-            return Err(HeadFault::Malformed);
+            return Err(AnswerHeadFault::Malformed);
         };
         headers.push(header).map_err(AllocError::from)?;
     }
@@ -77,7 +81,7 @@ fn headers_at(alloc: Global, bytes: &[u8], spans: &[HeaderSpan]) -> Result<Vec<H
 pub fn read_answer_head(
     alloc: Global,
     bytes: &[u8],
-) -> Result<Option<(AnswerHead, usize)>, HeadFault>
+) -> Result<Option<(AnswerHead, usize)>, AnswerHeadFault>
     ensures head { IfOk result (λ found. IfSome found (λ a. (a.1 ≤ length bytes.now)
         × ((h : ResponseHead) × ReadsResponse bytes.now h (drop a.1 bytes.now) × IsHeadOf h a.0))) }
     ensures unfinished { result ≡ Ok None → HasNoResponse bytes.now × MayBecomeResponse bytes.now }
@@ -86,7 +90,7 @@ pub fn read_answer_head(
     let found = match parse_response(bytes, &mut spans) {
         Ok(Status::Complete(found)) => found,
         Ok(Status::Partial) => return Ok(None),
-        Err(_) => return Err(HeadFault::Malformed),
+        Err(_) => return Err(AnswerHeadFault::Malformed),
     };
     let headers = headers_at(alloc, bytes, &spans[..found.headers])?;
     let head = AnswerHead {

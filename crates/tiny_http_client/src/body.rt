@@ -6,7 +6,7 @@ ghost use Rattle.tiny_http_client.specs.ClientAnswer.{has_no_body, says_chunked,
 ghost use Rattle.tiny_http_client.specs.ClientAnswer.{BeginsWithBody, LacksBody, OfChunks, OfLength};
 ghost use Rattle.tiny_http_client.specs.AnswerParts.{head_of, LacksBy, chunk_fault};
 
-use crate::head::{Fault, Head};
+use crate::head::{Fault, HeadParts};
 use crate::number::number_in;
 use crate::rest::Rest;
 use std::alloc::Global;
@@ -105,7 +105,7 @@ fn read_counted(alloc: Global, length: usize, rest: &mut Rest<'_>) -> Result<Vec
 pub(crate) fn read_body(
     alloc: Global,
     method: &Method,
-    head: &Head,
+    head: &HeadParts,
     rest: &mut Rest<'_>,
 ) -> Result<Vec<u8>, Fault>
     ensures read { IfOk result

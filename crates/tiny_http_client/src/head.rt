@@ -37,7 +37,7 @@ impl From<AllocError> for Fault {
 
 /// The version, status and headers of an answer.
 #[derive(Drop)]
-pub(crate) struct Head {
+pub(crate) struct HeadParts {
     pub(crate) version: HTTPVersion,
     pub(crate) status: StatusCode,
     pub(crate) headers: Vec<Header>,
@@ -164,13 +164,13 @@ fn read_field_lines(alloc: Global, rest: &mut Rest<'_>) -> Result<Vec<Header>, F
 }
 
 /// Takes a head: a status-line, field-lines and an empty line.
-pub(crate) fn read_head(alloc: Global, rest: &mut Rest<'_>) -> Result<Head, Fault>
+pub(crate) fn read_head(alloc: Global, rest: &mut Rest<'_>) -> Result<HeadParts, Fault>
     ensures read { IfOk result (λ head. BeginsWithAnswerHead rest.old (head_of head) rest.new) }
     ensures lacks { IfErr result (LacksBy (LacksHead rest.old)) }
 {
     let (version, status) = read_status_line(rest)?;
     let headers = read_field_lines(alloc, rest)?;
-    Ok(Head {
+    Ok(HeadParts {
         version,
         status,
         headers,

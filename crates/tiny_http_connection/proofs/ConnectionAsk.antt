@@ -15,8 +15,8 @@ use Rattle.tiny_http_io.specs.declared.device.Stop.TheVariants.{End}
 use Rattle.tiny_http_response.specs.Answer.{text_of}
 use Rattle.tiny_http_head.specs.Heads.{version}
 use Rattle.tiny_http_open_request.specs.declared.exchange.Exchange.{Exchange}
-use Rattle.tiny_http_body.specs.declared.body.Body.{Body}
-use Rattle.tiny_http_body.specs.declared.body.Body.TheVariants as body
+use Rattle.tiny_http_body.specs.declared.body.UnreadBody.{UnreadBody}
+use Rattle.tiny_http_body.specs.declared.body.UnreadBody.TheVariants as body
 use Rattle.tiny_http_open_request.specs.declared.exchange.HeadRead.TheVariants as read
 use Rattle.tiny_http_response.specs.declared.answer_context.AnswerContext.{AnswerContext}
 use Rattle.tiny_http_response.specs.declared.coding.Coding.{Coding}
@@ -163,7 +163,7 @@ output-waiting before sink e slots date r flushed failure h =
     output-same before sink e slots (slots ++ (n ∷ [])) flushed failure (sym (joined-waits slots n [] refl refl)) (sym (breaks-waits slots n [] refl refl)) h
 
 -- a body that isn't read from the input gives the same wherever that stands
-pub settled-any : (b : Body) (p : Option Feed) (content behind : Feed) → remaining b p ≡ Some (record { body = content; behind = behind }) → is_streaming b ≡ false → (f : Feed) → remaining b (Some f) ≡ Some (taken_remaining content f)
+pub settled-any : (b : UnreadBody) (p : Option Feed) (content behind : Feed) → remaining b p ≡ Some (record { body = content; behind = behind }) → is_streaming b ≡ false → (f : Feed) → remaining b (Some f) ≡ Some (taken_remaining content f)
 settled-any (body.Over stop) None content behind h e f = cc
 settled-any (body.Over stop) (Some g) content behind h e f = ap (λ (x : Option Remaining). option_map (λ (r : Remaining). taken_remaining r.body f) x) h
 settled-any (body.WithHead bytes) None content behind h e f = cc
@@ -212,11 +212,11 @@ handed-place profile false stop (Some bytes) more items = items
 abbrev pub with_input : Kept → Option Feed → Option Stop → Bool → Standing → Kept
 with_input k p stop over at = record k { feed = p; stop = stop; is_over = over; standing = at }
 
-abbrev pub after_handed : Kept → OpenRequest Body → Option Feed → Option Stop → Bool → Standing → Kept
+abbrev pub after_handed : Kept → OpenRequest UnreadBody → Option Feed → Option Stop → Bool → Standing → Kept
 after_handed k w p stop over at = record k { marks = k.marks ++ (Open ∷ []); requests = k.requests ++ (Some (still.Waiting w) ∷ []); feed = p; stop = stop; is_over = over; standing = at }
 
 -- where the input stands after the head of a request
-pub record StandsFor (r : Request) (w : OpenRequest Body) (at : Standing) : Type 0 where
+pub record StandsFor (r : Request) (w : OpenRequest UnreadBody) (at : Standing) : Type 0 where
   pub past : is_past_last at ≡ r.framing.is_last
   pub within : is_in_body at ≡ (not r.framing.is_last && is_streaming w.body)
 
@@ -230,7 +230,7 @@ stands-for x content behind at e =
     by false true l t = record { past = rw (l, t) refl; within = rw (l, t) refl }
     by false false l t = record { past = rw (l, t) refl; within = rw (l, t) refl }
 
-handed-reader : (client : Feed) (k : Kept) (slots : List Slot) (rest more : List Item) (date : HttpDate) (r : Request) (w : OpenRequest Body) (p : Option Feed) (stop : Option Stop) (over : Bool) (at : Standing) (close : Stop) (next : Place) → InputStands client k slots rest → IsQuiet k.requests → r.behind ≡ place_feed close next
+handed-reader : (client : Feed) (k : Kept) (slots : List Slot) (rest more : List Item) (date : HttpDate) (r : Request) (w : OpenRequest UnreadBody) (p : Option Feed) (stop : Option Stop) (over : Bool) (at : Standing) (close : Stop) (next : Place) → InputStands client k slots rest → IsQuiet k.requests → r.behind ≡ place_feed close next
     → remaining w.body p ≡ Some (record { body = r.body; behind = place_feed close next }) → Pipeline k.profile (place_after r.framing.is_last next) close more → GoesOn (Some client) p → StandsFor r w at
     → InputStands client (after_handed k w p stop over at) (slots ++ (handed_slot date r ∷ [])) more
 handed-reader client k slots rest more date r w p stop over at close next old quiet after left items source stands =
@@ -238,13 +238,13 @@ handed-reader client k slots rest more date r w p stop over at close next old qu
     let last : last_slot (slots ++ (x ∷ [])) ≡ Some x = last-snoc None slots x in
     let content : last_body (k.requests ++ (Some (still.Waiting w) ∷ [])) ≡ Some w.body = body-snoc k.requests (Some (still.Waiting w)) in
     let B : Option Remaining → Option Feed = λ o. option_map (λ (y : Remaining). y.body) o in
-    let P : Option Slot → Option Body → Type 0 = λ o b. GivesRest b o p in
+    let P : Option Slot → Option UnreadBody → Type 0 = λ o b. GivesRest b o p in
     let here : P (Some x) (Some w.body) = ap B left in
-    let Q : Bool → Option Body → Type 0 = λ y b. PlaceAt k.profile y (behind_body b p) more in
-    let W : Option Slot → Option Body → Bool = λ o b. not (is_last_slot o) && is_streaming_body b in
+    let Q : Bool → Option UnreadBody → Type 0 = λ y b. PlaceAt k.profile y (behind_body b p) more in
+    let W : Option Slot → Option UnreadBody → Bool = λ o b. not (is_last_slot o) && is_streaming_body b in
     let F : Option Feed → Type 0 = λ o. PlaceAt k.profile r.framing.is_last o more in
     let behind : behind_body (Some w.body) p ≡ Some (place_feed close next) = ap (λ (o : Option Remaining). option_map (λ (y : Remaining). y.behind) o) left in
-    let L : Option Slot → Option Body → Type 0 = λ o b. FollowsLast b o p in
+    let L : Option Slot → Option UnreadBody → Type 0 = λ o b. FollowsLast b o p in
     let k2 : Kept = after_handed k w p stop over at in
     record {
       settled = settled-snoc k.requests (Some (still.Waiting w)) old.settled quiet;
@@ -530,7 +530,7 @@ ask-refused client before k s date from_here status text p stop over at marks si
     let out = refuses before k.sink sink k.output_ended ended s k.marks marks k.requests n text.items st.output st.numbers st.shape refl refl (refused-whole refusal date v no_body true) (refused-text refusal date v no_body true ∙ sym found.5) low leaves in
     let new : State = record { reached = record { slots = slots; rest = []; asking_ended = true }; flushed = flushed_after (if turn_has_come (length s.reached.slots) s.reached.slots then Unreported else Unused) s slots; failure = out.failure } in
     let G : Outcome → Type 0 = λ y. HasOutcome y s Ended new in
-    let B : Option Body → Type 0 = λ b. GivesRest b (last_slot slots) p in (
+    let B : Option UnreadBody → Type 0 = λ b. GivesRest b (last_slot slots) p in (
       new,
       record {
         numbers = out.numbers;

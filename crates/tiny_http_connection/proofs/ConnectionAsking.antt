@@ -12,7 +12,7 @@ use Rattle.tiny_http_io.specs.Source.{GoesOn}
 use Rattle.tiny_http_io.specs.declared.source.Standing.{Standing}
 use Rattle.tiny_http_io.specs.declared.source.Standing.TheVariants as in_place
 use Rattle.tiny_http_io.proofs.SourceGoesOn.{goes-on_more}
-use Rattle.tiny_http_body.specs.declared.body.Body.{Body}
+use Rattle.tiny_http_body.specs.declared.body.UnreadBody.{UnreadBody}
 use Rattle.tiny_http_open_request.specs.declared.exchange.HeadRead.TheVariants as read
 use Rattle.tiny_http_open_request.specs.HeadReads.{ReadsHead}
 use Rattle.tiny_http_open_request.specs.Pipeline.{Item, Asks, Refuses, Place, Pipeline, place_feed}
@@ -298,8 +298,8 @@ passed-reader : (client : Feed) (k : Kept) (slots : List Slot) (rest more : List
 passed-reader client k slots rest more n p stop over at marks sink ended close next old quiet unread unlost here items source stands =
     let last : last_slot (slots ++ (n ∷ [])) ≡ Some n = last-snoc None slots n in
     let content : last_body (k.requests ++ (None ∷ [])) ≡ None = body-snoc k.requests None in
-    let B : Option Body → Type 0 = λ b. GivesRest b (last_slot (slots ++ (n ∷ []))) p in
-    let Q : Option Body → Type 0 = λ b. PlaceAt k.profile (is_past_last at) (behind_body b p) more in
+    let B : Option UnreadBody → Type 0 = λ b. GivesRest b (last_slot (slots ++ (n ∷ []))) p in
+    let Q : Option UnreadBody → Type 0 = λ b. PlaceAt k.profile (is_past_last at) (behind_body b p) more in
     let F : Bool → Option Feed → Type 0 = λ y o. PlaceAt k.profile y o more in
     record {
       settled = settled-snoc k.requests None old.settled quiet;

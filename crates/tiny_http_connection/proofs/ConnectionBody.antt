@@ -10,8 +10,8 @@ use Rattle.tiny_http_io.specs.Device.{Feed}
 use Rattle.tiny_http_connection.specs.declared.pending.Unfinished.{Unfinished}
 use Rattle.tiny_http_body.specs.declared.framing.Form.{Form}
 use Rattle.tiny_http_body.specs.declared.framing.Form.TheVariants.{Rest, Nothing, WithHead, Counted, Chunked}
-use Rattle.tiny_http_body.specs.declared.body.Body.{Body}
-use Rattle.tiny_http_body.specs.declared.body.Body.TheVariants as body
+use Rattle.tiny_http_body.specs.declared.body.UnreadBody.{UnreadBody}
+use Rattle.tiny_http_body.specs.declared.body.UnreadBody.TheVariants as body
 use Rattle.tiny_http_io.specs.ToCome.{skipped, stopped}
 use Rattle.tiny_http_io.specs.Source.{SourceState, GoesOn}
 use Rattle.tiny_http_body.specs.declared.framing.Profile.{Profile}
@@ -40,7 +40,7 @@ over-kept WithHead n given end_reported h lost = cc
 over-kept Counted n given end_reported h lost = cc
 
 -- after a chunked body that was given up before its end no head follows
-lost-chunked : {R : Type 0} (b : Body) (old new : SourceState R) (f : Feed) (r : Request) (given : ℕ) (end_reported : Bool) → Fits r.framing.by_standard b r.framing.form (body_length_or_0 r.framing) given end_reported → GivesUp b old new → old.feed ≡ Some f
+lost-chunked : {R : Type 0} (b : UnreadBody) (old new : SourceState R) (f : Feed) (r : Request) (given : ℕ) (end_reported : Bool) → Fits r.framing.by_standard b r.framing.form (body_length_or_0 r.framing) given end_reported → GivesUp b old new → old.feed ≡ Some f
     → (is_chunked r.framing.form && not end_reported) ≡ true → ((new.is_over ≡ true) × (new.stop ≡ Some End)) × (new.feed ≡ Some (stopped End))
 lost-chunked {R = R} (body.Chunked d) old new f r given end_reported fits h e lost = (h.1, h.0 ∙ ap (λ (o : Option Feed). option_map (λ _. stopped End) o) e)
 lost-chunked {R = R} (body.Counted left by_standard) old new f r given end_reported fits h e lost = let no : true ≡ false = sym lost ∙ rw fits.0 refl in cc
@@ -49,7 +49,7 @@ lost-chunked {R = R} body.Rest old new f r given end_reported fits h e lost = le
 lost-chunked {R = R} (body.Over stop) old new f r given end_reported fits h e lost = absurd (over-kept r.framing.form (body_length_or_0 r.framing) given end_reported fits lost)
 
 -- where the next head is read after a body that was given up
-given-place : {R : Type 0} (profile : Profile) (b : Body) (old new : SourceState R) (f : Feed) (r : Request) (given : ℕ) (end_reported over : Bool) (rest : List Item) → Fits r.framing.by_standard b r.framing.form (body_length_or_0 r.framing) given end_reported → GivesUp b old new → old.feed ≡ Some f
+given-place : {R : Type 0} (profile : Profile) (b : UnreadBody) (old new : SourceState R) (f : Feed) (r : Request) (given : ℕ) (end_reported over : Bool) (rest : List Item) → Fits r.framing.by_standard b r.framing.form (body_length_or_0 r.framing) given end_reported → GivesUp b old new → old.feed ≡ Some f
     → (is_streaming b ≡ false → (g : Feed) → behind_body (Some b) (Some g) ≡ Some g) → (is_chunked r.framing.form && not end_reported) ≡ false → (r.framing.form ≡ Rest → over ≡ true) → PlaceAt profile over (behind_body (Some b) old.feed) rest → PlaceAt profile over new.feed rest
 given-place profile b old new f r given end_reported true rest fits h e quiet kept ends place = place
 given-place {R = R} profile (body.Over stop) old new f r given end_reported false rest fits h e quiet kept ends place =
@@ -109,14 +109,14 @@ out-fault kind at.Last = refl
 out-fault kind at.Abandoned = refl
 out-fault kind (at.Broken k) = refl
 
-given-past : {R : Type 0} (b : Body) (old new : SourceState R) → GivesUp b old new → is_past_last new.standing ≡ is_past_last old.standing
+given-past : {R : Type 0} (b : UnreadBody) (old new : SourceState R) → GivesUp b old new → is_past_last new.standing ≡ is_past_last old.standing
 given-past {R = R} (body.Over stop) old new h = ap (λ (x : SourceState R). is_past_last x.standing) h
 given-past {R = R} (body.WithHead bytes) old new h = ap (λ (x : SourceState R). is_past_last x.standing) h
 given-past {R = R} body.Rest old new h = ap (λ (x : SourceState R). is_past_last x.standing) h
 given-past (body.Counted left by_standard) old new h = ap is_past_last h.1 ∙ past-body old.standing
 given-past (body.Chunked d) old new h = ap is_past_last h.2 ∙ past-loss old.standing
 
-given-within : {R : Type 0} (b : Body) (old new : SourceState R) (last : Bool) → GivesUp b old new → (b ≡ body.Rest → last ≡ true) → is_in_body old.standing ≡ (not last && is_streaming b) → is_in_body new.standing ≡ false
+given-within : {R : Type 0} (b : UnreadBody) (old new : SourceState R) (last : Bool) → GivesUp b old new → (b ≡ body.Rest → last ≡ true) → is_in_body old.standing ≡ (not last && is_streaming b) → is_in_body new.standing ≡ false
 given-within {R = R} (body.Over stop) old new last h ends e = ap (λ (x : SourceState R). is_in_body x.standing) h ∙ e ∙ and-false (not last)
 given-within {R = R} (body.WithHead bytes) old new last h ends e = ap (λ (x : SourceState R). is_in_body x.standing) h ∙ e ∙ and-false (not last)
 given-within (body.Counted left by_standard) old new last h ends e = ap is_in_body h.1 ∙ out-body old.standing
@@ -124,17 +124,17 @@ given-within (body.Chunked d) old new last h ends e = ap is_in_body h.2 ∙ out-
 given-within {R = R} body.Rest old new last h ends e = ap (λ (x : SourceState R). is_in_body x.standing) h ∙ e ∙ ap (λ x. not x && true) (ends refl)
 
 -- a body that is all the rest of the input is that of a request of that form
-rest-form : (b : Body) (r : Request) (given : ℕ) (end_reported : Bool) → Fits r.framing.by_standard b r.framing.form (body_length_or_0 r.framing) given end_reported → b ≡ body.Rest → r.framing.form ≡ Rest
+rest-form : (b : UnreadBody) (r : Request) (given : ℕ) (end_reported : Bool) → Fits r.framing.by_standard b r.framing.form (body_length_or_0 r.framing) given end_reported → b ≡ body.Rest → r.framing.form ≡ Rest
 rest-form b r given end_reported fits e =
-    let F : Body → Type 0 = λ x. Fits r.framing.by_standard x r.framing.form (body_length_or_0 r.framing) given end_reported in
+    let F : UnreadBody → Type 0 = λ x. Fits r.framing.by_standard x r.framing.form (body_length_or_0 r.framing) given end_reported in
     (subst F e fits).0
 
 -- the same after a read
-pub record StandsOn (c : Body) (p q : Standing) (last : Bool) : Type 0 where
+pub record StandsOn (c : UnreadBody) (p q : Standing) (last : Bool) : Type 0 where
   pub past : is_past_last q ≡ is_past_last p
   pub within : is_in_body q ≡ (not last && is_streaming c)
 
-stands-by : (c : Body) (p : Standing) (last : Bool) → is_in_body p ≡ (not last && true) → StandsOn c p (body_standing c p) last
+stands-by : (c : UnreadBody) (p : Standing) (last : Bool) → is_in_body p ≡ (not last && true) → StandsOn c p (body_standing c p) last
 stands-by (body.Over End) p last e = record { past = past-body p; within = out-body p ∙ sym (and-false (not last)) }
 stands-by (body.Over (Faults kind)) p last e = record { past = past-fault kind p; within = out-fault kind p ∙ sym (and-false (not last)) }
 stands-by (body.WithHead bytes) p last e = record { past = past-body p; within = out-body p ∙ sym (and-false (not last)) }
@@ -142,7 +142,7 @@ stands-by (body.Counted left by_standard) p last e = record { past = refl; withi
 stands-by (body.Chunked d) p last e = record { past = refl; within = e }
 stands-by body.Rest p last e = record { past = refl; within = e }
 
-pub stands-on : (b c : Body) (p q : Standing) (last : Bool) → (is_streaming b ≡ true → q ≡ body_standing c p) → (is_streaming b ≡ false → q ≡ p) → (is_streaming b ≡ false → is_streaming c ≡ false) → is_in_body p ≡ (not last && is_streaming b) → StandsOn c p q last
+pub stands-on : (b c : UnreadBody) (p q : Standing) (last : Bool) → (is_streaming b ≡ true → q ≡ body_standing c p) → (is_streaming b ≡ false → q ≡ p) → (is_streaming b ≡ false → is_streaming c ≡ false) → is_in_body p ≡ (not last && is_streaming b) → StandsOn c p q last
 stands-on b c p q last goes settled stays e = by (is_streaming b) refl
   where
     S : Standing → Type 0
@@ -153,7 +153,7 @@ stands-on b c p q last goes settled stays e = by (is_streaming b) refl
     by false t = subst S (sym (settled t)) (record { past = refl; within = e ∙ ap (λ x. not last && x) (t ∙ sym (stays t)) })
 
 -- a body that isn't read from the input leaves it
-given-same : {R : Type 0} (b : Body) (old new : SourceState R) → GivesUp b old new → is_streaming b ≡ false → new ≡ old
+given-same : {R : Type 0} (b : UnreadBody) (old new : SourceState R) → GivesUp b old new → is_streaming b ≡ false → new ≡ old
 given-same (body.Over stop) old new h e = h
 given-same (body.WithHead bytes) old new h e = h
 given-same (body.Counted left by_standard) old new h e = cc
@@ -163,9 +163,9 @@ given-same body.Rest old new h e = cc
 -- where the last number and its body are the same, the next head is read at the same place
 pub next-same : (k q : Kept) (o u : Option Slot) (rest : List Item) → q.profile ≡ k.profile → q.standing ≡ k.standing → is_last_slot u ≡ is_last_slot o → last_was_abandoned u ≡ last_was_abandoned o → last_body q.requests ≡ last_body k.requests → q.feed ≡ k.feed → q.stop ≡ k.stop → q.is_over ≡ k.is_over → NextHead k o rest → NextHead q u rest
 next-same k q o u rest profile standing last abandoned content feed stop ends n =
-    let P : Bool → Option Body → Option Feed → Type 0 = λ x y z. PlaceAt q.profile x (behind_body y z) rest in
+    let P : Bool → Option UnreadBody → Option Feed → Type 0 = λ x y z. PlaceAt q.profile x (behind_body y z) rest in
     let over : is_past_last q.standing ≡ is_past_last k.standing = ap is_past_last standing in
-    let W : Bool → Option Body → Bool = λ x y. not x && is_streaming_body y in
+    let W : Bool → Option UnreadBody → Bool = λ x y. not x && is_streaming_body y in
     record {
       is_last = over ∙ n.is_last ∙ sym last;
       within = ap is_in_body standing ∙ n.within ∙ ap (λ y. W (is_last_slot o) y) (sym content) ∙ ap (λ x. W x (last_body q.requests)) (sym last);
@@ -187,9 +187,9 @@ reader-within client k source bs cs us vs rest s t c v x u from reader is quiet 
     let last : last_slot (bs ++ (t ∷ (c ∷ cs))) ≡ last_slot (bs ++ (s ∷ (c ∷ cs))) = last-within None bs t s c cs in
     let content : last_body (us ++ (x ∷ (v ∷ vs))) ≡ last_body k.requests = body-within us x u v vs ∙ ap last_body (sym is) in
     let A : List (Option Unfinished) → Type 0 = λ l. AreSettled l in
-    let G : Option Body → Option Slot → Option Feed → Type 0 = λ b o f. GivesRest b o f in
+    let G : Option UnreadBody → Option Slot → Option Feed → Type 0 = λ b o f. GivesRest b o f in
     let S : Option Feed → Type 0 = λ f. GoesOn (Some client) f in
-    let L : Option Body → Option Slot → Option Feed → Type 0 = λ b o f. FollowsLast b o f in
+    let L : Option UnreadBody → Option Slot → Option Feed → Type 0 = λ b o f. FollowsLast b o f in
     record {
       settled = settled-set us u x (v ∷ vs) (subst A is reader.settled) (inl quiet);
       gives = subst (λ b. G b (last_slot (bs ++ (t ∷ (c ∷ cs)))) source.feed) (sym content) (subst (λ o. G (last_body k.requests) o source.feed) (sym last) (subst (λ f. G (last_body k.requests) (last_slot (bs ++ (s ∷ (c ∷ cs)))) f) from.feed reader.gives));
@@ -201,7 +201,7 @@ reader-within client k source bs cs us vs rest s t c v x u from reader is quiet 
     }
 
 -- what is known of the last number, while its body can be read
-pub record LastWaits {R : Type 0} (k : Kept) (source : SourceState R) (bs : List Slot) (s : Slot) (b : Body) (rest : List Item) : Type 0 where
+pub record LastWaits {R : Type 0} (k : Kept) (source : SourceState R) (bs : List Slot) (s : Slot) (b : UnreadBody) (rest : List Item) : Type 0 where
   pub feed : Feed
   pub stated : source.feed ≡ Some feed
   pub content : last_body k.requests ≡ Some b
@@ -211,17 +211,17 @@ pub record LastWaits {R : Type 0} (k : Kept) (source : SourceState R) (bs : List
   pub place : k.asking_ended ≡ false → PlaceAt k.profile (is_past_last source.standing) (behind_body (Some b) source.feed) rest
   pub follows : last_holds_next_head k.requests ≡ true → behind_body (Some b) source.feed ≡ Some (behind_item s.item)
 
-pub last-waits : {R : Type 0} (client : Feed) (k : Kept) (source : SourceState R) (bs : List Slot) (us : List (Option Unfinished)) (rest : List Item) (s : Slot) (u : Option Unfinished) (b : Body) → IsOpen s b → kept_body u ≡ Some b → IsInput k source → InputStands client k (bs ++ (s ∷ [])) rest → k.requests ≡ us ++ (u ∷ [])
+pub last-waits : {R : Type 0} (client : Feed) (k : Kept) (source : SourceState R) (bs : List Slot) (us : List (Option Unfinished)) (rest : List Item) (s : Slot) (u : Option Unfinished) (b : UnreadBody) → IsOpen s b → kept_body u ≡ Some b → IsInput k source → InputStands client k (bs ++ (s ∷ [])) rest → k.requests ≡ us ++ (u ∷ [])
     → LastWaits k source bs s b rest
 last-waits client k source bs us rest s u b h has from reader is =
     let f = stated-feed client k.feed reader.source in
     let last : last_slot (bs ++ (s ∷ [])) ≡ Some s = last-snoc None bs s in
     let content : last_body k.requests ≡ Some b = ap last_body is ∙ body-snoc us u ∙ has in
-    let G : Option Body → Option Slot → Option Feed → Type 0 = λ b o z. GivesRest b o z in
-    let P : Bool → Option Body → Option Feed → Type 0 = λ x y z. PlaceAt k.profile x (behind_body y z) rest in
+    let G : Option UnreadBody → Option Slot → Option Feed → Type 0 = λ b o z. GivesRest b o z in
+    let P : Bool → Option UnreadBody → Option Feed → Type 0 = λ x y z. PlaceAt k.profile x (behind_body y z) rest in
     let over : is_past_last k.standing ≡ is_past_last source.standing = ap is_past_last from.standing in
-    let W : Option Slot → Option Body → Bool = λ x y. not (is_last_slot x) && is_streaming_body y in
-    let L : Option Body → Option Slot → Option Feed → Type 0 = λ b o f. FollowsLast b o f in
+    let W : Option Slot → Option UnreadBody → Bool = λ x y. not (is_last_slot x) && is_streaming_body y in
+    let L : Option UnreadBody → Option Slot → Option Feed → Type 0 = λ b o f. FollowsLast b o f in
     record {
       feed = f.0;
       stated = sym from.feed ∙ f.1;
@@ -234,7 +234,7 @@ last-waits client k source bs us rest s u b h has from reader is =
     }
 
 -- the last number's body is given up
-reader-last : {R : Type 0} (closes : Bool) (client : Feed) (k : Kept) (old new : SourceState R) (bs : List Slot) (us : List (Option Unfinished)) (rest : List Item) (s : Slot) (u x : Option Unfinished) (b : Body) (stage : Stage) → (h : IsOpen s b) → kept_body u ≡ Some b → kept_body x ≡ None → IsInput k old → InputStands client k (bs ++ (s ∷ [])) rest
+reader-last : {R : Type 0} (closes : Bool) (client : Feed) (k : Kept) (old new : SourceState R) (bs : List Slot) (us : List (Option Unfinished)) (rest : List Item) (s : Slot) (u x : Option Unfinished) (b : UnreadBody) (stage : Stage) → (h : IsOpen s b) → kept_body u ≡ Some b → kept_body x ≡ None → IsInput k old → InputStands client k (bs ++ (s ∷ [])) rest
     → k.requests ≡ us ++ (u ∷ []) → GivesUp b old new
     → InputStands client (with_reader k (us ++ (x ∷ [])) new) (bs ++ (finished_as closes (open_slot h.handed h.request h.given h.end_reported) stage ∷ [])) rest
 reader-last closes client k old new bs us rest s u x b stage h has none from reader is gives =
@@ -244,9 +244,9 @@ reader-last closes client k old new bs us rest s u x b stage h has none from rea
     let content : last_body (us ++ (x ∷ [])) ≡ None = body-snoc us x ∙ none in
     let l = last-waits client k old bs us rest s u b h has from reader is in
     let A : List (Option Unfinished) → Type 0 = λ x. AreSettled x in
-    let G : Option Body → Type 0 = λ b. GivesRest b (last_slot (bs ++ (t ∷ []))) new.feed in
-    let P : Bool → Option Body → Type 0 = λ x b. PlaceAt k.profile x (behind_body b new.feed) rest in
-    let W : Option Body → Bool = λ y. not (is_last_slot (last_slot (bs ++ (t ∷ [])))) && is_streaming_body y in
+    let G : Option UnreadBody → Type 0 = λ b. GivesRest b (last_slot (bs ++ (t ∷ []))) new.feed in
+    let P : Bool → Option UnreadBody → Type 0 = λ x b. PlaceAt k.profile x (behind_body b new.feed) rest in
+    let W : Option UnreadBody → Bool = λ y. not (is_last_slot (last_slot (bs ++ (t ∷ [])))) && is_streaming_body y in
     let past : is_past_last new.standing ≡ is_past_last old.standing = given-past b old new gives in
     let S : Option Feed → Type 0 = λ f. GoesOn f new.feed in
     let B : Option Remaining → Option Feed = λ o. option_map (λ (x : Remaining). x.behind) o in
@@ -267,7 +267,7 @@ reader-last closes client k old new bs us rest s u x b stage h has none from rea
 
 -- A number's body is given up. `bs`, `cs`: the numbers before and behind; `us`, `vs`: what is kept of them; `u`, `x`: what is
 -- kept of the number before and after the step.
-pub reader-given_up : {R : Type 0} (closes : Bool) (client : Feed) (k : Kept) (old new : SourceState R) (bs cs : List Slot) (us vs : List (Option Unfinished)) (rest : List Item) (s : Slot) (u x : Option Unfinished) (b : Body) (stage : Stage) → (h : IsOpen s b) → kept_body u ≡ Some b → kept_body x ≡ None → IsInput k old
+pub reader-given_up : {R : Type 0} (closes : Bool) (client : Feed) (k : Kept) (old new : SourceState R) (bs cs : List Slot) (us vs : List (Option Unfinished)) (rest : List Item) (s : Slot) (u x : Option Unfinished) (b : UnreadBody) (stage : Stage) → (h : IsOpen s b) → kept_body u ≡ Some b → kept_body x ≡ None → IsInput k old
     → InputStands client k (bs ++ (s ∷ cs)) rest → k.requests ≡ us ++ (u ∷ vs) → length cs ≡ length vs → GivesUp b old new
     → InputStands client (with_reader k (us ++ (x ∷ vs)) new) (bs ++ (finished_as closes (open_slot h.handed h.request h.given h.end_reported) stage ∷ cs)) rest
 reader-given_up closes client k old new bs [] us [] rest s u x b stage h has none from reader is same gives = reader-last closes client k old new bs us rest s u x b stage h has none from reader is gives
@@ -287,11 +287,11 @@ pub record Alike (s t : Slot) : Type 0 where
   pub left : slot_rest t ≡ slot_rest s
   pub behind : behind_item t.item ≡ behind_item s.item
 
-gives-alike : (b : Option Body) (s t : Slot) (f : Option Feed) → slot_rest t ≡ slot_rest s → GivesRest b (Some s) f → GivesRest b (Some t) f
+gives-alike : (b : Option UnreadBody) (s t : Slot) (f : Option Feed) → slot_rest t ≡ slot_rest s → GivesRest b (Some s) f → GivesRest b (Some t) f
 gives-alike None s t f e h = tt
 gives-alike (Some b) s t f e h = h ∙ ap Some (sym e)
 
-follows-alike : (s t : Slot) → behind_item t.item ≡ behind_item s.item → (b : Option Body) (f : Option Feed) → FollowsLast b (Some s) f → FollowsLast b (Some t) f
+follows-alike : (s t : Slot) → behind_item t.item ≡ behind_item s.item → (b : Option UnreadBody) (f : Option Feed) → FollowsLast b (Some s) f → FollowsLast b (Some t) f
 follows-alike s t e None f h = tt
 follows-alike s t e (Some b) f h = h ∙ ap Some (sym e)
 
@@ -312,9 +312,9 @@ reader-alike client k source bs [] us [] rest s t u x from reader is same body k
     let last : last_slot (bs ++ (t ∷ [])) ≡ Some t = last-snoc None bs t in
     let content : last_body (us ++ (x ∷ [])) ≡ last_body k.requests = body-snoc us x ∙ body ∙ sym (body-snoc us u) ∙ ap last_body (sym is) in
     let A : List (Option Unfinished) → Type 0 = λ y. AreSettled y in
-    let G : Option Body → Option Slot → Option Feed → Type 0 = λ b o f. GivesRest b o f in
+    let G : Option UnreadBody → Option Slot → Option Feed → Type 0 = λ b o f. GivesRest b o f in
     let S : Option Feed → Type 0 = λ f. GoesOn (Some client) f in
-    let L : Option Body → Option Slot → Option Feed → Type 0 = λ b o f. FollowsLast b o f in
+    let L : Option UnreadBody → Option Slot → Option Feed → Type 0 = λ b o f. FollowsLast b o f in
     let gives = subst (λ o. G (last_body k.requests) o k.feed) was reader.gives in
     record {
       settled = settled-set us u x [] (subst A is reader.settled) (inr refl);

@@ -8,7 +8,7 @@ use Rattle.std.proofs.Math.Bool.{or-false, or-true}
 use Rattle.httpdate.specs.declared.date.HttpDate.{HttpDate}
 use Rattle.tiny_http_io.specs.Device.{Feed, Sink, IsFront}
 use Rattle.tiny_http_body.specs.Text.{Text}
-use Rattle.tiny_http_body.specs.declared.body.Body.{Body}
+use Rattle.tiny_http_body.specs.declared.body.UnreadBody.{UnreadBody}
 use Rattle.tiny_http_open_request.specs.declared.open_request.OpenRequest.{OpenRequest}
 use Rattle.tiny_http_open_request.specs.Pipeline.{Item}
 use Rattle.tiny_http_body.specs.Body.{remaining, Remaining}
@@ -149,7 +149,7 @@ closing-behind (b ∷ c ∷ bs) s cs = ap (λ l. b ∷ l) (closing-behind (c ∷
 
 -- ---- what is kept
 
-waiting-closing : (s : Slot) (w : OpenRequest Body) → IsWaiting s w → IsWaiting (closing s) (closing_request w)
+waiting-closing : (s : Slot) (w : OpenRequest UnreadBody) → IsWaiting s w → IsWaiting (closing s) (closing_request w)
 waiting-closing s w h =
     let waits : is_unanswered s.stage ≡ true = ap (λ (x : Slot). is_unanswered x.stage) h.is in
     record {
@@ -251,21 +251,21 @@ asked_state closes s = record s { reached = asked_to_close closes s.reached }
 abbrev closed_kept : Kept → Kept
 closed_kept k = record k { requests = last_closing_number k.requests; asking_ended = true }
 
-gives-closing : (b : Option Body) (o : Option Slot) (feed : Option Feed) → GivesRest b o feed → GivesRest b (option_map closing o) feed
+gives-closing : (b : Option UnreadBody) (o : Option Slot) (feed : Option Feed) → GivesRest b o feed → GivesRest b (option_map closing o) feed
 gives-closing None o feed h = h
 gives-closing (Some b) None feed h = h
 gives-closing (Some b) (Some s) feed h = by-closing (λ t. option_map (λ (r : Remaining). r.body) (remaining b feed) ≡ Some (slot_rest t)) s (λ e. h) h
 
-follows-closing : (b : Option Body) (o : Option Slot) (feed : Option Feed) → FollowsLast b o feed → FollowsLast b (option_map closing o) feed
+follows-closing : (b : Option UnreadBody) (o : Option Slot) (feed : Option Feed) → FollowsLast b o feed → FollowsLast b (option_map closing o) feed
 follows-closing None o feed h = h
 follows-closing (Some b) None feed h = h
 follows-closing (Some b) (Some s) feed h = by-closing (λ t. behind_body (Some b) feed ≡ Some (behind_item t.item)) s (λ e. h) h
 
 input-closing : (client : Feed) (k : Kept) (slots : List Slot) (rest : List Item) → InputStands client k slots rest → InputStands client (closed_kept k) (last_closing slots) rest
 input-closing client k slots rest r =
-    let G : Option Body → Type 0 = λ b. GivesRest b (last_slot (last_closing slots)) k.feed in
+    let G : Option UnreadBody → Type 0 = λ b. GivesRest b (last_slot (last_closing slots)) k.feed in
     let H : Option Slot → Type 0 = λ o. GivesRest (last_body k.requests) o k.feed in
-    let F : Option Body → Type 0 = λ b. FollowsLast b (last_slot (last_closing slots)) k.feed in
+    let F : Option UnreadBody → Type 0 = λ b. FollowsLast b (last_slot (last_closing slots)) k.feed in
     let E : Option Slot → Type 0 = λ o. FollowsLast (last_body k.requests) o k.feed in
     record {
       settled = settled-closing k.requests r.settled;

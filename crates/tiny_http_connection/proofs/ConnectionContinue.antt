@@ -9,7 +9,7 @@ use Rattle.tiny_http_response.specs.declared.answer_context.AnswerContext.{Answe
 use Rattle.tiny_http_io.specs.Source.{SourceState}
 use Rattle.tiny_http_response.specs.ResponseValue.{printing_in}
 use Rattle.tiny_http_response.specs.Sending.{CanSend, IsFlushed, SendsUnlessEnded}
-use Rattle.tiny_http_body.specs.declared.body.Body.{Body}
+use Rattle.tiny_http_body.specs.declared.body.UnreadBody.{UnreadBody}
 use Rattle.tiny_http_open_request.specs.declared.open_request.OpenRequest.{OpenRequest}
 use Rattle.tiny_http_open_request.specs.OwnAnswer.{own_text_by}
 use Rattle.tiny_http_open_request.specs.Pipeline.{Asks}
@@ -38,7 +38,7 @@ continue-not_taken n (Raw w c) owed e = refl
 continue-not_taken n (Upgraded p r d w c) owed e = refl
 
 -- no 100 is owed
-pub continue-unowed : (client : Feed) (before : Sink) (k : Kept) (s : State) (date : HttpDate) (n : ℕ) (w : OpenRequest Body) → Stands client before k s → slice_get k.requests n ≡ Some (Some (still.Waiting w)) → w.owes_continue ≡ false → StepIsAnswered client before k s date (AsReader n) Done
+pub continue-unowed : (client : Feed) (before : Sink) (k : Kept) (s : State) (date : HttpDate) (n : ℕ) (w : OpenRequest UnreadBody) → Stands client before k s → slice_get k.requests n ≡ Some (Some (still.Waiting w)) → w.owes_continue ≡ false → StepIsAnswered client before k s date (AsReader n) Done
 continue-unowed client before k s date n w st e free =
     let p = place-of s.reached.slots k.marks k.requests n (still.Waiting w) st.numbers e in
     let at = slot-at s.reached.slots p.bs p.cs p.s n p.slots_are p.slots_before in
@@ -46,7 +46,7 @@ continue-unowed client before k s date n w st e free =
     step-unchanged client before k s date (AsReader n) Done st (ap (at_slot true date s.reached n (AsReader n)) at.get ∙ ap T p.waiting.is ∙ rw (sym p.waiting.owed ∙ free) refl)
 
 -- its turn hasn't come
-pub continue-not_yet : (client : Feed) (before : Sink) (k : Kept) (s : State) (date : HttpDate) (n : ℕ) (w : OpenRequest Body) → Stands client before k s → slice_get k.requests n ≡ Some (Some (still.Waiting w)) → w.owes_continue ≡ true → (n == first_unfinished k.marks) ≡ false
+pub continue-not_yet : (client : Feed) (before : Sink) (k : Kept) (s : State) (date : HttpDate) (n : ℕ) (w : OpenRequest UnreadBody) → Stands client before k s → slice_get k.requests n ≡ Some (Some (still.Waiting w)) → w.owes_continue ≡ true → (n == first_unfinished k.marks) ≡ false
     → StepIsAnswered client before k s date (AsReader n) NotYet
 continue-not_yet client before k s date n w st e owed early =
     let p = place-of s.reached.slots k.marks k.requests n (still.Waiting w) st.numbers e in
@@ -61,13 +61,13 @@ continue-not_yet client before k s date n w st e owed early =
 abbrev continued : HttpDate → HandedOut → HandedOut
 continued date h = record { date = h.date; continued = Some date; owed = false; closes = h.closes }
 
-abbrev continued_slot : HttpDate → (s : Slot) (w : OpenRequest Body) → IsWaiting s w → Slot
+abbrev continued_slot : HttpDate → (s : Slot) (w : OpenRequest UnreadBody) → IsWaiting s w → Slot
 continued_slot date s w h = open_slot (continued date h.handed) h.request h.given h.end_reported
 
-abbrev pub unowed : OpenRequest Body → OpenRequest Body
+abbrev pub unowed : OpenRequest UnreadBody → OpenRequest UnreadBody
 unowed w = record w { owes_continue = false }
 
-still-waiting : (date : HttpDate) (s : Slot) (w : OpenRequest Body) (h : IsWaiting s w) → IsWaiting (continued_slot date s w h) (unowed w)
+still-waiting : (date : HttpDate) (s : Slot) (w : OpenRequest UnreadBody) (h : IsWaiting s w) → IsWaiting (continued_slot date s w h) (unowed w)
 still-waiting date s w h = record {
   request = h.request;
   handed = continued date h.handed;
@@ -88,7 +88,7 @@ still-waiting date s w h = record {
   settled = h.settled;
 }
 
-pub continue-done : {R : Type 0} (client : Feed) (before : Sink) (k : Kept) (s : State) (date : HttpDate) (n : ℕ) (w : OpenRequest Body) (context : AnswerContext) (new : Sink) (ended : Bool) (final : List Mark) (requests : List (Option Unfinished)) (source : SourceState R) → Stands client before k s → IsInput k source → before.failures < 2 ^ 64 - 1
+pub continue-done : {R : Type 0} (client : Feed) (before : Sink) (k : Kept) (s : State) (date : HttpDate) (n : ℕ) (w : OpenRequest UnreadBody) (context : AnswerContext) (new : Sink) (ended : Bool) (final : List Mark) (requests : List (Option Unfinished)) (source : SourceState R) → Stands client before k s → IsInput k source → before.failures < 2 ^ 64 - 1
     → slice_get k.requests n ≡ Some (Some (still.Waiting w)) → w.answer_context ≡ context → w.owes_continue ≡ true → (n == first_unfinished k.marks) ≡ true → final ≡ k.marks → requests ≡ slice_set k.requests n (Some (still.Waiting (unowed w)))
     → ((k.output_ended ≡ false → CanSend k.sink) → SendsUnlessEnded k.output_ended k.sink new ended (own_text_by 100 (printing_in context date))) → IsFlushed new
     → StepIsAnswered client before (after_number k final requests source new ended) s date (AsReader n) Done

@@ -7,7 +7,7 @@ use Rattle.std.specs.Prelude.{◌==◌, slice_get, slice_set, is_err}
 use Rattle.tiny_http_response.specs.ResponseValue.{printing_in, ResponseValue}
 use Rattle.httpdate.specs.declared.date.HttpDate.{HttpDate}
 use Rattle.tiny_http_io.specs.Device.{Feed, Sink}
-use Rattle.tiny_http_body.specs.declared.body.Body.{Body}
+use Rattle.tiny_http_body.specs.declared.body.UnreadBody.{UnreadBody}
 use Rattle.tiny_http_open_request.specs.declared.open_request.OpenRequest.{OpenRequest}
 use Rattle.tiny_http_open_request.specs.Pipeline.{Asks, Request, is_connect_method, body_length_or_0}
 use Rattle.tiny_http_open_request.specs.OpenRequest.{final_context, refuses_code, upgrade_check, request_check}
@@ -37,15 +37,15 @@ drop-not_taken n (Raw w c) owed e = refl
 drop-not_taken n (Upgraded p r d w c) owed e = refl
 
 -- what becomes of a number that waits, if the server answers it
-abbrev pub dropped_slot : (s : Slot) (w : OpenRequest Body) → IsWaiting s w → Slot
+abbrev pub dropped_slot : (s : Slot) (w : OpenRequest UnreadBody) → IsWaiting s w → Slot
 dropped_slot s w h = dropped h.handed h.request h.given h.end_reported
 
 -- the text that is kept for a drop
-drop-text_is : (s : Slot) (w : OpenRequest Body) (h : IsWaiting s w) → drop_text w.dropped (final_context w (remainder w.body)) ≡ (stage_text (closes_now h.request h.handed.closes h.handed.owed h.given h.end_reported) (Asks h.request) h.handed.date ByServer).bytes
+drop-text_is : (s : Slot) (w : OpenRequest UnreadBody) (h : IsWaiting s w) → drop_text w.dropped (final_context w (remainder w.body)) ≡ (stage_text (closes_now h.request h.handed.closes h.handed.owed h.given h.end_reported) (Asks h.request) h.handed.date ByServer).bytes
 drop-text_is s w h = ap (λ d. drop_text d (final_context w (remainder w.body))) h.dropped ∙ ap (λ c. own_text_by 500 (printing_in c h.handed.date)) (waiting-final s w h)
 
 -- it ends with the text that is kept for a drop
-pub drop-ends : (s : Slot) (w : OpenRequest Body) (h : IsWaiting s w) → EndsAs s (dropped_slot s w h) (drop_text w.dropped (final_context w (remainder w.body)))
+pub drop-ends : (s : Slot) (w : OpenRequest UnreadBody) (h : IsWaiting s w) → EndsAs s (dropped_slot s w h) (drop_text w.dropped (final_context w (remainder w.body)))
 drop-ends s w h = record {
   finished = refl;
   given_up = refl;
@@ -55,20 +55,20 @@ drop-ends s w h = record {
 }
 
 -- the input after it
-pub reader-dropped : {R : Type 0} (client : Feed) (k : Kept) (s : State) (n : ℕ) (w : OpenRequest Body) (p : KeptAt s.reached.slots k.marks k.requests n (still.Waiting w)) (old source : SourceState R) → IsInput k old → InputStands client k s.reached.slots s.reached.rest → GivesUp w.body old source
+pub reader-dropped : {R : Type 0} (client : Feed) (k : Kept) (s : State) (n : ℕ) (w : OpenRequest UnreadBody) (p : KeptAt s.reached.slots k.marks k.requests n (still.Waiting w)) (old source : SourceState R) → IsInput k old → InputStands client k s.reached.slots s.reached.rest → GivesUp w.body old source
     → InputStands client (with_reader k (p.us ++ (None ∷ p.vs)) source) (p.bs ++ (dropped_slot p.s w p.waiting ∷ p.cs)) s.reached.rest
 reader-dropped client k s n w p old source from reader gives =
     let P : List Slot → Type 0 = λ l. InputStands client k l s.reached.rest in
     reader-given_up (closes_now p.waiting.request p.waiting.handed.closes p.waiting.handed.owed p.waiting.given p.waiting.end_reported) client k old source p.bs p.cs p.us p.vs s.reached.rest p.s (Some (still.Waiting w)) None w.body ByServer (open-waiting p.s w p.waiting) refl refl from (subst P p.slots_are reader) p.requests_are (kept-many p.cs p.rs p.vs p.behind) gives
 
 -- what tells whether an answer to a request is refused
-abbrev pub IsKeptOf : OpenRequest Body → Request → ℕ → Bool → Type 0
+abbrev pub IsKeptOf : OpenRequest UnreadBody → Request → ℕ → Bool → Type 0
 IsKeptOf w r given end_reported =
     (w.by_standard ≡ r.framing.by_standard) × (w.is_connect ≡ is_connect_method r.message.method) × ((protocol : List ℕ) → (w.holds_next_head && names_protocol w.upgrades.items protocol) ≡ asks_protocol r protocol)
     × ((body_finished r.framing.form (body_length_or_0 r.framing) given end_reported && is_end r.body.stop) ≡ is_whole w.body)
 
 -- The request of a number that waits is dropped, by whatever step.
-pub drop-done : {R : Type 0} (client : Feed) (before : Sink) (k : Kept) (s : State) (date : HttpDate) (n : ℕ) (step : StepValue) (reply : ReplyValue) (w : OpenRequest Body) (new : Sink) (ended : Bool) (final : List Mark) (requests : List (Option Unfinished)) (old source : SourceState R)
+pub drop-done : {R : Type 0} (client : Feed) (before : Sink) (k : Kept) (s : State) (date : HttpDate) (n : ℕ) (step : StepValue) (reply : ReplyValue) (w : OpenRequest UnreadBody) (new : Sink) (ended : Bool) (final : List Mark) (requests : List (Option Unfinished)) (old source : SourceState R)
     → ((old : Reached) (asked : HandedOut) (r : Request) (given : ℕ) (end_reported : Bool) → IsKeptOf w r given end_reported → slice_get old.slots n ≡ Some (open_slot asked r given end_reported) → outcome true date old step ≡ ends_asking (is_last_once_finished r asked.owed given end_reported) (changes old n (dropped asked r given end_reported) reply (use_in_turn (turn_has_come n old.slots))))
     → Stands client before k s → IsInput k old → GivesUp w.body old source → before.failures < 2 ^ 64 - 1 → slice_get k.requests n ≡ Some (Some (still.Waiting w)) → requests ≡ slice_set k.requests n None
     → ((front rest : List Mark) → k.marks ≡ front ++ (Open ∷ rest) → length front ≡ n → (k.output_ended ≡ false → CanSend k.sink) → LeavesText (n == first_unfinished k.marks) front rest final (drop_text w.dropped (final_context w (remainder w.body))) k.output_ended k.sink new ended)
@@ -100,7 +100,7 @@ pub at-drop : (date : HttpDate) (n : ℕ) (old : Reached) (asked : HandedOut) (r
     → outcome true date old (Drop n) ≡ ends_asking (is_last_once_finished r asked.owed given end_reported) (changes old n (dropped asked r given end_reported) Done (use_in_turn (turn_has_come n old.slots)))
 at-drop date n old asked r given end_reported e = ap (at_slot true date old n (Drop n)) e
 
-pub at-unanswerable : (date : HttpDate) (n : ℕ) (v : ResponseValue) (w : OpenRequest Body) → refuses_code w.by_standard w.is_connect v.answer.status ≡ true
+pub at-unanswerable : (date : HttpDate) (n : ℕ) (v : ResponseValue) (w : OpenRequest UnreadBody) → refuses_code w.by_standard w.is_connect v.answer.status ≡ true
     → (old : Reached) (asked : HandedOut) (r : Request) (given : ℕ) (end_reported : Bool) → IsKeptOf w r given end_reported → slice_get old.slots n ≡ Some (open_slot asked r given end_reported)
     → outcome true date old (Respond n v) ≡ ends_asking (is_last_once_finished r asked.owed given end_reported) (changes old n (dropped asked r given end_reported) Refused (use_in_turn (turn_has_come n old.slots)))
 at-unanswerable date n v w refused old asked r given end_reported kept e =
@@ -109,14 +109,14 @@ at-unanswerable date n v w refused old asked r given end_reported kept e =
     ap (at_slot true date old n (Respond n v)) e ∙ rw is refl
 
 -- whether an upgrade is refused is known by what is kept
-pub refusal-same : (w : OpenRequest Body) (r : Request) (given : ℕ) (end_reported : Bool) (s : Slot) (protocol : List ℕ) (v : ResponseValue) → IsKeptOf w r given end_reported → s.given ≡ given → s.end_reported ≡ end_reported
+pub refusal-same : (w : OpenRequest UnreadBody) (r : Request) (given : ℕ) (end_reported : Bool) (s : Slot) (protocol : List ℕ) (v : ResponseValue) → IsKeptOf w r given end_reported → s.given ≡ given → s.end_reported ≡ end_reported
     → refuses_upgrade r s protocol v ≡ is_err (request_check w protocol v.answer.status (is_whole w.body))
 refusal-same w r given end_reported s protocol v kept g e =
     let U : Bool → Bool → Bool → Bool = λ a b c. is_err (upgrade_check a b protocol v.answer.status c) in
     let whole : is_body_whole r s ≡ is_whole w.body = ap (λ n. body_finished r.framing.form (body_length_or_0 r.framing) n s.end_reported && is_end r.body.stop) g ∙ ap (λ t. body_finished r.framing.form (body_length_or_0 r.framing) given t && is_end r.body.stop) e ∙ kept.3 in
     ap (λ a. U a (asks_protocol r protocol) (is_body_whole r s)) (sym kept.0) ∙ ap (λ b. U w.by_standard b (is_body_whole r s)) (sym (kept.2 protocol)) ∙ ap (U w.by_standard (w.holds_next_head && names_protocol w.upgrades.items protocol)) whole
 
-pub at-refused : (date : HttpDate) (n : ℕ) (protocol : List ℕ) (v : ResponseValue) (w : OpenRequest Body) → is_err (request_check w protocol v.answer.status (is_whole w.body)) ≡ true
+pub at-refused : (date : HttpDate) (n : ℕ) (protocol : List ℕ) (v : ResponseValue) (w : OpenRequest UnreadBody) → is_err (request_check w protocol v.answer.status (is_whole w.body)) ≡ true
     → (old : Reached) (asked : HandedOut) (r : Request) (given : ℕ) (end_reported : Bool) → IsKeptOf w r given end_reported → slice_get old.slots n ≡ Some (open_slot asked r given end_reported)
     → outcome true date old (Upgrade n protocol v) ≡ ends_asking (is_last_once_finished r asked.owed given end_reported) (changes old n (dropped asked r given end_reported) Refused (use_in_turn (turn_has_come n old.slots)))
 at-refused date n protocol v w refused old asked r given end_reported kept e =

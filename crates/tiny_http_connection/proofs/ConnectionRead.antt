@@ -13,8 +13,8 @@ use Rattle.tiny_http_io.specs.Device.{Feed, Sink}
 use Rattle.tiny_http_open_request.specs.declared.open_request.OpenRequest.{OpenRequest}
 use Rattle.tiny_http_body.specs.declared.framing.Form.{Form}
 use Rattle.tiny_http_body.specs.declared.framing.Form.TheVariants.{Rest, Nothing, WithHead, Counted, Chunked}
-use Rattle.tiny_http_body.specs.declared.body.Body.{Body}
-use Rattle.tiny_http_body.specs.declared.body.Body.TheVariants as body
+use Rattle.tiny_http_body.specs.declared.body.UnreadBody.{UnreadBody}
+use Rattle.tiny_http_body.specs.declared.body.UnreadBody.TheVariants as body
 use Rattle.tiny_http_io.specs.ToCome.{stopped}
 use Rattle.tiny_http_io.specs.Source.{SourceState, GoesOn}
 use Rattle.tiny_http_open_request.specs.Pipeline.{Item, Request, body_length_or_0}
@@ -90,9 +90,9 @@ still-over Chunked n given false more h = cc
 still-over Rest n given true more h = refl
 still-over Rest n given false more h = cc
 
-fits-on : (standard : Bool) (b c : Body) (form : Form) (n given m : ℕ) (end_reported more : Bool) → Fits standard b form n given end_reported → ReadsOn b m more c → Fits standard c form n (given + m) (end_reported || more)
+fits-on : (standard : Bool) (b c : UnreadBody) (form : Form) (n given m : ℕ) (end_reported more : Bool) → Fits standard b form n given end_reported → ReadsOn b m more c → Fits standard c form n (given + m) (end_reported || more)
 fits-on standard (body.Over stop) c form n given m end_reported more fits h =
-    let P : Body → Type 0 = λ x. Fits standard x form n (given + m) (end_reported || more) in
+    let P : UnreadBody → Type 0 = λ x. Fits standard x form n (given + m) (end_reported || more) in
     let same : given + m ≡ given = omega (arith, h.1) in
     subst P (sym h.0) (ap (λ k. body_finished form n k (end_reported || more)) same ∙ still-over form n given end_reported more fits)
 fits-on standard (body.WithHead bytes) (body.WithHead left) form n given m end_reported more fits h = fits
@@ -102,7 +102,7 @@ fits-on standard (body.WithHead bytes) (body.Chunked d) form n given m end_repor
 fits-on standard (body.WithHead bytes) body.Rest form n given m end_reported more fits h = absurd h
 fits-on standard (body.Counted left by_standard) c form n given m end_reported more fits h = by (more || (m == left)) refl h
   where
-    over : (c : Body) → IsBodyOver c → (more || (m == left)) ≡ true → Fits standard c form n (given + m) (end_reported || more)
+    over : (c : UnreadBody) → IsBodyOver c → (more || (m == left)) ≡ true → Fits standard c form n (given + m) (end_reported || more)
     over (body.Over stop) i e = rw fits.0 (at more e)
       where
         at : (t : Bool) → (t || (m == left)) ≡ true → ((given + m) == n || (end_reported || t)) ≡ true
@@ -120,12 +120,12 @@ fits-on standard (body.Counted left by_standard) c form n given m end_reported m
     by : (t : Bool) → (more || (m == left)) ≡ t → MatchBool t (IsBodyOver c) ((c ≡ body.Counted (left - m) by_standard) × (m < left)) → Fits standard c form n (given + m) (end_reported || more)
     by true e k = over c k e
     by false e k =
-        let P : Body → Type 0 = λ x. Fits standard x form n (given + m) (end_reported || more) in
+        let P : UnreadBody → Type 0 = λ x. Fits standard x form n (given + m) (end_reported || more) in
         let unreported : (end_reported || more) ≡ false = rw (fits.3, neither more (m == left) e) refl in
         subst P (sym k.0) (fits.0, omega (arith, fits.1, k.1), omega (arith, k.1), unreported, fits.4)
 fits-on standard (body.Chunked d) c form n given m end_reported true fits h = over c h
   where
-    over : (c : Body) → IsBodyOver c → Fits standard c form n (given + m) (end_reported || true)
+    over : (c : UnreadBody) → IsBodyOver c → Fits standard c form n (given + m) (end_reported || true)
     over (body.Over stop) i = rw (fits.0, or-true end_reported) refl
     over (body.WithHead bytes) i = absurd i
     over (body.Counted l by_standard) i = absurd i
@@ -138,13 +138,13 @@ fits-on standard (body.Chunked d) (body.Counted l by_standard) form n given m en
 fits-on standard (body.Chunked d) body.Rest form n given m end_reported false fits h = absurd h
 fits-on standard body.Rest c form n given m end_reported true fits h = over c h
   where
-    over : (c : Body) → IsBodyOver c → Fits standard c form n (given + m) (end_reported || true)
+    over : (c : UnreadBody) → IsBodyOver c → Fits standard c form n (given + m) (end_reported || true)
     over (body.Over stop) i = rw (fits.0, or-true end_reported) refl
     over (body.WithHead bytes) i = absurd i
     over (body.Counted l by_standard) i = absurd i
     over (body.Chunked d) i = absurd i
     over body.Rest i = absurd i
-fits-on standard body.Rest c form n given m end_reported false fits h = let P : Body → Type 0 = λ x. Fits standard x form n (given + m) (end_reported || false) in subst P (sym h) (fits.0, or-false end_reported ∙ fits.1)
+fits-on standard body.Rest c form n given m end_reported false fits h = let P : UnreadBody → Type 0 = λ x. Fits standard x form n (given + m) (end_reported || false) in subst P (sym h) (fits.0, or-false end_reported ∙ fits.1)
 
 -- how many bytes are given then, and whether the end is reported
 abbrev now_given : Request → ℕ → ℕ → ℕ
@@ -164,7 +164,7 @@ IfBound (Ok m) buf = m ≤ length buf
 IfBound (Err kind) buf = ⊤
 
 -- what a read leaves of a request's body
-record ReadOn (b c : Body) (old new : Option Feed) (r : Request) (given : ℕ) (end_reported : Bool) (n : ℕ) (reply : ReplyValue) : Type 0 where
+record ReadOn (b c : UnreadBody) (old new : Option Feed) (r : Request) (given : ℕ) (end_reported : Bool) (n : ℕ) (reply : ReplyValue) : Type 0 where
   x : Remaining
   is : remaining c new ≡ Some x
   rest : x.body ≡ rest_of r (now_given r given n)
@@ -187,7 +187,7 @@ given-reply n (a ∷ left) bs stop e end = ap Given (sym e)
 abbrev B : Option Remaining → Option Feed
 B o = option_map (λ (y : Remaining). y.behind) o
 
-read-given : (b c : Body) (old new : Option Feed) (r : Request) (given : ℕ) (end_reported : Bool) (n m : ℕ) (buf : List ℕ) (y : Remaining) → remaining b old ≡ Some y → y.body ≡ rest_of r given → Fits r.framing.by_standard b r.framing.form (body_length_or_0 r.framing) given end_reported
+read-given : (b c : UnreadBody) (old new : Option Feed) (r : Request) (given : ℕ) (end_reported : Bool) (n m : ℕ) (buf : List ℕ) (y : Remaining) → remaining b old ≡ Some y → y.body ≡ rest_of r given → Fits r.framing.by_standard b r.framing.form (body_length_or_0 r.framing) given end_reported
     → m ≤ length buf → length buf ≡ n → 0 < n → FillsFromBody b old c new (Ok m) buf → ReadOn b c old new r given end_reported n (Given (take m buf))
 read-given b c old new r given end_reported n m buf y here rest fits le size some fills =
     let bs = take m buf in
@@ -221,7 +221,7 @@ read-given b c old new r given end_reported n m buf y here rest fits le size som
     none-read left [] xs m e empty len = sym len
     none-read left (z ∷ bs) xs m e empty len = let no : z ∷ (bs ++ xs) ≡ [] = sym e ∙ empty in cc
 
-read-fault : (b c : Body) (old new : Option Feed) (r : Request) (given : ℕ) (end_reported : Bool) (n : ℕ) (kind : ErrorKind) (buf : List ℕ) (y : Remaining) → remaining b old ≡ Some y → y.body ≡ rest_of r given → Fits r.framing.by_standard b r.framing.form (body_length_or_0 r.framing) given end_reported
+read-fault : (b c : UnreadBody) (old new : Option Feed) (r : Request) (given : ℕ) (end_reported : Bool) (n : ℕ) (kind : ErrorKind) (buf : List ℕ) (y : Remaining) → remaining b old ≡ Some y → y.body ≡ rest_of r given → Fits r.framing.by_standard b r.framing.form (body_length_or_0 r.framing) given end_reported
     → 0 < n → FillsFromBody b old c new (Err kind) buf → ReadOn b c old new r given end_reported n (Fault kind)
 read-fault b c old new r given end_reported n kind buf y here rest fits some fills =
     let left = drop given r.body.bytes in
@@ -247,16 +247,16 @@ read-fault b c old new r given end_reported n kind buf y here rest fits some fil
       stays = stays-settled b c 0 true fills.1;
     }
 
-read-on : (b c : Body) (old new : Option Feed) (r : Request) (given : ℕ) (end_reported : Bool) (n : ℕ) (result : Result ℕ ErrorKind) (buf : List ℕ) (y : Remaining) → remaining b old ≡ Some y → y.body ≡ rest_of r given → Fits r.framing.by_standard b r.framing.form (body_length_or_0 r.framing) given end_reported
+read-on : (b c : UnreadBody) (old new : Option Feed) (r : Request) (given : ℕ) (end_reported : Bool) (n : ℕ) (result : Result ℕ ErrorKind) (buf : List ℕ) (y : Remaining) → remaining b old ≡ Some y → y.body ≡ rest_of r given → Fits r.framing.by_standard b r.framing.form (body_length_or_0 r.framing) given end_reported
     → IfBound result buf → length buf ≡ n → 0 < n → FillsFromBody b old c new result buf → ReadOn b c old new r given end_reported n (reply_for result buf)
 read-on b c old new r given end_reported n (Ok m) buf y here rest fits le size some fills = read-given b c old new r given end_reported n m buf y here rest fits le size some fills
 read-on b c old new r given end_reported n (Err kind) buf y here rest fits le size some fills = read-fault b c old new r given end_reported n kind buf y here rest fits some fills
 
 -- the slot of a request, of which so much was read
-abbrev read_slot : (s : Slot) (b : Body) → IsOpen s b → ℕ → Slot
+abbrev read_slot : (s : Slot) (b : UnreadBody) → IsOpen s b → ℕ → Slot
 read_slot s b h n = record (open_slot h.handed h.request (now_given h.request h.given n) (end_now_reported h.request h.given h.end_reported n)) { stage = h.stage }
 
-still-open : (s : Slot) (b : Body) (h : IsOpen s b) (c : Body) (old new : Option Feed) (n : ℕ) (reply : ReplyValue) → ReadOn b c old new h.request h.given h.end_reported n reply → IsOpen (read_slot s b h n) c
+still-open : (s : Slot) (b : UnreadBody) (h : IsOpen s b) (c : UnreadBody) (old new : Option Feed) (n : ℕ) (reply : ReplyValue) → ReadOn b c old new h.request h.given h.end_reported n reply → IsOpen (read_slot s b h n) c
 still-open s b h c old new n reply k = record {
   request = h.request;
   handed = h.handed;
@@ -270,14 +270,14 @@ still-open s b h c old new n reply k = record {
 }
 
 -- a number whose body can be read now, and what goes on being kept of it as its body does
-pub record IsReadable (s : Slot) (u : Unfinished) (b : Body) : Type 0 where
+pub record IsReadable (s : Slot) (u : Unfinished) (b : UnreadBody) : Type 0 where
   opened : IsOpen s b
   accepts : (k n : ℕ) → accepts_step opened.stage opened.handed.owed (Read k n) ≡ true
   has : kept_body (Some u) ≡ Some b
-  goes_on : (c : Body) (old new : Option Feed) (n : ℕ) (reply : ReplyValue) → ReadOn b c old new opened.request opened.given opened.end_reported n reply → IsUnfinished (read_slot s b opened n) (with_body c u)
-  has_then : (c : Body) → kept_body (Some (with_body c u)) ≡ Some c
+  goes_on : (c : UnreadBody) (old new : Option Feed) (n : ℕ) (reply : ReplyValue) → ReadOn b c old new opened.request opened.given opened.end_reported n reply → IsUnfinished (read_slot s b opened n) (with_body c u)
+  has_then : (c : UnreadBody) → kept_body (Some (with_body c u)) ≡ Some c
 
-still-waiting : (s : Slot) (w : OpenRequest Body) (h : IsWaiting s w) (c : Body) (old new : Option Feed) (n : ℕ) (reply : ReplyValue) → ReadOn w.body c old new h.request h.given h.end_reported n reply → IsWaiting (read_slot s w.body (open-waiting s w h) n) (record w { body = c })
+still-waiting : (s : Slot) (w : OpenRequest UnreadBody) (h : IsWaiting s w) (c : UnreadBody) (old new : Option Feed) (n : ℕ) (reply : ReplyValue) → ReadOn w.body c old new h.request h.given h.end_reported n reply → IsWaiting (read_slot s w.body (open-waiting s w h) n) (record w { body = c })
 unfolding still-open
 still-waiting s w h c old new n reply k =
     let o = still-open s w.body (open-waiting s w h) c old new n reply k in
@@ -305,7 +305,7 @@ not-false : (b : Bool) → not b ≡ true → b ≡ false
 not-false true e = cc
 not-false false e = refl
 
-readable-waiting : (s : Slot) (w : OpenRequest Body) → IsWaiting s w → w.owes_continue ≡ false → IsReadable s (still.Waiting w) w.body
+readable-waiting : (s : Slot) (w : OpenRequest UnreadBody) → IsWaiting s w → w.owes_continue ≡ false → IsReadable s (still.Waiting w) w.body
 readable-waiting s w h free = record {
   opened = open-waiting s w h;
   accepts = λ k n. ap not (sym h.owed ∙ free);
@@ -314,7 +314,7 @@ readable-waiting s w h free = record {
   has_then = λ c. refl;
 }
 
-readable-upgraded : (s : Slot) (b : Body) → IsUpgraded s b → IsReadable s (still.Upgraded b) b
+readable-upgraded : (s : Slot) (b : UnreadBody) → IsUpgraded s b → IsReadable s (still.Upgraded b) b
 unfolding still-open
 readable-upgraded s b h = record {
   opened = h.opened;
@@ -324,27 +324,27 @@ readable-upgraded s b h = record {
   has_then = λ c. refl;
 }
 
-one-body : (x y : Body) → Some x ≡ Some y → x ≡ y
+one-body : (x y : UnreadBody) → Some x ≡ Some y → x ≡ y
 one-body x y e = cc
 
 no-raw : {X : Type 0} → is_readable (Some (Some still.Raw)) ≡ true → X
 no-raw e = cc
 
-readable-of : (s : Slot) (u : Unfinished) → IsUnfinished s u → is_readable (Some (Some u)) ≡ true → (b : Body) × (kept_body (Some u) ≡ Some b) × IsReadable s u b
+readable-of : (s : Slot) (u : Unfinished) → IsUnfinished s u → is_readable (Some (Some u)) ≡ true → (b : UnreadBody) × (kept_body (Some u) ≡ Some b) × IsReadable s u b
 readable-of s (still.Waiting w) h e = (w.body, refl, readable-waiting s w h (not-false w.owes_continue e))
 readable-of s still.Raw h e = no-raw e
 readable-of s (still.Upgraded c) h e = (c, refl, readable-upgraded s c h)
 
-pub readable : (s : Slot) (u : Unfinished) (b : Body) → IsUnfinished s u → is_readable (Some (Some u)) ≡ true → kept_body (Some u) ≡ Some b → IsReadable s u b
+pub readable : (s : Slot) (u : Unfinished) (b : UnreadBody) → IsUnfinished s u → is_readable (Some (Some u)) ≡ true → kept_body (Some u) ≡ Some b → IsReadable s u b
 readable s u b h e has = let q = readable-of s u h e in subst (λ y. IsReadable s u y) (one-body q.0 b (sym q.1 ∙ has)) q.2
 
-with-body-holds : (c : Body) (u : Unfinished) → holds_next_head_at (Some (Some (with_body c u))) ≡ holds_next_head_at (Some (Some u))
+with-body-holds : (c : UnreadBody) (u : Unfinished) → holds_next_head_at (Some (Some (with_body c u))) ≡ holds_next_head_at (Some (Some u))
 with-body-holds c (still.Waiting w) = refl
 with-body-holds c still.Raw = refl
 with-body-holds c (still.Upgraded b) = refl
 
 -- the last number's body is read
-read-last : {R : Type 0} (client : Feed) (k : Kept) (old new : SourceState R) (bs : List Slot) (us : List (Option Unfinished)) (rest : List Item) (s : Slot) (u : Unfinished) (b c : Body) (n : ℕ) (reply : ReplyValue) → (q : IsReadable s u b) → IsInput k old → InputStands client k (bs ++ (s ∷ [])) rest
+read-last : {R : Type 0} (client : Feed) (k : Kept) (old new : SourceState R) (bs : List Slot) (us : List (Option Unfinished)) (rest : List Item) (s : Slot) (u : Unfinished) (b c : UnreadBody) (n : ℕ) (reply : ReplyValue) → (q : IsReadable s u b) → IsInput k old → InputStands client k (bs ++ (s ∷ [])) rest
     → k.requests ≡ us ++ (Some u ∷ []) → ReadOn b c old.feed new.feed q.opened.request q.opened.given q.opened.end_reported n reply → (is_streaming b ≡ false → new ≡ old) → (is_streaming b ≡ true → new.standing ≡ body_standing c old.standing) → GoesOn old.feed new.feed
     → InputStands client (with_reader k (us ++ (Some (with_body c u) ∷ [])) new) (bs ++ (read_slot s b q.opened n ∷ [])) rest
 read-last {R = R} client k old new bs us rest s u b c n reply q from reader is on leaves stands goes =
@@ -354,16 +354,16 @@ read-last {R = R} client k old new bs us rest s u b c n reply q from reader is o
     let content : last_body (us ++ (Some (with_body c u) ∷ [])) ≡ Some c = body-snoc us (Some (with_body c u)) ∙ q.has_then c in
     let l = last-waits client k old bs us rest s (Some u) b h q.has from reader is in
     let A : List (Option Unfinished) → Type 0 = λ x. AreSettled x in
-    let G : Option Body → Option Slot → Type 0 = λ b o. GivesRest b o new.feed in
-    let P : Bool → Option Body → Type 0 = λ x b. PlaceAt k.profile x (behind_body b new.feed) rest in
+    let G : Option UnreadBody → Option Slot → Type 0 = λ b o. GivesRest b o new.feed in
+    let P : Bool → Option UnreadBody → Type 0 = λ x b. PlaceAt k.profile x (behind_body b new.feed) rest in
     let Q : Option Feed → Type 0 = λ f. PlaceAt k.profile (is_past_last old.standing) f rest in
-    let W : Option Slot → Option Body → Bool = λ x y. not (is_last_slot x) && is_streaming_body y in
+    let W : Option Slot → Option UnreadBody → Bool = λ x y. not (is_last_slot x) && is_streaming_body y in
     let same : (e : k.asking_ended ≡ false) → StandsOn c old.standing new.standing (is_last_item s.item) =
     λ e. stands-on b c old.standing new.standing (is_last_item s.item) stands (λ quiet. ap (λ (x : SourceState R). x.standing) (leaves quiet)) on.stays (l.within e) in
     let item : is_last_item s.item ≡ is_last_item t.item = ap (λ (x : Slot). is_last_item x.item) h.is in
     let S : Option Feed → Type 0 = λ f. GoesOn f new.feed in
     let C : Option Remaining → Option Feed = λ o. option_map (λ (x : Remaining). x.body) o in
-    let L : Option Body → Option Slot → Type 0 = λ b o. FollowsLast b o new.feed in
+    let L : Option UnreadBody → Option Slot → Type 0 = λ b o. FollowsLast b o new.feed in
     record {
       settled = settled-set us (Some u) (Some (with_body c u)) [] (subst A is reader.settled) (inr refl);
       gives = subst (λ o. G (last_body (us ++ (Some (with_body c u) ∷ []))) o) (sym last) (subst (λ b. G b (Some t)) (sym content) (ap C on.is ∙ ap Some on.rest));
@@ -379,7 +379,7 @@ read-last {R = R} client k old new bs us rest s u b c n reply q from reader is o
       source = goes-on_more (Some client) k.feed new.feed reader.source (subst S (sym from.feed) goes);
     }
 
-reader-read : {R : Type 0} (client : Feed) (k : Kept) (old new : SourceState R) (bs cs : List Slot) (us vs : List (Option Unfinished)) (rest : List Item) (s : Slot) (u : Unfinished) (b c : Body) (n : ℕ) (reply : ReplyValue) → (q : IsReadable s u b) → IsInput k old → InputStands client k (bs ++ (s ∷ cs)) rest
+reader-read : {R : Type 0} (client : Feed) (k : Kept) (old new : SourceState R) (bs cs : List Slot) (us vs : List (Option Unfinished)) (rest : List Item) (s : Slot) (u : Unfinished) (b c : UnreadBody) (n : ℕ) (reply : ReplyValue) → (q : IsReadable s u b) → IsInput k old → InputStands client k (bs ++ (s ∷ cs)) rest
     → k.requests ≡ us ++ (Some u ∷ vs) → length cs ≡ length vs → ReadOn b c old.feed new.feed q.opened.request q.opened.given q.opened.end_reported n reply → (is_streaming b ≡ false → new ≡ old) → (is_streaming b ≡ true → new.standing ≡ body_standing c old.standing) → GoesOn old.feed new.feed
     → InputStands client (with_reader k (us ++ (Some (with_body c u) ∷ vs)) new) (bs ++ (read_slot s b q.opened n ∷ cs)) rest
 reader-read client k old new bs [] us [] rest s u b c n reply q from reader is same on leaves stands goes = read-last client k old new bs us rest s u b c n reply q from reader is on leaves stands goes
@@ -393,7 +393,7 @@ reader-read {R = R} client k old new bs (d ∷ cs) us (v ∷ vs) rest s u b c n 
     subst P (sym (leaves quiet)) (reader-within client k old bs cs us vs rest s t d v (Some (with_body c u)) (Some u) from reader is (ap is_streaming_body (q.has_then c) ∙ on.stays quiet, with-body-holds c u ∙ (settled-place us (Some u) v vs (subst A is reader.settled)).1))
 
 -- what is left of a number's body, as its reader sees it
-read-remains-of : {R : Type 0} (client : Feed) (k : Kept) (old : SourceState R) (bs cs : List Slot) (us vs : List (Option Unfinished)) (rest : List Item) (s : Slot) (u : Unfinished) (b : Body) → (h : IsOpen s b) → kept_body (Some u) ≡ Some b → IsInput k old → InputStands client k (bs ++ (s ∷ cs)) rest
+read-remains-of : {R : Type 0} (client : Feed) (k : Kept) (old : SourceState R) (bs cs : List Slot) (us vs : List (Option Unfinished)) (rest : List Item) (s : Slot) (u : Unfinished) (b : UnreadBody) → (h : IsOpen s b) → kept_body (Some u) ≡ Some b → IsInput k old → InputStands client k (bs ++ (s ∷ cs)) rest
     → k.requests ≡ us ++ (Some u ∷ vs) → length cs ≡ length vs → (y : Remaining) × (remaining b old.feed ≡ Some y) × (y.body ≡ rest_of h.request h.given)
 read-remains-of client k old bs [] us [] rest s u b h has from reader is same =
     let l = last-waits client k old bs us rest s (Some u) b h has from reader is in
@@ -432,7 +432,7 @@ read-nothing client before k s date n m st free =
     not-taken client before k s date n (Read n m) refl (read-not_taken n m) st (λ x u e h. read-unfit n m x u h (ap is_readable (sym e) ∙ free))
 
 -- a body that can be read
-pub readable-some : (o : Option (Option Unfinished)) → is_readable o ≡ true → (u : Unfinished) × (b : Body) × (o ≡ Some (Some u)) × (is_readable (Some (Some u)) ≡ true) × (kept_body (Some u) ≡ Some b)
+pub readable-some : (o : Option (Option Unfinished)) → is_readable o ≡ true → (u : Unfinished) × (b : UnreadBody) × (o ≡ Some (Some u)) × (is_readable (Some (Some u)) ≡ true) × (kept_body (Some u) ≡ Some b)
 readable-some None e = cc
 readable-some (Some None) e = cc
 readable-some (Some (Some (still.Waiting w))) e = (still.Waiting w, w.body, refl, e, refl)
@@ -440,18 +440,18 @@ readable-some (Some (Some still.Raw)) e = cc
 readable-some (Some (Some (still.Upgraded b))) e = (still.Upgraded b, b, refl, refl, refl)
 
 -- the slot of such a number
-abbrev open_as : (s : Slot) (b : Body) → IsOpen s b → Slot
+abbrev open_as : (s : Slot) (b : UnreadBody) → IsOpen s b → Slot
 open_as s b h = record (open_slot h.handed h.request h.given h.end_reported) { stage = h.stage }
 
 -- the step at such a number
-at-read : (date : HttpDate) (old : Reached) (k n : ℕ) (s : Slot) (u : Unfinished) (b : Body) (q : IsReadable s u b) → slice_get old.slots k ≡ Some s
+at-read : (date : HttpDate) (old : Reached) (k n : ℕ) (s : Slot) (u : Unfinished) (b : UnreadBody) (q : IsReadable s u b) → slice_get old.slots k ≡ Some s
     → at_number true date old k (Read k n) ≡ effect true date old q.opened.request (open_as s b q.opened) (turn_has_come k old.slots) (Read k n)
 at-read date old k n s u b q e =
     let T : Slot → Outcome = λ x. at_slot true date old k (Read k n) (Some x) in
     ap (at_slot true date old k (Read k n)) e ∙ ap T q.opened.is ∙ rw (q.accepts k n) refl
 
 -- no bytes are asked for
-pub read-none : (client : Feed) (before : Sink) (k : Kept) (s : State) (date : HttpDate) (j n : ℕ) (u : Unfinished) (b : Body) → Stands client before k s → slice_get k.requests j ≡ Some (Some u) → is_readable (Some (Some u)) ≡ true → kept_body (Some u) ≡ Some b → n ≡ 0
+pub read-none : (client : Feed) (before : Sink) (k : Kept) (s : State) (date : HttpDate) (j n : ℕ) (u : Unfinished) (b : UnreadBody) → Stands client before k s → slice_get k.requests j ≡ Some (Some u) → is_readable (Some (Some u)) ≡ true → kept_body (Some u) ≡ Some b → n ≡ 0
     → StepIsAnswered client before k s date (Read j n) (Given [])
 read-none client before k s date j n u b st e free has zero =
     let p = place-of s.reached.slots k.marks k.requests j u st.numbers e in
@@ -459,7 +459,7 @@ read-none client before k s date j n u b st e free has zero =
     step-unchanged client before k s date (Read j n) (Given []) st (at-read date s.reached j n p.s u b (readable p.s u b p.waiting free has) at.get ∙ rw zero refl)
 
 -- no memory was found
-pub read-memory : (client : Feed) (before : Sink) (k : Kept) (s : State) (date : HttpDate) (j n : ℕ) (u : Unfinished) (b : Body) → Stands client before k s → slice_get k.requests j ≡ Some (Some u) → is_readable (Some (Some u)) ≡ true → kept_body (Some u) ≡ Some b → 0 < n
+pub read-memory : (client : Feed) (before : Sink) (k : Kept) (s : State) (date : HttpDate) (j n : ℕ) (u : Unfinished) (b : UnreadBody) → Stands client before k s → slice_get k.requests j ≡ Some (Some u) → is_readable (Some (Some u)) ≡ true → kept_body (Some u) ≡ Some b → 0 < n
     → StepIsAnswered client before k s date (Read j n) Memory
 read-memory client before k s date j n u b st e free has some =
     let p = place-of s.reached.slots k.marks k.requests j u st.numbers e in
@@ -476,7 +476,7 @@ read-memory client before k s date j n u b st e free has some =
     such n (z ∷ left) stop false a b x y e = let no : Given (take n (z ∷ left)) ≡ NoSuch = sym y ∙ e in cc
 
 -- the body was read
-pub read-done : {R : Type 0} (client : Feed) (before : Sink) (k : Kept) (s : State) (date : HttpDate) (j n : ℕ) (u : Unfinished) (b c : Body) (old new : SourceState R) (requests : List (Option Unfinished)) (result : Result ℕ ErrorKind) (buf : List ℕ) → Stands client before k s → slice_get k.requests j ≡ Some (Some u)
+pub read-done : {R : Type 0} (client : Feed) (before : Sink) (k : Kept) (s : State) (date : HttpDate) (j n : ℕ) (u : Unfinished) (b c : UnreadBody) (old new : SourceState R) (requests : List (Option Unfinished)) (result : Result ℕ ErrorKind) (buf : List ℕ) → Stands client before k s → slice_get k.requests j ≡ Some (Some u)
     → is_readable (Some (Some u)) ≡ true → kept_body (Some u) ≡ Some b
     → requests ≡ slice_set k.requests j (Some (with_body c u)) → IsInput k old → IfBound result buf → length buf ≡ n → 0 < n → FillsFromBody b old.feed c new.feed result buf → (is_streaming b ≡ false → new ≡ old) → (is_streaming b ≡ true → new.standing ≡ body_standing c old.standing) → GoesOn old.feed new.feed
     → StepIsAnswered client before (with_reader k requests new) s date (Read j n) (reply_for result buf)

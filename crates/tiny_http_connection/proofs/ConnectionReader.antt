@@ -19,8 +19,8 @@ use Rattle.tiny_http_open_request.specs.declared.open_request.OpenRequest.{OpenR
 use Rattle.tiny_http_connection.specs.declared.pending.Unfinished.{Unfinished}
 use Rattle.tiny_http_connection.specs.declared.pending.Unfinished.TheVariants as still
 use Rattle.tiny_http_body.specs.declared.framing.Form.{Form}
-use Rattle.tiny_http_body.specs.declared.body.Body.{Body}
-use Rattle.tiny_http_body.specs.declared.body.Body.TheVariants as body
+use Rattle.tiny_http_body.specs.declared.body.UnreadBody.{UnreadBody}
+use Rattle.tiny_http_body.specs.declared.body.UnreadBody.TheVariants as body
 use Rattle.tiny_http_body.specs.declared.framing.Form.TheVariants as form
 use Rattle.std.specs.Prelude.{if◌then◌else◌, ◌==◌, nat_lt}
 use Rattle.tiny_http_open_request.specs.Pipeline.{Item, Asks, Refuses, body_length_or_0, Request}
@@ -41,14 +41,14 @@ and-true true = refl
 and-true false = refl
 
 -- the last of some, and what is kept of it
-abbrev pub LastKept : Option Slot → Option Body → Type 0
+abbrev pub LastKept : Option Slot → Option UnreadBody → Type 0
 LastKept o b =
     ((o ≡ None) × (b ≡ None))
     ⊎ (((s : Slot) × (o ≡ Some s) × (b ≡ None) × (s.given_up ≡ true))
-    ⊎ ((s : Slot) × (body : Body) × (o ≡ Some s) × (b ≡ Some body) × IsOpen s body))
+    ⊎ ((s : Slot) × (body : UnreadBody) × (o ≡ Some s) × (b ≡ Some body) × IsOpen s body))
 
 -- a number that waits has its body
-abbrev pub open-waiting : (s : Slot) (w : OpenRequest Body) → IsWaiting s w → IsOpen s w.body
+abbrev pub open-waiting : (s : Slot) (w : OpenRequest UnreadBody) → IsWaiting s w → IsOpen s w.body
 open-waiting s w h = record { request = h.request; handed = h.handed; stage = Unanswered; given = h.given; end_reported = h.end_reported; is = h.is; rest_is_last = h.rest_is_last; fits = h.fits; settled = h.settled }
 
 last-unfinished : (s : Slot) (u : Unfinished) → IsUnfinished s u → LastKept (Some s) (kept_body (Some u))
@@ -198,7 +198,7 @@ bodiless-free (Some (still.Upgraded b)) e = refl
 
 -- whether a body is read from the input, by its form
 
-pub fits-streams : (standard : Bool) (b : Body) (form : Form) (n given : ℕ) (end_reported : Bool) → Fits standard b form n given end_reported → (is_form_streamed form && not (body_finished form n given end_reported || false)) ≡ is_streaming b
+pub fits-streams : (standard : Bool) (b : UnreadBody) (form : Form) (n given : ℕ) (end_reported : Bool) → Fits standard b form n given end_reported → (is_form_streamed form && not (body_finished form n given end_reported || false)) ≡ is_streaming b
 fits-streams standard (body.Over stop) form n given end_reported h = rw h (and-false (is_form_streamed form))
 fits-streams standard (body.WithHead bytes) form n given end_reported h = rw h refl
 fits-streams standard (body.Counted left by_standard) form n given end_reported h = rw (h.0, h.3, ne_eqb given n (λ e. absurd (omega (arith, e, h.1, h.2)))) refl
@@ -210,7 +210,7 @@ abbrev stop-of : Option Remaining → Stop
 stop-of None = End
 stop-of (Some r) = r.body.stop
 
-pub fits-whole : (r : Request) (b : Body) (given : ℕ) (end_reported : Bool) → Fits r.framing.by_standard b r.framing.form (body_length_or_0 r.framing) given end_reported
+pub fits-whole : (r : Request) (b : UnreadBody) (given : ℕ) (end_reported : Bool) → Fits r.framing.by_standard b r.framing.form (body_length_or_0 r.framing) given end_reported
     → (is_streaming b ≡ false → (f : Feed) → remaining b (Some f) ≡ Some (taken_remaining (rest_of r given) f))
     → (body_finished r.framing.form (body_length_or_0 r.framing) given end_reported && is_end r.body.stop) ≡ is_whole b
 fits-whole r (body.Over End) given end_reported h settled = ap (λ t. t && is_end r.body.stop) h ∙ ap is_end (sym (ap stop-of (settled refl (whole_feed []))))
@@ -222,7 +222,7 @@ fits-whole r (body.Chunked d) given end_reported h settled = rw (h.0, h.1) refl
 fits-whole r body.Rest given end_reported h settled = rw (h.0, h.1) refl
 
 -- the slot says the same of it as what is kept
-pub waiting-whole : (s : Slot) (w : OpenRequest Body) (h : IsWaiting s w) → (body_finished h.request.framing.form (body_length_or_0 h.request.framing) h.given h.end_reported && is_end h.request.body.stop) ≡ is_whole w.body
+pub waiting-whole : (s : Slot) (w : OpenRequest UnreadBody) (h : IsWaiting s w) → (body_finished h.request.framing.form (body_length_or_0 h.request.framing) h.given h.end_reported && is_end h.request.body.stop) ≡ is_whole w.body
 waiting-whole s w h = fits-whole h.request w.body h.given h.end_reported h.fits h.settled
 
 -- what is left of a body, by what was read of it
@@ -249,7 +249,7 @@ over-end form.Rest n given end_reported ends h z = rw (h, z) refl
 over-fault : (form : Form) (n given : ℕ) (end_reported ends : Bool) → body_finished form n given end_reported ≡ true → ends ≡ false → left_by form n given end_reported ends ≡ left.Endless
 over-fault form n given end_reported ends h z = rw (h, z, or-true (is_chunked form && not end_reported)) refl
 
-pub fits-remainder : (r : Request) (b : Body) (given : ℕ) (end_reported : Bool) → Fits r.framing.by_standard b r.framing.form (body_length_or_0 r.framing) given end_reported
+pub fits-remainder : (r : Request) (b : UnreadBody) (given : ℕ) (end_reported : Bool) → Fits r.framing.by_standard b r.framing.form (body_length_or_0 r.framing) given end_reported
     → (is_streaming b ≡ false → (f : Feed) → remaining b (Some f) ≡ Some (taken_remaining (rest_of r given) f))
     → remainder_of r given end_reported ≡ remainder b
 fits-remainder r (body.Over End) given end_reported h settled = over-end r.framing.form (body_length_or_0 r.framing) given end_reported (is_end r.body.stop) h (ap is_end (sym (ap stop-of (settled refl (whole_feed [])))))
@@ -264,7 +264,7 @@ fits-remainder r (body.Counted n by_standard) given end_reported h settled =
 fits-remainder r (body.Chunked d) given end_reported h settled = rw (h.0, h.1) refl
 fits-remainder r body.Rest given end_reported h settled = rw (h.0, h.1) refl
 
-pub waiting-remainder : (s : Slot) (w : OpenRequest Body) (h : IsWaiting s w) → remainder_of h.request h.given h.end_reported ≡ remainder w.body
+pub waiting-remainder : (s : Slot) (w : OpenRequest UnreadBody) (h : IsWaiting s w) → remainder_of h.request h.given h.end_reported ≡ remainder w.body
 waiting-remainder s w h = fits-remainder h.request w.body h.given h.end_reported h.fits h.settled
 
 -- how it is answered now, by what is kept of it and by its slot
@@ -275,7 +275,7 @@ says-cases true true false F = refl
 says-cases true false true F = refl
 says-cases true false false F = refl
 
-pub waiting-final : (s : Slot) (w : OpenRequest Body) (h : IsWaiting s w) → final_context w (remainder w.body) ≡ answer_context_of (closes_now h.request h.handed.closes h.handed.owed h.given h.end_reported) h.request
+pub waiting-final : (s : Slot) (w : OpenRequest UnreadBody) (h : IsWaiting s w) → final_context w (remainder w.body) ≡ answer_context_of (closes_now h.request h.handed.closes h.handed.owed h.given h.end_reported) h.request
 waiting-final s w h =
     let r = h.request in
     let F : Option Persistence → AnswerContext = λ p. record (answer_context_of false r) { persistence = p } in
@@ -289,11 +289,11 @@ waiting-final s w h =
     ∙ (ap (B r.framing.by_standard h.handed.closes h.handed.owed) (sym (waiting-remainder s w h))
     ∙ says-cases r.framing.by_standard (h.handed.closes || (h.handed.owed || not_last (remainder_of r h.given h.end_reported))) r.framing.is_last F))))
 
-pub waiting-kept : (s : Slot) (b : Body) (h : IsOpen s b) → last_was_abandoned (Some s) ≡ false
+pub waiting-kept : (s : Slot) (b : UnreadBody) (h : IsOpen s b) → last_was_abandoned (Some s) ≡ false
 waiting-kept s b h = let P : Slot → Type 0 = λ x. last_was_abandoned (Some x) ≡ false in subst P (sym h.is) (and-false (is_chunked h.request.framing.form))
 
 -- whether the last body is open, and the program's sight of it
-pub waiting-open : (s : Slot) (b : Body) (h : IsOpen s b) → last_is_open (Some s) ≡ is_streaming b
+pub waiting-open : (s : Slot) (b : UnreadBody) (h : IsOpen s b) → last_is_open (Some s) ≡ is_streaming b
 waiting-open s b h =
     let P : Slot → Type 0 = λ x. last_is_open (Some x) ≡ is_streaming b in
     subst P (sym h.is) (fits-streams h.request.framing.by_standard b h.request.framing.form (body_length_or_0 h.request.framing) h.given h.end_reported h.fits)
@@ -305,13 +305,13 @@ done-open s d = at s.item
     at (Asks r) = rw (d, or-true (is_body_finished r s)) (and-false (is_form_streamed r.framing.form))
     at (Refuses a b c d) = refl
 
-pub open-by : (o : Option Slot) (b : Option Body) → LastKept o b → last_is_open o ≡ is_streaming_body b
+pub open-by : (o : Option Slot) (b : Option UnreadBody) → LastKept o b → last_is_open o ≡ is_streaming_body b
 open-by o b (inl h) = rw (h.0, h.1) refl
 open-by o b (inr (inl h)) = rw (h.1, h.2, done-open h.0 h.3) refl
 open-by o b (inr (inr h)) = rw (h.2, h.3) (waiting-open h.0 h.1 h.4)
 
 -- whether the last body holds the reader
-pub held-by : (o : Option Slot) (b : Option Body) → LastKept o b → last_holds_reader o ≡ ((not (is_last_slot o) && is_streaming_body b) || last_is_holding o)
+pub held-by : (o : Option Slot) (b : Option UnreadBody) → LastKept o b → last_holds_reader o ≡ ((not (is_last_slot o) && is_streaming_body b) || last_is_holding o)
 held-by o b h = ap (λ t. (not (is_last_slot o) && t) || last_is_holding o) (open-by o b h)
 
 -- the connection's last request holds no next head
@@ -324,19 +324,19 @@ last-awaits-none (Some s) e = by s.item e
     by (Refuses a b c d) l = refl
 
 -- after a body that isn't read from the input the input stands
-pub behind-settled : (o : Option Slot) (b : Option Body) (f : Feed) → LastKept o b → is_streaming_body b ≡ false → behind_body b (Some f) ≡ Some f
+pub behind-settled : (o : Option Slot) (b : Option UnreadBody) (f : Feed) → LastKept o b → is_streaming_body b ≡ false → behind_body b (Some f) ≡ Some f
 behind-settled o b f (inl h) e = rw h.1 refl
 behind-settled o b f (inr (inl h)) e = rw h.2 refl
 behind-settled o b f (inr (inr h)) e =
-    let P : Option Body → Type 0 = λ x. is_streaming_body x ≡ false in
+    let P : Option UnreadBody → Type 0 = λ x. is_streaming_body x ≡ false in
     let quiet : is_streaming h.1 ≡ false = subst P h.3 e in
     rw h.3 (ap (λ (x : Option Remaining). option_map (λ (r : Remaining). r.behind) x) (h.4.settled quiet f))
 
-pub gives-settled : (o : Option Slot) (b : Option Body) (f : Feed) → LastKept o b → is_streaming_body b ≡ false → GivesRest b o (Some f)
+pub gives-settled : (o : Option Slot) (b : Option UnreadBody) (f : Feed) → LastKept o b → is_streaming_body b ≡ false → GivesRest b o (Some f)
 gives-settled o b f (inl h) e = rw (h.0, h.1) tt
 gives-settled o b f (inr (inl h)) e = rw h.2 tt
 gives-settled o b f (inr (inr h)) e =
-    let P : Option Body → Type 0 = λ x. is_streaming_body x ≡ false in
+    let P : Option UnreadBody → Type 0 = λ x. is_streaming_body x ≡ false in
     let quiet : is_streaming h.1 ≡ false = subst P h.3 e in
     let Q : Slot → Type 0 = λ x. option_map (λ (r : Remaining). r.body) (remaining h.1 (Some f)) ≡ Some (slot_rest x) in
     rw (h.2, h.3) (subst Q (sym h.4.is) (ap (λ (x : Option Remaining). option_map (λ (r : Remaining). r.body) x) (h.4.settled quiet f)))

@@ -10,7 +10,7 @@ use Rattle.httpdate.specs.declared.date.HttpDate.{HttpDate}
 use Rattle.tiny_http_io.specs.Device.{Feed, Sink}
 use Rattle.tiny_http_body.specs.Text.{Text, Ending, Whole, Broken}
 use Rattle.tiny_http_response.specs.declared.answer_context.AnswerContext.{AnswerContext}
-use Rattle.tiny_http_body.specs.declared.body.Body.{Body}
+use Rattle.tiny_http_body.specs.declared.body.UnreadBody.{UnreadBody}
 use Rattle.tiny_http_open_request.specs.declared.open_request.OpenRequest.{OpenRequest}
 use Rattle.tiny_http_connection.specs.declared.pending.Unfinished.{Unfinished}
 use Rattle.tiny_http_connection.specs.declared.pending.Unfinished.TheVariants as still
@@ -103,7 +103,7 @@ no-such client before k s date n step at needs st none = not-taken client before
     by x (still.Upgraded b) e h = needs x.stage x.owed (ap (λ (y : Slot). is_unanswered y.stage) h.opened.is ∙ ap is_unanswered h.stage)
 
 -- a number that waits is kept
-pub answer-form-some : (o : Option (Option Unfinished)) (answer_context : AnswerContext) → waiting_answer_context o ≡ Some answer_context → (w : OpenRequest Body) × (o ≡ Some (Some (still.Waiting w))) × (final_context w (remainder w.body) ≡ answer_context)
+pub answer-form-some : (o : Option (Option Unfinished)) (answer_context : AnswerContext) → waiting_answer_context o ≡ Some answer_context → (w : OpenRequest UnreadBody) × (o ≡ Some (Some (still.Waiting w))) × (final_context w (remainder w.body) ≡ answer_context)
 answer-form-some None answer_context e = cc
 answer-form-some (Some None) answer_context e = cc
 answer-form-some (Some (Some (still.Waiting w))) answer_context e = (w, refl, (let same : final_context w (remainder w.body) ≡ answer_context = cc in same))
@@ -111,7 +111,7 @@ answer-form-some (Some (Some still.Raw)) answer_context e = cc
 answer-form-some (Some (Some (still.Upgraded b))) answer_context e = cc
 
 -- the same by whether it is
-pub waits-some : (o : Option (Option Unfinished)) → is_some (waiting_answer_context o) ≡ true → (w : OpenRequest Body) × (o ≡ Some (Some (still.Waiting w)))
+pub waits-some : (o : Option (Option Unfinished)) → is_some (waiting_answer_context o) ≡ true → (w : OpenRequest UnreadBody) × (o ≡ Some (Some (still.Waiting w)))
 waits-some None e = cc
 waits-some (Some None) e = cc
 waits-some (Some (Some (still.Waiting w))) e = (w, refl)
@@ -143,11 +143,11 @@ slot-at slots bs cs s0 n e place =
 
 -- its turn hasn't come
 -- whether an answer is refused, by what is kept of the request
-pub refuses-same : (s : Slot) (w : OpenRequest Body) (h : IsWaiting s w) (v : ResponseValue) → refuses_response h.request v ≡ refuses_code w.by_standard w.is_connect v.answer.status
+pub refuses-same : (s : Slot) (w : OpenRequest UnreadBody) (h : IsWaiting s w) (v : ResponseValue) → refuses_response h.request v ≡ refuses_code w.by_standard w.is_connect v.answer.status
 refuses-same s w h v =
     ap (λ b. refuses_code b (is_connect_method h.request.message.method) v.answer.status) (sym h.standard) ∙ ap (λ b. refuses_code w.by_standard b v.answer.status) (sym h.connect)
 
-pub respond-not_yet : (client : Feed) (before : Sink) (k : Kept) (s : State) (date : HttpDate) (n : ℕ) (v : ResponseValue) (w : OpenRequest Body) → Stands client before k s → slice_get k.requests n ≡ Some (Some (still.Waiting w)) → refuses_at v.answer.status (slice_get k.requests n) ≡ false
+pub respond-not_yet : (client : Feed) (before : Sink) (k : Kept) (s : State) (date : HttpDate) (n : ℕ) (v : ResponseValue) (w : OpenRequest UnreadBody) → Stands client before k s → slice_get k.requests n ≡ Some (Some (still.Waiting w)) → refuses_at v.answer.status (slice_get k.requests n) ≡ false
     → ((slice_get k.marks n ≡ Some Open) × (n ≡ first_unfinished k.marks) → ⊥) → StepIsAnswered client before k s date (Respond n v) NotYet
 respond-not_yet client before k s date n v w st e good never =
     let p = place-of s.reached.slots k.marks k.requests n (still.Waiting w) st.numbers e in
@@ -464,7 +464,7 @@ pub record Answerable (k : Kept) (s : State) (n : ℕ) (answer_context : AnswerC
   pub rs : List Mark
   pub us : List (Option Unfinished)
   pub vs : List (Option Unfinished)
-  pub waiting : OpenRequest Body
+  pub waiting : OpenRequest UnreadBody
   pub slot : Slot
   pub waits : IsWaiting slot waiting
   pub slots_were : s.reached.slots ≡ bs ++ (slot ∷ cs)
@@ -554,13 +554,13 @@ reader-ended client k ended slots rest stays r =
     record { settled = r.settled; gives = r.gives; next = λ e. next-same k (with_ended ended k) (last_slot slots) (last_slot slots) rest refl refl refl refl refl refl refl refl (r.next (stays e)); follows = r.follows; source = r.source }
 
 -- whether the asking ends behind a number that waits, by what is kept of it
-pub lacks-same : (s : Slot) (w : OpenRequest Body) (h : IsWaiting s w) → is_last_once_finished h.request h.handed.owed h.given h.end_reported ≡ (w.by_standard && (w.owes_continue || is_long (remainder w.body)))
+pub lacks-same : (s : Slot) (w : OpenRequest UnreadBody) (h : IsWaiting s w) → is_last_once_finished h.request h.handed.owed h.given h.end_reported ≡ (w.by_standard && (w.owes_continue || is_long (remainder w.body)))
 lacks-same s w h =
     ap (λ x. x && (h.handed.owed || is_long (remainder_of h.request h.given h.end_reported))) (sym h.standard)
     ∙ (ap (λ x. w.by_standard && (x || is_long (remainder_of h.request h.given h.end_reported))) (sym h.owed)
     ∙ ap (λ l. w.by_standard && (w.owes_continue || is_long l)) (waiting-remainder s w h))
 
-pub stream-same : (s : Slot) (w : OpenRequest Body) (h : IsWaiting s w) → is_last_with_stream h.request h.handed.owed h.given h.end_reported ≡ (w.holds_next_head || (w.by_standard && (w.owes_continue || is_long (remainder w.body))))
+pub stream-same : (s : Slot) (w : OpenRequest UnreadBody) (h : IsWaiting s w) → is_last_with_stream h.request h.handed.owed h.given h.end_reported ≡ (w.holds_next_head || (w.by_standard && (w.owes_continue || is_long (remainder w.body))))
 stream-same s w h = ap (λ x. x || is_last_once_finished h.request h.handed.owed h.given h.end_reported) (sym h.holds) ∙ ap (λ x. w.holds_next_head || x) (lacks-same s w h)
 
 pub both-end : (a b x y : Bool) → a ≡ b → x ≡ y → (a || x) ≡ (b || y)
@@ -626,7 +626,7 @@ RespondsBy k mid mid_ended reply v answer_context date =
     ⊎ ((k.output_ended ≡ false) × Answers k.sink mid mid_ended reply v.answer v.content (printing_in answer_context date))
 
 pub respond-done : {R : Type 0} (client : Feed) (before : Sink) (k : Kept) (s : State) (date : HttpDate) (n : ℕ) (v : ResponseValue) (answer_context : AnswerContext) (mid new : Sink) (mid_ended ended : Bool) (marks final : List Mark) (requests : List (Option Unfinished)) (old source : SourceState R) (reply : ReplyValue)
-    → Stands client before k s → IsInput k old → ((w : OpenRequest Body) → slice_get k.requests n ≡ Some (Some (still.Waiting w)) → GivesUp w.body old source) → before.failures < 2 ^ 64 - 1 → waiting_answer_context (slice_get k.requests n) ≡ Some answer_context → refuses_at v.answer.status (slice_get k.requests n) ≡ false → asked_to_close v.answer.closes s.reached ≡ s.reached → n ≡ first_unfinished k.marks → marks ≡ slice_set k.marks n Held → requests ≡ slice_set k.requests n None
+    → Stands client before k s → IsInput k old → ((w : OpenRequest UnreadBody) → slice_get k.requests n ≡ Some (Some (still.Waiting w)) → GivesUp w.body old source) → before.failures < 2 ^ 64 - 1 → waiting_answer_context (slice_get k.requests n) ≡ Some answer_context → refuses_at v.answer.status (slice_get k.requests n) ≡ false → asked_to_close v.answer.closes s.reached ≡ s.reached → n ≡ first_unfinished k.marks → marks ≡ slice_set k.marks n Held → requests ≡ slice_set k.requests n None
     → RespondsBy k mid mid_ended reply v answer_context date
     → ((front rest : List Mark) → marks ≡ front ++ (Held ∷ rest) → length front ≡ n → FinishesFront front rest final)
     → ((front rest : List Mark) → marks ≡ front ++ (Held ∷ rest) → length front ≡ n → (mid_ended ≡ false → CanSend mid) → SendsLeft rest mid_ended mid new ended)

@@ -17,8 +17,8 @@ use Rattle.tiny_http_response.specs.declared.answer_context.AnswerContext.{Answe
 use Rattle.tiny_http_io.specs.Source.{SourceState, GoesOn}
 use Rattle.tiny_http_response.specs.ResponseValue.{ResponseValue, printing_in, upgrade_text}
 use Rattle.tiny_http_response.specs.Sending.{CanSend, IsFlushed, SendsUnlessEnded}
-use Rattle.tiny_http_body.specs.declared.body.Body.{Body}
-use Rattle.tiny_http_body.specs.declared.body.Body.TheVariants as body
+use Rattle.tiny_http_body.specs.declared.body.UnreadBody.{UnreadBody}
+use Rattle.tiny_http_body.specs.declared.body.UnreadBody.TheVariants as body
 use Rattle.tiny_http_open_request.specs.declared.upgrading.UpgradeError.{UpgradeError}
 use Rattle.tiny_http_open_request.specs.declared.upgrading.UpgradeError.TheVariants.{Protocol, NotAsked, Status, UnfinishedBody}
 use Rattle.tiny_http_open_request.specs.declared.open_request.OpenRequest.{OpenRequest}
@@ -49,16 +49,16 @@ upgrade-not_taken n protocol v (Raw w c) owed e = refl
 upgrade-not_taken n protocol v (Upgraded p r d w c) owed e = refl
 
 -- what is kept of a request that waits is that of its slot
-kept-of : (s : Slot) (w : OpenRequest Body) (h : IsWaiting s w) → IsKeptOf w h.request h.given h.end_reported
+kept-of : (s : Slot) (w : OpenRequest UnreadBody) (h : IsWaiting s w) → IsKeptOf w h.request h.given h.end_reported
 kept-of s w h = (h.standard, h.connect, h.upgrades, waiting-whole s w h)
 
 -- the slot says the same of an upgrade as what is kept
-refuses-same : (s : Slot) (w : OpenRequest Body) (h : IsWaiting s w) (protocol : List ℕ) (v : ResponseValue)
+refuses-same : (s : Slot) (w : OpenRequest UnreadBody) (h : IsWaiting s w) (protocol : List ℕ) (v : ResponseValue)
     → refuses_upgrade h.request (open_slot h.handed h.request h.given h.end_reported) protocol v ≡ is_err (request_check w protocol v.answer.status (is_whole w.body))
 refuses-same s w h protocol v = refusal-same w h.request h.given h.end_reported (open_slot h.handed h.request h.given h.end_reported) protocol v (kept-of s w h) refl refl
 
 -- its turn hasn't come
-pub upgrade-not_yet : (client : Feed) (before : Sink) (k : Kept) (s : State) (date : HttpDate) (n : ℕ) (protocol : List ℕ) (v : ResponseValue) (w : OpenRequest Body) → Stands client before k s → slice_get k.requests n ≡ Some (Some (still.Waiting w))
+pub upgrade-not_yet : (client : Feed) (before : Sink) (k : Kept) (s : State) (date : HttpDate) (n : ℕ) (protocol : List ℕ) (v : ResponseValue) (w : OpenRequest UnreadBody) → Stands client before k s → slice_get k.requests n ≡ Some (Some (still.Waiting w))
     → is_err (request_check w protocol v.answer.status (is_whole w.body)) ≡ false → (n == first_unfinished k.marks) ≡ false → StepIsAnswered client before k s date (Upgrade n protocol v) NotYet
 upgrade-not_yet client before k s date n protocol v w st e granted early =
     let p = place-of s.reached.slots k.marks k.requests n (still.Waiting w) st.numbers e in
@@ -71,7 +71,7 @@ upgrade-not_yet client before k s date n protocol v w st e granted early =
     step-unchanged client before k s date (Upgrade n protocol v) NotYet st (ap (at_slot true date s.reached n (Upgrade n protocol v)) at.get ∙ ap T p.waiting.is ∙ rw (goes, at.turn ∙ late) refl)
 
 -- a request that was upgraded, by what its slot became
-record Becomes (protocol : List ℕ) (v : ResponseValue) (date : HttpDate) (s : Slot) (w : OpenRequest Body) (h : IsWaiting s w) (t : Slot) (b : Body) : Type 0 where
+record Becomes (protocol : List ℕ) (v : ResponseValue) (date : HttpDate) (s : Slot) (w : OpenRequest UnreadBody) (h : IsWaiting s w) (t : Slot) (b : UnreadBody) : Type 0 where
   upgraded : IsUpgraded t b
   unfinished : is_finished t ≡ false
   whole : is_slot_broken t ≡ false
@@ -81,7 +81,7 @@ record Becomes (protocol : List ℕ) (v : ResponseValue) (date : HttpDate) (s : 
 abbrev begun_stage : List ℕ → ResponseValue → HttpDate → Stage
 begun_stage protocol v date = Upgraded protocol v date [] false
 
-abbrev slot_upgraded : List ℕ → ResponseValue → HttpDate → (s : Slot) (w : OpenRequest Body) → IsWaiting s w → Slot
+abbrev slot_upgraded : List ℕ → ResponseValue → HttpDate → (s : Slot) (w : OpenRequest UnreadBody) → IsWaiting s w → Slot
 slot_upgraded protocol v date s w h = upgraded_slot h.request (open_slot h.handed h.request h.given h.end_reported) (begun_stage protocol v date)
 
 -- its segment: what was sent before, and the text of the upgrade
@@ -89,7 +89,7 @@ segment-more : (item : Item) (continued : Option HttpDate) (text : List ℕ) →
 segment-more item continued text = ap (λ y. opening item continued ++ y) (append-nil text) ∙ ap (λ y. y ++ text) (sym (append-nil (opening item continued)))
 
 -- by the rules of tiny_http the stream reads the request's own body
-becomes-lenient : (protocol : List ℕ) (v : ResponseValue) (date : HttpDate) (s : Slot) (w : OpenRequest Body) (h : IsWaiting s w) → Becomes protocol v date s w h (record (open_slot h.handed h.request h.given h.end_reported) { stage = begun_stage protocol v date; owed = false }) w.body
+becomes-lenient : (protocol : List ℕ) (v : ResponseValue) (date : HttpDate) (s : Slot) (w : OpenRequest UnreadBody) (h : IsWaiting s w) → Becomes protocol v date s w h (record (open_slot h.handed h.request h.given h.end_reported) { stage = begun_stage protocol v date; owed = false }) w.body
 becomes-lenient protocol v date s w h = record {
   upgraded = record {
     opened = record {
@@ -125,7 +125,7 @@ unfolding text_of
 stream-text v protocol r date e = rw e refl
 
 -- by the standard it reads all that follows
-becomes-stream : (protocol : List ℕ) (v : ResponseValue) (date : HttpDate) (s : Slot) (w : OpenRequest Body) (h : IsWaiting s w) → h.request.framing.by_standard ≡ true
+becomes-stream : (protocol : List ℕ) (v : ResponseValue) (date : HttpDate) (s : Slot) (w : OpenRequest UnreadBody) (h : IsWaiting s w) → h.request.framing.by_standard ≡ true
     → Becomes protocol v date s w h (record (open_slot h.handed h.request h.given h.end_reported) { item = Asks (as_stream h.request); given = 0; end_reported = false; stage = begun_stage protocol v date; owed = false }) body.Rest
 becomes-stream protocol v date s w h standard = record {
   upgraded = record {
@@ -157,7 +157,7 @@ becomes-stream protocol v date s w h standard = record {
       ∙ ap (λ (t : List ℕ). (opening (Asks r) c ++ []) ++ t) (stream-text v protocol r date standard));
 }
 
-becomes : (protocol : List ℕ) (v : ResponseValue) (date : HttpDate) (s : Slot) (w : OpenRequest Body) (h : IsWaiting s w) → Becomes protocol v date s w h (slot_upgraded protocol v date s w h) (stream_body w.by_standard w.body)
+becomes : (protocol : List ℕ) (v : ResponseValue) (date : HttpDate) (s : Slot) (w : OpenRequest UnreadBody) (h : IsWaiting s w) → Becomes protocol v date s w h (slot_upgraded protocol v date s w h) (stream_body w.by_standard w.body)
 becomes protocol v date s w h = by h.request.framing.by_standard refl h.standard
   where
     s0 : Slot
@@ -172,7 +172,7 @@ becomes protocol v date s w h = by h.request.framing.by_standard refl h.standard
 
 -- What the input gives once the connection is upgraded: it stands as before; by the standard it stands behind the body of the last
 -- request, and all that follows is read.
-upgraded-lenient : {R : Type 0} (client : Feed) (k : Kept) (n : ℕ) (source : SourceState R) (slots : List Slot) (rest : List Item) (protocol : List ℕ) (v : ResponseValue) (date : HttpDate) (w : OpenRequest Body) (p : KeptAt slots k.marks k.requests n (still.Waiting w)) → IsInput k source → InputStands client k slots rest
+upgraded-lenient : {R : Type 0} (client : Feed) (k : Kept) (n : ℕ) (source : SourceState R) (slots : List Slot) (rest : List Item) (protocol : List ℕ) (v : ResponseValue) (date : HttpDate) (w : OpenRequest UnreadBody) (p : KeptAt slots k.marks k.requests n (still.Waiting w)) → IsInput k source → InputStands client k slots rest
     → (let h = p.waiting in let s1 = record (open_slot h.handed h.request h.given h.end_reported) { stage = begun_stage protocol v date; owed = false } in
     InputStands client (with_reader k (p.us ++ (Some (still.Upgraded w.body) ∷ p.vs)) source) (p.bs ++ (s1 ∷ p.cs)) rest)
 upgraded-lenient client k n source slots rest protocol v date w p from reader =
@@ -188,7 +188,7 @@ upgraded-lenient client k n source slots rest protocol v date w p from reader =
     reader-alike client k source p.bs p.cs p.us p.vs rest p.s s1 (Some (still.Waiting w)) (Some (still.Upgraded w.body)) from (subst P p.slots_are reader) p.requests_are (kept-many p.cs p.rs p.vs p.behind) refl (λ e. refl) alike
 
 -- a request that holds the next head is the last
-last-holding : (us vs : List (Option Unfinished)) (w : OpenRequest Body) → AreSettled (us ++ (Some (still.Waiting w) ∷ vs)) → w.holds_next_head ≡ true → vs ≡ []
+last-holding : (us vs : List (Option Unfinished)) (w : OpenRequest UnreadBody) → AreSettled (us ++ (Some (still.Waiting w) ∷ vs)) → w.holds_next_head ≡ true → vs ≡ []
 last-holding us [] w h holds = refl
 last-holding us (v ∷ vs) w h holds = let no : true ≡ false = sym holds ∙ (settled-place us (Some (still.Waiting w)) v vs h).1 in cc
 
@@ -197,7 +197,7 @@ none-of [] [] e z = refl
 none-of [] (c ∷ cs) e z = absurd (omega (arith, e))
 none-of (v ∷ vs) cs e z = cc
 
-stream-last : {R : Type 0} (client : Feed) (k : Kept) (source : SourceState R) (bs : List Slot) (us : List (Option Unfinished)) (rest : List Item) (protocol : List ℕ) (v : ResponseValue) (date : HttpDate) (s : Slot) (w : OpenRequest Body) (h : IsWaiting s w) → IsInput k source → InputStands client k (bs ++ (s ∷ [])) rest → k.requests ≡ us ++ (Some (still.Waiting w) ∷ [])
+stream-last : {R : Type 0} (client : Feed) (k : Kept) (source : SourceState R) (bs : List Slot) (us : List (Option Unfinished)) (rest : List Item) (protocol : List ℕ) (v : ResponseValue) (date : HttpDate) (s : Slot) (w : OpenRequest UnreadBody) (h : IsWaiting s w) → IsInput k source → InputStands client k (bs ++ (s ∷ [])) rest → k.requests ≡ us ++ (Some (still.Waiting w) ∷ [])
     → w.holds_next_head ≡ true → is_streaming w.body ≡ false
     → (let s1 = record (open_slot h.handed h.request h.given h.end_reported) { item = Asks (as_stream h.request); given = 0; end_reported = false; stage = begun_stage protocol v date; owed = false } in
     InputStands client (with_ended true (with_reader k (us ++ (Some (still.Upgraded body.Rest) ∷ [])) source)) (bs ++ (s1 ∷ [])) rest)
@@ -211,7 +211,7 @@ stream-last client k source bs us rest protocol v date s w h from reader is hold
     let last : last_slot (bs ++ (s1 ∷ [])) ≡ Some s1 = last-snoc None bs s1 in
     let content : last_body (us ++ (u ∷ [])) ≡ Some body.Rest = body-snoc us u in
     let A : List (Option Unfinished) → Type 0 = λ x. AreSettled x in
-    let G : Option Body → Option Slot → Type 0 = λ b o. GivesRest b o source.feed in
+    let G : Option UnreadBody → Option Slot → Type 0 = λ b o. GivesRest b o source.feed in
     let free : last_holds_next_head (us ++ (u ∷ [])) ≡ false = holds-snoc us u in
     let S : Option Feed → Type 0 = λ f. GoesOn (Some client) f in
     record {
@@ -222,7 +222,7 @@ stream-last client k source bs us rest protocol v date s w h from reader is hold
       source = subst S from.feed reader.source;
     }
 
-stream-any : {R : Type 0} (client : Feed) (k : Kept) (source : SourceState R) (bs cs : List Slot) (us vs : List (Option Unfinished)) (rest : List Item) (protocol : List ℕ) (v : ResponseValue) (date : HttpDate) (s : Slot) (w : OpenRequest Body) (h : IsWaiting s w) → IsInput k source → InputStands client k (bs ++ (s ∷ cs)) rest → k.requests ≡ us ++ (Some (still.Waiting w) ∷ vs)
+stream-any : {R : Type 0} (client : Feed) (k : Kept) (source : SourceState R) (bs cs : List Slot) (us vs : List (Option Unfinished)) (rest : List Item) (protocol : List ℕ) (v : ResponseValue) (date : HttpDate) (s : Slot) (w : OpenRequest UnreadBody) (h : IsWaiting s w) → IsInput k source → InputStands client k (bs ++ (s ∷ cs)) rest → k.requests ≡ us ++ (Some (still.Waiting w) ∷ vs)
     → vs ≡ [] → cs ≡ [] → w.holds_next_head ≡ true → is_streaming w.body ≡ false
     → (let s1 = record (open_slot h.handed h.request h.given h.end_reported) { item = Asks (as_stream h.request); given = 0; end_reported = false; stage = begun_stage protocol v date; owed = false } in
     InputStands client (with_ended true (with_reader k (us ++ (Some (still.Upgraded body.Rest) ∷ vs)) source)) (bs ++ (s1 ∷ cs)) rest)
@@ -244,7 +244,7 @@ granted-by asked protocol code whole = by (list_all is_ascii protocol) asked (co
     by true false c d e = cc
     by false b c d e = cc
 
-whole-quiet : (b : Body) → is_whole b ≡ true → is_streaming b ≡ false
+whole-quiet : (b : UnreadBody) → is_whole b ≡ true → is_streaming b ≡ false
 whole-quiet (body.Over stop) e = refl
 whole-quiet (body.WithHead bytes) e = refl
 whole-quiet (body.Counted left by_standard) e = cc
@@ -255,7 +255,7 @@ first-true : (a b : Bool) → (a && b) ≡ true → a ≡ true
 first-true true b e = refl
 first-true false b e = cc
 
-reader-upgraded : {R : Type 0} (client : Feed) (k : Kept) (n : ℕ) (source : SourceState R) (slots : List Slot) (rest : List Item) (protocol : List ℕ) (v : ResponseValue) (date : HttpDate) (w : OpenRequest Body) (p : KeptAt slots k.marks k.requests n (still.Waiting w)) → IsInput k source → InputStands client k slots rest
+reader-upgraded : {R : Type 0} (client : Feed) (k : Kept) (n : ℕ) (source : SourceState R) (slots : List Slot) (rest : List Item) (protocol : List ℕ) (v : ResponseValue) (date : HttpDate) (w : OpenRequest UnreadBody) (p : KeptAt slots k.marks k.requests n (still.Waiting w)) → IsInput k source → InputStands client k slots rest
     → is_err (request_check w protocol v.answer.status (is_whole w.body)) ≡ false
     → InputStands client (with_ended (k.asking_ended || (w.holds_next_head || (w.by_standard && (w.owes_continue || is_long (remainder w.body))))) (with_reader k (p.us ++ (Some (still.Upgraded (stream_body w.by_standard w.body)) ∷ p.vs)) source)) (p.bs ++ (slot_upgraded protocol v date p.s w p.waiting ∷ p.cs)) rest
 reader-upgraded {R = R} client k n source slots rest protocol v date w p from reader granted = by p.waiting.request.framing.by_standard p.waiting.standard
@@ -290,7 +290,7 @@ reader-upgraded {R = R} client k n source slots rest protocol v date w p from re
         subst (λ u. Stood true u (k.asking_ended || ends)) (sym e) (subst (λ o. Stood true true o) (sym over)
         (stream-any client k source p.bs p.cs p.us p.vs rest protocol v date p.s w h from (subst P p.slots_are reader) p.requests_are alone (none-of p.vs p.cs (kept-many p.cs p.rs p.vs p.behind) alone) holds (whole-quiet w.body asked.1)))
 
-pub upgrade-done : {R : Type 0} (client : Feed) (before : Sink) (k : Kept) (s : State) (date : HttpDate) (n : ℕ) (protocol : List ℕ) (v : ResponseValue) (w : OpenRequest Body) (context : AnswerContext) (new : Sink) (ended : Bool) (final : List Mark) (requests : List (Option Unfinished)) (source : SourceState R) → Stands client before k s → IsInput k source → before.failures < 2 ^ 64 - 1
+pub upgrade-done : {R : Type 0} (client : Feed) (before : Sink) (k : Kept) (s : State) (date : HttpDate) (n : ℕ) (protocol : List ℕ) (v : ResponseValue) (w : OpenRequest UnreadBody) (context : AnswerContext) (new : Sink) (ended : Bool) (final : List Mark) (requests : List (Option Unfinished)) (source : SourceState R) → Stands client before k s → IsInput k source → before.failures < 2 ^ 64 - 1
     → slice_get k.requests n ≡ Some (Some (still.Waiting w)) → w.answer_context ≡ context → is_err (request_check w protocol v.answer.status (is_whole w.body)) ≡ false → (n == first_unfinished k.marks) ≡ true → final ≡ k.marks → requests ≡ slice_set k.requests n (Some (still.Upgraded (stream_body w.by_standard w.body)))
     → ((k.output_ended ≡ false → CanSend k.sink) → SendsUnlessEnded k.output_ended k.sink new ended (upgrade_text v protocol (printing_in context date))) → IsFlushed new
     → StepIsAnswered client before (with_asking_ended (w.holds_next_head || (w.by_standard && (w.owes_continue || is_long (remainder w.body)))) (after_number k final requests source new ended)) s date (Upgrade n protocol v) Done
@@ -315,7 +315,7 @@ upgrade-done {R = R} client before k s date n protocol v w context new ended fin
     s1 : Slot
     s1 = slot_upgraded protocol v date p.s w h
 
-    kept_now : Body
+    kept_now : UnreadBody
     kept_now = stream_body w.by_standard w.body
 
     now : Becomes protocol v date p.s w h s1 kept_now

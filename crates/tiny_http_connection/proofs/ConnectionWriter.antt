@@ -15,7 +15,7 @@ use Rattle.tiny_http_response.proofs.SendingLemmas.{taken-sent, begins_known}
 use Rattle.tiny_http_io.specs.Source.{SourceState}
 use Rattle.tiny_http_turns.specs.Turns.{Mark, Open, AreInShape, first_unfinished}
 use Rattle.tiny_http_open_request.specs.declared.open_request.OpenRequest.{OpenRequest}
-use Rattle.tiny_http_body.specs.declared.body.Body.{Body}
+use Rattle.tiny_http_body.specs.declared.body.UnreadBody.{UnreadBody}
 use Rattle.tiny_http_body.specs.Body.{remainder, is_long, GivesUp}
 use Rattle.tiny_http_open_request.specs.Pipeline.{Item, Asks, Refuses, Request}
 use Rattle.tiny_http_body.specs.Text.{Whole}
@@ -50,10 +50,10 @@ into_writer-not_taken n (Raw w c) owed e = refl
 into_writer-not_taken n (Upgraded p r d w c) owed e = refl
 
 -- the slot whose raw writer was taken
-abbrev raw_slot : (s : Slot) (w : OpenRequest Body) → IsWaiting s w → Slot
+abbrev raw_slot : (s : Slot) (w : OpenRequest UnreadBody) → IsWaiting s w → Slot
 raw_slot s w h = finished_as h.handed.closes (open_slot h.handed h.request h.given h.end_reported) (Raw [] false)
 
-pub into_writer-done : {R : Type 0} (client : Feed) (before : Sink) (k : Kept) (s : State) (date : HttpDate) (n : ℕ) (w : OpenRequest Body) (requests : List (Option Unfinished)) (old source : SourceState R) → Stands client before k s → IsInput k old → GivesUp w.body old source → slice_get k.requests n ≡ Some (Some (still.Waiting w))
+pub into_writer-done : {R : Type 0} (client : Feed) (before : Sink) (k : Kept) (s : State) (date : HttpDate) (n : ℕ) (w : OpenRequest UnreadBody) (requests : List (Option Unfinished)) (old source : SourceState R) → Stands client before k s → IsInput k old → GivesUp w.body old source → slice_get k.requests n ≡ Some (Some (still.Waiting w))
     → requests ≡ slice_set k.requests n (Some still.Raw) → StepIsAnswered client before (with_asking_ended (w.holds_next_head || (w.by_standard && (w.owes_continue || is_long (remainder w.body)))) (with_reader k requests source)) s date (IntoWriter n) Done
 into_writer-done {R = R} client before k s date n w requests old source st from gives e requests_are =
     let L : List (Option Unfinished) → Type 0 = λ l. StepIsAnswered client before (with_asking_ended (w.holds_next_head || (w.by_standard && (w.owes_continue || is_long (remainder w.body)))) (with_reader k l source)) s date (IntoWriter n) Done in
@@ -246,7 +246,7 @@ keeps-raw bytes s h = record {
   alike = alike-by s (written_slot bytes s) h.request h.item refl refl refl refl;
 }
 
-still-upgraded : (bytes : List ℕ) (s : Slot) (b : Body) → IsUpgraded s b → IsUpgraded (written_slot bytes s) b
+still-upgraded : (bytes : List ℕ) (s : Slot) (b : UnreadBody) → IsUpgraded s b → IsUpgraded (written_slot bytes s) b
 still-upgraded bytes s b h =
     let o = h.opened in
     record {
@@ -258,7 +258,7 @@ still-upgraded bytes s b h =
       stage = ap (written_to bytes) h.stage;
     }
 
-keeps-upgraded : (bytes : List ℕ) (s : Slot) (b : Body) → IsUpgraded s b → KeepsOn s (written_slot bytes s) (still.Upgraded b) bytes
+keeps-upgraded : (bytes : List ℕ) (s : Slot) (b : UnreadBody) → IsUpgraded s b → KeepsOn s (written_slot bytes s) (still.Upgraded b) bytes
 keeps-upgraded bytes s b h =
     let o = h.opened in
     let stage_is : s.stage ≡ Upgraded h.protocol h.response h.date h.written false = ap (λ (x : Slot). x.stage) o.is ∙ h.stage in
@@ -268,7 +268,7 @@ keeps-upgraded bytes s b h =
       alike = alike-by s (written_slot bytes s) o.request (ap (λ (x : Slot). x.item) o.is) refl refl refl refl;
     }
 
-no-writer_waits : {X : Type 0} (w : OpenRequest Body) → is_writable (Some (Some (still.Waiting w))) ≡ true → X
+no-writer_waits : {X : Type 0} (w : OpenRequest UnreadBody) → is_writable (Some (Some (still.Waiting w))) ≡ true → X
 no-writer_waits w e = cc
 
 pub keeps-written : (bytes : List ℕ) (s : Slot) (u : Unfinished) → IsUnfinished s u → is_writable (Some (Some u)) ≡ true → KeepsOn s (written_slot bytes s) u bytes

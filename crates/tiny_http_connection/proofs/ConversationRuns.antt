@@ -23,7 +23,7 @@ use Rattle.tiny_http_connection.specs.Connection.{Kept, OutputAt, IsOpen, behind
 use Rattle.tiny_http_io.specs.ToCome.{stopped}
 use Rattle.tiny_http_body.specs.Body.{Remaining, remaining, is_streaming}
 use Rattle.tiny_http_connection.specs.Pending.{last_body, is_streaming_body}
-use Rattle.tiny_http_body.specs.declared.body.Body.{Body}
+use Rattle.tiny_http_body.specs.declared.body.UnreadBody.{UnreadBody}
 use Rattle.tiny_http_io.specs.declared.device.Stop.TheVariants.{End}
 use Rattle.tiny_http_connection.proofs.ConnectionReader.{LastKept, done-open, waiting-open, open-by, behind-settled}
 use Rattle.tiny_http_connection.specs.declared.driver.Timed.{Timed}
@@ -103,7 +103,7 @@ place-pipeline profile false stop None rest h = let P : List Item → Type 0 = �
 place-pipeline profile false stop (Some bytes) rest h = h
 
 -- the input within the last body
-within : (profile : Profile) (s : Slot) (b : Body) (f : Feed) (rest : List Item) (o : Option Remaining) → IsOpen s b → is_streaming b ≡ true → remaining b (Some f) ≡ o → option_map (λ (r : Remaining). r.body) o ≡ Some (slot_rest s)
+within : (profile : Profile) (s : Slot) (b : UnreadBody) (f : Feed) (rest : List Item) (o : Option Remaining) → IsOpen s b → is_streaming b ≡ true → remaining b (Some f) ≡ o → option_map (λ (r : Remaining). r.body) o ≡ Some (slot_rest s)
     → PlaceAt profile (is_last_item s.item) (option_map (λ (r : Remaining). r.behind) o) rest → WithinBody profile s s.item f rest
 within profile s b f rest None h is_streaming_body e g p = let no : None ≡ Some (slot_rest s) = g in cc
 within profile s b f rest (Some x) h is_streaming_body e g p =
@@ -116,12 +116,12 @@ within profile s b f rest (Some x) h is_streaming_body e g p =
     let B : Feed → Type 0 = λ b. PlaceAt profile h.request.framing.is_last (Some b) rest in
     subst P (sym h.is) (λ is place. (k.next, subst A (sym content ∙ is) k.stands, place-pipeline profile h.request.framing.is_last f.stop k.next rest (subst B behind place))) same p
 
-within-last : (profile : Profile) (last : Option Slot) (b : Option Body) (feed : Option Feed) (f : Feed) (rest : List Item) → feed ≡ Some f → LastKept last b → last_is_open last ≡ true → GivesRest b last feed → PlaceAt profile (is_last_slot last) (behind_body b feed) rest → WithinLast profile last feed rest
+within-last : (profile : Profile) (last : Option Slot) (b : Option UnreadBody) (feed : Option Feed) (f : Feed) (rest : List Item) → feed ≡ Some f → LastKept last b → last_is_open last ≡ true → GivesRest b last feed → PlaceAt profile (is_last_slot last) (behind_body b feed) rest → WithinLast profile last feed rest
 within-last profile last b feed f rest stated (inl n) h g p = let no : false ≡ true = ap last_is_open (sym n.0) ∙ h in cc
 within-last profile last b feed f rest stated (inr (inl d)) h g p = let no : false ≡ true = sym (done-open d.0 d.3) ∙ ap last_is_open (sym d.1) ∙ h in cc
 within-last profile last b feed f rest stated (inr (inr w)) h g p =
-    let G : Option Slot → Option Body → Option Feed → Type 0 = λ x y z. GivesRest y x z in
-    let P : Option Slot → Option Body → Option Feed → Type 0 = λ x y z. PlaceAt profile (is_last_slot x) (behind_body y z) rest in
+    let G : Option Slot → Option UnreadBody → Option Feed → Type 0 = λ x y z. GivesRest y x z in
+    let P : Option Slot → Option UnreadBody → Option Feed → Type 0 = λ x y z. PlaceAt profile (is_last_slot x) (behind_body y z) rest in
     let Q : Option Slot → Option Feed → Type 0 = λ x z. WithinLast profile x z rest in
     let gives = subst (λ z. G (Some w.0) (Some w.1) z) stated (subst (λ y. G (Some w.0) y feed) w.3 (subst (λ x. G x b feed) w.2 g)) in
     let place = subst (λ z. P (Some w.0) (Some w.1) z) stated (subst (λ y. P (Some w.0) y feed) w.3 (subst (λ x. P x b feed) w.2 p)) in

@@ -22,7 +22,7 @@ use Rattle.tiny_http_connection.specs.Steps.{StepValue, Ask, AsReader, Read, Res
 use Rattle.tiny_http_connection.specs.Conversation.{State, TimedValue, IsFresh, start_state}
 use Rattle.tiny_http_response.specs.Sending.{FailsOnceUnlessEnded, IsHonest, FailsOnce}
 use Rattle.tiny_http_connection.specs.Seen.{seen, IsResponse, IsStep, IsTimedStep, MayFail, ReportsHonestly, IsAnswered, IsOfWriter, is_done, all_sent_after}
-use Rattle.tiny_http_body.specs.declared.body.Body.{Body}
+use Rattle.tiny_http_body.specs.declared.body.UnreadBody.{UnreadBody}
 use Rattle.tiny_http_open_request.specs.declared.open_request.OpenRequest.{OpenRequest}
 use Rattle.tiny_http_open_request.specs.OpenRequest.{refuses_code, request_check}
 use Rattle.tiny_http_body.specs.Body.{is_streaming, body_standing, is_whole}
@@ -212,12 +212,12 @@ gives-up-of old new o u e gives v f = subst (λ x. GivesUpBody (kept_body (Some 
     one x y h = cc
 
 -- the source goes on where a body is given up
-pub gives-up-body : {R : Type 0} (b : Option Body) (old new : SourceState R) → GivesUpBody b old new → GoesOn old.feed new.feed
+pub gives-up-body : {R : Type 0} (b : Option UnreadBody) (old new : SourceState R) → GivesUpBody b old new → GoesOn old.feed new.feed
 gives-up-body {R = R} None old new h = let P : SourceState R → Type 0 = λ x. GoesOn old.feed x.feed in subst P (sym h) (goes-on_same old.feed)
 gives-up-body (Some b) old new h = gives-up b old new h
 
 -- where the source stands after a read
-pub stands-after : {R : Type 0} (was body : Body) (old new : SourceState R) → (is_streaming was ≡ false → new ≡ old) → (is_streaming was ≡ true → new.standing ≡ body_standing body old.standing) → StandsAfter was body old new
+pub stands-after : {R : Type 0} (was body : UnreadBody) (old new : SourceState R) → (is_streaming was ≡ false → new ≡ old) → (is_streaming was ≡ true → new.standing ≡ body_standing body old.standing) → StandsAfter was body old new
 stands-after was body old new same moves = by (is_streaming was) same moves
   where
     by : (b : Bool) → (b ≡ false → new ≡ old) → (b ≡ true → new.standing ≡ body_standing body old.standing) → MatchBool b (new.standing ≡ body_standing body old.standing) (new ≡ old)
@@ -453,7 +453,7 @@ takes-upgrade feed all old new now n p r reply answers declined ends leaves done
     declined ends leaves (moves-sent (step.Upgrade n p (stated_response feed r)) reply all old new (λ sent. refl) done moves) (λ kind e. absurd (none kind e))
 
 -- a step that drops a request
-pub drops-by : {R W : Type 0} (n : ℕ) (w : OpenRequest Body) (old new : ConnectionState R W) (now : HttpDate) → slice_get old.requests n ≡ Some (Some (still.Waiting w))
+pub drops-by : {R W : Type 0} (n : ℕ) (w : OpenRequest UnreadBody) (old new : ConnectionState R W) (now : HttpDate) → slice_get old.requests n ≡ Some (Some (still.Waiting w))
     → ((client : Feed) (before : Sink) (s : State) (asked : StepValue) (reply : ReplyValue)
     → ((was : Reached) (by : HandedOut) (r : Request) (given : ℕ) (end_reported : Bool) → IsKeptOf w r given end_reported → slice_get was.slots n ≡ Some (open_slot by r given end_reported) → outcome true now was asked ≡ ends_asking (is_last_once_finished r by.owed given end_reported) (changes was n (dropped by r given end_reported) reply (use_in_turn (turn_has_come n was.slots))))
     → before.failures < 2 ^ 64 - 1 → Stands client before (kept old) s → StepIsAnswered client before (kept new) s now asked reply)

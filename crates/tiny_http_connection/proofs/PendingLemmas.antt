@@ -16,7 +16,7 @@ use Rattle.tiny_http_turns.specs.Passing.{Holds, WritesTexts, FinishesOne, Passe
 use Rattle.tiny_http_connection.specs.declared.pending.HeldNumber.{HeldNumber}
 use Rattle.tiny_http_turns.specs.Turns.{Mark, Open, Held, Left, Finished, AreInShape, TurnsState, first_unfinished, Goes, Passed, Waits, TurnOutcome, Finish, Leave, turn_outcome, turn_answer, marks_after_step, finish_at, pass_to, leave_at}
 use Rattle.tiny_http_turns.specs.TurnsCalls.{Finishes, LeavesTurn}
-use Rattle.tiny_http_body.specs.declared.body.Body.{Body}
+use Rattle.tiny_http_body.specs.declared.body.UnreadBody.{UnreadBody}
 use Rattle.tiny_http_open_request.specs.declared.open_request.OpenRequest.{OpenRequest}
 use Rattle.tiny_http_connection.specs.declared.pending.Unfinished.{Unfinished}
 use Rattle.tiny_http_connection.specs.declared.pending.Unfinished.TheVariants as still
@@ -353,7 +353,7 @@ put-in-place old mid new n was x v None here is some none =
     cc
 
 -- what is kept of a number that waits is one value
-pub waiting-is : (u v : OpenRequest Body) → ◌≡◌ {A = Option (Option Unfinished)} (Some (Some (still.Waiting u))) (Some (Some (still.Waiting v))) → u ≡ v
+pub waiting-is : (u v : OpenRequest UnreadBody) → ◌≡◌ {A = Option (Option Unfinished)} (Some (Some (still.Waiting u))) (Some (Some (still.Waiting v))) → u ≡ v
 waiting-is u v e = cc
 
 -- what is known of a number that is held, and of the output, once so many texts are written
@@ -444,7 +444,7 @@ number-alone (Some (still.Waiting w)) e = cc
 number-alone (Some still.Raw) e = refl
 number-alone (Some (still.Upgraded b)) e = refl
 
-pub closing-set : (us : List (Option Unfinished)) (n : ℕ) (w : OpenRequest Body) → n + 1 ≡ length us → slice_get us n ≡ Some (Some (still.Waiting w)) → slice_set us n (Some (still.Waiting (closing w))) ≡ last_closing us
+pub closing-set : (us : List (Option Unfinished)) (n : ℕ) (w : OpenRequest UnreadBody) → n + 1 ≡ length us → slice_get us n ≡ Some (Some (still.Waiting w)) → slice_set us n (Some (still.Waiting (closing w))) ≡ last_closing us
 closing-set [] n w e g = cc
 closing-set (u ∷ []) zero w e g = let is : u ≡ Some (still.Waiting w) = cc in ap (λ x. closing_number x ∷ []) (sym is)
 closing-set (u ∷ []) (suc n) w e g = cc

@@ -9,7 +9,7 @@ use Rattle.tiny_http_io.specs.declared.device.Stop.TheVariants.{End}
 use Rattle.tiny_http_io.specs.Device.{Feed, Sink, IsFront, StatesKind, whole_feed}
 use Rattle.tiny_http_open_request.specs.OwnAnswer.{persistence_of}
 use Rattle.tiny_http_open_request.specs.OpenRequest.{coding_for}
-use Rattle.tiny_http_body.specs.declared.body.Body.{Body}
+use Rattle.tiny_http_body.specs.declared.body.UnreadBody.{UnreadBody}
 use Rattle.tiny_http_response.specs.declared.answer_context.AnswerContext.{AnswerContext}
 use Rattle.tiny_http_open_request.specs.declared.open_request.OpenRequest.{OpenRequest}
 use Rattle.tiny_http_connection.specs.declared.pending.Unfinished.{Unfinished}
@@ -108,7 +108,7 @@ dropped h r given end_reported =
     finished_as (closes_now r h.closes h.owed given end_reported) (open_slot h r given end_reported) ByServer
 
 -- a request that was handed out and waits
-pub record IsWaiting (s : Slot) (w : OpenRequest Body) : Type 0 where
+pub record IsWaiting (s : Slot) (w : OpenRequest UnreadBody) : Type 0 where
   pub request : Request
   pub handed : HandedOut
   pub given : ℕ
@@ -132,7 +132,7 @@ pub record IsWaiting (s : Slot) (w : OpenRequest Body) : Type 0 where
       → remaining w.body (Some f) ≡ Some (taken_remaining (rest_of request given) f)
 
 -- a number whose body can be read so far: it waits for its answer, or it was upgraded
-pub record IsOpen (s : Slot) (body : Body) : Type 0 where
+pub record IsOpen (s : Slot) (body : UnreadBody) : Type 0 where
   pub request : Request
   pub handed : HandedOut
   pub stage : Stage
@@ -154,7 +154,7 @@ pub record IsRaw (s : Slot) : Type 0 where
   pub given_up : s.given_up ≡ true
 
 -- a number that was upgraded, and whose stream is in use
-pub record IsUpgraded (s : Slot) (body : Body) : Type 0 where
+pub record IsUpgraded (s : Slot) (body : UnreadBody) : Type 0 where
   pub opened : IsOpen s body
   pub protocol : List ℕ
   pub response : ResponseValue
@@ -211,7 +211,7 @@ AreSettled (u ∷ []) = ⊤
 AreSettled (u ∷ v ∷ us) = IsSettled u × AreSettled (v ∷ us)
 
 -- where the input will stand after this body
-abbrev pub behind_body : Option Body → Option Feed → Option Feed
+abbrev pub behind_body : Option UnreadBody → Option Feed → Option Feed
 behind_body None feed = feed
 behind_body (Some b) feed = option_map (λ (r : Remaining). r.behind) (remaining b feed)
 
@@ -224,7 +224,7 @@ abbrev pub slot_rest : Slot → Feed
 slot_rest s = rest_in s.given s.item
 
 -- the body that is read from the input gives what is left of it
-abbrev pub GivesRest : Option Body → Option Slot → Option Feed → Type 0
+abbrev pub GivesRest : Option UnreadBody → Option Slot → Option Feed → Type 0
 GivesRest None s feed = ⊤
 GivesRest (Some b) None feed = ⊤
 GivesRest (Some b) (Some s) feed = option_map (λ (r : Remaining). r.body) (remaining b feed) ≡ Some (slot_rest s)
@@ -235,7 +235,7 @@ behind_item (Asks r) = r.behind
 behind_item (Refuses refusal manner no_body last) = whole_feed []
 
 -- behind the body that is kept of the last number the input gives what follows its request's
-abbrev pub FollowsLast : Option Body → Option Slot → Option Feed → Type 0
+abbrev pub FollowsLast : Option UnreadBody → Option Slot → Option Feed → Type 0
 FollowsLast None s feed = ⊤
 FollowsLast (Some b) None feed = ⊤
 FollowsLast (Some b) (Some s) feed = behind_body (Some b) feed ≡ Some (behind_item s.item)

@@ -29,7 +29,7 @@ use Rattle.tiny_http_response.specs.Sending.{IsHonest, FailsOnce}
 use Rattle.tiny_http_connection.specs.Pending.{waiting_answer_context, owes_continue, is_last_once_finished_at}
 use Rattle.tiny_http_connection.specs.Pending.{refuses_at, refuses_upgrade_at, is_last_with_stream_at, asked_to_close}
 use Rattle.tiny_http_connection.specs.Pending.{last_holds_next_head, kept_body, GivesUpBody, with_body}
-use Rattle.tiny_http_body.specs.declared.body.Body.{Body}
+use Rattle.tiny_http_body.specs.declared.body.UnreadBody.{UnreadBody}
 use Rattle.tiny_http_open_request.specs.declared.open_request.OpenRequest.{OpenRequest}
 use Rattle.tiny_http_connection.specs.declared.pending.Unfinished.{Unfinished}
 use Rattle.tiny_http_connection.specs.declared.pending.Unfinished.TheVariants as still
@@ -189,7 +189,7 @@ LetsGoAnswered k closes old new =
     (new.requests ≡ slice_set (asked_to_close closes old.requests) k None) × GivesUpKept k old new
 
 -- where a source stands after the head of a request that is framed so, and its body read so far
-abbrev pub after_head : Framing → Body → Standing
+abbrev pub after_head : Framing → UnreadBody → Standing
 after_head f body = if f.is_last then at.Last else if is_streaming body then at.Body else at.Head
 
 -- So many heads were refused, and have their numbers. Where none was the output is left alone.
@@ -203,7 +203,7 @@ RefusesHeads n old new =
 abbrev pub AskLeaves : {R W : Type 0} → ConnectionState R W → ConnectionState R W → ReplyValue → Type 0
 AskLeaves old new (Handed k message framing) =
     (n : ℕ)
-    × (w : OpenRequest Body)
+    × (w : OpenRequest UnreadBody)
     × (new.requests ≡ old.requests ++ replicate n None ++ Some (still.Waiting w) ∷ [])
     × (new.source.standing ≡ after_head framing w.body)
     × (k ≡ length old.marks + n) × (n ≡ 0 → (new.outlet ≡ old.outlet) × (new.source.stop ≡ old.source.stop))
@@ -215,14 +215,14 @@ AskLeaves old new _ = ⊥
 
 -- A read from the body of a request that leaves this of it: where it is read from the source, that stands by what is
 -- left; else the source is left alone.
-abbrev pub StandsAfter : {R : Type 0} → Body → Body → SourceState R → SourceState R → Type 0
+abbrev pub StandsAfter : {R : Type 0} → UnreadBody → UnreadBody → SourceState R → SourceState R → Type 0
 StandsAfter was body old new = MatchBool (is_streaming was) (new.standing ≡ body_standing body old.standing) (new ≡ old)
 
 -- What becomes of the 100 of a number, by the reply: none is owed any more, and if none was nothing has changed; or
 -- one is owed, and waits for its turn; or no such request waits for an answer.
 abbrev pub SendsContinue : {R W : Type 0} → ℕ → ConnectionState R W → ConnectionState R W → ReplyValue → Type 0
 SendsContinue k old new Done =
-    (w : OpenRequest Body) × (slice_get old.requests k ≡ Some (Some (still.Waiting w)))
+    (w : OpenRequest UnreadBody) × (slice_get old.requests k ≡ Some (Some (still.Waiting w)))
     × MatchBool w.owes_continue
     (new.requests ≡ slice_set old.requests k (Some (still.Waiting (record w { owes_continue = false }))))
     (new ≡ old)
@@ -246,7 +246,7 @@ abbrev pub UpgradeLeaves : {R W : Type 0} → ℕ → List ℕ → ℕ → Conne
     → Type 0
 UpgradeLeaves k protocol code old new Done =
     (refuses_upgrade_at protocol code (slice_get old.requests k) ≡ false) ×
-    (w : OpenRequest Body)
+    (w : OpenRequest UnreadBody)
     × (slice_get old.requests k ≡ Some (Some (still.Waiting w)))
     × (new.requests ≡ slice_set old.requests k (Some (still.Upgraded (stream_body w.by_standard w.body))))
     × (new.marks ≡ old.marks) × (new.source ≡ old.source)
@@ -268,8 +268,8 @@ StepLeaves (step.Read k n) old new reply =
     (new.outlet ≡ old.outlet) × (new.marks ≡ old.marks)
     × (((new.requests ≡ old.requests) × (new.source ≡ old.source))
     ⊎ ((u : Unfinished)
-    × (was : Body)
-    × (body : Body)
+    × (was : UnreadBody)
+    × (body : UnreadBody)
     × (slice_get old.requests k ≡ Some (Some u))
     × (kept_body (Some u) ≡ Some was)
     × (new.requests ≡ slice_set old.requests k (Some (with_body body u))) × StandsAfter was body old.source new.source))

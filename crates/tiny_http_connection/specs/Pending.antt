@@ -8,7 +8,7 @@ use Rattle.tiny_http_connection.specs.declared.pending.HeldNumber.{HeldNumber}
 use Rattle.tiny_http_connection.specs.declared.pending.Pending.{Pending}
 use Rattle.tiny_http_connection.specs.declared.pending.Unfinished.{Unfinished}
 use Rattle.tiny_http_connection.specs.declared.pending.Unfinished.TheVariants as still
-use Rattle.tiny_http_body.specs.declared.body.Body.{Body}
+use Rattle.tiny_http_body.specs.declared.body.UnreadBody.{UnreadBody}
 use Rattle.tiny_http_open_request.specs.declared.open_request.OpenRequest.{OpenRequest}
 use Rattle.tiny_http_body.specs.Body.{is_streaming, is_whole, remainder, GivesUp}
 use Rattle.tiny_http_open_request.specs.OpenRequest.{closing, is_last_once_finished, final_context, refuses_code}
@@ -73,7 +73,7 @@ waiting_answer_context (Some None) = None
 waiting_answer_context None = None
 
 -- this number waits for its answer, and this is kept of it
-abbrev pub WaitsAt : List (Option Unfinished) → ℕ → OpenRequest Body → Type 0
+abbrev pub WaitsAt : List (Option Unfinished) → ℕ → OpenRequest UnreadBody → Type 0
 WaitsAt requests number w = slice_get requests number ≡ Some (Some (still.Waiting w))
 
 -- its body can be read: it waits for its answer, and no 100 is owed; or it was upgraded
@@ -161,31 +161,31 @@ last_holds_next_head (u ∷ []) = holds_next_head_at (Some u)
 last_holds_next_head (u ∷ v ∷ us) = last_holds_next_head (v ∷ us)
 
 -- the body that is kept of a number, if any
-abbrev pub kept_body : Option Unfinished → Option Body
+abbrev pub kept_body : Option Unfinished → Option UnreadBody
 kept_body None = None
 kept_body (Some (still.Waiting w)) = Some w.body
 kept_body (Some still.Raw) = None
 kept_body (Some (still.Upgraded b)) = Some b
 
 -- this body was given up; where none is, the source is left alone
-abbrev pub GivesUpBody : {R : Type 0} → Option Body → SourceState R → SourceState R → Type 0
+abbrev pub GivesUpBody : {R : Type 0} → Option UnreadBody → SourceState R → SourceState R → Type 0
 GivesUpBody None old new = new ≡ old
 GivesUpBody (Some b) old new = GivesUp b old new
 
 -- the same number, with this in place of its body
-abbrev pub with_body : Body → Unfinished → Unfinished
+abbrev pub with_body : UnreadBody → Unfinished → Unfinished
 with_body b (still.Waiting w) = still.Waiting (record w { body = b })
 with_body b still.Raw = still.Raw
 with_body b (still.Upgraded c) = still.Upgraded b
 
 -- the body of the last of these, if one is kept
-abbrev pub last_body : List (Option Unfinished) → Option Body
+abbrev pub last_body : List (Option Unfinished) → Option UnreadBody
 last_body [] = None
 last_body (u ∷ []) = kept_body u
 last_body (u ∷ v ∷ us) = last_body (v ∷ us)
 
 -- the body is read from the input
-abbrev pub is_streaming_body : Option Body → Bool
+abbrev pub is_streaming_body : Option UnreadBody → Bool
 is_streaming_body None = false
 is_streaming_body (Some b) = is_streaming b
 

@@ -25,7 +25,7 @@ use std::alloc::{AllocError, Global};
 use std::io;
 use std::io::ErrorKind;
 use std::marker::Model;
-use tiny_http_body::body::{Body, Remainder};
+use tiny_http_body::body::{Remainder, UnreadBody};
 use tiny_http_body::framing::Profile;
 use tiny_http_io::device::{ReadDevice, WriteDevice};
 use tiny_http_io::outlet::Outlet;
@@ -168,7 +168,7 @@ impl Reply {
 // ended sends nothing, and the data are left unread.
 fn answer<W: WriteDevice, D: ReadDevice + Drop>(
     alloc: Global,
-    request: &mut OpenRequest<Body>,
+    request: &mut OpenRequest<UnreadBody>,
     outlet: &mut Outlet<W>,
     response: Response<D>,
     left: Remainder,

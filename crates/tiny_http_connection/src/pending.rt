@@ -11,7 +11,7 @@ ghost use Rattle.tiny_http_io.specs.Device.{Feed};
 ghost use Rattle.std.specs.List.{list_all};
 ghost use Rattle.tiny_http_open_request.specs.OwnAnswer.{own_text_by};
 ghost use Rattle.tiny_http_open_request.specs.OpenRequest.{HasSentAll};
-ghost use Rattle.tiny_http_body.specs.declared.body.Body.{Body};
+ghost use Rattle.tiny_http_body.specs.declared.body.UnreadBody.{UnreadBody};
 ghost use Rattle.tiny_http_open_request.specs.declared.open_request.OpenRequest.{OpenRequest};
 ghost use Rattle.tiny_http_io.specs.Source.{GoesOn};
 ghost use Rattle.tiny_http_body.specs.Body.{is_streaming, stream_body, body_standing, FillsFromBody};
@@ -24,7 +24,7 @@ ghost use Rattle.tiny_http_connection.specs.Pending.{kept_body, GivesUpBody, wit
 use httpdate::HttpDate;
 use std::alloc::{AllocError, Global};
 use std::io::ErrorKind;
-use tiny_http_body::body::Body;
+use tiny_http_body::body::UnreadBody;
 use tiny_http_head::common::StatusCode;
 use tiny_http_io::device::{ReadDevice, WriteDevice};
 use tiny_http_io::outlet::Outlet;
@@ -41,11 +41,11 @@ use tiny_http_turns::turns::{Finishing, Leaving, Turns, TurnsError};
 #[derive(Drop)]
 pub enum Unfinished {
     /// It waits for its answer.
-    Waiting(OpenRequest<Body>),
+    Waiting(OpenRequest<UnreadBody>),
     /// Its raw writer is in use. Its body was given up.
     Raw,
     /// It was upgraded. Its stream reads this body.
-    Upgraded(Body),
+    Upgraded(UnreadBody),
 }
 
 /// The numbers of a connection: their turns, and what is kept of each that isn't finished.
@@ -218,10 +218,10 @@ impl Pending {
         number: u64,
         now: HttpDate,
     )
-        ensures requests { (w : OpenRequest Body) → WaitsAt self.old.requests number w
+        ensures requests { (w : OpenRequest UnreadBody) → WaitsAt self.old.requests number w
             → self.new.requests ≡ slice_set self.old.requests number
             (Some (Unfinished.Waiting (record w { owes_continue = false }))) }
-        ensures sends { (w : OpenRequest Body) → WaitsAt self.old.requests number w → w.owes_continue ≡ true
+        ensures sends { (w : OpenRequest UnreadBody) → WaitsAt self.old.requests number w → w.owes_continue ≡ true
             → SendsQuietlyOn outlet.old outlet.new (own_text_by 100 (printing_in w.answer_context now))
             × HasSentAll outlet.new }
         ensures fails_once { FailsOnce outlet.old outlet.new }
@@ -248,11 +248,11 @@ impl Pending {
         now: HttpDate,
     )
         requires { list_all is_ascii protocol.now ≡ true }
-        ensures requests { (w : OpenRequest Body) → WaitsAt self.old.requests number w
+        ensures requests { (w : OpenRequest UnreadBody) → WaitsAt self.old.requests number w
             → self.new.requests ≡ slice_set self.old.requests number
             (Some (Unfinished.Upgraded (stream_body w.by_standard w.body))) }
         // Whatever the data are.
-        ensures sends { (w : OpenRequest Body) → WaitsAt self.old.requests number w
+        ensures sends { (w : OpenRequest UnreadBody) → WaitsAt self.old.requests number w
             → ((content : Feed) → SendsQuietlyOn outlet.old outlet.new
             (upgrade_text (record { answer = response.answer; content = content }) protocol.now
             (printing_in w.answer_context now)))
@@ -279,10 +279,10 @@ impl Pending {
         buf: &mut [u8],
     ) -> Result<usize, ErrorKind>
         ensures bound { IfOk result (λ n. n ≤ length buf.new) }
-        ensures fills { (u : Unfinished) (was : Body)
+        ensures fills { (u : Unfinished) (was : UnreadBody)
             → slice_get self.old.requests number ≡ Some (Some u)
             → kept_body (Some u) ≡ Some was
-            → (body : Body) × (self.new.requests ≡ slice_set self.old.requests number (Some (with_body body u)))
+            → (body : UnreadBody) × (self.new.requests ≡ slice_set self.old.requests number (Some (with_body body u)))
             × FillsFromBody was source.old.feed body source.new.feed result buf.new
             × (is_streaming was ≡ false → source.new ≡ source.old)
             × (is_streaming was ≡ true → source.new.standing ≡ body_standing body source.old.standing) }
@@ -299,7 +299,7 @@ impl Pending {
 
     /// Takes out the request of this number, if it waits for its answer, and keeps `then` in its place.
     #[inline(always)]
-    pub fn take(&mut self, number: u64, then: Option<Unfinished>) -> Option<OpenRequest<Body>>
+    pub fn take(&mut self, number: u64, then: Option<Unfinished>) -> Option<OpenRequest<UnreadBody>>
         ensures some { IfSome result (λ w. (WaitsAt self.old.requests number w)
             × (self.new.requests ≡ slice_set self.old.requests number then)) }
         ensures none { IfNone result ((waiting_answer_context (slice_get self.old.requests number) ≡ None)
@@ -405,8 +405,8 @@ fn fill_from<R: ReadDevice>(
     buf: &mut [u8],
 ) -> Result<usize, ErrorKind>
     ensures bound { IfOk result (λ n. n ≤ length buf.new) }
-    ensures fills { (was : Body) → kept_body (Some unfinished.old) ≡ Some was
-        → (body : Body) × (unfinished.new ≡ with_body body unfinished.old)
+    ensures fills { (was : UnreadBody) → kept_body (Some unfinished.old) ≡ Some was
+        → (body : UnreadBody) × (unfinished.new ≡ with_body body unfinished.old)
         × FillsFromBody was source.old.feed body source.new.feed result buf.new
         × (is_streaming was ≡ false → source.new ≡ source.old)
         × (is_streaming was ≡ true → source.new.standing ≡ body_standing body source.old.standing) }

@@ -12,8 +12,8 @@ use Rattle.tiny_http_body.specs.Chunks.{WholeChunksBy, CutChunksBy, CloseFault}
 use Rattle.tiny_http_body.specs.ChunkReading.{Decoded, after_data, chunk_closed, data_at}
 use Rattle.tiny_http_body.specs.Decoding.{decoded_from_by, rest_at, coming_of, body_by}
 use Rattle.tiny_http_body.proofs.ChunksLemmas.{decoded_by-is, close-is}
-use Rattle.tiny_http_body.specs.declared.body.Body.{Body}
-use Rattle.tiny_http_body.specs.declared.body.Body.TheVariants as body
+use Rattle.tiny_http_body.specs.declared.body.UnreadBody.{UnreadBody}
+use Rattle.tiny_http_body.specs.declared.body.UnreadBody.TheVariants as body
 use Rattle.tiny_http_body.specs.declared.framing.Form.{Form}
 use Rattle.tiny_http_body.specs.declared.framing.Form.TheVariants.{Counted, Chunked}
 use Rattle.tiny_http_io.specs.declared.device.Stop.TheVariants.{End}
@@ -92,7 +92,7 @@ remains-next standard n Over x = record { content = whole_feed []; next = Some x
 remains-next standard n (Broken kind) x = record { content = breaking [] kind; next = None; stands = inr (inr (inr (kind, refl, refl))); is = refl }
 
 -- what is left of a body that is read from the input
-pub remains-of : (standard : Bool) (b : Body) (form : Form) (n given : ℕ) (end_reported : Bool) (x : Feed) (left : Remaining) → Fits standard b form n given end_reported → is_streaming b ≡ true → remaining b (Some x) ≡ Some left → RemainsFrom standard form (n - given) x left
+pub remains-of : (standard : Bool) (b : UnreadBody) (form : Form) (n given : ℕ) (end_reported : Bool) (x : Feed) (left : Remaining) → Fits standard b form n given end_reported → is_streaming b ≡ true → remaining b (Some x) ≡ Some left → RemainsFrom standard form (n - given) x left
 remains-of standard (body.Over stop) form n given end_reported x left fits streams e = cc
 remains-of standard (body.WithHead bytes) form n given end_reported x left fits streams e = cc
 remains-of standard (body.Counted count by_standard) form n given end_reported x left fits streams e =

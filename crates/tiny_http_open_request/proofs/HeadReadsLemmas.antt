@@ -8,7 +8,7 @@ use Rattle.tiny_http_head.specs.Heads.{BeginsWithHeaderLines, BeginsWithRequestH
 use Rattle.tiny_http_head.proofs.HeadsLemmas.{request-line-is, request-line-one, header-line-is, header-line-one}
 use Rattle.tiny_http_head.specs.declared.common.Method.{Method}
 use Rattle.tiny_http_head.specs.declared.common.HTTPVersion.{HTTPVersion}
-use Rattle.tiny_http_open_request.specs.declared.heads.Message.{Message}
+use Rattle.tiny_http_open_request.specs.declared.heads.MessageHead.{MessageHead}
 use Rattle.tiny_http_io.specs.declared.source.LineFault.{LineFault}
 use Rattle.tiny_http_io.specs.declared.source.LineFault.TheVariants as linefault
 use Rattle.tiny_http_open_request.specs.declared.heads.HeadFault.{HeadFault}
@@ -115,7 +115,7 @@ fields-memory items limit mid left None p q hs r = tt
 fields-memory items limit mid left (Some f) p q hs r = (hs, r.0, mid, r.1, r.3, tt)
 
 -- a head that keeps the limit
-within-limit : (limit left : Option ℕ) (f : Feed) (m : Message) (rest : List ℕ) → BeginsWithRequestHead f.bytes (message_of m) rest → IsSpent limit f.bytes left rest → BeginsWithin limit f.bytes (message_of m) rest
+within-limit : (limit left : Option ℕ) (f : Feed) (m : MessageHead) (rest : List ℕ) → BeginsWithRequestHead f.bytes (message_of m) rest → IsSpent limit f.bytes left rest → BeginsWithin limit f.bytes (message_of m) rest
 within-limit None left f m rest h spent = h
 within-limit (Some limit) None f m rest h spent = absurd spent
 within-limit (Some limit) (Some left) f m rest h spent =
@@ -123,7 +123,7 @@ within-limit (Some limit) (Some left) f m rest h spent =
     let long : length f.bytes ≡ length text.0 + length rest = ap length text.1 ∙ length-append text.0 rest in
     (h, text.0, text.1, omega (arith, spent, long))
 
-pub message-read : {T : Type 0} (items : T → List Header) (limit mid left : Option ℕ) (o p q : Option Feed) (hs : T) (m : Message) → m.headers.items ≡ items hs → ReadsStart limit mid o p (Ok (m.method, m.path, m.version)) → ReadsFields items mid left p q (Ok hs)
+pub message-read : {T : Type 0} (items : T → List Header) (limit mid left : Option ℕ) (o p q : Option Feed) (hs : T) (m : MessageHead) → m.headers.items ≡ items hs → ReadsStart limit mid o p (Ok (m.method, m.path, m.version)) → ReadsFields items mid left p q (Ok hs)
     → ReadsMessage limit o q (Ok m)
 message-read items limit mid left None p q hs m e s k = tt
 message-read items limit mid left (Some f) p q hs m e s k =

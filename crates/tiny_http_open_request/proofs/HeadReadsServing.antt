@@ -20,7 +20,7 @@ use Rattle.tiny_http_body.specs.ChunkReading.{decoded_by}
 use Rattle.tiny_http_body.specs.Decoding.{Coming, decoding_coming, decoding_rules}
 use Rattle.tiny_http_body.proofs.ChunksLemmas.{decoded_by-is}
 use Rattle.tiny_http_head.specs.Heads.{Message as Texted, BeginsWithRequestHead, FaultyHead, Cut, version, is_too_new}
-use Rattle.tiny_http_open_request.specs.declared.heads.Message.{Message}
+use Rattle.tiny_http_open_request.specs.declared.heads.MessageHead.{MessageHead}
 use Rattle.tiny_http_body.specs.declared.framing.Profile.{Profile}
 use Rattle.tiny_http_body.specs.declared.framing.HeadRules.{HeadRules}
 use Rattle.tiny_http_body.specs.declared.framing.HeadRules.TheVariants as rule
@@ -35,8 +35,8 @@ use Rattle.tiny_http_open_request.specs.declared.exchange.HeadRead.{HeadRead}
 use Rattle.tiny_http_open_request.specs.declared.exchange.HeadRead.TheVariants as read
 use Rattle.tiny_http_open_request.specs.declared.heads.HeadFault.{HeadFault}
 use Rattle.tiny_http_open_request.specs.declared.heads.HeadFault.TheVariants as fault
-use Rattle.tiny_http_body.specs.declared.body.Body.{Body}
-use Rattle.tiny_http_body.specs.declared.body.Body.TheVariants as body
+use Rattle.tiny_http_body.specs.declared.body.UnreadBody.{UnreadBody}
+use Rattle.tiny_http_body.specs.declared.body.UnreadBody.TheVariants as body
 use Rattle.tiny_http_head.specs.declared.common.Header.{Header}
 use Rattle.tiny_http_body.specs.Framing.{Frames}
 use Rattle.tiny_http_body.specs.FramingReading.{framing}
@@ -118,7 +118,7 @@ framed-as : (rules : HeadRules) (v : HTTPVersion) (headers : List Header) (r : R
 framed-as rules v headers r e = let F : Result Framing FramingFault → Type 0 = λ x. Frames rules v headers x in subst F e (framing-is rules v headers)
 
 -- an invalid framing, or an expectation that can't be met
-pub head-unframed : (rules : HeadRules) (date : HttpDate) (o p : Option Feed) (m : Message) (e : FramingFault) (r : Result HeadRead AllocError) → ReadsMessage (head_limit rules) o p (Ok m) → framing rules m.version m.headers.items ≡ Err e
+pub head-unframed : (rules : HeadRules) (date : HttpDate) (o p : Option Feed) (m : MessageHead) (e : FramingFault) (r : Result HeadRead AllocError) → ReadsMessage (head_limit rules) o p (Ok m) → framing rules m.version m.headers.items ≡ Err e
     → RefusesWith (refusal_status (framing_refusal e)) (plainly m.version) date r → ReadsHead (profile_of rules) at.Head date o p r
 head-unframed rules date None p m e r h is k = tt
 head-unframed rules date (Some f) p m Invalid r h is k = refused-at (profile_of rules) date f p BadRequest (plainly m.version) r refl (head-by rules f.bytes f.stop (Refused BadRequest (plainly m.version)) (inr (message_of m, h.0, record { begins = h.1; frames = framed-as rules m.version m.headers.items (Err _) is }, refl))) k
@@ -136,7 +136,7 @@ skipped-of : (standard : Bool) (k : ℕ) (o : Option Feed) (r : Remaining) → o
 skipped-of standard k None r left = let no : ◌≡◌ {A = Option Remaining} None (Some r) = left in cc
 skipped-of standard k (Some f) r left = ap (λ (x : Remaining). Some x.behind) (same-remaining (counted_remaining standard k f) r left)
 
-passed-over : {R : Type 0} (old new : SourceState R) (b : Body) (standard : Bool) (form : Form) (n : ℕ) (r : Remaining) → Fits standard b form n 0 false → ends_too_new form ≡ false → remaining b old.feed ≡ Some r → PassesOver b old new → new.feed ≡ Some r.behind
+passed-over : {R : Type 0} (old new : SourceState R) (b : UnreadBody) (standard : Bool) (form : Form) (n : ℕ) (r : Remaining) → Fits standard b form n 0 false → ends_too_new form ≡ false → remaining b old.feed ≡ Some r → PassesOver b old new → new.feed ≡ Some r.behind
 passed-over {R = R} old new (body.Over stop) standard form n r fits goes left h = behind-of (stopped stop) old.feed new.feed r left (ap (λ (s : SourceState R). s.feed) h)
 passed-over {R = R} old new (body.WithHead bytes) standard form n r fits goes left h = behind-of (whole_feed (cursor_bytes bytes)) old.feed new.feed r left (ap (λ (s : SourceState R). s.feed) h)
 passed-over old new (body.Counted k by_standard) standard form n r fits goes left h = h.0 ∙ skipped-of by_standard k old.feed r left
@@ -162,7 +162,7 @@ too-new-at rules date x q m f after content next (Ok (read.Refused status text t
 too-new-at rules date x q m f after content next (Ok (read.Refused status text false)) h body new k goes =
     (VersionNotSupported, plainly (version 1 1), is_head_method m.method, next, (Heads m f after, head-by rules x.bytes x.stop (Heads m f after) h, (content, next, body, rw (new, ← k.2) refl, rw (new, ← k.2) refl)), k.1, k.0, goes (sym k.2))
 
-pub head-too_new : {R : Type 0} (rules : HeadRules) (date : HttpDate) (o p : Option Feed) (old new : SourceState R) (m : Message) (f : Framing) (b : Body) (r : Result HeadRead AllocError) → ReadsMessage (head_limit rules) o p (Ok m) → framing rules m.version m.headers.items ≡ Ok f
+pub head-too_new : {R : Type 0} (rules : HeadRules) (date : HttpDate) (o p : Option Feed) (old new : SourceState R) (m : MessageHead) (f : Framing) (b : UnreadBody) (r : Result HeadRead AllocError) → ReadsMessage (head_limit rules) o p (Ok m) → framing rules m.version m.headers.items ≡ Ok f
     → Begins f p old.feed (Some b) → is_too_new m.version ≡ true → RefusesTooNew (ends_too_new f.form) (is_head_method m.method) date r → OnOk r (ends_too_new f.form ≡ false → PassesOver b old new) → ReadsHead (profile_of rules) at.Head date o new.feed r
 head-too_new rules date None p old new m f y r h e begins is k goes = tt
 head-too_new rules date (Some x) p old new m f y r h e begins is k goes =
@@ -173,11 +173,11 @@ head-too_new rules date (Some x) p old new m f y r h e begins is k goes =
     (ok-map r (ends_too_new f.form ≡ false → PassesOver y old new) (ends_too_new f.form ≡ false → new.feed ≡ Some (place_feed x.stop started.2)) (λ g ends. passed-over old new y f.by_standard f.form (body_length_or_0 f) left started.5 ends started.4 (g ends)) goes)
 
 -- the body that begins in front of some bytes
-abbrev pub BeginsAt : Bool → Form → ℕ → Feed → Option Feed → Body → Type 0
+abbrev pub BeginsAt : Bool → Form → ℕ → Feed → Option Feed → UnreadBody → Type 0
 BeginsAt standard form n x new b =
     (IsCutWithHead form n x.bytes → ⊥) × (content : Feed) × (next : Place) × BodyAt standard form n x.bytes x.stop content next × ComesWith (remaining b new) x.stop content next × Fits standard b form n 0 false
 
-pub begins-with : (f : Framing) (form : Form) (o new : Option Feed) (b : Body) → f.form ≡ form → ((x : Feed) → o ≡ Some x → BeginsAt f.by_standard form (body_length_or_0 f) x new b) → Begins f o new (Some b)
+pub begins-with : (f : Framing) (form : Form) (o new : Option Feed) (b : UnreadBody) → f.form ≡ form → ((x : Feed) → o ≡ Some x → BeginsAt f.by_standard form (body_length_or_0 f) x new b) → Begins f o new (Some b)
 begins-with f form None new b e h = tt
 begins-with f form (Some x) new b e h = let P : Form → Type 0 = λ y. BeginsAt f.by_standard y (body_length_or_0 f) x new b in subst P (sym e) (h x refl)
 
@@ -192,10 +192,10 @@ pub begins-nothing : (f : Framing) (o : Option Feed) → f.form ≡ Nothing → 
 begins-nothing f o e = begins-with f Nothing o o (body.Over End) e (λ x end_reported. (let P : Option Feed → Type 0 = λ y. BeginsAt f.by_standard Nothing (body_length_or_0 f) x y (body.Over End) in subst P (sym end_reported) (nothing-at f.by_standard (body_length_or_0 f) x)))
 
 -- a body of a known length
-counted-fits : (standard : Bool) (b : Body) (n : ℕ) → ReadsOn (body.Counted n standard) 0 false b → Fits standard b Counted n 0 false
+counted-fits : (standard : Bool) (b : UnreadBody) (n : ℕ) → ReadsOn (body.Counted n standard) 0 false b → Fits standard b Counted n 0 false
 counted-fits standard b n h = by (0 == n) refl h
   where
-    over : (b : Body) → IsBodyOver b → (0 == n) ≡ true → Fits standard b Counted n 0 false
+    over : (b : UnreadBody) → IsBodyOver b → (0 == n) ≡ true → Fits standard b Counted n 0 false
     over (body.Over stop) k e = rw e refl
     over (body.WithHead bytes) k e = absurd k
     over (body.Counted left by_standard) k e = absurd k
@@ -205,7 +205,7 @@ counted-fits standard b n h = by (0 == n) refl h
     by : (t : Bool) → (0 == n) ≡ t → MatchBool t (IsBodyOver b) ((b ≡ body.Counted (n - 0) standard) × (0 < n)) → Fits standard b Counted n 0 false
     by true e k = over b k e
     by false e k =
-        let P : Body → Type 0 = λ x. Fits standard x Counted n 0 false in
+        let P : UnreadBody → Type 0 = λ x. Fits standard x Counted n 0 false in
         subst P (sym k.0) (refl, omega arith, omega (arith, k.1), refl, refl)
 
 abbrev pair : Feed → Feed → Remaining
@@ -221,7 +221,7 @@ front-of : (standard : Bool) (n : ℕ) (x : Feed) → n ≤ length x.bytes → c
 unfolding feed_front
 front-of standard n x le = rw (le-ltb (length x.bytes) n le) (ap (pair (whole_feed (take n x.bytes))) (skipped-within n x le))
 
-serving-counted-at : (standard : Bool) (n : ℕ) (x : Feed) (b : Body) → remaining b (Some x) ≡ Some (counted_remaining standard n x) → Fits standard b Counted n 0 false → BeginsAt standard Counted n x (Some x) b
+serving-counted-at : (standard : Bool) (n : ℕ) (x : Feed) (b : UnreadBody) → remaining b (Some x) ≡ Some (counted_remaining standard n x) → Fits standard b Counted n 0 false → BeginsAt standard Counted n x (Some x) b
 serving-counted-at standard n x b left fits = by (nat_lt (length x.bytes) n) refl
   where
     by : (t : Bool) → nat_lt (length x.bytes) n ≡ t → BeginsAt standard Counted n x (Some x) b
@@ -236,7 +236,7 @@ remains-counted standard n x = by (nat_lt (length x.bytes) n) refl
     by true e = (cut_feed standard x, None, pipeline-sized-is standard n x.bytes x.stop true e, all-of standard n x (ltb-true (length x.bytes) n e))
     by false e = (whole_feed (take n x.bytes), Some (drop n x.bytes), pipeline-sized-is standard n x.bytes x.stop false e, front-of standard n x (ltb-false (length x.bytes) n e))
 
-pub begins-counted : (f : Framing) (o : Option Feed) (b : Body) (n : ℕ) → f.form ≡ Counted → n ≡ body_length_or_0 f → ((feed : Option Feed) → remaining b feed ≡ option_map (counted_remaining f.by_standard n) feed) → ReadsOn (body.Counted n f.by_standard) 0 false b → Begins f o o (Some b)
+pub begins-counted : (f : Framing) (o : Option Feed) (b : UnreadBody) (n : ℕ) → f.form ≡ Counted → n ≡ body_length_or_0 f → ((feed : Option Feed) → remaining b feed ≡ option_map (counted_remaining f.by_standard n) feed) → ReadsOn (body.Counted n f.by_standard) 0 false b → Begins f o o (Some b)
 begins-counted f o b n e is left moves =
     let P : ℕ → Type 0 = λ k. Fits f.by_standard b Counted k 0 false in
     let Q : ℕ → Feed → Type 0 = λ k x. remaining b (Some x) ≡ Some (counted_remaining f.by_standard k x) in
@@ -283,12 +283,12 @@ begins-cut f (Some x) new n e is h =
     subst P (sym e) (omega (arith, h.0, is))
 
 -- the request under a message and a framing that are those of a head
-abbrev IsHanded : Profile → Feed → Option Feed → Body → Texted → Framing → Type 0
+abbrev IsHanded : Profile → Feed → Option Feed → UnreadBody → Texted → Framing → Type 0
 IsHanded profile x q b m f =
     (content : Feed) × (next : Place) × OneHead profile x.bytes x.stop (Some (Asks (record { message = m; framing = f; body = content; behind = place_feed x.stop next }))) (place_after f.is_last next) × ComesWith (remaining b q) x.stop content next × Fits f.by_standard b f.form (body_length_or_0 f) 0 false
 
 -- a head with its body
-head-whole : (profile : Profile) (x : Feed) (q : Option Feed) (m : Texted) (f : Framing) (after : List ℕ) (b : Body) → ((IsCutWithHead f.form (body_length_or_0 f) after → ⊥) → HeadAt profile x.bytes x.stop (Heads m f after)) → is_too_new m.version ≡ false
+head-whole : (profile : Profile) (x : Feed) (q : Option Feed) (m : Texted) (f : Framing) (after : List ℕ) (b : UnreadBody) → ((IsCutWithHead f.form (body_length_or_0 f) after → ⊥) → HeadAt profile x.bytes x.stop (Heads m f after)) → is_too_new m.version ≡ false
     → Begins f (feed_from x after) q (Some b) → IsHanded profile x q b m f
 head-whole profile x q m f after b at version_is begins =
     let k = begins in
@@ -304,7 +304,7 @@ HeadsAt profile None p m f = ⊤
 HeadsAt profile (Some x) p m f = (after : List ℕ) × (p ≡ feed_from x after) × ((IsCutWithHead f.form (body_length_or_0 f) after → ⊥) → HeadAt profile x.bytes x.stop (Heads m f after))
 
 -- it is handed out with its body
-pub handed-out : (profile : Profile) (date : HttpDate) (o p q : Option Feed) (m : Texted) (f : Framing) (h : Head) (b : Body) (y : Exchange) → head_message h ≡ m → head_framing h ≡ f → HeadsAt profile o p m f → is_too_new m.version ≡ false
+pub handed-out : (profile : Profile) (date : HttpDate) (o p q : Option Feed) (m : Texted) (f : Framing) (h : Head) (b : UnreadBody) (y : Exchange) → head_message h ≡ m → head_framing h ≡ f → HeadsAt profile o p m f → is_too_new m.version ≡ false
     → Begins f p q (Some b) → y.head ≡ h → y.open_request.body ≡ b → KeepsHead y.open_request h date → ReadsHead profile at.Head date o q (Ok (read.Request y))
 handed-out profile date None p q m f h b y u v r t begins heads bodies keeps = tt
 handed-out profile date (Some x) p q m f h b y u v r t begins heads bodies keeps =
@@ -312,18 +312,18 @@ handed-out profile date (Some x) p q m f h b y u v r t begins heads bodies keeps
     let found = head-whole profile x q m f r.0 b r.2 t (subst P r.1 begins) in
     let Q : Texted → Type 0 = λ z. IsHanded profile x q b z f in
     let R : Framing → Type 0 = λ z. IsHanded profile x q b (head_message h) z in
-    let S : Body → Type 0 = λ z. IsHanded profile x q z (head_message h) (head_framing h) in
+    let S : UnreadBody → Type 0 = λ z. IsHanded profile x q z (head_message h) (head_framing h) in
     let T : Head → Type 0 = λ z. IsHanded profile x q y.open_request.body (head_message z) (head_framing z) in
     let K : Head → Type 0 = λ z. KeepsHead y.open_request z date in
     let all = subst T (sym heads) (subst S (sym bodies) (subst R (sym v) (subst Q (sym u) found))) in
     (all.0, all.1, all.2, all.3, record { answer = subst K (sym heads) keeps; body = all.4 })
 
-rules-head : (rules : HeadRules) (o p : Option Feed) (m : Message) (f : Framing) → ReadsMessage (head_limit rules) o p (Ok m) → framing rules m.version m.headers.items ≡ Ok f → HeadsAt (profile_of rules) o p (message_of m) f
+rules-head : (rules : HeadRules) (o p : Option Feed) (m : MessageHead) (f : Framing) → ReadsMessage (head_limit rules) o p (Ok m) → framing rules m.version m.headers.items ≡ Ok f → HeadsAt (profile_of rules) o p (message_of m) f
 rules-head rules None p m f r e = tt
 rules-head rules (Some x) p m f r e =
     (r.0, r.2, λ uncut. head-by rules x.bytes x.stop (Heads (message_of m) f r.0) (record { whole = record { begins = r.1; frames = framed-as rules m.version m.headers.items (Ok f) e }; uncut = uncut }))
 
-pub head-handed : (rules : HeadRules) (date : HttpDate) (o p q : Option Feed) (m : Message) (f : Framing) (h : Head) (b : Body) (y : Exchange) → head_message h ≡ message_of m → head_framing h ≡ f → ReadsMessage (head_limit rules) o p (Ok m) → framing rules m.version m.headers.items ≡ Ok f
+pub head-handed : (rules : HeadRules) (date : HttpDate) (o p q : Option Feed) (m : MessageHead) (f : Framing) (h : Head) (b : UnreadBody) (y : Exchange) → head_message h ≡ message_of m → head_framing h ≡ f → ReadsMessage (head_limit rules) o p (Ok m) → framing rules m.version m.headers.items ≡ Ok f
     → is_too_new m.version ≡ false → Begins f p q (Some b) → y.head ≡ h → y.open_request.body ≡ b → KeepsHead y.open_request h date → ReadsHead (profile_of rules) at.Head date o q (Ok (read.Request y))
 head-handed rules date o p q m f h b y u v r e t begins heads bodies keeps = handed-out (profile_of rules) date o p q (message_of m) f h b y u v (rules-head rules o p m f r e) t begins heads bodies keeps
 
@@ -332,7 +332,7 @@ line-some [] rest = omega arith
 line-some (b ∷ bs) rest = omega arith
 
 -- a body that is read with its head, and cut, where the input stopped so
-pub head-cut : (rules : HeadRules) (date : HttpDate) (o p q : Option Feed) (m : Message) (f : Framing) (stop : Option Stop) (r : Result HeadRead AllocError) → ReadsMessage (head_limit rules) o p (Ok m) → framing rules m.version m.headers.items ≡ Ok f → Begins f p q None
+pub head-cut : (rules : HeadRules) (date : HttpDate) (o p q : Option Feed) (m : MessageHead) (f : Framing) (stop : Option Stop) (r : Result HeadRead AllocError) → ReadsMessage (head_limit rules) o p (Ok m) → framing rules m.version m.headers.items ≡ Ok f → Begins f p q None
     → ((x : Feed) → p ≡ Some x → stop ≡ Some x.stop) → IfSome stop (λ s. AnswersCut s false true date r) → ReadsHead (profile_of rules) at.Head date o q r
 head-cut rules date None p q m f stop r h e t ends k = tt
 head-cut rules date (Some x) p q m f stop r h e t ends k =

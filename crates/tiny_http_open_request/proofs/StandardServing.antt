@@ -15,11 +15,11 @@ use Rattle.tiny_http_head.specs.Heads.{Message, version, is_too_new}
 use Rattle.tiny_http_io.specs.Source.{SourceState}
 use Rattle.tiny_http_io.specs.ToCome.{HasNoByte}
 use Rattle.tiny_http_io.specs.declared.source.Standing.TheVariants as at
-use Rattle.tiny_http_standard_head.specs.declared.heads.Head.{Head as StandardHead}
-use Rattle.tiny_http_standard_head.specs.declared.heads.HeadFault.{HeadFault}
-use Rattle.tiny_http_standard_head.specs.declared.heads.HeadFault.TheVariants as fault
-use Rattle.tiny_http_standard_head.specs.declared.heads.HeadRead.TheVariants as standard
-use Rattle.tiny_http_standard_head.specs.declared.judging.Refusal.TheVariants as judged
+use Rattle.tiny_http_standard_head.specs.declared.heads.StandardHead.{StandardHead}
+use Rattle.tiny_http_standard_head.specs.declared.heads.StandardFault.{StandardFault}
+use Rattle.tiny_http_standard_head.specs.declared.heads.StandardFault.TheVariants as fault
+use Rattle.tiny_http_standard_head.specs.declared.heads.StandardRead.TheVariants as standard
+use Rattle.tiny_http_standard_head.specs.declared.judging.Judgement.TheVariants as judged
 use Rattle.tiny_http_standard_head.specs.Judging.{is_1_0, Judges}
 use Rattle.tiny_http_standard_head.specs.Heads.{Line, behind_empty_line, BeginsWithFieldLines, BeginsWithHead, HasOpenRequestLine, HasOpenField, is_begun, status_of, message_of, Reads, ReadWhole, ReadBad, ReadOpen}
 use Rattle.tiny_http_standard_head.specs.SourceHeads.{ReadsFrom}
@@ -27,7 +27,7 @@ use Rattle.tiny_http_standard_head.proofs.HeadsLemmas.{line-shorter}
 use Rattle.tiny_http_body.specs.declared.framing.TheConstants.{STANDARD_HEAD}
 use Rattle.tiny_http_body.specs.declared.framing.Profile.TheVariants.{Standard}
 use Rattle.tiny_http_body.specs.declared.framing.Framing.{Framing}
-use Rattle.tiny_http_body.specs.declared.body.Body.{Body}
+use Rattle.tiny_http_body.specs.declared.body.UnreadBody.{UnreadBody}
 use Rattle.tiny_http_open_request.specs.declared.exchange.Head.{Head}
 use Rattle.tiny_http_open_request.specs.declared.exchange.Exchange.{Exchange}
 use Rattle.tiny_http_open_request.specs.declared.exchange.HeadRead.{HeadRead}
@@ -40,7 +40,7 @@ use Rattle.tiny_http_open_request.proofs.PipelineLemmas.{cut-with_head, with_hea
 use Rattle.tiny_http_open_request.proofs.HeadReadsServing.{refused-at, HeadsAt, handed-out}
 
 -- A REFUSED HEAD
-abbrev fault_refusal : HeadFault → Refusal
+abbrev fault_refusal : StandardFault → Refusal
 fault_refusal fault.BadLine = BadRequest
 fault_refusal fault.RequestLineTooLong = RequestLineTooLong
 fault_refusal fault.HeaderFieldsTooLarge = HeaderFieldsTooLarge
@@ -49,13 +49,13 @@ fault_refusal (fault.Judged refusal) = standard_refusal refusal
 long-at : (behind : Bool) (bytes : List ℕ) (stop : Stop) → STANDARD_HEAD ≤ length bytes → Refused (long_refusal behind) by_the_standard ≡ standard_open behind bytes stop
 long-at behind bytes stop le = rw (le-ltb (length bytes) STANDARD_HEAD le) refl
 
-faulty-at : (f : Feed) (e : HeadFault) → Reads STANDARD_HEAD f.bytes (standard.Refused e) → HeadAt Standard f.bytes f.stop (Refused (fault_refusal e) by_the_standard)
+faulty-at : (f : Feed) (e : StandardFault) → Reads STANDARD_HEAD f.bytes (standard.Refused e) → HeadAt Standard f.bytes f.stop (Refused (fault_refusal e) by_the_standard)
 faulty-at f fault.BadLine h = (ReadBad, h, refl)
 faulty-at f fault.RequestLineTooLong h = (ReadOpen false, h.1, long-at false f.bytes f.stop h.0)
 faulty-at f fault.HeaderFieldsTooLarge h = (ReadOpen true, h.1, long-at true f.bytes f.stop h.0)
 faulty-at f (fault.Judged refusal) h = (ReadWhole h.0 h.1 (Err refusal), (h.2, h.3), refl)
 
-pub standard-faulty : (date : HttpDate) (o p : Option Feed) (e : HeadFault) (r : Result HeadRead AllocError) → ReadsFrom STANDARD_HEAD o p (standard.Refused e) → RefusesWith (status_of e) by_the_standard date r → ReadsHead Standard at.Head date o p r
+pub standard-faulty : (date : HttpDate) (o p : Option Feed) (e : StandardFault) (r : Result HeadRead AllocError) → ReadsFrom STANDARD_HEAD o p (standard.Refused e) → RefusesWith (status_of e) by_the_standard date r → ReadsHead Standard at.Head date o p r
 standard-faulty date None p e r h k = tt
 standard-faulty date (Some f) p fault.BadLine r h k = refused-at Standard date f p BadRequest by_the_standard r refl (faulty-at f fault.BadLine h.0) k
 standard-faulty date (Some f) p fault.RequestLineTooLong r h k = refused-at Standard date f p RequestLineTooLong by_the_standard r refl (faulty-at f fault.RequestLineTooLong h.0) k
@@ -173,7 +173,7 @@ standard-head : (o p : Option Feed) (h : StandardHead) → ReadsFrom STANDARD_HE
 standard-head None p h k = tt
 standard-head (Some f) p h k = (drop h.length f.bytes, k.1, λ uncut. whole-at f h k.0 uncut)
 
-pub standard-handed : (date : HttpDate) (o p q : Option Feed) (h : StandardHead) (f : Framing) (head : Head) (b : Body) (y : Exchange) → head_message head ≡ served_message (message_of h) → f ≡ standard_framing h.summary → head_framing head ≡ f → ReadsFrom STANDARD_HEAD o p (standard.Whole h)
+pub standard-handed : (date : HttpDate) (o p q : Option Feed) (h : StandardHead) (f : Framing) (head : Head) (b : UnreadBody) (y : Exchange) → head_message head ≡ served_message (message_of h) → f ≡ standard_framing h.summary → head_framing head ≡ f → ReadsFrom STANDARD_HEAD o p (standard.Whole h)
     → Begins f p q (Some b) → y.head ≡ head → y.open_request.body ≡ b → KeepsHead y.open_request head date → ReadsHead Standard at.Head date o q (Ok (read.Request y))
 standard-handed date o p q h f head b y says is framed k begins heads bodies keeps =
     handed-out Standard date o p q (served_message (message_of h)) f head b y says framed (subst (HeadsAt Standard o p (served_message (message_of h))) (sym is) (standard-head o p h k)) (served-old h.version) begins heads bodies keeps

@@ -3,7 +3,7 @@ use Rattle.std.specs.Prelude.{◌≡◌, ℕ, Bool, false, List, Option, Result,
 use Rattle.httpdate.specs.declared.date.HttpDate.{HttpDate}
 use Rattle.tiny_http_io.specs.Device.{Feed}
 use Rattle.tiny_http_open_request.specs.declared.exchange.Head.{Head}
-use Rattle.tiny_http_body.specs.declared.body.Body.{Body}
+use Rattle.tiny_http_body.specs.declared.body.UnreadBody.{UnreadBody}
 use Rattle.tiny_http_open_request.specs.declared.open_request.OpenRequest.{OpenRequest}
 use Rattle.tiny_http_open_request.specs.declared.exchange.Exchange.{Exchange}
 use Rattle.tiny_http_open_request.specs.declared.upgrading.UpgradeError.{UpgradeError}
@@ -16,7 +16,7 @@ use Rattle.tiny_http_open_request.specs.TextState.{drop_text}
 use Rattle.tiny_http_body.specs.Body.{Remaining, remaining, remainder, is_streaming, is_whole, Fits, GivesUp}
 
 -- a request of this head, of which this is kept
-abbrev pub exchange_of : Head → OpenRequest Body → Exchange
+abbrev pub exchange_of : Head → OpenRequest UnreadBody → Exchange
 exchange_of head request = record { head = head; open_request = request }
 
 -- what the request's head says
@@ -24,11 +24,11 @@ abbrev pub exchange_head : Exchange → Head
 exchange_head x = x.head
 
 -- what is kept of it until it is answered
-abbrev pub exchange_open : Exchange → OpenRequest Body
+abbrev pub exchange_open : Exchange → OpenRequest UnreadBody
 exchange_open x = x.open_request
 
 -- how far its body was read
-abbrev pub exchange_body : Exchange → Body
+abbrev pub exchange_body : Exchange → UnreadBody
 exchange_body x = x.open_request.body
 
 -- what is still to come of its body, where the input still gives this, and what stands after it
@@ -60,12 +60,13 @@ abbrev pub exchange_check : Exchange → List ℕ → ℕ → Result ⊤ Upgrade
 exchange_check x protocol code = request_check x.open_request protocol code (is_whole x.open_request.body)
 
 -- its head is the same, and of what is kept of it this has changed
-abbrev pub Changes : (OpenRequest Body → OpenRequest Body → Type 0) → Exchange → Exchange → Type 0
+abbrev pub Changes : (OpenRequest UnreadBody → OpenRequest UnreadBody → Type 0) → Exchange → Exchange → Type 0
 Changes P old new = (new.head ≡ old.head) × P old.open_request new.open_request
 
 -- nothing but how far its body was read has changed
 abbrev pub KeepsButBody : Exchange → Exchange → Type 0
-KeepsButBody old new = (body : Body) × (new ≡ record old { open_request = record old.open_request { body = body } })
+KeepsButBody old new =
+    (body : UnreadBody) × (new ≡ record old { open_request = record old.open_request { body = body } })
 
 -- its body is given up
 abbrev pub GivesUpBody : {R : Type 0} → Exchange → SourceState R → SourceState R → Type 0

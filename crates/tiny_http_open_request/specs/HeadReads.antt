@@ -15,7 +15,7 @@ use Rattle.tiny_http_head.specs.HeadReading as reading
 use Rattle.tiny_http_head.specs.Heads.{Message as Texted, BeginsWithRequestLine, BeginsWithHeaderLines, HeaderLine}
 use Rattle.tiny_http_head.specs.Heads.{FaultyLine, FaultyHead, IsRequestLine, IsFieldOrEnd, NotAscii, Malformed}
 use Rattle.tiny_http_head.specs.Heads.{version}
-use Rattle.tiny_http_open_request.specs.declared.heads.Message.{Message}
+use Rattle.tiny_http_open_request.specs.declared.heads.MessageHead.{MessageHead}
 use Rattle.tiny_http_body.specs.declared.framing.Profile.{Profile}
 use Rattle.tiny_http_body.specs.declared.framing.Profile.TheVariants as under
 use Rattle.tiny_http_body.specs.declared.framing.HeadRules.{HeadRules}
@@ -37,7 +37,7 @@ use Rattle.tiny_http_io.specs.declared.source.LineFault.{LineFault}
 use Rattle.tiny_http_io.specs.declared.source.LineFault.TheVariants as linefault
 use Rattle.tiny_http_open_request.specs.declared.heads.HeadFault.{HeadFault}
 use Rattle.tiny_http_open_request.specs.declared.heads.HeadFault.TheVariants as fault
-use Rattle.tiny_http_body.specs.declared.body.Body.{Body}
+use Rattle.tiny_http_body.specs.declared.body.UnreadBody.{UnreadBody}
 use Rattle.tiny_http_body.specs.FramingReading.{framing}
 use Rattle.tiny_http_io.specs.declared.source.FirstLine.{FirstLine}
 use Rattle.tiny_http_io.specs.Source.{SourceState, GoesOn, feed_from, FindsLine, IsShort, IsTooLong, IsAtEnd}
@@ -175,7 +175,7 @@ ReadsFields items limit left (Some f) new (Err e) =
     × IsSpent limit f.bytes now rest
     × IsFaulty now IsFieldOrEnd rest e
 
-abbrev pub message_of : Message → Texted
+abbrev pub message_of : MessageHead → Texted
 message_of m = record { method = m.method; path = m.path; version = m.version; headers = m.headers.items }
 
 -- what a head says, and how it is framed
@@ -206,7 +206,7 @@ IsFaultyHead limit bytes v fault.Malformed = FaultyHead (seen_within limit bytes
 IsFaultyHead limit bytes v fault.Memory = ⊤
 
 -- a whole head that keeps this limit, or how it is faulty
-abbrev pub ReadsMessage : Option ℕ → Option Feed → Option Feed → Result Message (Option HTTPVersion × HeadFault)
+abbrev pub ReadsMessage : Option ℕ → Option Feed → Option Feed → Result MessageHead (Option HTTPVersion × HeadFault)
     → Type 0
 ReadsMessage limit None new r = ⊤
 ReadsMessage limit (Some f) new (Ok m) =
@@ -282,7 +282,7 @@ abbrev pub ComesWith : Option Remaining → Stop → Feed → Place → Type 0
 ComesWith left stop body next = left ≡ Some (record { body = body; behind = place_feed stop next })
 
 -- The body that begins at the input's place, or none: it is read with its head, and cut short.
-abbrev pub Begins : Framing → Option Feed → Option Feed → Option Body → Type 0
+abbrev pub Begins : Framing → Option Feed → Option Feed → Option UnreadBody → Type 0
 Begins f None new b = ⊤
 Begins f (Some x) new None = IsCutWithHead f.form (body_length_or_0 f) x.bytes
 Begins f (Some x) new (Some b) =

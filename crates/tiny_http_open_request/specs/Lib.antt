@@ -1,5 +1,5 @@
 pub mod OwnAnswer
-pub mod Page
+pub mod OwnPage
 pub mod TextState
 pub mod Pipeline
 pub mod PipelineReading

@@ -20,8 +20,8 @@ use Rattle.tiny_http_body.specs.declared.streamed.StreamedForm.TheVariants.{Plai
 use Rattle.tiny_http_response.specs.Streaming.{streamed_form}
 use Rattle.tiny_http_response.specs.declared.answer_context.Persistence.TheVariants.{Close}
 use Rattle.tiny_http_body.specs.declared.body.Remainder.{Remainder}
-use Rattle.tiny_http_body.specs.declared.body.Body.{Body}
-use Rattle.tiny_http_body.specs.declared.body.Body.TheVariants.{Over}
+use Rattle.tiny_http_body.specs.declared.body.UnreadBody.{UnreadBody}
+use Rattle.tiny_http_body.specs.declared.body.UnreadBody.TheVariants.{Over}
 use Rattle.tiny_http_body.specs.Body.{stream_body, is_long, is_skipped}
 use Rattle.tiny_http_open_request.specs.declared.open_request.OpenRequest.{OpenRequest}
 use Rattle.tiny_http_open_request.specs.declared.upgrading.UpgradeError.{UpgradeError}
@@ -97,7 +97,7 @@ abbrev pub OwesNoContinue : {B : Type 0} → OpenRequest B → OpenRequest B →
 OwesNoContinue old new = new ≡ record old { owes_continue = false }
 
 -- nothing has changed but that no 100 is owed any more, and that its body is what an upgraded connection reads
-abbrev pub IsUpgraded : OpenRequest Body → OpenRequest Body → Type 0
+abbrev pub IsUpgraded : OpenRequest UnreadBody → OpenRequest UnreadBody → Type 0
 IsUpgraded old new = new ≡ record old { owes_continue = false; body = stream_body old.by_standard old.body }
 
 -- nothing has changed but that the text of its drop was taken, and that no 100 is owed any more
@@ -106,7 +106,7 @@ HasNoDropText old new = new ≡ record old { owes_continue = false; dropped = re
 
 -- nothing has changed but that its body reports its end from now on, that no 100 is owed any more, and that no
 -- upgrade of it is taken
-abbrev pub HasNoBodyLeft : OpenRequest Body → OpenRequest Body → Type 0
+abbrev pub HasNoBodyLeft : OpenRequest UnreadBody → OpenRequest UnreadBody → Type 0
 HasNoBodyLeft old new = new ≡ record old { body = Over End; owes_continue = false; holds_next_head = false }
 
 -- the outlet holds nothing back, and all that it took was sent on

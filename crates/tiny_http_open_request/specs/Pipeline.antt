@@ -14,8 +14,8 @@ use Rattle.tiny_http_head.specs.Heads.{Message, BeginsWithRequestHead, FaultyHea
 use Rattle.tiny_http_head.specs.Heads.{is_too_new}
 use Rattle.tiny_http_io.specs.Source.{seen_within}
 use Rattle.tiny_http_standard_head.specs.declared.judging.HeadSummary.{HeadSummary}
-use Rattle.tiny_http_standard_head.specs.declared.judging.Refusal.{Refusal as Judgement}
-use Rattle.tiny_http_standard_head.specs.declared.judging.Refusal.TheVariants as judged
+use Rattle.tiny_http_standard_head.specs.declared.judging.Judgement.{Judgement}
+use Rattle.tiny_http_standard_head.specs.declared.judging.Judgement.TheVariants as judged
 use Rattle.tiny_http_standard_head.specs.Judging.{is_1_0}
 use Rattle.tiny_http_standard_head.specs.Heads.{is_begun, Reading, ReadWhole, ReadBad, ReadOpen, AreReadAs}
 use Rattle.tiny_http_body.specs.declared.framing.TheConstants.{STANDARD_HEAD}

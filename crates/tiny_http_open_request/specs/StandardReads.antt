@@ -3,7 +3,7 @@ use Rattle.std.specs.Prelude.{◌≡◌, ◌&&◌, Bool, Result, Ok, MatchBool}
 use Rattle.std.specs.declared.alloc.AllocError.{AllocError}
 use Rattle.httpdate.specs.declared.date.HttpDate.{HttpDate}
 use Rattle.tiny_http_io.specs.declared.device.Stop.{Stop}
-use Rattle.tiny_http_standard_head.specs.declared.heads.Head.{Head as StandardHead}
+use Rattle.tiny_http_standard_head.specs.declared.heads.StandardHead.{StandardHead}
 use Rattle.tiny_http_standard_head.specs.Heads.{message_of}
 use Rattle.tiny_http_open_request.specs.declared.exchange.Head.{Head}
 use Rattle.tiny_http_open_request.specs.declared.exchange.HeadRead.{HeadRead}

@@ -17,7 +17,7 @@ ghost use Rattle.tiny_http_io.specs.Outlet.{outlet_held, SentOn};
 ghost use Rattle.tiny_http_response.specs.Sending.{FailsOnce, SendsQuietlyOn, SendsAnswer};
 ghost use Rattle.tiny_http_open_request.specs.OwnAnswer.{own_text_by};
 
-use crate::heads::{HeadFault, Message, read_message};
+use crate::heads::{HeadFault, MessageHead, read_message};
 use crate::open_request::{OpenRequest, is_head};
 use crate::own_answer::{own_answer, too_new_answer};
 use crate::standard::read_standard;
@@ -26,7 +26,7 @@ use httpdate::HttpDate;
 use std::alloc::{AllocError, Global};
 use std::io;
 use std::io::{Cursor, ErrorKind};
-use tiny_http_body::body::{Body, chunked, counted};
+use tiny_http_body::body::{UnreadBody, chunked, counted};
 use tiny_http_body::chunked::Decoding;
 pub use tiny_http_body::framing::Form;
 use tiny_http_body::framing::{Framing, FramingFault, HeadRules, Profile, framing_of, is_too_new};
@@ -69,7 +69,7 @@ pub struct Head {
 #[derive(Drop)]
 pub struct Exchange {
     head: Head,
-    open_request: OpenRequest<Body>,
+    open_request: OpenRequest<UnreadBody>,
 }
 
 /// Why no further request comes.
@@ -121,7 +121,7 @@ pub enum HeadRead {
 
 impl Exchange {
     // The request of this head, not answered yet.
-    pub(crate) fn new(head: Head, open_request: OpenRequest<Body>) -> Exchange
+    pub(crate) fn new(head: Head, open_request: OpenRequest<UnreadBody>) -> Exchange
         ensures head { result.head ≡ head }
         ensures open { result.open_request ≡ open_request }
     {
@@ -268,7 +268,7 @@ impl Exchange {
     }
 
     /// The head, and what is kept of the request until it is answered, each by itself; for the crates above.
-    pub fn into_parts(self) -> (Head, OpenRequest<Body>)
+    pub fn into_parts(self) -> (Head, OpenRequest<UnreadBody>)
         ensures { self ≡ exchange_of result.0 result.1 }
     {
         (self.head, self.open_request)
@@ -330,17 +330,17 @@ fn ends_too_new(form: Form) -> bool
 
 // Passes over a body of which nothing was read. It doesn't call the reader, unless 2^64 bytes and more are to be
 // skipped.
-fn pass_over<R: ReadDevice>(source: &mut Source<R>, body: &Body)
+fn pass_over<R: ReadDevice>(source: &mut Source<R>, body: &UnreadBody)
     ensures passes { PassesOver body.now source.old source.new }
     ensures goes_on { GoesOn source.old.feed source.new.feed }
     ensures standing { source.new.standing ≡ source.old.standing }
 {
     match body {
-        Body::Counted { left, .. } => source.skip(*left),
-        Body::Over(_) => {}
-        Body::WithHead(_) => {}
-        Body::Chunked(_) => {}
-        Body::Rest => {}
+        UnreadBody::Counted { left, .. } => source.skip(*left),
+        UnreadBody::Over(_) => {}
+        UnreadBody::WithHead(_) => {}
+        UnreadBody::Chunked(_) => {}
+        UnreadBody::Rest => {}
     }
 }
 
@@ -349,7 +349,7 @@ fn refuse_too_new<R: ReadDevice>(
     alloc: Global,
     source: &mut Source<R>,
     form: Form,
-    body: &Body,
+    body: &UnreadBody,
     no_body: bool,
     now: HttpDate,
 ) -> Result<HeadRead, AllocError>
@@ -412,7 +412,7 @@ fn answer_fault(
 
 // The head that a message and its framing make.
 #[inline(always)]
-fn head_of(message: Message, framing: Framing) -> Head
+fn head_of(message: MessageHead, framing: Framing) -> Head
     ensures message { head_message result ≡ message_of message }
     ensures framing { head_framing result ≡ framing }
 {
@@ -437,7 +437,7 @@ pub fn begin_body<R: ReadDevice>(
     alloc: Global,
     source: &mut Source<R>,
     framing: Framing,
-) -> Result<Option<Body>, AllocError>
+) -> Result<Option<UnreadBody>, AllocError>
     ensures begins { IfOk result (Begins framing source.old.feed source.new.feed) }
     ensures goes_on { GoesOn source.old.feed source.new.feed }
     ensures lazy { IfOk result (λ body. IsSome body → source.new.stop ≡ source.old.stop) }
@@ -446,12 +446,12 @@ pub fn begin_body<R: ReadDevice>(
 {
     let length = framing.body_length.unwrap_or(0);
     match framing.form {
-        Form::Rest => Ok(Some(Body::Rest)),
-        Form::Nothing => Ok(Some(Body::Over(Stop::End))),
+        Form::Rest => Ok(Some(UnreadBody::Rest)),
+        Form::Nothing => Ok(Some(UnreadBody::Over(Stop::End))),
         Form::Counted => Ok(Some(counted(length, framing.by_standard))),
         Form::Chunked => Ok(Some(chunked(framing.by_standard))),
         Form::WithHead => match source.take_exactly(alloc, length) {
-            Ok(Some(bytes)) => Ok(Some(Body::WithHead(Cursor::new(bytes)))),
+            Ok(Some(bytes)) => Ok(Some(UnreadBody::WithHead(Cursor::new(bytes)))),
             Ok(None) => Ok(None),
             Err(e) => Err(e),
         },

@@ -15,7 +15,7 @@ use tiny_http_text::bytes::are_ascii;
 
 /// The method, target, version and headers of a head.
 #[derive(Drop)]
-pub(crate) struct Message {
+pub(crate) struct MessageHead {
     pub method: Method,
     pub path: AsciiString,
     pub version: HTTPVersion,
@@ -192,7 +192,7 @@ pub(crate) fn read_message<R: ReadDevice>(
     alloc: Global,
     source: &mut Source<R>,
     limit: Option<usize>,
-) -> Result<Message, (Option<HTTPVersion>, HeadFault)>
+) -> Result<MessageHead, (Option<HTTPVersion>, HeadFault)>
     ensures reads { ReadsMessage limit source.old.feed source.new.feed result }
     ensures goes_on { GoesOn source.old.feed source.new.feed }
     ensures cut { IfErr result (λ e. e.1 ≡ HeadFault.Cut → IsCutOff source.old source.new) }
@@ -209,7 +209,7 @@ pub(crate) fn read_message<R: ReadDevice>(
         Err(fault) => return Err((None, fault)),
     };
     match read_fields(alloc, source, &mut left) {
-        Ok(headers) => Ok(Message {
+        Ok(headers) => Ok(MessageHead {
             method,
             path,
             version,

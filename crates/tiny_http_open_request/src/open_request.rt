@@ -25,7 +25,7 @@ use crate::upgrading::{UpgradeError, check_upgrade, send_upgrade_quietly};
 use httpdate::HttpDate;
 use std::alloc::{AllocError, Global};
 use std::io;
-use tiny_http_body::body::{Body, Remainder};
+use tiny_http_body::body::{Remainder, UnreadBody};
 use tiny_http_body::streamed::StreamedForm;
 use tiny_http_head::common::{Header, Method, StatusCode};
 use tiny_http_io::device::{ReadDevice, WriteDevice};
@@ -306,7 +306,7 @@ impl<B: Drop> OpenRequest<B> {
     }
 }
 
-impl OpenRequest<Body> {
+impl OpenRequest<UnreadBody> {
     /// Reads some bytes of the body into the front of `buf`, and says how many. The source must be the one that the
     /// request was read from. Errors and ends are those of `Exchange::read_body`. No memory is taken.
     pub fn read<R: ReadDevice>(

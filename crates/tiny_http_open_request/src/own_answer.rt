@@ -123,7 +123,7 @@ pub(crate) fn send_own_quietly<W: WriteDevice>(
 
 // A writer into room that was taken before: it takes `OWN_ANSWER` bytes, and then each write of a byte fails.
 #[derive(Drop)]
-struct Page {
+struct OwnPage {
     bytes: Vec<u8>,
     failures: u64,
     ghost room: { OWN_ANSWER ≤ vec_capacity bytes },
@@ -131,8 +131,8 @@ struct Page {
     ghost full: { 0 < failures → OWN_ANSWER ≤ length bytes.items },
 }
 
-impl WriteDevice for Page {
-    ghost use Rattle.tiny_http_open_request.specs.Page.{page_sink};
+impl WriteDevice for OwnPage {
+    ghost use Rattle.tiny_http_open_request.specs.OwnPage.{page_sink};
 
     ghost sink = { page_sink };
 
@@ -178,7 +178,7 @@ fn print_drop(room: Vec<u8>, context: AnswerContext, now: HttpDate) -> Vec<u8>
 {
     let alloc = *room.allocator();
     let _length = date_length(now);
-    let mut page = Page {
+    let mut page = OwnPage {
         bytes: room,
         failures: 0,
     };

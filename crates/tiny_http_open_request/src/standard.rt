@@ -17,7 +17,7 @@ use tiny_http_body::framing::{Form, Framing, Profile, STANDARD_HEAD, sized_form}
 use tiny_http_head::common::{HTTPVersion, StatusCode};
 use tiny_http_io::device::{ReadDevice, Stop};
 use tiny_http_io::source::{Source, Standing};
-use tiny_http_standard_head::heads::{Head as StandardHead, HeadFault, HeadRead as StandardRead};
+use tiny_http_standard_head::heads::{StandardFault, StandardHead, StandardRead};
 use tiny_http_standard_head::judging::HeadSummary;
 use tiny_http_standard_head::source_heads::read_head_from;
 
@@ -94,7 +94,7 @@ fn answer_standard_cut(
 }
 
 // Refuses a head by the status of its fault, in version 1.1: the answer is empty, and no head follows.
-fn refuse(alloc: Global, fault: HeadFault, now: HttpDate) -> Result<HeadRead, AllocError>
+fn refuse(alloc: Global, fault: StandardFault, now: HttpDate) -> Result<HeadRead, AllocError>
     ensures { RefusesWith (status_of fault) by_the_standard now result }
 {
     let status = StatusCode(fault.status());

@@ -5,7 +5,7 @@ use Rattle.std.specs.IoError.{error_kind}
 use Rattle.std.specs.declared.io.Error.{Error}
 use Rattle.tiny_http_io.specs.Device.{AnswersStop, Feed}
 use Rattle.tiny_http_io.specs.declared.device.Stop.TheVariants.{End, Fault}
-use Rattle.tiny_http_body.specs.declared.body.Body.{Body}
+use Rattle.tiny_http_body.specs.declared.body.UnreadBody.{UnreadBody}
 use Rattle.tiny_http_request.specs.declared.body.GivesOn.{GivesOn}
 use Rattle.tiny_http_request.specs.declared.body.GivesOn.TheVariants.{AfterBody, AfterAnswer, Never}
 use Rattle.tiny_http_body.specs.Body.{is_streaming, body_stop, BodyStops, ReadsOn, remaining, prepended_body}
@@ -19,7 +19,7 @@ outlasts_body Never = false
 -- ONE READ OF A BODY. The bytes of one that was read with its head are the next of it, whatever the input still
 -- gives, and none comes only at its end; of bytes that come from the input, behind a lock, nothing is stated. After
 -- the end or a fault each read answers the same. A read into no room changes nothing.
-pub record ReadsUnread (old new : Body) (r : Result ℕ Error) (buf : List ℕ) : Type 0 where
+pub record ReadsUnread (old new : UnreadBody) (r : Result ℕ Error) (buf : List ℕ) : Type 0 where
   pub held : is_streaming old ≡ false → (feed : Option Feed)
       → IfOk r (λ n. remaining old feed ≡ prepended_body (take n buf) (remaining new feed))
   pub end : is_streaming old ≡ false → (feed : Option Feed)

@@ -12,7 +12,7 @@ use Rattle.tiny_http_head.specs.declared.common.Header.{Header}
 use Rattle.tiny_http_head.specs.declared.common.HTTPVersion.{HTTPVersion}
 use Rattle.tiny_http_head.specs.declared.common.Method.{Method}
 use Rattle.httpdate.specs.declared.date.HttpDate.{HttpDate}
-use Rattle.tiny_http_body.specs.declared.body.Body.{Body}
+use Rattle.tiny_http_body.specs.declared.body.UnreadBody.{UnreadBody}
 use Rattle.tiny_http_open_request.specs.declared.exchange.Head.{Head}
 use Rattle.tiny_http_body.specs.declared.framing.Framing.{Framing}
 use Rattle.tiny_http_body.specs.declared.framing.FramingFault.TheVariants.{Expectation}
@@ -42,7 +42,7 @@ abbrev pub request_address : {R : Type 0} → {W : Type 0} → {Rt : Type 0} →
 request_address r = r.remote_addr
 
 -- what is kept of it until it is answered
-abbrev pub request_open : {R : Type 0} → {W : Type 0} → {Rt : Type 0} → Request R W Rt → OpenRequest Body
+abbrev pub request_open : {R : Type 0} → {W : Type 0} → {Rt : Type 0} → Request R W Rt → OpenRequest UnreadBody
 request_open r = r.open_request
 
 -- an answer is refused
@@ -77,7 +77,7 @@ abbrev pub CutsShort : HTTPVersion → List Header → Option Feed → ErrorKind
 CutsShort v headers feed kind = (f : Framing) × (framing Lenient v headers ≡ Ok f) × IsCutShort f feed kind
 
 -- the body that is so framed begins where the reader gives this
-abbrev pub BeginsWith : Framing → Option Feed → Body → Type 0
+abbrev pub BeginsWith : Framing → Option Feed → UnreadBody → Type 0
 BeginsWith f feed body = (left : Option Feed) × Begins f feed left (Some body)
 
 -- of its client, and of its request line, a request says this

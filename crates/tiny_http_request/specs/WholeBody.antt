@@ -5,7 +5,7 @@ use Rattle.std.specs.declared.io.Error.{Error}
 use Rattle.std.specs.declared.io.ErrorKind.{ErrorKind}
 use Rattle.std.specs.declared.io.ErrorKind.TheVariants.{InvalidData, InvalidInput, OutOfMemory, UnexpectedEof}
 use Rattle.tiny_http_io.specs.declared.device.Stop.TheVariants.{Fault}
-use Rattle.tiny_http_body.specs.declared.body.Body.{Body}
+use Rattle.tiny_http_body.specs.declared.body.UnreadBody.{UnreadBody}
 use Rattle.tiny_http_body.specs.declared.framing.Form.{Form}
 use Rattle.tiny_http_body.specs.declared.framing.Form.TheVariants.{Counted, Chunked}
 use Rattle.tiny_http_body.specs.Body.{is_streaming, bytes_left, body_stop, IsBodyOver}
@@ -24,7 +24,7 @@ fault_error form e = error_by form (error_kind e) e
 
 -- Why reading on ended, whatever the form: the bytes are more than may be read, where no length is known; or those of
 -- a known length ended early; or a fault was reported.
-abbrev pub FailsReading : Body → Body → BodyError → Type 0
+abbrev pub FailsReading : UnreadBody → UnreadBody → BodyError → Type 0
 FailsReading old new TooLong = (bytes_left old ≡ None) × ((kind : ErrorKind) → body_stop old ≡ Some (Fault kind) → ⊥)
 FailsReading old new Cut = (is_streaming old ≡ true) × IsBodyOver new
 FailsReading old new Broken = ⊥
@@ -38,7 +38,7 @@ HasAnEnd form = (form ≡ Counted) ⊎ (form ≡ Chunked)
 -- WHY A BODY OF THIS FORM ISN'T READ WHOLE, where so many bytes may be read: its length is above that, or isn't known
 -- and no fault was reported before; its bytes ended early; it reported this fault, which each later read reports; or
 -- memory was refused, of which nothing is said.
-abbrev pub FailsWhole : Form → ℕ → Body → Body → BodyError → Type 0
+abbrev pub FailsWhole : Form → ℕ → UnreadBody → UnreadBody → BodyError → Type 0
 FailsWhole form most old new TooLong =
     ((n : ℕ) → bytes_left old ≡ Some n → most < n) × ((kind : ErrorKind) → body_stop old ≡ Some (Fault kind) → ⊥)
 FailsWhole form most old new Cut =

@@ -12,7 +12,7 @@ use std::io;
 use std::io::{ErrorKind, Read};
 use std::marker::Model;
 use std::sync::Wait;
-use tiny_http_body::body::{Body as Unread, Remainder};
+use tiny_http_body::body::{Remainder, UnreadBody};
 use tiny_http_io::device::ReadDevice;
 use tiny_http_io::source::{Source, Standing};
 use tiny_http_threads::sequential::SequentialReader;
@@ -52,7 +52,7 @@ fn end_behind<R: ReadDevice + Drop, Rt: Wait + Drop>(
 /// and so is one of kind `Interrupted`. The standard library's `read_to_end` and `read_to_string` try again after
 /// that kind, without an end: where the client's reader may be interrupted use `read` or `read_exact`.
 pub struct Body<R: ReadDevice + Drop, Rt: Wait + Drop> {
-    unread: Unread,
+    unread: UnreadBody,
     reader: Option<SequentialReader<Source<R>, Rt>>,
     gives_on: GivesOn,
 }
@@ -77,11 +77,11 @@ fn give_on<R: ReadDevice + Drop, Rt: Wait + Drop>(
 
 impl<R: ReadDevice + Drop, Rt: Wait + Drop> Model for Body<R, Rt> {
     ghost use Rattle.std.specs.Prelude.{◌≡◌, ◌||◌, is_some};
-    ghost use Rattle.tiny_http_body.specs.declared.body.Body.{Body as Unread};
+    ghost use Rattle.tiny_http_body.specs.declared.body.UnreadBody.{UnreadBody};
     ghost use Rattle.tiny_http_body.specs.Body.{is_streaming};
     ghost use Rattle.tiny_http_request.specs.Body.{outlasts_body};
 
-    ghost Value = { Unread };
+    ghost Value = { UnreadBody };
 
     ghost view = { λ b. b.unread };
 
@@ -92,7 +92,7 @@ impl<R: ReadDevice + Drop, Rt: Wait + Drop> Model for Body<R, Rt> {
 impl<R: ReadDevice + Drop, Rt: Wait + Drop> Body<R, Rt> {
     /// A body with the reader of the input, if it is read from there or the next head waits for the answer.
     pub(crate) fn new(
-        unread: Unread,
+        unread: UnreadBody,
         reader: Option<SequentialReader<Source<R>, Rt>>,
         gives_on: GivesOn,
     ) -> Body<R, Rt>

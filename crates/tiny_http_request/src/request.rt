@@ -35,7 +35,7 @@ use std::net::SocketAddr;
 use std::sync::{Arc, Wait};
 use std::{fmt, io};
 use thiserror::Error;
-use tiny_http_body::body::{Body as Unread, Remainder};
+use tiny_http_body::body::{Remainder, UnreadBody};
 use tiny_http_body::framing::{Framing, FramingFault, HeadRules, Profile, framing_of};
 pub use tiny_http_body::streamed::StreamedForm;
 use tiny_http_head::common::{HTTPVersion, Header, Method};
@@ -130,7 +130,7 @@ impl<R: ReadDevice + Drop, W: WriteDevice + Drop, Rt: Wait + Drop> Request<R, W,
         alloc: Global,
         client: (bool, Option<SocketAddr>),
         head: Head,
-        open_request: OpenRequest<Unread>,
+        open_request: OpenRequest<UnreadBody>,
         reader: Option<SequentialReader<Source<R>, Rt>>,
         writer: SequentialWriter<Outlet<W>, Rt>,
         told: (Option<Arc<FlushPolicy>>, Option<Arc<Pace>>),
@@ -657,7 +657,7 @@ fn body_of<R: ReadDevice>(
     alloc: Global,
     source: &mut Source<R>,
     framing: Framing,
-) -> Result<Unread, RequestCreationError>
+) -> Result<UnreadBody, RequestCreationError>
     ensures begins { IfOk result (λ body. Begins framing source.old.feed source.new.feed (Some body)) }
     ensures cut { IfErr result (λ e. IfCreationIo e (λ fault. IsCutShort framing source.old.feed (error_kind fault))) }
     ensures no_expectation { IfErr result (λ e. is_expectation_failed e ≡ false) }
@@ -677,7 +677,7 @@ fn alone<R: ReadDevice + Drop, Rt: Wait + Copy>(
     rt: Rt,
     alloc: Global,
     source: Source<R>,
-    body: &Unread,
+    body: &UnreadBody,
 ) -> Result<Option<SequentialReader<Source<R>, Rt>>, AllocError>
     ensures { IfOk result (λ reader. is_some reader ≡ is_streaming body.now) }
 {

@@ -5,7 +5,7 @@ ghost use Rattle.std.specs.declared.io.ErrorKind.{ErrorKind};
 ghost use Rattle.tiny_http_io.specs.Device.{Feed};
 ghost use Rattle.tiny_http_io.specs.declared.device.Stop.TheVariants.{Fault};
 ghost use Rattle.tiny_http_body.specs.Body.{is_streaming, bytes_left, body_stop, IsBodyOver, remaining, prepended_body};
-ghost use Rattle.tiny_http_body.specs.declared.body.Body.{Body as Unread};
+ghost use Rattle.tiny_http_body.specs.declared.body.UnreadBody.{UnreadBody};
 ghost use Rattle.tiny_http_request.specs.WholeBody.{fault_error, FailsReading, FailsWhole};
 
 use crate::body::Body;
@@ -84,7 +84,7 @@ impl From<BodyError> for io::Error {
 fn fault_error(form: Form, fault: io::Error) -> BodyError
     ensures error { result ≡ fault_error form fault }
     // It fails the whole body, where each later read reports this fault.
-    ensures fails { (most : ℕ) (old new : Unread)
+    ensures fails { (most : ℕ) (old new : UnreadBody)
         → body_stop new ≡ Some (Fault (error_kind fault))
         → FailsWhole form most old new result }
 {

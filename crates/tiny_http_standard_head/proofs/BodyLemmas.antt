@@ -9,8 +9,8 @@ use Rattle.tiny_http_head.specs.declared.common.HTTPVersion.{HTTPVersion}
 use Rattle.tiny_http_head.proofs.FirstByte.{contrary}
 use Rattle.tiny_http_standard_head.specs.declared.judging.Codings.{Codings}
 use Rattle.tiny_http_standard_head.specs.declared.judging.Codings.TheVariants.{Absent, Others, Chunked, Behind, Bad}
-use Rattle.tiny_http_standard_head.specs.declared.judging.Refusal.{Refusal}
-use Rattle.tiny_http_standard_head.specs.declared.judging.Refusal.TheVariants.{InvalidHead, UnknownCoding}
+use Rattle.tiny_http_standard_head.specs.declared.judging.Judgement.{Judgement}
+use Rattle.tiny_http_standard_head.specs.declared.judging.Judgement.TheVariants.{InvalidHead, UnknownCoding}
 use Rattle.tiny_http_standard_head.specs.Judging.{is_number, is_length, is_chunked, is_unknown_coding, is_1_0, IsBodyFraming, HasUnknownCodings}
 use Rattle.tiny_http_standard_head.specs.JudgingReading.{coding_after, codings_on, same_length, if_length, lengths_on, body_by}
 
@@ -19,10 +19,10 @@ not-true true h = contrary false h refl
 not-true false h = refl
 
 -- the one length
-abbrev AllAre : ℕ → List (List ℕ) → Result (Option ℕ) Refusal
+abbrev AllAre : ℕ → List (List ℕ) → Result (Option ℕ) Judgement
 AllAre n texts = if list_all (is_length n) texts then Ok (Some n) else Err InvalidHead
 
-one-more : (n : ℕ) (ts : List (List ℕ)) (o : Option ℕ) (go : ℕ → Result (Option ℕ) Refusal) → go n ≡ AllAre n ts → if_length (same_length o (Some n)) go ≡ (if (is_number n o && list_all (is_length n) ts) then Ok (Some n) else Err InvalidHead)
+one-more : (n : ℕ) (ts : List (List ℕ)) (o : Option ℕ) (go : ℕ → Result (Option ℕ) Judgement) → go n ≡ AllAre n ts → if_length (same_length o (Some n)) go ≡ (if (is_number n o && list_all (is_length n) ts) then Ok (Some n) else Err InvalidHead)
 one-more n ts None go h = refl
 one-more n ts (Some m) go h = by (m == n) refl
   where
@@ -54,10 +54,10 @@ some-length t ts o e = by (length_of t) refl (sym (first-length t ts) ∙ e)
   where
     all : (m : ℕ) → length_of t ≡ Some m → (b : Bool) → list_all (is_length m) ts ≡ b → (if b then Ok (Some m) else Err InvalidHead) ≡ Ok o → (m : ℕ) × (o ≡ Some m) × IsTrue (list_all (is_length m) (t ∷ ts))
     all m is true h k = (m, cc, rw (is, same-number m, h) refl)
-    all m is false h k = let never : ◌≡◌ {A = Result (Option ℕ) Refusal} (Err InvalidHead) (Ok o) = k in cc
+    all m is false h k = let never : ◌≡◌ {A = Result (Option ℕ) Judgement} (Err InvalidHead) (Ok o) = k in cc
 
     by : (l : Option ℕ) → length_of t ≡ l → if_length l (λ n. AllAre n ts) ≡ Ok o → (m : ℕ) × (o ≡ Some m) × IsTrue (list_all (is_length m) (t ∷ ts))
-    by None is k = let never : ◌≡◌ {A = Result (Option ℕ) Refusal} (Err InvalidHead) (Ok o) = k in cc
+    by None is k = let never : ◌≡◌ {A = Result (Option ℕ) Judgement} (Err InvalidHead) (Ok o) = k in cc
     by (Some m) is k = all m is (list_all (is_length m) ts) refl k
 
 number-is : (m : ℕ) (o : Option ℕ) → is_number m o ≡ true → o ≡ Some m
@@ -158,9 +158,9 @@ from-absent (x ∷ xs) = by (is_chunked x) (bytes_eq x []) refl refl xs (from-ot
     by false false ea eb ys f = further ys (unknown-is x ea eb) (rw (ea, eb) refl) f
 
 abbrev Read : Type 0
-Read = Result (Option ℕ × Bool) Refusal
+Read = Result (Option ℕ × Bool) Judgement
 
-ok-no_err : {G : Type 0} (x : Option ℕ × Bool) (e : Refusal) → ◌≡◌ {A = Read} (Ok x) (Err e) → G
+ok-no_err : {G : Type 0} (x : Option ℕ × Bool) (e : Judgement) → ◌≡◌ {A = Read} (Ok x) (Err e) → G
 ok-no_err x e h = cc
 
 -- codings without a length in version 1.1, or a refusal
@@ -196,7 +196,7 @@ with_codings : (v : HTTPVersion) (codings : List (List ℕ)) (n : Option ℕ) (x
 with_codings v codings n x r o h = subst (λ (y : Codings). body_by v y (Ok n) ≡ r) o h
 
 -- a body that is framed, by the codings and the length that were found
-framed : (v : HTTPVersion) (lengths codings : List (List ℕ)) (r : Result (Option ℕ) Refusal) (k : Option ℕ × Bool) → lengths_on None lengths ≡ r → FromAbsent codings → body_by v (codings_on Absent codings) r ≡ Ok k → IsBodyFraming v lengths codings k.0 k.1
+framed : (v : HTTPVersion) (lengths codings : List (List ℕ)) (r : Result (Option ℕ) Judgement) (k : Option ℕ × Bool) → lengths_on None lengths ≡ r → FromAbsent codings → body_by v (codings_on Absent codings) r ≡ Ok k → IsBodyFraming v lengths codings k.0 k.1
 framed v lengths codings (Err e) k is f h = ok-no_err k e (sym h)
 framed v lengths codings (Ok n) k is (None-came c) h =
     let plain : ◌≡◌ {A = Read} (Ok (n, false)) (Ok k) = subst (λ (cs : List (List ℕ)). body_by v (codings_on Absent cs) (Ok n) ≡ Ok k) c h in
@@ -218,8 +218,8 @@ ok-no_unknown : {G : Type 0} (x : Option ℕ × Bool) → ◌≡◌ {A = Read} (
 ok-no_unknown x h = cc
 
 -- lengths fail in one way
-lengths-fail : (found : Option ℕ) (lengths : List (List ℕ)) (e : Refusal) → lengths_on found lengths ≡ Err e → e ≡ InvalidHead
-lengths-fail found [] e h = let never : ◌≡◌ {A = Result (Option ℕ) Refusal} (Ok found) (Err e) = h in cc
+lengths-fail : (found : Option ℕ) (lengths : List (List ℕ)) (e : Judgement) → lengths_on found lengths ≡ Err e → e ≡ InvalidHead
+lengths-fail found [] e h = let never : ◌≡◌ {A = Result (Option ℕ) Judgement} (Ok found) (Err e) = h in cc
 lengths-fail found (t ∷ ts) e h = by (same_length (length_of t) found) (λ n. lengths-fail (Some n) ts e) h
   where
     by : (o : Option ℕ) → ((n : ℕ) → lengths_on (Some n) ts ≡ Err e → e ≡ InvalidHead) → if_length o (λ n. lengths_on (Some n) ts) ≡ Err e → e ≡ InvalidHead
@@ -227,10 +227,10 @@ lengths-fail found (t ∷ ts) e h = by (same_length (length_of t) found) (λ n. 
     by (Some n) go g = go n g
 
 -- codings that aren't understood
-unknown : (v : HTTPVersion) (lengths codings : List (List ℕ)) (r : Result (Option ℕ) Refusal) → lengths_on None lengths ≡ r → FromAbsent codings → body_by v (codings_on Absent codings) r ≡ Err UnknownCoding → HasUnknownCodings v lengths codings
+unknown : (v : HTTPVersion) (lengths codings : List (List ℕ)) (r : Result (Option ℕ) Judgement) → lengths_on None lengths ≡ r → FromAbsent codings → body_by v (codings_on Absent codings) r ≡ Err UnknownCoding → HasUnknownCodings v lengths codings
 unknown v lengths codings (Err e) is f h =
     let invalid : e ≡ InvalidHead = lengths-fail None lengths e is in
-    invalid-no_unknown (subst (λ (x : Refusal). ◌≡◌ {A = Read} (Err x) (Err UnknownCoding)) invalid h)
+    invalid-no_unknown (subst (λ (x : Judgement). ◌≡◌ {A = Read} (Err x) (Err UnknownCoding)) invalid h)
 unknown v lengths codings (Ok n) is (None-came c) h =
     ok-no_unknown (n, false) (subst (λ (cs : List (List ℕ)). body_by v (codings_on Absent cs) (Ok n) ≡ Err UnknownCoding) c h)
 unknown v lengths codings (Ok n) is (Alone x c a o) h =
@@ -284,16 +284,16 @@ body-invalid v lengths codings h = (
   (λ n chunked b. ok-no_err (n, chunked) InvalidHead (sym (framed-reads v lengths codings n chunked b) ∙ h)),
 )
 
-same-refusal : (x e : Refusal) → ◌≡◌ {A = Read} (Err x) (Err e) → e ≡ x
+same-refusal : (x e : Judgement) → ◌≡◌ {A = Read} (Err x) (Err e) → e ≡ x
 same-refusal x e h = cc
 
-coded-fails : (old : Bool) (n : Option ℕ) (r : Read) (e : Refusal) → coded old n r ≡ Err e → (e ≡ InvalidHead) ⊎ (r ≡ Err e)
+coded-fails : (old : Bool) (n : Option ℕ) (r : Read) (e : Judgement) → coded old n r ≡ Err e → (e ≡ InvalidHead) ⊎ (r ≡ Err e)
 coded-fails true n r e h = inl (same-refusal InvalidHead e h)
 coded-fails false (Some x) r e h = inl (same-refusal InvalidHead e h)
 coded-fails false None r e h = inr h
 
 -- a body is refused in two ways
-pub body-fails : (v : HTTPVersion) (lengths : List (List ℕ)) (o : Codings) (r : Result (Option ℕ) Refusal) (e : Refusal) → lengths_on None lengths ≡ r → body_by v o r ≡ Err e → (e ≡ InvalidHead) ⊎ (e ≡ UnknownCoding)
+pub body-fails : (v : HTTPVersion) (lengths : List (List ℕ)) (o : Codings) (r : Result (Option ℕ) Judgement) (e : Judgement) → lengths_on None lengths ≡ r → body_by v o r ≡ Err e → (e ≡ InvalidHead) ⊎ (e ≡ UnknownCoding)
 body-fails v lengths o (Err x) e is h = inl (same-refusal x e h ∙ lengths-fail None lengths x is)
 body-fails v lengths Absent (Ok n) e is h = ok-no_err (n, false) e h
 body-fails v lengths Others (Ok n) e is h = elim (coded-fails (is_1_0 v) n (Err InvalidHead) e h) [ inl i ↦ inl i | inr g ↦ inl (same-refusal InvalidHead e g) ]

@@ -11,8 +11,8 @@ use Rattle.tiny_http_head.specs.declared.common.Header.{Header}
 use Rattle.tiny_http_head.specs.Heads.{Message, method_of}
 use Rattle.tiny_http_head.proofs.FirstByte.{contrary}
 use Rattle.tiny_http_standard_head.specs.declared.judging.HeadSummary.{HeadSummary}
-use Rattle.tiny_http_standard_head.specs.declared.judging.Refusal.{Refusal}
-use Rattle.tiny_http_standard_head.specs.declared.judging.Refusal.TheVariants.{UnsupportedVersion, InvalidHead, UnknownExpectation}
+use Rattle.tiny_http_standard_head.specs.declared.judging.Judgement.{Judgement}
+use Rattle.tiny_http_standard_head.specs.declared.judging.Judgement.TheVariants.{UnsupportedVersion, InvalidHead, UnknownExpectation}
 use Rattle.tiny_http_standard_head.specs.Lines.{percent_encoded, ReadsFieldLine}
 use Rattle.tiny_http_standard_head.specs.Lists.{values_of, has_element_that}
 use Rattle.tiny_http_standard_head.specs.Judging.{is_1_0, HasValidHost, Judges, owes_continue, asks_upgrade, is_last, is_unknown_expectation}
@@ -127,7 +127,7 @@ dec-one n = by (n == 1) refl
     by false e = inr (λ same. grind (arith, e, same))
 
 -- EACH HEAD HAS A JUDGEMENT
-pub some-judgement : (v : HTTPVersion) (method : Method) (headers : List Header) → (r : Result HeadSummary Refusal) × Judges v method headers r
+pub some-judgement : (v : HTTPVersion) (method : Method) (headers : List Header) → (r : Result HeadSummary Judgement) × Judges v method headers r
 some-judgement v method headers = elim (dec-one v.0) [
   | inr other ↦ (Err UnsupportedVersion, other)
   | inl one ↦ elim (dec-hosted v (values_of (codes "Host") headers)) [
@@ -136,14 +136,14 @@ some-judgement v method headers = elim (dec-one v.0) [
   ]
 ]
   where
-    served : (one : v.0 ≡ 1) → HasValidHost v (values_of (codes "Host") headers) → (k : Option ℕ × Bool) → body_read v headers ≡ Ok k → (t : Bool) → has_element_that (codes "Expect") is_unknown_expectation headers ≡ t → (r : Result HeadSummary Refusal) × Judges v method headers r
+    served : (one : v.0 ≡ 1) → HasValidHost v (values_of (codes "Host") headers) → (k : Option ℕ × Bool) → body_read v headers ≡ Ok k → (t : Bool) → has_element_that (codes "Expect") is_unknown_expectation headers ≡ t → (r : Result HeadSummary Judgement) × Judges v method headers r
     served one host k is true e = (Err UnknownExpectation, (k.0, k.1, judge-served v headers k.0 k.1 one host is, e))
     served one host k is false e = (
       Ok (record { body_length = k.0; is_chunked = k.1; owes_continue = owes_continue v headers k.0 k.1; asks_upgrade = asks_upgrade v headers; is_last = is_last v method headers }),
       (judge-served v headers k.0 k.1 one host is, e, refl, refl, refl),
     )
 
-    by : (one : v.0 ≡ 1) → HasValidHost v (values_of (codes "Host") headers) → (r : Result (Option ℕ × Bool) Refusal) → body_read v headers ≡ r → (r : Result HeadSummary Refusal) × Judges v method headers r
+    by : (one : v.0 ≡ 1) → HasValidHost v (values_of (codes "Host") headers) → (r : Result (Option ℕ × Bool) Judgement) → body_read v headers ≡ r → (r : Result HeadSummary Judgement) × Judges v method headers r
     by one host (Err fault) is = (Err fault, judge-fails v method headers fault one host is)
     by one host (Ok k) is = served one host k is (has_element_that (codes "Expect") is_unknown_expectation headers) refl
 

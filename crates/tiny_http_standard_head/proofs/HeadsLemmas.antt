@@ -11,11 +11,11 @@ use Rattle.tiny_http_head.specs.declared.common.Method.{Method}
 use Rattle.tiny_http_head.specs.declared.common.HTTPVersion.{HTTPVersion}
 use Rattle.tiny_http_head.specs.declared.common.Header.{Header}
 use Rattle.tiny_http_head.specs.Heads.{Message}
-use Rattle.tiny_http_standard_head.specs.declared.heads.HeadFault.TheVariants.{BadLine, RequestLineTooLong, HeaderFieldsTooLarge, Judged}
-use Rattle.tiny_http_standard_head.specs.declared.heads.HeadRead.{HeadRead}
-use Rattle.tiny_http_standard_head.specs.declared.heads.HeadRead.TheVariants.{Whole, Refused, Unfinished}
-use Rattle.tiny_http_standard_head.specs.declared.heads.Stop.{Stop}
-use Rattle.tiny_http_standard_head.specs.declared.heads.Stop.TheVariants as stop
+use Rattle.tiny_http_standard_head.specs.declared.heads.StandardFault.TheVariants.{BadLine, RequestLineTooLong, HeaderFieldsTooLarge, Judged}
+use Rattle.tiny_http_standard_head.specs.declared.heads.StandardRead.{StandardRead}
+use Rattle.tiny_http_standard_head.specs.declared.heads.StandardRead.TheVariants.{Whole, Refused, Unfinished}
+use Rattle.tiny_http_standard_head.specs.declared.heads.NoHead.{NoHead}
+use Rattle.tiny_http_standard_head.specs.declared.heads.NoHead.TheVariants as stop
 use Rattle.tiny_http_standard_head.specs.HeadParts.{StopsFields, EndsFields, StopsHead, ReadsWhole}
 use Rattle.tiny_http_standard_head.specs.Lines.{ReadsFieldLine}
 use Rattle.tiny_http_standard_head.specs.Heads.{line_feed, is_carriage_return, Line, BeginsWithBareLine, behind_empty_line, BeginsWithRequestLine, BeginsWithFieldLines, BeginsWithHead, ComesToField, HasOpenRequestLine, HasOpenField, is_begun, Reads}
@@ -107,27 +107,27 @@ comes : (bytes : List ℕ) (method : Method) (target : List ℕ) (v : HTTPVersio
 comes bytes method target v fields hs rest r b = record { method = method; target = target; version = v; fields = fields; headers = hs; request = r; lines = b }
 
 -- a head that stops behind its request line
-pub fields-stop : (bytes : List ℕ) (method : Method) (target : List ℕ) (v : HTTPVersion) (fields : List ℕ) (why : Stop) → BeginsWithRequestLine bytes method target v fields → StopsFields fields why → StopsHead bytes why
+pub fields-stop : (bytes : List ℕ) (method : Method) (target : List ℕ) (v : HTTPVersion) (fields : List ℕ) (why : NoHead) → BeginsWithRequestLine bytes method target v fields → StopsFields fields why → StopsHead bytes why
 fields-stop bytes method target v fields stop.Bad r s = inr (s.1, comes bytes method target v fields s.0 s.1 r s.2, s.3)
 fields-stop bytes method target v fields stop.OpenRequest r s = absurd s
 fields-stop bytes method target v fields stop.OpenField r s = (s.1, comes bytes method target v fields s.0 s.1 r s.2, s.3)
 fields-stop bytes method target v fields stop.Memory r s = record { text = r.text; rest = fields; line = r.line; good = λ none. none r.reads.0 target v r.reads.1 }
 
 -- WHERE A HEAD HASN'T ENDED
-pub open-request : (limit : ℕ) (bytes : List ℕ) (r : HeadRead) → HasOpenRequestLine (take limit bytes) → (limit ≤ length bytes → r ≡ Refused RequestLineTooLong) → (length bytes < limit → r ≡ Unfinished (is_begun bytes)) → Reads limit bytes r
+pub open-request : (limit : ℕ) (bytes : List ℕ) (r : StandardRead) → HasOpenRequestLine (take limit bytes) → (limit ≤ length bytes → r ≡ Refused RequestLineTooLong) → (length bytes < limit → r ≡ Unfinished (is_begun bytes)) → Reads limit bytes r
 open-request limit bytes r h full open_ = elim (cases_lt (length bytes) limit) [
   | inl lt ↦ subst (Reads limit bytes) (sym (open_ lt)) (lt, inl (subst HasOpenRequestLine (take_all limit bytes (omega (arith, lt))) h), refl)
   | inr le ↦ subst (Reads limit bytes) (sym (full le)) (le, h)
 ]
 
-pub open-field : (limit : ℕ) (bytes : List ℕ) (r : HeadRead) → HasOpenField (take limit bytes) → (limit ≤ length bytes → r ≡ Refused HeaderFieldsTooLarge) → (length bytes < limit → r ≡ Unfinished (is_begun bytes)) → Reads limit bytes r
+pub open-field : (limit : ℕ) (bytes : List ℕ) (r : StandardRead) → HasOpenField (take limit bytes) → (limit ≤ length bytes → r ≡ Refused HeaderFieldsTooLarge) → (length bytes < limit → r ≡ Unfinished (is_begun bytes)) → Reads limit bytes r
 open-field limit bytes r h full open_ = elim (cases_lt (length bytes) limit) [
   | inl lt ↦ subst (Reads limit bytes) (sym (open_ lt)) (lt, inr (subst HasOpenField (take_all limit bytes (omega (arith, lt))) h), refl)
   | inr le ↦ subst (Reads limit bytes) (sym (full le)) (le, h)
 ]
 
 -- a head that has come whole
-pub reads-whole : (limit : ℕ) (bytes : List ℕ) (r : HeadRead) → ReadsWhole (take limit bytes) r → Reads limit bytes r
+pub reads-whole : (limit : ℕ) (bytes : List ℕ) (r : StandardRead) → ReadsWhole (take limit bytes) r → Reads limit bytes r
 reads-whole limit bytes (Whole h) w = w
 reads-whole limit bytes (Refused (Judged e)) w = w
 reads-whole limit bytes (Refused BadLine) w = absurd w

@@ -5,14 +5,14 @@ use Rattle.tiny_http_head.specs.declared.common.Header.{Header}
 use Rattle.tiny_http_head.specs.declared.common.HTTPVersion.{HTTPVersion}
 use Rattle.tiny_http_head.specs.declared.common.Method.{Method}
 use Rattle.tiny_http_standard_head.specs.declared.judging.Codings.TheVariants.{Absent}
-use Rattle.tiny_http_standard_head.specs.declared.judging.Refusal.{Refusal}
-use Rattle.tiny_http_standard_head.specs.declared.judging.Refusal.TheVariants.{InvalidHead}
+use Rattle.tiny_http_standard_head.specs.declared.judging.Judgement.{Judgement}
+use Rattle.tiny_http_standard_head.specs.declared.judging.Judgement.TheVariants.{InvalidHead}
 use Rattle.tiny_http_standard_head.specs.Lists.{values_of, elements_of}
 use Rattle.tiny_http_standard_head.specs.Judging.{HasValidHost, IsFramedRequest, Judges}
 use Rattle.tiny_http_standard_head.specs.JudgingReading.{codings_on, lengths_on, body_by}
 use Rattle.tiny_http_standard_head.proofs.BodyLemmas.{body-framed, body-unknown, body-invalid, body-fails}
 
-abbrev pub body_read : HTTPVersion → List Header → Result (Option ℕ × Bool) Refusal
+abbrev pub body_read : HTTPVersion → List Header → Result (Option ℕ × Bool) Judgement
 body_read v headers = body_by v (codings_on Absent (elements_of (codes "Transfer-Encoding") headers)) (lengths_on None (elements_of (codes "Content-Length") headers))
 
 pub judge-served : (v : HTTPVersion) (headers : List Header) (n : Option ℕ) (chunked : Bool) → v.0 ≡ 1 → HasValidHost v (values_of (codes "Host") headers) → body_read v headers ≡ Ok (n, chunked) → IsFramedRequest v headers n chunked
@@ -27,12 +27,12 @@ invalid v method headers one h =
     let b = body-invalid v (elements_of (codes "Content-Length") headers) (elements_of (codes "Transfer-Encoding") headers) h in
     (one, λ valid. elim valid.1 [ inl u ↦ b.0 u | inr s ↦ b.1 s.0 s.1 s.2.body ])
 
-pub judge-fails : (v : HTTPVersion) (method : Method) (headers : List Header) (e : Refusal) → v.0 ≡ 1 → HasValidHost v (values_of (codes "Host") headers) → body_read v headers ≡ Err e → Judges v method headers (Err e)
+pub judge-fails : (v : HTTPVersion) (method : Method) (headers : List Header) (e : Judgement) → v.0 ≡ 1 → HasValidHost v (values_of (codes "Host") headers) → body_read v headers ≡ Err e → Judges v method headers (Err e)
 judge-fails v method headers e one host h =
     let lengths = elements_of (codes "Content-Length") headers in
     let codings = elements_of (codes "Transfer-Encoding") headers in
-    let Is : Refusal → Type 0 = λ x. Judges v method headers (Err x) in
-    let Reads : Refusal → Type 0 = λ x. body_read v headers ≡ Err x in
+    let Is : Judgement → Type 0 = λ x. Judges v method headers (Err x) in
+    let Reads : Judgement → Type 0 = λ x. body_read v headers ≡ Err x in
     elim (body-fails v lengths (codings_on Absent codings) (lengths_on None lengths) e refl h) [
       | inl is ↦ subst Is (sym is) (invalid v method headers one (subst Reads is h))
       | inr is ↦ subst Is (sym is) (one, host, body-unknown v lengths codings (subst Reads is h))

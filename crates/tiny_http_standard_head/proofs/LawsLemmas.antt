@@ -9,8 +9,8 @@ use Rattle.tiny_http_head.specs.declared.common.Method.{Method}
 use Rattle.tiny_http_head.specs.declared.common.HTTPVersion.{HTTPVersion}
 use Rattle.tiny_http_head.specs.declared.common.Header.{Header}
 use Rattle.tiny_http_standard_head.specs.declared.judging.HeadSummary.{HeadSummary}
-use Rattle.tiny_http_standard_head.specs.declared.judging.Refusal.{Refusal}
-use Rattle.tiny_http_standard_head.specs.declared.judging.Refusal.TheVariants.{UnsupportedVersion, InvalidHead, UnknownCoding, UnknownExpectation}
+use Rattle.tiny_http_standard_head.specs.declared.judging.Judgement.{Judgement}
+use Rattle.tiny_http_standard_head.specs.declared.judging.Judgement.TheVariants.{UnsupportedVersion, InvalidHead, UnknownCoding, UnknownExpectation}
 use Rattle.tiny_http_standard_head.specs.Lines.{IsVersion, RequestLine, FieldLine}
 use Rattle.tiny_http_standard_head.specs.Lists.{elements_of, has_element_that}
 use Rattle.tiny_http_standard_head.specs.Judging.{IsFramedRequest, IsValid, NamesUnknownCodings, Judges, owes_continue, is_unknown_expectation}
@@ -47,17 +47,17 @@ served-reads v headers n chunked s = framed-reads v (elements_of (codes "Content
 
 served-known : (v : HTTPVersion) (headers : List Header) (n : Option ℕ) (chunked : Bool) → IsFramedRequest v headers n chunked → NamesUnknownCodings v headers → ⊥
 served-known v headers n chunked s u =
-    let never : ◌≡◌ {A = Result (Option ℕ × Bool) Refusal} (Ok (n, chunked)) (Err UnknownCoding) =
+    let never : ◌≡◌ {A = Result (Option ℕ × Bool) Judgement} (Ok (n, chunked)) (Err UnknownCoding) =
     sym (served-reads v headers n chunked s) ∙ unknown-reads v (elements_of (codes "Content-Length") headers) (elements_of (codes "Transfer-Encoding") headers) u in
     no-both never
   where
-    no-both : ◌≡◌ {A = Result (Option ℕ × Bool) Refusal} (Ok (n, chunked)) (Err UnknownCoding) → ⊥
+    no-both : ◌≡◌ {A = Result (Option ℕ × Bool) Judgement} (Ok (n, chunked)) (Err UnknownCoding) → ⊥
     no-both e = cc
 
 served-valid : (v : HTTPVersion) (headers : List Header) (n : Option ℕ) (chunked : Bool) → IsFramedRequest v headers n chunked → IsValid v headers
 served-valid v headers n chunked s = (s.host, inr (n, chunked, s))
 
-same-pair : (n m : Option ℕ) (b c : Bool) → ◌≡◌ {A = Result (Option ℕ × Bool) Refusal} (Ok (n, b)) (Ok (m, c)) → (n ≡ m) × (b ≡ c)
+same-pair : (n m : Option ℕ) (b c : Bool) → ◌≡◌ {A = Result (Option ℕ × Bool) Judgement} (Ok (n, b)) (Ok (m, c)) → (n ≡ m) × (b ≡ c)
 same-pair n m b c e = let same : ◌≡◌ {A = Option ℕ × Bool} (n, b) (m, c) = cc in (ap (λ x. x.0) same, ap (λ x. x.1) same)
 
 same-head : (a b : HeadSummary) → a.body_length ≡ b.body_length → a.is_chunked ≡ b.is_chunked → a.owes_continue ≡ b.owes_continue → a.asks_upgrade ≡ b.asks_upgrade → a.is_last ≡ b.is_last → a ≡ b
@@ -68,7 +68,7 @@ same-head a b p q r s t =
     ∙ ap (λ (x : Bool). record { body_length = b.body_length; is_chunked = b.is_chunked; owes_continue = b.owes_continue; asks_upgrade = x; is_last = a.is_last }) s
     ∙ ap (λ (x : Bool). record { body_length = b.body_length; is_chunked = b.is_chunked; owes_continue = b.owes_continue; asks_upgrade = b.asks_upgrade; is_last = x }) t
 
-pub judged-once : (v : HTTPVersion) (method : Method) (headers : List Header) (r s : Result HeadSummary Refusal) → Judges v method headers r → Judges v method headers s → r ≡ s
+pub judged-once : (v : HTTPVersion) (method : Method) (headers : List Header) (r s : Result HeadSummary Judgement) → Judges v method headers r → Judges v method headers s → r ≡ s
 judged-once v method headers (Err UnsupportedVersion) (Err UnsupportedVersion) j k = refl
 judged-once v method headers (Err UnsupportedVersion) (Err InvalidHead) j k = absurd (j k.0)
 judged-once v method headers (Err UnsupportedVersion) (Err UnknownCoding) j k = absurd (j k.0)

@@ -10,10 +10,10 @@ use Rattle.tiny_http_head.specs.declared.common.Header.{Header}
 use Rattle.tiny_http_head.specs.Heads.{Message, method_of}
 use Rattle.tiny_http_head.proofs.FirstByte.{contrary, not-without, one-first}
 use Rattle.tiny_http_standard_head.specs.declared.judging.HeadSummary.{HeadSummary}
-use Rattle.tiny_http_standard_head.specs.declared.judging.Refusal.{Refusal}
-use Rattle.tiny_http_standard_head.specs.declared.heads.HeadFault.TheVariants.{BadLine, RequestLineTooLong, HeaderFieldsTooLarge, Judged}
-use Rattle.tiny_http_standard_head.specs.declared.heads.HeadRead.{HeadRead}
-use Rattle.tiny_http_standard_head.specs.declared.heads.HeadRead.TheVariants.{Whole, Refused, Unfinished}
+use Rattle.tiny_http_standard_head.specs.declared.judging.Judgement.{Judgement}
+use Rattle.tiny_http_standard_head.specs.declared.heads.StandardFault.TheVariants.{BadLine, RequestLineTooLong, HeaderFieldsTooLarge, Judged}
+use Rattle.tiny_http_standard_head.specs.declared.heads.StandardRead.{StandardRead}
+use Rattle.tiny_http_standard_head.specs.declared.heads.StandardRead.TheVariants.{Whole, Refused, Unfinished}
 use Rattle.tiny_http_standard_head.specs.Lines.{percent_encoded, ReadsFieldLine, ReadsRequestLine, IsNoRequestLine}
 use Rattle.tiny_http_standard_head.specs.Judging.{Judges}
 use Rattle.tiny_http_standard_head.specs.Heads.{line_feed, is_carriage_return, Line, BeginsWithBareLine, behind_empty_line, BeginsWithRequestLine, BeginsWithFieldLines, BeginsWithHead, BeginsWithBadLine, IsNoFieldOrEnd, ComesToField, HasOpenRequestLine, HasOpenField, message_of, is_begun, Reads, IsSameRead, Reading, ReadWhole, ReadBad, ReadOpen, AreReadAs}
@@ -163,22 +163,22 @@ point-once bytes (Behind m e) (Behind n f) a b =
     ap (λ (x : Message). Behind x e) (same-message m n start.0 start.1 start.2 more.0) ∙ ap (Behind n) more.1
 
 -- what a reading is at a point
-abbrev IsJudged : ℕ → List ℕ → Message → List ℕ → HeadRead → Type 0
+abbrev IsJudged : ℕ → List ℕ → Message → List ℕ → StandardRead → Type 0
 IsJudged limit bytes m after (Whole h) = (message_of h ≡ m) × (h.length + length after ≡ length (take limit bytes)) × Judges m.version m.method m.headers (Ok h.summary)
 IsJudged limit bytes m after (Refused (Judged e)) = Judges m.version m.method m.headers (Err e)
 IsJudged limit bytes m after _ = ⊥
 
-abbrev IsOpenAs : ℕ → List ℕ → HeadRead → HeadRead → Type 0
+abbrev IsOpenAs : ℕ → List ℕ → StandardRead → StandardRead → Type 0
 IsOpenAs limit bytes refused r = ((limit ≤ length bytes) × (r ≡ refused)) ⊎ ((length bytes < limit) × (r ≡ Unfinished (is_begun bytes)))
 
-abbrev Matches : ℕ → List ℕ → Point → HeadRead → Type 0
+abbrev Matches : ℕ → List ℕ → Point → StandardRead → Type 0
 Matches limit bytes AtBad r = r ≡ Refused BadLine
 Matches limit bytes AtOpen r = IsOpenAs limit bytes (Refused RequestLineTooLong) r
 Matches limit bytes (Behind m (Finished after)) r = IsJudged limit bytes m after r
 Matches limit bytes (Behind m Bad) r = r ≡ Refused BadLine
 Matches limit bytes (Behind m Open) r = IsOpenAs limit bytes (Refused HeaderFieldsTooLarge) r
 
-abbrev View : ℕ → List ℕ → HeadRead → Type 0
+abbrev View : ℕ → List ℕ → StandardRead → Type 0
 View limit bytes r = (p : Point) × IsPoint (take limit bytes) p × Matches limit bytes p r
 
 of-head : (bytes : List ℕ) (m : Message) (after : List ℕ) → BeginsWithHead bytes m after → IsPoint bytes (Behind m (Finished after))
@@ -187,7 +187,7 @@ of-head bytes m after b = (b.fields, b.request, (b.empty, b.headers, b.end))
 of-field : (bytes rest : List ℕ) (e : Ending) (c : ComesToField bytes rest) → EndsAs rest e → IsPoint bytes (Behind (record { method = c.method; path = c.target; version = c.version; headers = c.headers }) e)
 of-field bytes rest e c x = (c.fields, c.request, (rest, c.lines, x))
 
-view : (limit : ℕ) (bytes : List ℕ) (r : HeadRead) → Reads limit bytes r → View limit bytes r
+view : (limit : ℕ) (bytes : List ℕ) (r : StandardRead) → Reads limit bytes r → View limit bytes r
 view limit bytes (Whole h) w = (Behind (message_of h) (Finished w.0), of-head (take limit bytes) (message_of h) w.0 w.1, (refl, w.2, w.3))
 view limit bytes (Refused BadLine) (inl bad) = (AtBad, bad, refl)
 view limit bytes (Refused BadLine) (inr w) = (Behind (record { method = w.1.method; path = w.1.target; version = w.1.version; headers = w.1.headers }) Bad, of-field (take limit bytes) w.0 Bad w.1 w.2, refl)
@@ -204,25 +204,25 @@ view limit bytes (Unfinished b) w = by w.1
     by (inr o) = (Behind (record { method = o.1.method; path = o.1.target; version = o.1.version; headers = o.1.headers }) Open, subst (λ (x : List ℕ). IsPoint x (Behind (record { method = o.1.method; path = o.1.target; version = o.1.version; headers = o.1.headers }) Open)) (sym all) (of-field bytes o.0 Open o.1 o.2), inr (w.0, ap Unfinished w.2))
 
 -- two readings at one point
-same-self : (r s t : HeadRead) → r ≡ t → s ≡ t → IsSameRead t t → IsSameRead r s
-same-self r s t a b c = subst (λ (x : HeadRead). IsSameRead x s) (sym a) (subst (λ (x : HeadRead). IsSameRead t x) (sym b) c)
+same-self : (r s t : StandardRead) → r ≡ t → s ≡ t → IsSameRead t t → IsSameRead r s
+same-self r s t a b c = subst (λ (x : StandardRead). IsSameRead x s) (sym a) (subst (λ (x : StandardRead). IsSameRead t x) (sym b) c)
 
-same-open : (limit : ℕ) (bytes : List ℕ) (t r s : HeadRead) → IsSameRead t t → IsOpenAs limit bytes t r → IsOpenAs limit bytes t s → IsSameRead r s
+same-open : (limit : ℕ) (bytes : List ℕ) (t r s : StandardRead) → IsSameRead t t → IsOpenAs limit bytes t r → IsOpenAs limit bytes t s → IsSameRead r s
 same-open limit bytes t r s self (inl a) (inl b) = same-self r s t a.1 b.1 self
 same-open limit bytes t r s self (inl a) (inr b) = absurd (omega (arith, a.0, b.0))
 same-open limit bytes t r s self (inr a) (inl b) = absurd (omega (arith, a.0, b.0))
 same-open limit bytes t r s self (inr a) (inr b) = same-self r s (Unfinished (is_begun bytes)) a.1 b.1 refl
 
-ok-summary : (a b : HeadSummary) → ◌≡◌ {A = Result HeadSummary Refusal} (Ok a) (Ok b) → a ≡ b
+ok-summary : (a b : HeadSummary) → ◌≡◌ {A = Result HeadSummary Judgement} (Ok a) (Ok b) → a ≡ b
 ok-summary a b e = cc
 
-ok-no_err : (a : HeadSummary) (e : Refusal) → ◌≡◌ {A = Result HeadSummary Refusal} (Ok a) (Err e) → ⊥
+ok-no_err : (a : HeadSummary) (e : Judgement) → ◌≡◌ {A = Result HeadSummary Judgement} (Ok a) (Err e) → ⊥
 ok-no_err a e h = cc
 
-err-refusal : (d e : Refusal) → ◌≡◌ {A = Result HeadSummary Refusal} (Err d) (Err e) → d ≡ e
+err-refusal : (d e : Judgement) → ◌≡◌ {A = Result HeadSummary Judgement} (Err d) (Err e) → d ≡ e
 err-refusal d e h = cc
 
-same-judged : (limit : ℕ) (bytes : List ℕ) (m : Message) (after : List ℕ) (r s : HeadRead) → IsJudged limit bytes m after r → IsJudged limit bytes m after s → IsSameRead r s
+same-judged : (limit : ℕ) (bytes : List ℕ) (m : Message) (after : List ℕ) (r s : StandardRead) → IsJudged limit bytes m after r → IsJudged limit bytes m after s → IsSameRead r s
 same-judged limit bytes m after (Whole h) (Whole k) a b =
     (a.0 ∙ sym b.0, omega (arith, a.1, b.1), ok-summary h.summary k.summary (judged-once m.version m.method m.headers (Ok h.summary) (Ok k.summary) a.2 b.2))
 same-judged limit bytes m after (Whole h) (Refused (Judged e)) a b = ok-no_err h.summary e (judged-once m.version m.method m.headers (Ok h.summary) (Err e) a.2 b)
@@ -241,14 +241,14 @@ same-judged limit bytes m after (Refused RequestLineTooLong) s a b = absurd a
 same-judged limit bytes m after (Refused HeaderFieldsTooLarge) s a b = absurd a
 same-judged limit bytes m after (Unfinished x) s a b = absurd a
 
-same-at : (limit : ℕ) (bytes : List ℕ) (p : Point) (r s : HeadRead) → Matches limit bytes p r → Matches limit bytes p s → IsSameRead r s
+same-at : (limit : ℕ) (bytes : List ℕ) (p : Point) (r s : StandardRead) → Matches limit bytes p r → Matches limit bytes p s → IsSameRead r s
 same-at limit bytes AtBad r s a b = same-self r s (Refused BadLine) a b refl
 same-at limit bytes AtOpen r s a b = same-open limit bytes (Refused RequestLineTooLong) r s refl a b
 same-at limit bytes (Behind m (Finished after)) r s a b = same-judged limit bytes m after r s a b
 same-at limit bytes (Behind m Bad) r s a b = same-self r s (Refused BadLine) a b refl
 same-at limit bytes (Behind m Open) r s a b = same-open limit bytes (Refused HeaderFieldsTooLarge) r s refl a b
 
-pub reading-once : (limit : ℕ) (bytes : List ℕ) (r s : HeadRead) → Reads limit bytes r → Reads limit bytes s → IsSameRead r s
+pub reading-once : (limit : ℕ) (bytes : List ℕ) (r s : StandardRead) → Reads limit bytes r → Reads limit bytes s → IsSameRead r s
 reading-once limit bytes r s a b =
     let x = view limit bytes r a in
     let y = view limit bytes s b in
@@ -259,7 +259,7 @@ reading-once limit bytes r s a b =
 abbrev Shows : Point → Reading → Type 0
 Shows AtBad r = r ≡ ReadBad
 Shows AtOpen r = r ≡ ReadOpen false
-Shows (Behind m (Finished after)) r = (j : Result HeadSummary Refusal) × (r ≡ ReadWhole m after j) × Judges m.version m.method m.headers j
+Shows (Behind m (Finished after)) r = (j : Result HeadSummary Judgement) × (r ≡ ReadWhole m after j) × Judges m.version m.method m.headers j
 Shows (Behind m Bad) r = r ≡ ReadBad
 Shows (Behind m Open) r = r ≡ ReadOpen true
 

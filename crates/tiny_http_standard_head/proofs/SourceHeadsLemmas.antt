@@ -11,7 +11,7 @@ use Rattle.tiny_http_io.specs.Source.{feed_from}
 use Rattle.tiny_http_head.specs.declared.common.Method.{Method}
 use Rattle.tiny_http_head.specs.declared.common.HTTPVersion.{HTTPVersion}
 use Rattle.tiny_http_head.specs.declared.common.Header.{Header}
-use Rattle.tiny_http_standard_head.specs.declared.heads.HeadFault.TheVariants.{BadLine, RequestLineTooLong, HeaderFieldsTooLarge, Judged}
+use Rattle.tiny_http_standard_head.specs.declared.heads.StandardFault.TheVariants.{BadLine, RequestLineTooLong, HeaderFieldsTooLarge, Judged}
 use Rattle.tiny_http_standard_head.specs.declared.source_lines.NoLine.{NoLine}
 use Rattle.tiny_http_standard_head.specs.declared.source_lines.NoLine.TheVariants as no_line
 use Rattle.tiny_http_standard_head.specs.declared.source_heads.NoHead.{NoHead}

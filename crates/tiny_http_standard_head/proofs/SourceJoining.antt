@@ -12,12 +12,12 @@ use Rattle.tiny_http_head.specs.declared.common.Method.{Method}
 use Rattle.tiny_http_head.specs.declared.common.HTTPVersion.{HTTPVersion}
 use Rattle.tiny_http_head.specs.declared.common.Header.{Header}
 use Rattle.tiny_http_head.specs.Heads.{Message}
-use Rattle.tiny_http_standard_head.specs.declared.heads.Head.{Head}
-use Rattle.tiny_http_standard_head.specs.declared.heads.HeadFault.TheVariants.{BadLine, RequestLineTooLong, HeaderFieldsTooLarge, Judged}
-use Rattle.tiny_http_standard_head.specs.declared.heads.HeadRead.{HeadRead}
-use Rattle.tiny_http_standard_head.specs.declared.heads.HeadRead.TheVariants as read
-use Rattle.tiny_http_standard_head.specs.declared.judging.Refusal.{Refusal}
-use Rattle.tiny_http_standard_head.specs.declared.heads.Stop.TheVariants as stop
+use Rattle.tiny_http_standard_head.specs.declared.heads.StandardHead.{StandardHead}
+use Rattle.tiny_http_standard_head.specs.declared.heads.StandardFault.TheVariants.{BadLine, RequestLineTooLong, HeaderFieldsTooLarge, Judged}
+use Rattle.tiny_http_standard_head.specs.declared.heads.StandardRead.{StandardRead}
+use Rattle.tiny_http_standard_head.specs.declared.heads.StandardRead.TheVariants as read
+use Rattle.tiny_http_standard_head.specs.declared.judging.Judgement.{Judgement}
+use Rattle.tiny_http_standard_head.specs.declared.heads.NoHead.TheVariants as stop
 use Rattle.tiny_http_standard_head.specs.declared.source_heads.NoHead.{NoHead}
 use Rattle.tiny_http_standard_head.specs.declared.source_heads.NoHead.TheVariants.{Refused, Unfinished, Memory}
 use Rattle.tiny_http_standard_head.specs.Lines.{ReadsRequestLine, IsNoRequestLine}
@@ -208,10 +208,10 @@ fields-memory limit left None new = tt
 fields-memory limit left (Some f) new = tt
 
 -- A WHOLE HEAD, or why there is none
-ok-read : (r x : HeadRead) → ◌≡◌ {A = Result HeadRead AllocError} (Ok r) (Ok x) → x ≡ r
+ok-read : (r x : StandardRead) → ◌≡◌ {A = Result StandardRead AllocError} (Ok r) (Ok x) → x ≡ r
 ok-read r x e = cc
 
-pub reads-start_err : (limit left : ℕ) (old new : Option Feed) (e : NoHead) (r : HeadRead) → ReadsStart limit left old new (Err e) → IsWithoutHead e (Ok r) → ReadsFrom limit old new r
+pub reads-start_err : (limit left : ℕ) (old new : Option Feed) (e : NoHead) (r : StandardRead) → ReadsStart limit left old new (Err e) → IsWithoutHead e (Ok r) → ReadsFrom limit old new r
 reads-start_err limit left None new e r h k = tt
 reads-start_err limit left (Some f) new (Refused BadLine) r h k = subst (ReadsFrom limit (Some f) new) (ok-read r (read.Refused BadLine) k) (inl h, tt)
 reads-start_err limit left (Some f) new (Refused RequestLineTooLong) r h k = subst (ReadsFrom limit (Some f) new) (ok-read r (read.Refused RequestLineTooLong) k) ((h.1, h.0), tt)
@@ -231,7 +231,7 @@ begun-request bytes m t v fields r = by (behind_empty_line bytes) r.text (r.line
     by [] (x ∷ xs) e = cc
     by (b ∷ bs) text e = grind arith
 
-fields-err-from : (limit mid left : ℕ) (f : Feed) (new : Option Feed) (start : Method × List ℕ × HTTPVersion) (rest : List ℕ) (e : NoHead) (r : HeadRead) → BeginsWithRequestLine (take limit f.bytes) start.0 start.1 start.2 (take mid rest) → IsSpent limit f.bytes mid rest
+fields-err-from : (limit mid left : ℕ) (f : Feed) (new : Option Feed) (start : Method × List ℕ × HTTPVersion) (rest : List ℕ) (e : NoHead) (r : StandardRead) → BeginsWithRequestLine (take limit f.bytes) start.0 start.1 start.2 (take mid rest) → IsSpent limit f.bytes mid rest
     → ReadsFields mid left (feed_from f rest) new (Err e) → IsWithoutHead e (Ok r) → ReadsFrom limit (Some f) new r
 fields-err-from limit mid left f new start rest (Refused BadLine) r request spent h k =
     subst (ReadsFrom limit (Some f) new) (ok-read r (read.Refused BadLine) k) (fields-stop (take limit f.bytes) start.0 start.1 start.2 (take mid rest) stop.Bad request h, tt)
@@ -247,12 +247,12 @@ fields-err-from limit mid left f new start rest (Unfinished b) r request spent h
     subst (ReadsFrom limit (Some f) new) (ok-read r (read.Unfinished b) k) ((short, inr open_, h.2 ∙ sym begun), tt)
 fields-err-from limit mid left f new start rest Memory r request spent h k = let no : ◌≡◌ {A = Bool} false true = k in cc
 
-reads-fields_err : (limit mid left : ℕ) (old at new : Option Feed) (start : Method × List ℕ × HTTPVersion) (e : NoHead) (r : HeadRead) → ReadsStart limit mid old at (Ok start) → ReadsFields mid left at new (Err e) → IsWithoutHead e (Ok r) → ReadsFrom limit old new r
+reads-fields_err : (limit mid left : ℕ) (old at new : Option Feed) (start : Method × List ℕ × HTTPVersion) (e : NoHead) (r : StandardRead) → ReadsStart limit mid old at (Ok start) → ReadsFields mid left at new (Err e) → IsWithoutHead e (Ok r) → ReadsFrom limit old new r
 reads-fields_err limit mid left None at new start e r s h k = tt
 reads-fields_err limit mid left (Some f) at new start e r s h k =
     fields-err-from limit mid left f new start s.0 e r s.1 s.3 (subst (λ (x : Option Feed). ReadsFields mid left x new (Err e)) s.2 h) k
 
-pub fields-err-read : (limit mid left : ℕ) (old at new : Option Feed) (start : Method × List ℕ × HTTPVersion) (e : NoHead) (r : Result HeadRead AllocError) → ReadsStart limit mid old at (Ok start) → ReadsFields mid left at new (Err e) → IsWithoutHead e r → IfOk r (λ x. ReadsFrom limit old new x)
+pub fields-err-read : (limit mid left : ℕ) (old at new : Option Feed) (start : Method × List ℕ × HTTPVersion) (e : NoHead) (r : Result StandardRead AllocError) → ReadsStart limit mid old at (Ok start) → ReadsFields mid left at new (Err e) → IsWithoutHead e r → IfOk r (λ x. ReadsFrom limit old new x)
 fields-err-read limit mid left old at new start e (Ok r) s h k = reads-fields_err limit mid left old at new start e r s h k
 fields-err-read limit mid left old at new start e (Err x) s h k = tt
 
@@ -279,7 +279,7 @@ reads-whole_head limit mid left (Some f) at new start headers h le goes s k is l
       left-behind f new n.0 h.length goes n.2 (omega (arith, spent, long, le)),
     )
 
-pub reads-refused_head : (limit mid left : ℕ) (old at new : Option Feed) (start : Method × List ℕ × HTTPVersion) (headers : Vec Header) (refusal : Refusal) → ReadsStart limit mid old at (Ok start) → ReadsFields mid left at new (Ok headers)
+pub reads-refused_head : (limit mid left : ℕ) (old at new : Option Feed) (start : Method × List ℕ × HTTPVersion) (headers : Vec Header) (refusal : Judgement) → ReadsStart limit mid old at (Ok start) → ReadsFields mid left at new (Ok headers)
     → Judges start.2 start.0 headers.items (Err refusal) → ReadsFrom limit old new (read.Refused (Judged refusal))
 reads-refused_head limit mid left None at new start headers refusal s k judged = tt
 reads-refused_head limit mid left (Some f) at new start headers refusal s k judged =

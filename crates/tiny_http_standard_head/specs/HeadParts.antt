@@ -3,13 +3,13 @@ use Rattle.std.specs.Prelude.{◌≡◌, ℕ, ◌+◌, ⊤, List, [], length, Ok
 use Rattle.tiny_http_text.specs.Bytes.{HasNo}
 use Rattle.tiny_http_head.specs.declared.common.Header.{Header}
 use Rattle.tiny_http_head.specs.Heads.{Message}
-use Rattle.tiny_http_standard_head.specs.declared.heads.HeadFault.TheVariants.{Judged}
-use Rattle.tiny_http_standard_head.specs.declared.heads.HeadRead.{HeadRead}
-use Rattle.tiny_http_standard_head.specs.declared.heads.HeadRead.TheVariants.{Whole, Refused}
+use Rattle.tiny_http_standard_head.specs.declared.heads.StandardFault.TheVariants.{Judged}
+use Rattle.tiny_http_standard_head.specs.declared.heads.StandardRead.{StandardRead}
+use Rattle.tiny_http_standard_head.specs.declared.heads.StandardRead.TheVariants.{Whole, Refused}
 use Rattle.tiny_http_standard_head.specs.declared.heads.NoLine.{NoLine}
 use Rattle.tiny_http_standard_head.specs.declared.heads.NoLine.TheVariants as no
-use Rattle.tiny_http_standard_head.specs.declared.heads.Stop.{Stop}
-use Rattle.tiny_http_standard_head.specs.declared.heads.Stop.TheVariants as stop
+use Rattle.tiny_http_standard_head.specs.declared.heads.NoHead.{NoHead}
+use Rattle.tiny_http_standard_head.specs.declared.heads.NoHead.TheVariants as stop
 use Rattle.tiny_http_standard_head.specs.Lines.{IsNoRequestLine}
 use Rattle.tiny_http_standard_head.specs.Heads.{Line, line_feed, BeginsWithBareLine, behind_empty_line}
 use Rattle.tiny_http_standard_head.specs.Heads.{BeginsWithFieldLines, BeginsWithBadLine, IsNoFieldOrEnd, HasBadLine}
@@ -23,14 +23,14 @@ HasNoLine no.Bare bytes = BeginsWithBareLine bytes
 HasNoLine no.Open bytes = HasNo line_feed bytes
 
 -- why they don't begin with a request line
-abbrev pub StopsRequest : List ℕ → Stop → Type 0
+abbrev pub StopsRequest : List ℕ → NoHead → Type 0
 StopsRequest bytes stop.Bad = BeginsWithBadLine IsNoRequestLine (behind_empty_line bytes)
 StopsRequest bytes stop.OpenRequest = HasNo line_feed (behind_empty_line bytes)
 StopsRequest bytes stop.OpenField = ⊥
 StopsRequest bytes stop.Memory = HasGoodRequestLine bytes
 
 -- why they don't begin with field lines and an empty line
-abbrev pub StopsFields : List ℕ → Stop → Type 0
+abbrev pub StopsFields : List ℕ → NoHead → Type 0
 StopsFields bytes stop.Bad =
     (headers : List Header)
     × (rest : List ℕ)
@@ -46,14 +46,14 @@ abbrev pub EndsFields : List ℕ → List Header → List ℕ → Type 0
 EndsFields bytes headers after = (empty : List ℕ) × BeginsWithFieldLines bytes headers empty × Line empty [] after
 
 -- why a head isn't read to its end
-abbrev pub StopsHead : List ℕ → Stop → Type 0
+abbrev pub StopsHead : List ℕ → NoHead → Type 0
 StopsHead bytes stop.Bad = HasBadLine bytes
 StopsHead bytes stop.OpenRequest = HasOpenRequestLine bytes
 StopsHead bytes stop.OpenField = HasOpenField bytes
 StopsHead bytes stop.Memory = HasGoodRequestLine bytes
 
 -- a head that has come whole: how many bytes it has, and how it is judged
-abbrev pub ReadsWhole : List ℕ → HeadRead → Type 0
+abbrev pub ReadsWhole : List ℕ → StandardRead → Type 0
 ReadsWhole bytes (Whole h) =
     (after : List ℕ)
     × BeginsWithHead bytes (message_of h) after

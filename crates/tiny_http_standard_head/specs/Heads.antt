@@ -7,16 +7,16 @@ use Rattle.tiny_http_head.specs.declared.common.Method.{Method}
 use Rattle.tiny_http_head.specs.declared.common.HTTPVersion.{HTTPVersion}
 use Rattle.tiny_http_head.specs.declared.common.Header.{Header}
 use Rattle.tiny_http_head.specs.Heads.{Message}
-use Rattle.tiny_http_standard_head.specs.declared.heads.Head.{Head}
-use Rattle.tiny_http_standard_head.specs.declared.heads.HeadFault.{HeadFault}
-use Rattle.tiny_http_standard_head.specs.declared.heads.HeadFault.TheVariants.{BadLine, RequestLineTooLong}
-use Rattle.tiny_http_standard_head.specs.declared.heads.HeadFault.TheVariants.{HeaderFieldsTooLarge, Judged}
-use Rattle.tiny_http_standard_head.specs.declared.heads.HeadRead.{HeadRead}
-use Rattle.tiny_http_standard_head.specs.declared.heads.HeadRead.TheVariants.{Whole, Refused, Unfinished}
+use Rattle.tiny_http_standard_head.specs.declared.heads.StandardHead.{StandardHead}
+use Rattle.tiny_http_standard_head.specs.declared.heads.StandardFault.{StandardFault}
+use Rattle.tiny_http_standard_head.specs.declared.heads.StandardFault.TheVariants.{BadLine, RequestLineTooLong}
+use Rattle.tiny_http_standard_head.specs.declared.heads.StandardFault.TheVariants.{HeaderFieldsTooLarge, Judged}
+use Rattle.tiny_http_standard_head.specs.declared.heads.StandardRead.{StandardRead}
+use Rattle.tiny_http_standard_head.specs.declared.heads.StandardRead.TheVariants.{Whole, Refused, Unfinished}
 use Rattle.tiny_http_standard_head.specs.declared.judging.HeadSummary.{HeadSummary}
-use Rattle.tiny_http_standard_head.specs.declared.judging.Refusal.{Refusal}
-use Rattle.tiny_http_standard_head.specs.declared.judging.Refusal.TheVariants.{UnsupportedVersion, InvalidHead}
-use Rattle.tiny_http_standard_head.specs.declared.judging.Refusal.TheVariants.{UnknownCoding, UnknownExpectation}
+use Rattle.tiny_http_standard_head.specs.declared.judging.Judgement.{Judgement}
+use Rattle.tiny_http_standard_head.specs.declared.judging.Judgement.TheVariants.{UnsupportedVersion, InvalidHead}
+use Rattle.tiny_http_standard_head.specs.declared.judging.Judgement.TheVariants.{UnknownCoding, UnknownExpectation}
 use Rattle.tiny_http_standard_head.specs.Lines.{ReadsRequestLine, IsNoRequestLine, ReadsFieldLine, IsNoFieldLine}
 use Rattle.tiny_http_standard_head.specs.Judging.{Judges}
 
@@ -115,7 +115,7 @@ HasOpenField bytes = (rest : List ℕ) × ComesToField bytes rest × HasNo line_
 -- what bytes are read as: a whole head, with what follows it and how it is judged; a bad line; or a line that hasn't
 -- ended, the request line or one behind it
 pub data Reading : Type 0 where
-  ReadWhole : (message : Message) (after : List ℕ) (judged : Result HeadSummary Refusal) → Reading
+  ReadWhole : (message : Message) (after : List ℕ) (judged : Result HeadSummary Judgement) → Reading
   ReadBad : Reading
   ReadOpen : (behind_request_line : Bool) → Reading
 
@@ -127,7 +127,7 @@ AreReadAs bytes (ReadOpen false) = HasOpenRequestLine bytes
 AreReadAs bytes (ReadOpen true) = HasOpenField bytes
 
 -- the status of a fault
-abbrev pub status_of : HeadFault → ℕ
+abbrev pub status_of : StandardFault → ℕ
 status_of BadLine = 400
 status_of RequestLineTooLong = 414
 status_of HeaderFieldsTooLarge = 431
@@ -136,7 +136,7 @@ status_of (Judged InvalidHead) = 400
 status_of (Judged UnknownCoding) = 501
 status_of (Judged UnknownExpectation) = 417
 
-abbrev pub message_of : Head → Message
+abbrev pub message_of : StandardHead → Message
 message_of h = record { method = h.method; path = h.target; version = h.version; headers = h.headers.items }
 
 -- a byte of a head has come
@@ -144,7 +144,7 @@ abbrev pub is_begun : List ℕ → Bool
 is_begun bytes = not (length (behind_empty_line bytes) == 0)
 
 -- WHAT IS READ of these bytes, where a head has at most `limit` of them
-abbrev pub Reads : ℕ → List ℕ → HeadRead → Type 0
+abbrev pub Reads : ℕ → List ℕ → StandardRead → Type 0
 Reads limit bytes (Whole h) =
     (after : List ℕ)
     × BeginsWithHead (take limit bytes) (message_of h) after
@@ -163,7 +163,7 @@ Reads limit bytes (Unfinished has_begun) =
 
 -- Two readings say the same: the same head, of the same length and judged alike; the same fault; or unfinished, begun
 -- alike.
-abbrev pub IsSameRead : HeadRead → HeadRead → Type 0
+abbrev pub IsSameRead : StandardRead → StandardRead → Type 0
 IsSameRead (Whole h) (Whole k) = (message_of h ≡ message_of k) × (h.length ≡ k.length) × (h.summary ≡ k.summary)
 IsSameRead (Refused e) (Refused f) = e ≡ f
 IsSameRead (Unfinished b) (Unfinished c) = b ≡ c

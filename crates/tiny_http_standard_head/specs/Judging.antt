@@ -12,9 +12,9 @@ use Rattle.tiny_http_head.specs.declared.common.Header.{Header}
 use Rattle.tiny_http_head.specs.Common.{same_name, method_text}
 use Rattle.tiny_http_head.specs.Heads.{length_of}
 use Rattle.tiny_http_standard_head.specs.declared.judging.HeadSummary.{HeadSummary}
-use Rattle.tiny_http_standard_head.specs.declared.judging.Refusal.{Refusal}
-use Rattle.tiny_http_standard_head.specs.declared.judging.Refusal.TheVariants.{UnsupportedVersion, InvalidHead}
-use Rattle.tiny_http_standard_head.specs.declared.judging.Refusal.TheVariants.{UnknownCoding, UnknownExpectation}
+use Rattle.tiny_http_standard_head.specs.declared.judging.Judgement.{Judgement}
+use Rattle.tiny_http_standard_head.specs.declared.judging.Judgement.TheVariants.{UnsupportedVersion, InvalidHead}
+use Rattle.tiny_http_standard_head.specs.declared.judging.Judgement.TheVariants.{UnknownCoding, UnknownExpectation}
 use Rattle.tiny_http_standard_head.specs.Hosts.{percent, slash, IsHostValue}
 use Rattle.tiny_http_standard_head.specs.Lists.{values_of, elements_of, has_element_that, has_element}
 
@@ -137,7 +137,7 @@ IsValid v headers =
     × (NamesUnknownCodings v headers ⊎ ((n : Option ℕ) × (chunked : Bool) × IsFramedRequest v headers n chunked))
 
 -- THE ORDER OF JUDGEMENT: the version, host and body, codings, expectations
-abbrev pub Judges : HTTPVersion → Method → List Header → Result HeadSummary Refusal → Type 0
+abbrev pub Judges : HTTPVersion → Method → List Header → Result HeadSummary Judgement → Type 0
 Judges v method headers (Err UnsupportedVersion) = v.0 ≢ 1
 Judges v method headers (Err InvalidHead) = (v.0 ≡ 1) × (IsValid v headers → ⊥)
 Judges v method headers (Err UnknownCoding) =

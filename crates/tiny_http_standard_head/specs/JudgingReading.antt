@@ -10,8 +10,8 @@ use Rattle.tiny_http_standard_head.specs.declared.judging.Wanted.TheVariants.{Cl
 use Rattle.tiny_http_standard_head.specs.declared.judging.Wanted.TheVariants.{Protocol, UnknownExpectation, Chunks}
 use Rattle.tiny_http_standard_head.specs.declared.judging.Codings.{Codings}
 use Rattle.tiny_http_standard_head.specs.declared.judging.Codings.TheVariants.{Absent, Others, Chunked, Behind, Bad}
-use Rattle.tiny_http_standard_head.specs.declared.judging.Refusal.{Refusal}
-use Rattle.tiny_http_standard_head.specs.declared.judging.Refusal.TheVariants.{InvalidHead, UnknownCoding}
+use Rattle.tiny_http_standard_head.specs.declared.judging.Judgement.{Judgement}
+use Rattle.tiny_http_standard_head.specs.declared.judging.Judgement.TheVariants.{InvalidHead, UnknownCoding}
 use Rattle.tiny_http_standard_head.specs.Judging.{is_chunked, is_unknown_expectation, is_protocol, is_1_0}
 use Rattle.tiny_http_standard_head.specs.Te.{element_asks_chunked}
 
@@ -31,11 +31,11 @@ same_length None found = None
 same_length (Some m) None = Some m
 same_length (Some m) (Some n) = if m == n then Some m else None
 
-abbrev pub if_length : Option ℕ → (ℕ → Result (Option ℕ) Refusal) → Result (Option ℕ) Refusal
+abbrev pub if_length : Option ℕ → (ℕ → Result (Option ℕ) Judgement) → Result (Option ℕ) Judgement
 if_length None more = Err InvalidHead
 if_length (Some n) more = more n
 
-abbrev pub lengths_on : Option ℕ → List (List ℕ) → Result (Option ℕ) Refusal
+abbrev pub lengths_on : Option ℕ → List (List ℕ) → Result (Option ℕ) Judgement
 lengths_on found [] = Ok found
 lengths_on found (length ∷ lengths) =
     if_length (same_length (length_of length) found) (λ n. lengths_on (Some n) lengths)
@@ -52,16 +52,16 @@ abbrev pub codings_on : Codings → List (List ℕ) → Codings
 codings_on was [] = was
 codings_on was (coding ∷ codings) = codings_on (coding_after was coding) codings
 
-abbrev pub coded_body : Codings → Result (Option ℕ × Bool) Refusal
+abbrev pub coded_body : Codings → Result (Option ℕ × Bool) Judgement
 coded_body Chunked = Ok (None, true)
 coded_body Behind = Err UnknownCoding
 coded_body _ = Err InvalidHead
 
 -- the body by the codings, and the length that was found
-abbrev pub body_with : HTTPVersion → Codings → Option ℕ → Result (Option ℕ × Bool) Refusal
+abbrev pub body_with : HTTPVersion → Codings → Option ℕ → Result (Option ℕ × Bool) Judgement
 body_with v Absent n = Ok (n, false)
 body_with v codings n = if (is_1_0 v || is_some n) then Err InvalidHead else coded_body codings
 
-abbrev pub body_by : HTTPVersion → Codings → Result (Option ℕ) Refusal → Result (Option ℕ × Bool) Refusal
+abbrev pub body_by : HTTPVersion → Codings → Result (Option ℕ) Judgement → Result (Option ℕ × Bool) Judgement
 body_by v codings (Err fault) = Err fault
 body_by v codings (Ok n) = body_with v codings n

@@ -9,17 +9,17 @@ use Rattle.tiny_http_io.specs.Source.{feed_from}
 use Rattle.tiny_http_head.specs.declared.common.Method.{Method}
 use Rattle.tiny_http_head.specs.declared.common.HTTPVersion.{HTTPVersion}
 use Rattle.tiny_http_head.specs.declared.common.Header.{Header}
-use Rattle.tiny_http_standard_head.specs.declared.heads.HeadFault.{HeadFault}
-use Rattle.tiny_http_standard_head.specs.declared.heads.HeadFault.TheVariants.{BadLine, RequestLineTooLong}
-use Rattle.tiny_http_standard_head.specs.declared.heads.HeadFault.TheVariants.{HeaderFieldsTooLarge}
-use Rattle.tiny_http_standard_head.specs.declared.heads.HeadRead.{HeadRead}
-use Rattle.tiny_http_standard_head.specs.declared.heads.HeadRead.TheVariants as read
+use Rattle.tiny_http_standard_head.specs.declared.heads.StandardFault.{StandardFault}
+use Rattle.tiny_http_standard_head.specs.declared.heads.StandardFault.TheVariants.{BadLine, RequestLineTooLong}
+use Rattle.tiny_http_standard_head.specs.declared.heads.StandardFault.TheVariants.{HeaderFieldsTooLarge}
+use Rattle.tiny_http_standard_head.specs.declared.heads.StandardRead.{StandardRead}
+use Rattle.tiny_http_standard_head.specs.declared.heads.StandardRead.TheVariants as read
 use Rattle.tiny_http_standard_head.specs.declared.source_lines.NoLine.{NoLine}
 use Rattle.tiny_http_standard_head.specs.declared.source_lines.NoLine.TheVariants as no_line
 use Rattle.tiny_http_standard_head.specs.declared.source_heads.NoHead.{NoHead}
 use Rattle.tiny_http_standard_head.specs.declared.source_heads.NoHead.TheVariants.{Refused, Unfinished, Memory}
 use Rattle.tiny_http_standard_head.specs.Lines.{ReadsRequestLine, IsNoRequestLine, ReadsFieldLine}
-use Rattle.tiny_http_standard_head.specs.declared.heads.Stop.TheVariants as stop
+use Rattle.tiny_http_standard_head.specs.declared.heads.NoHead.TheVariants as stop
 use Rattle.tiny_http_standard_head.specs.Judging.{Judges}
 use Rattle.tiny_http_standard_head.specs.HeadParts.{StopsFields, EndsFields}
 use Rattle.tiny_http_standard_head.specs.Heads.{line_feed, carriage_return, is_carriage_return, Line}
@@ -55,7 +55,7 @@ FieldIn line (Err Memory) = ⊤
 FieldIn line (Err _) = ⊥
 
 -- why there is no head where there is no line; later says that a line of the head has come
-abbrev pub no_head : NoLine → HeadFault → Bool → NoHead
+abbrev pub no_head : NoLine → StandardFault → Bool → NoHead
 no_head (no_line.Cut has_begun) too_long later = Unfinished (has_begun || later)
 no_head no_line.TooLong too_long later = Refused too_long
 no_head no_line.Memory too_long later = Memory
@@ -65,7 +65,7 @@ abbrev pub IsUnfinished : NoHead → Type 0
 IsUnfinished (Unfinished has_begun) = ⊤
 IsUnfinished _ = ⊥
 
-abbrev pub IsUnfinishedRead : HeadRead → Type 0
+abbrev pub IsUnfinishedRead : StandardRead → Type 0
 IsUnfinishedRead (read.Unfinished has_begun) = ⊤
 IsUnfinishedRead _ = ⊥
 
@@ -157,22 +157,22 @@ ReadsFields limit left (Some f) new (Err Memory) = ⊤
 ReadsFields limit left (Some f) new (Err _) = ⊥
 
 -- what is read where there is no head
-abbrev pub IsWithoutHead : NoHead → Result HeadRead AllocError → Type 0
+abbrev pub IsWithoutHead : NoHead → Result StandardRead AllocError → Type 0
 IsWithoutHead (Refused fault) r = r ≡ Ok (read.Refused fault)
 IsWithoutHead (Unfinished has_begun) r = r ≡ Ok (read.Unfinished has_begun)
 IsWithoutHead Memory r = IsErr r
 
 -- behind a whole head the input goes on
-abbrev pub LeavesBehind : Feed → Option Feed → HeadRead → Type 0
+abbrev pub LeavesBehind : Feed → Option Feed → StandardRead → Type 0
 LeavesBehind f new (read.Whole h) = new ≡ feed_from f (drop h.length f.bytes)
 LeavesBehind f new _ = ⊤
 
 -- A HEAD OF A SOURCE is what all its bytes that are still to come are read as
-abbrev pub ReadsFrom : ℕ → Option Feed → Option Feed → HeadRead → Type 0
+abbrev pub ReadsFrom : ℕ → Option Feed → Option Feed → StandardRead → Type 0
 ReadsFrom limit None new r = ⊤
 ReadsFrom limit (Some f) new r = Reads limit f.bytes r × LeavesBehind f new r
 
 -- whatever the source states: a whole head is judged as it says
-abbrev pub IsJudged : HeadRead → Type 0
+abbrev pub IsJudged : StandardRead → Type 0
 IsJudged (read.Whole h) = Judges h.version h.method h.headers.items (Ok h.summary)
 IsJudged _ = ⊤

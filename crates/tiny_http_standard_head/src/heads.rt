@@ -5,7 +5,7 @@ ghost use Rattle.tiny_http_standard_head.specs.Heads.{HasGoodRequestLine, Reads,
 ghost use Rattle.tiny_http_standard_head.specs.HeadParts.{HasNoLine, StopsRequest, StopsFields, EndsFields};
 ghost use Rattle.tiny_http_standard_head.specs.HeadParts.{ReadsWhole, StopsHead};
 
-use crate::judging::{HeadSummary, Refusal, judge};
+use crate::judging::{HeadSummary, Judgement, judge};
 use crate::lines::{parse_field_line, parse_request_line};
 use std::alloc::{AllocError, Global};
 use tiny_http_head::common::{HTTPVersion, Header, Method};
@@ -14,7 +14,7 @@ use tiny_http_text::bytes::cut;
 
 /// A head, and how it is judged.
 #[derive(Drop)]
-pub struct Head {
+pub struct StandardHead {
     /// The method.
     pub method: Method,
     /// The target, as it came.
@@ -31,7 +31,7 @@ pub struct Head {
 
 /// Why a head is refused.
 #[derive(Clone, Copy, Debug, PartialEq, Eq)]
-pub enum HeadFault {
+pub enum StandardFault {
     /// A line isn't one of the grammar, or no CR stands in front of its LF.
     BadLine,
     /// As many bytes came as a head may have, and its request line hasn't ended.
@@ -39,32 +39,32 @@ pub enum HeadFault {
     /// As many bytes came as a head may have, and it hasn't ended behind its request line.
     HeaderFieldsTooLarge,
     /// Its lines are good, and it is refused.
-    Judged(Refusal),
+    Judged(Judgement),
 }
 
-impl HeadFault {
+impl StandardFault {
     /// The status that answers it: 400, 414, 431, 505, 501 or 417 (RFC 9110, section 15; RFC 6585, section 5).
     pub fn status(self) -> u16
         ensures { result ≡ status_of self }
     {
         match self {
-            HeadFault::BadLine | HeadFault::Judged(Refusal::InvalidHead) => 400,
-            HeadFault::RequestLineTooLong => 414,
-            HeadFault::HeaderFieldsTooLarge => 431,
-            HeadFault::Judged(Refusal::UnsupportedVersion) => 505,
-            HeadFault::Judged(Refusal::UnknownCoding) => 501,
-            HeadFault::Judged(Refusal::UnknownExpectation) => 417,
+            StandardFault::BadLine | StandardFault::Judged(Judgement::InvalidHead) => 400,
+            StandardFault::RequestLineTooLong => 414,
+            StandardFault::HeaderFieldsTooLarge => 431,
+            StandardFault::Judged(Judgement::UnsupportedVersion) => 505,
+            StandardFault::Judged(Judgement::UnknownCoding) => 501,
+            StandardFault::Judged(Judgement::UnknownExpectation) => 417,
         }
     }
 }
 
 /// What is read of the first bytes that a client sends.
 #[derive(Drop)]
-pub enum HeadRead {
+pub enum StandardRead {
     /// A whole head.
     Whole(Head),
     /// A head that is refused.
-    Refused(HeadFault),
+    Refused(StandardFault),
     /// More bytes are needed.
     Unfinished {
         /// Whether a byte of a head has come. A lone CR has begun one, and the LF behind it makes both an empty line,
@@ -82,7 +82,7 @@ enum NoLine {
 }
 
 // Why there is no head among the bytes.
-enum Stop {
+enum NoHead {
     // A line is bad.
     Bad,
     // The request line hasn't ended.
@@ -122,24 +122,24 @@ fn behind_empty_line(bytes: &[u8]) -> &[u8]
 fn read_request(
     alloc: Global,
     bytes: &[u8],
-) -> Result<(Method, AsciiString, HTTPVersion, &[u8]), Stop>
+) -> Result<(Method, AsciiString, HTTPVersion, &[u8]), NoHead>
     ensures some { IfOk result (λ r. BeginsWithRequestLine bytes.now r.0 r.1 r.2 r.3.now) }
     ensures none { IfErr result (λ stop. StopsRequest bytes.now stop) }
 {
     let (text, rest) = match next_line(behind_empty_line(bytes)) {
         Ok(line) => line,
-        Err(NoLine::Bare) => return Err(Stop::Bad),
-        Err(NoLine::Open) => return Err(Stop::OpenRequest),
+        Err(NoLine::Bare) => return Err(NoHead::Bad),
+        Err(NoLine::Open) => return Err(NoHead::OpenRequest),
     };
     match parse_request_line(alloc, text) {
         Ok(Some((method, target, version))) => Ok((method, target, version, rest)),
-        Ok(None) => Err(Stop::Bad),
-        Err(_) => Err(Stop::Memory),
+        Ok(None) => Err(NoHead::Bad),
+        Err(_) => Err(NoHead::Memory),
     }
 }
 
 // The headers, and the bytes behind the empty line.
-fn read_fields(alloc: Global, bytes: &[u8]) -> Result<(Vec<Header>, &[u8]), Stop>
+fn read_fields(alloc: Global, bytes: &[u8]) -> Result<(Vec<Header>, &[u8]), NoHead>
     ensures some { IfOk result (λ r. EndsFields bytes.now r.0.items r.1.now) }
     ensures none { IfErr result (λ stop. StopsFields bytes.now stop) }
 {
@@ -148,26 +148,26 @@ fn read_fields(alloc: Global, bytes: &[u8]) -> Result<(Vec<Header>, &[u8]), Stop
     loop {
         let (text, next) = match next_line(rest) {
             Ok(line) => line,
-            Err(NoLine::Bare) => return Err(Stop::Bad),
-            Err(NoLine::Open) => return Err(Stop::OpenField),
+            Err(NoLine::Bare) => return Err(NoHead::Bad),
+            Err(NoLine::Open) => return Err(NoHead::OpenField),
         };
         if text.is_empty() {
             return Ok((headers, next));
         }
         let header = match parse_field_line(alloc, text) {
             Ok(Some(header)) => header,
-            Ok(None) => return Err(Stop::Bad),
-            Err(_) => return Err(Stop::Memory),
+            Ok(None) => return Err(NoHead::Bad),
+            Err(_) => return Err(NoHead::Memory),
         };
         if headers.push(header).is_err() {
-            return Err(Stop::Memory);
+            return Err(NoHead::Memory);
         }
         rest = next;
     }
 }
 
 // A head that has come whole, judged.
-fn read_whole(alloc: Global, bytes: &[u8]) -> Result<HeadRead, Stop>
+fn read_whole(alloc: Global, bytes: &[u8]) -> Result<StandardRead, NoHead>
     ensures some { IfOk result (λ read. ReadsWhole bytes.now read) }
     ensures none { IfErr result (λ stop. StopsHead bytes.now stop) }
 {
@@ -180,7 +180,7 @@ fn read_whole(alloc: Global, bytes: &[u8]) -> Result<HeadRead, Stop>
         Err(stop) => return Err(stop),
     };
     match judge(version, &method, headers.as_slice()) {
-        Ok(summary) => Ok(HeadRead::Whole(Head {
+        Ok(summary) => Ok(StandardRead::Whole(StandardHead {
             method,
             target,
             version,
@@ -188,19 +188,19 @@ fn read_whole(alloc: Global, bytes: &[u8]) -> Result<HeadRead, Stop>
             summary,
             length: bytes.len() - after.len(),
         })),
-        Err(refusal) => Ok(HeadRead::Refused(HeadFault::Judged(refusal))),
+        Err(refusal) => Ok(StandardRead::Refused(StandardFault::Judged(refusal))),
     }
 }
 
 // What comes of a head that hasn't ended: this fault, where as many bytes came as it may have; else more are needed.
-fn not_ended(bytes: &[u8], limit: usize, fault: HeadFault) -> HeadRead
-    ensures full { limit ≤ length bytes.now → result ≡ HeadRead.Refused fault }
-    ensures open { length bytes.now < limit → result ≡ HeadRead.Unfinished (is_begun bytes.now) }
+fn not_ended(bytes: &[u8], limit: usize, fault: StandardFault) -> StandardRead
+    ensures full { limit ≤ length bytes.now → result ≡ StandardRead.Refused fault }
+    ensures open { length bytes.now < limit → result ≡ StandardRead.Unfinished (is_begun bytes.now) }
 {
     if bytes.len() >= limit {
-        return HeadRead::Refused(fault);
+        return StandardRead::Refused(fault);
     }
-    HeadRead::Unfinished {
+    StandardRead::Unfinished {
         has_begun: !behind_empty_line(bytes).is_empty(),
     }
 }
@@ -214,16 +214,16 @@ fn not_ended(bytes: &[u8], limit: usize, fault: HeadFault) -> HeadRead
 /// more are needed: call again with the same bytes and those that came since. Each call reads them from the start, so
 /// a head that comes byte by byte wants a reader that keeps its lines. An error where there is no memory for what is
 /// read, which is so only behind a good request line.
-pub fn read_head(alloc: Global, bytes: &[u8], limit: usize) -> Result<HeadRead, AllocError>
+pub fn read_head(alloc: Global, bytes: &[u8], limit: usize) -> Result<StandardRead, AllocError>
     ensures reads { IfOk result (λ read. Reads limit bytes.now read) }
     ensures begun { OnErr result (HasGoodRequestLine (take limit bytes.now)) }
 {
     let seen = &bytes[..bytes.len().min(limit)];
     match read_whole(alloc, seen) {
         Ok(read) => Ok(read),
-        Err(Stop::Bad) => Ok(HeadRead::Refused(HeadFault::BadLine)),
-        Err(Stop::OpenRequest) => Ok(not_ended(bytes, limit, HeadFault::RequestLineTooLong)),
-        Err(Stop::OpenField) => Ok(not_ended(bytes, limit, HeadFault::HeaderFieldsTooLarge)),
-        Err(Stop::Memory) => Err(AllocError),
+        Err(NoHead::Bad) => Ok(StandardRead::Refused(StandardFault::BadLine)),
+        Err(NoHead::OpenRequest) => Ok(not_ended(bytes, limit, StandardFault::RequestLineTooLong)),
+        Err(NoHead::OpenField) => Ok(not_ended(bytes, limit, StandardFault::HeaderFieldsTooLarge)),
+        Err(NoHead::Memory) => Err(AllocError),
     }
 }

@@ -39,7 +39,7 @@ pub struct HeadSummary {
 
 /// Why a head of good lines is refused.
 #[derive(Clone, Copy, Debug, PartialEq, Eq)]
-pub enum Refusal {
+pub enum Judgement {
     /// Its major version isn't 1: 505 (RFC 9110, section 15.6.6).
     UnsupportedVersion,
     /// Its host is missing or invalid, or there is a second one, or what frames its body is invalid: 400 (RFC 9112,
@@ -238,13 +238,13 @@ fn same_length(length: Option<usize>, found: Option<usize>) -> Option<usize>
 }
 
 // The length that the elements of a value are, if none was found before, or the same.
-fn lengths_in(value: &str, found: Option<usize>) -> Result<Option<usize>, Refusal>
+fn lengths_in(value: &str, found: Option<usize>) -> Result<Option<usize>, Judgement>
     ensures { result ≡ lengths_on found (between_commas value.now) }
 {
     let mut found = found;
     for text in value.split(',') {
         let Some(length) = same_length(number_in(trim(text)), found) else {
-            return Err(Refusal::InvalidHead);
+            return Err(Judgement::InvalidHead);
         };
         found = Some(length);
     }
@@ -252,7 +252,7 @@ fn lengths_in(value: &str, found: Option<usize>) -> Result<Option<usize>, Refusa
 }
 
 // The one length that all elements of all `Content-Length` headers are, if there is such a header.
-fn one_length(headers: &[Header]) -> Result<Option<usize>, Refusal>
+fn one_length(headers: &[Header]) -> Result<Option<usize>, Judgement>
     ensures { result ≡ lengths_on None (elements_of (codes "Content-Length") headers.now) }
 {
     let mut found = None;
@@ -305,7 +305,7 @@ fn codings_of(headers: &[Header]) -> Codings
 }
 
 // The body by the codings and the length: its length, and whether it comes in chunks.
-fn body_of(version: HTTPVersion, headers: &[Header]) -> Result<(Option<usize>, bool), Refusal>
+fn body_of(version: HTTPVersion, headers: &[Header]) -> Result<(Option<usize>, bool), Judgement>
     ensures { result ≡ body_by version (codings_on Absent (elements_of (codes "Transfer-Encoding") headers.now))
         (lengths_on None (elements_of (codes "Content-Length") headers.now)) }
 {
@@ -315,12 +315,12 @@ fn body_of(version: HTTPVersion, headers: &[Header]) -> Result<(Option<usize>, b
         return Ok((length, false));
     }
     if is_1_0(version) || length.is_some() {
-        return Err(Refusal::InvalidHead);
+        return Err(Judgement::InvalidHead);
     }
     match codings {
         Codings::Chunked => Ok((None, true)),
-        Codings::Behind => Err(Refusal::UnknownCoding),
-        _ => Err(Refusal::InvalidHead),
+        Codings::Behind => Err(Judgement::UnknownCoding),
+        _ => Err(Judgement::InvalidHead),
     }
 }
 
@@ -437,21 +437,21 @@ pub fn judge(
     version: HTTPVersion,
     method: &Method,
     headers: &[Header],
-) -> Result<HeadSummary, Refusal>
+) -> Result<HeadSummary, Judgement>
     ensures { Judges version method.now headers.now result }
 {
     if version.0 != 1 {
-        return Err(Refusal::UnsupportedVersion);
+        return Err(Judgement::UnsupportedVersion);
     }
     if !has_valid_host(version, headers) {
-        return Err(Refusal::InvalidHead);
+        return Err(Judgement::InvalidHead);
     }
     let (body_length, is_chunked) = match body_of(version, headers) {
         Ok(body) => body,
         Err(refusal) => return Err(refusal),
     };
     if has(headers, "Expect", Wanted::UnknownExpectation) {
-        return Err(Refusal::UnknownExpectation);
+        return Err(Judgement::UnknownExpectation);
     }
     Ok(HeadSummary {
         body_length,

@@ -4,8 +4,8 @@ ghost use Rattle.tiny_http_head.specs.declared.common.Method.{Method};
 ghost use Rattle.tiny_http_head.specs.declared.common.HTTPVersion.{HTTPVersion};
 ghost use Rattle.tiny_http_head.specs.declared.common.Header.{Header};
 ghost use Rattle.tiny_http_standard_head.specs.declared.judging.HeadSummary.{HeadSummary};
-ghost use Rattle.tiny_http_standard_head.specs.declared.judging.Refusal.{Refusal};
-ghost use Rattle.tiny_http_standard_head.specs.declared.heads.HeadRead.{HeadRead};
+ghost use Rattle.tiny_http_standard_head.specs.declared.judging.Judgement.{Judgement};
+ghost use Rattle.tiny_http_standard_head.specs.declared.heads.StandardRead.{StandardRead};
 ghost use Rattle.tiny_http_standard_head.specs.Heads.{Reading, AreReadAs, Reads, IsSameRead};
 ghost use Rattle.tiny_http_standard_head.specs.Lines.{RequestLine, FieldLine};
 ghost use Rattle.tiny_http_standard_head.specs.Judging.{Judges};
@@ -29,8 +29,8 @@ pub fn one_field_line()
 /// A head has a judgement, and one.
 pub fn one_judgement()
     ensures some { (v : HTTPVersion) (method : Method) (headers : List Header)
-        → (r : Result HeadSummary Refusal) × Judges v method headers r }
-    ensures one { (v : HTTPVersion) (method : Method) (headers : List Header) (r r' : Result HeadSummary Refusal)
+        → (r : Result HeadSummary Judgement) × Judges v method headers r }
+    ensures one { (v : HTTPVersion) (method : Method) (headers : List Header) (r r' : Result HeadSummary Judgement)
         → Judges v method headers r
         → Judges v method headers r'
         → r ≡ r' }
@@ -41,7 +41,7 @@ pub fn one_judgement()
 pub fn one_reading()
     ensures some { (bytes : List ℕ) → (r : Reading) × AreReadAs bytes r }
     ensures read { (bytes : List ℕ) (r r' : Reading) → AreReadAs bytes r → AreReadAs bytes r' → r ≡ r' }
-    ensures one { (limit : ℕ) (bytes : List ℕ) (r r' : HeadRead)
+    ensures one { (limit : ℕ) (bytes : List ℕ) (r r' : StandardRead)
         → Reads limit bytes r
         → Reads limit bytes r'
         → IsSameRead r r' }

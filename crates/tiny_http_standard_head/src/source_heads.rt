@@ -7,7 +7,7 @@ ghost use Rattle.tiny_http_standard_head.specs.SourceHeads.{RequestIn, FieldIn, 
 ghost use Rattle.tiny_http_standard_head.specs.SourceHeads.{ReadsFields, ReadsFrom, IsJudged, no_head, IsWithoutHead};
 ghost use Rattle.tiny_http_standard_head.specs.SourceHeads.{IsUnfinished, IsUnfinishedRead};
 
-use crate::heads::{Head, HeadFault, HeadRead};
+use crate::heads::{StandardFault, StandardHead, StandardRead};
 use crate::judging::judge;
 use crate::lines::{parse_field_line, parse_request_line};
 use crate::source_lines::{FoundLine, NoLine, find_line};
@@ -21,7 +21,7 @@ use tiny_http_text::ascii::AsciiString;
 #[derive(Clone, Copy, Debug, PartialEq, Eq)]
 enum NoHead {
     // It is refused.
-    Refused(HeadFault),
+    Refused(StandardFault),
     // The source stopped before its end.
     Unfinished { has_begun: bool },
     // Memory was refused.
@@ -48,14 +48,14 @@ fn request_in(
     ensures { RequestIn line.now result }
 {
     let Some(text) = text_of(line) else {
-        return Err(NoHead::Refused(HeadFault::BadLine));
+        return Err(NoHead::Refused(StandardFault::BadLine));
     };
     if text.is_empty() {
         return Ok(None);
     }
     match parse_request_line(alloc, text) {
         Ok(Some(start)) => Ok(Some(start)),
-        Ok(None) => Err(NoHead::Refused(HeadFault::BadLine)),
+        Ok(None) => Err(NoHead::Refused(StandardFault::BadLine)),
         Err(_) => Err(NoHead::Memory),
     }
 }
@@ -65,20 +65,20 @@ fn field_in(alloc: Global, line: &[u8]) -> Result<Option<Header>, NoHead>
     ensures { FieldIn line.now result }
 {
     let Some(text) = text_of(line) else {
-        return Err(NoHead::Refused(HeadFault::BadLine));
+        return Err(NoHead::Refused(StandardFault::BadLine));
     };
     if text.is_empty() {
         return Ok(None);
     }
     match parse_field_line(alloc, text) {
         Ok(Some(header)) => Ok(Some(header)),
-        Ok(None) => Err(NoHead::Refused(HeadFault::BadLine)),
+        Ok(None) => Err(NoHead::Refused(StandardFault::BadLine)),
         Err(_) => Err(NoHead::Memory),
     }
 }
 
 // Why there is no head where there is no line, which is too long by this fault.
-fn no_head(why: NoLine, too_long: HeadFault, later: bool) -> NoHead
+fn no_head(why: NoLine, too_long: StandardFault, later: bool) -> NoHead
     ensures { result ≡ no_head why too_long later }
 {
     match why {
@@ -115,7 +115,7 @@ fn read_request<R: ReadDevice>(
             source.consume(n + 1);
             request
         }
-        Err(why) => Err(no_head(why, HeadFault::RequestLineTooLong, false)),
+        Err(why) => Err(no_head(why, StandardFault::RequestLineTooLong, false)),
     }
 }
 
@@ -144,7 +144,7 @@ fn read_field<R: ReadDevice>(
             source.consume(n + 1);
             field
         }
-        Err(why) => Err(no_head(why, HeadFault::HeaderFieldsTooLarge, true)),
+        Err(why) => Err(no_head(why, StandardFault::HeaderFieldsTooLarge, true)),
     }
 }
 
@@ -169,7 +169,7 @@ fn read_start<R: ReadDevice>(
     }
     match read_request(alloc, source, left) {
         Ok(Some(start)) => Ok(start),
-        Ok(None) => Err(NoHead::Refused(HeadFault::BadLine)),
+        Ok(None) => Err(NoHead::Refused(StandardFault::BadLine)),
         Err(why) => Err(why),
     }
 }
@@ -203,12 +203,12 @@ fn read_fields<R: ReadDevice>(
 }
 
 // What is read where there is no head.
-fn without_head(why: NoHead) -> Result<HeadRead, AllocError>
+fn without_head(why: NoHead) -> Result<StandardRead, AllocError>
     ensures { IsWithoutHead why result }
 {
     match why {
-        NoHead::Refused(fault) => Ok(HeadRead::Refused(fault)),
-        NoHead::Unfinished { has_begun } => Ok(HeadRead::Unfinished { has_begun }),
+        NoHead::Refused(fault) => Ok(StandardRead::Refused(fault)),
+        NoHead::Unfinished { has_begun } => Ok(StandardRead::Unfinished { has_begun }),
         NoHead::Memory => Err(AllocError),
     }
 }
@@ -222,7 +222,7 @@ pub fn read_head_from<R: ReadDevice>(
     alloc: Global,
     source: &mut Source<R>,
     limit: usize,
-) -> Result<HeadRead, AllocError>
+) -> Result<StandardRead, AllocError>
     ensures reads { IfOk result (λ read. ReadsFrom limit source.old.feed source.new.feed read) }
     ensures judged { IfOk result IsJudged }
     ensures goes_on { GoesOn source.old.feed source.new.feed }
@@ -240,7 +240,7 @@ pub fn read_head_from<R: ReadDevice>(
         Err(why) => return without_head(why),
     };
     match judge(version, &method, headers.as_slice()) {
-        Ok(summary) => Ok(HeadRead::Whole(Head {
+        Ok(summary) => Ok(StandardRead::Whole(StandardHead {
             method,
             target,
             version,
@@ -248,6 +248,6 @@ pub fn read_head_from<R: ReadDevice>(
             summary,
             length: limit - left,
         })),
-        Err(refusal) => Ok(HeadRead::Refused(HeadFault::Judged(refusal))),
+        Err(refusal) => Ok(StandardRead::Refused(StandardFault::Judged(refusal))),
     }
 }

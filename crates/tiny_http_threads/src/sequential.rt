@@ -68,7 +68,7 @@ impl<I: Read + Drop, R: Wait + Drop> Drop for SequentialReader<I, R> {
         let Self { turn } = self;
         let none = Vec::new(turn.alloc());
         if let Some((held, text)) = turn.leave(none) {
-            pass_on(&mut Reading { held: Some(held) }, &mut (), &mut (), text);
+            pass_on(&mut HeldReader { held: Some(held) }, &mut (), &mut (), text);
         }
     }
 }
@@ -131,11 +131,11 @@ fn finish_held<T: Drop, R: Wait + Drop>(held: &mut Option<Held<T, R>>) -> Option
 
 // A number of a reader that is held. Nothing is written in its turn.
 #[derive(Drop)]
-struct Reading<I, R: Wait> {
+struct HeldReader<I, R: Wait> {
     held: Option<Held<I, R>>,
 }
 
-impl<I: Read + Drop, R: Wait + Drop> HeldTurn<(), ()> for Reading<I, R> {
+impl<I: Read + Drop, R: Wait + Drop> HeldTurn<(), ()> for HeldReader<I, R> {
     ghost writes = { λ _ _ _ _ _. ⊤ };
 
     ghost finishes = { λ _ _ _ _ _. ⊤ };
@@ -175,11 +175,11 @@ impl<W: Write + Drop, R: Wait + Drop> HeldTurn<(), ()> for Writing<W, R> {
 // The same for a writer that can say that no byte follows: it says so behind the text of the last number of a closed
 // line.
 #[derive(Drop)]
-struct Ending<W, R: Wait> {
+struct EndingWriter<W, R: Wait> {
     held: Option<Held<W, R>>,
 }
 
-impl<W: Write + WriteDevice + Drop, R: Wait + Drop> HeldTurn<(), ()> for Ending<W, R> {
+impl<W: Write + WriteDevice + Drop, R: Wait + Drop> HeldTurn<(), ()> for EndingWriter<W, R> {
     // Nothing is stated of what is written behind a lock.
     ghost writes = { λ _ _ _ _ _. ⊤ };
 
@@ -248,7 +248,12 @@ impl<W: Write + WriteDevice + Drop, R: Wait + Drop> SequentialWriter<W, R> {
     pub(crate) fn leave(self, text: Vec<u8>) {
         let Self { turn, failures: _ } = self;
         if let Some((held, text)) = turn.leave(text) {
-            pass_on(&mut Ending { held: Some(held) }, &mut (), &mut (), text);
+            pass_on(
+                &mut EndingWriter { held: Some(held) },
+                &mut (),
+                &mut (),
+                text,
+            );
         }
     }
 
@@ -260,7 +265,7 @@ impl<W: Write + WriteDevice + Drop, R: Wait + Drop> SequentialWriter<W, R> {
         if let Some((held, _)) = turn.leave(none) {
             let mut held = held;
             end_if_last(&mut held);
-            let mut ending = Ending { held: Some(held) };
+            let mut ending = EndingWriter { held: Some(held) };
             if let Some(text) = ending.finish(&mut ()) {
                 pass_on(&mut ending, &mut (), &mut (), text);
             }

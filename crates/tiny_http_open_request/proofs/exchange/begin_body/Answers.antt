@@ -1,5 +1,5 @@
 use Rattle.std.proofs.Common.{rules, refl, sym, subst, ap, ◌∙◌, ℕ, List, Option, None, Some, drop}
-use Rattle.tiny_http_body.specs.declared.body.Body.{Body}
+use Rattle.tiny_http_body.specs.declared.body.UnreadBody.{UnreadBody}
 use Rattle.tiny_http_open_request.specs.HeadReads.{Begins}
 use Rattle.tiny_http_io.specs.Device.{Feed}
 use Rattle.tiny_http_io.specs.Source.{TakesExactly}
@@ -21,7 +21,7 @@ pub returns-in-Chunked-clause-begins : goal.returns-in-Chunked-clause-begins
 returns-in-Chunked-clause-begins g c =
     let o = c.args.source.now.feed in
     let k = c.chunked.ensures in
-    let P : Body → Type 0 = λ b. Begins c.args.framing o o (Some b) in
+    let P : UnreadBody → Type 0 = λ b. Begins c.args.framing o o (Some b) in
     subst P (sym k.1) (begins-chunked c.args.framing o k.0 (search rules) k.2.whole k.2.front k.2.rules)
 
 pub returns-in-Ok-Some-clause-begins : goal.returns-in-Ok-Some-clause-begins

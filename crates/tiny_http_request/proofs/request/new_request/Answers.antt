@@ -1,6 +1,6 @@
 use Rattle.std.proofs.Common.{rules, ◌≡◌, sym, ap, ◌∙◌, subst, false, not, ◌&&◌, Option, Some, Ok, Err}
 use Rattle.tiny_http_io.specs.Device.{Feed}
-use Rattle.tiny_http_body.specs.declared.body.Body.{Body}
+use Rattle.tiny_http_body.specs.declared.body.UnreadBody.{UnreadBody}
 use Rattle.tiny_http_body.specs.declared.framing.HeadRules.TheVariants.{Lenient}
 use Rattle.tiny_http_body.specs.declared.framing.Framing.{Framing}
 use Rattle.tiny_http_body.specs.FramingReading.{framing}
@@ -12,11 +12,11 @@ use Rattle.tiny_http_request.specs.Request.{request_head}
 use Rattle.tiny_http_request.proofs.request.new_request.Goals as goal
 
 -- a body begins by what is equal to its framing and its feed
-begins-by : (f f' : Framing) (feed feed' left : Option Feed) (b b' : Body) → f' ≡ f → feed' ≡ feed → b' ≡ b → Begins f feed left (Some b) → Begins f' feed' left (Some b')
+begins-by : (f f' : Framing) (feed feed' left : Option Feed) (b b' : UnreadBody) → f' ≡ f → feed' ≡ feed → b' ≡ b → Begins f feed left (Some b) → Begins f' feed' left (Some b')
 begins-by f f' feed feed' left b b' same-f same-feed same-b begins =
     let F : Framing → Type 0 = λ x. Begins x feed' left (Some b') in
     let O : Option Feed → Type 0 = λ x. Begins f x left (Some b') in
-    let B : Body → Type 0 = λ x. Begins f feed left (Some x) in
+    let B : UnreadBody → Type 0 = λ x. Begins f feed left (Some x) in
     subst F (sym same-f) (subst O (sym same-feed) (subst B (sym same-b) begins))
 
 pub from_parts-requires : goal.from_parts-requires

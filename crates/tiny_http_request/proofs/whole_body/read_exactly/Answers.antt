@@ -1,8 +1,8 @@
 use Rattle.std.proofs.Common.{rules, ◌≡◌, refl, sym, ap, ◌∙◌, subst, ℕ, ◌-◌, ◌<◌, ◌==◌, Bool, true, false, List, [], ◌++◌, length, Option, Some, None, append-nil, arith}
 use Rattle.tiny_http_io.specs.Device.{Feed, whole_feed}
 use Rattle.tiny_http_io.specs.declared.device.Stop.TheVariants.{End, Fault}
-use Rattle.tiny_http_body.specs.declared.body.Body.{Body}
-use Rattle.tiny_http_body.specs.declared.body.Body.TheVariants.{Over, WithHead, Counted, Chunked, Rest}
+use Rattle.tiny_http_body.specs.declared.body.UnreadBody.{UnreadBody}
+use Rattle.tiny_http_body.specs.declared.body.UnreadBody.TheVariants.{Over, WithHead, Counted, Chunked, Rest}
 use Rattle.tiny_http_body.specs.Body.{Remaining, is_streaming, bytes_left, remaining, prepended_body, BodyStops, ReadsOn, IsBodyOver, IsWithHead}
 use Rattle.tiny_http_request.proofs.WholeBodyLemmas.{stands-end}
 use Rattle.tiny_http_request.proofs.whole_body.read_exactly.Goals as goal
@@ -16,7 +16,7 @@ abbrev nothing : Option Feed
 nothing = Some (whole_feed [])
 
 -- so many bytes are left of a body that isn't read from the input
-left-bytes : (b : Body) (count : ℕ) → is_streaming b ≡ false → bytes_left b ≡ Some count → length (bytes-of (remaining b nothing)) ≡ count
+left-bytes : (b : UnreadBody) (count : ℕ) → is_streaming b ≡ false → bytes_left b ≡ Some count → length (bytes-of (remaining b nothing)) ≡ count
 left-bytes (Over End) count s h = cc
 left-bytes (Over (Fault kind)) count s h = cc
 left-bytes (WithHead bytes) count s h = cc
@@ -25,7 +25,7 @@ left-bytes (Chunked d) count s h = cc
 left-bytes Rest count s h = cc
 
 -- none are left where it ends
-none-left : (b : Body) → is_streaming b ≡ false → BodyStops End (remaining b nothing) → bytes-of (remaining b nothing) ≡ []
+none-left : (b : UnreadBody) → is_streaming b ≡ false → BodyStops End (remaining b nothing) → bytes-of (remaining b nothing) ≡ []
 none-left (Over stop) s h = refl
 none-left (WithHead bytes) s h = ap (λ (f : Feed). f.bytes) h
 none-left (Counted n standard) s h = cc
@@ -33,7 +33,7 @@ none-left (Chunked d) s h = cc
 none-left Rest s h = cc
 
 -- the bytes that were read stand in front of those that are left
-joined : (old now : Body) (items : List ℕ) → is_streaming now ≡ false → remaining old nothing ≡ prepended_body items (remaining now nothing)
+joined : (old now : UnreadBody) (items : List ℕ) → is_streaming now ≡ false → remaining old nothing ≡ prepended_body items (remaining now nothing)
     → bytes-of (remaining old nothing) ≡ items ++ bytes-of (remaining now nothing)
 joined old (Over stop) items s h = ap bytes-of h
 joined old (WithHead bytes) items s h = ap bytes-of h
@@ -42,7 +42,7 @@ joined old (Chunked d) items s h = cc
 joined old Rest items s h = cc
 
 -- only a body that is read from the input ends before all bytes have come
-must-stream : (old now : Body) (items : List ℕ) (count : ℕ) → bytes_left old ≡ Some count
+must-stream : (old now : UnreadBody) (items : List ℕ) (count : ℕ) → bytes_left old ≡ Some count
     → (is_streaming old ≡ false → (feed : Option Feed) → remaining old feed ≡ prepended_body items (remaining now feed))
     → (is_streaming old ≡ false → is_streaming now ≡ false)
     → (is_streaming now ≡ false → BodyStops End (remaining now nothing))
@@ -58,7 +58,7 @@ must-stream old now items count left held settled end less = by (is_streaming ol
         let all : length items ≡ count = sym (ap length given) ∙ left-bytes old count s left in
         absurd (omega (arith, all, less))
 
-over-at : (b new : Body) → (IsWithHead b → ⊥) → ReadsOn b 0 true new → IsBodyOver new
+over-at : (b new : UnreadBody) → (IsWithHead b → ⊥) → ReadsOn b 0 true new → IsBodyOver new
 over-at (Over stop) new held m = subst IsBodyOver (sym m.0) tt
 over-at (WithHead bytes) new held m = absurd (held tt)
 over-at (Counted n standard) new held m = m
@@ -66,7 +66,7 @@ over-at (Chunked d) new held m = m
 over-at Rest new held m = m
 
 -- such a body is over then
-over : (b new : Body) (n : ℕ) → n ≡ 0 → (IsWithHead b → ⊥) → ReadsOn b n (n == 0) new → IsBodyOver new
+over : (b new : UnreadBody) (n : ℕ) → n ≡ 0 → (IsWithHead b → ⊥) → ReadsOn b n (n == 0) new → IsBodyOver new
 over b new n zero held m = over-at b new held (subst (λ (k : ℕ). ReadsOn b k (k == 0) new) zero m)
 
 pub returns-then-n-eq0-clause-fails : goal.returns-then-n-eq0-clause-fails

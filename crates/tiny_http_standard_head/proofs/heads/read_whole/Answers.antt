@@ -1,7 +1,7 @@
 use Rattle.std.proofs.Common.{◌≤◌, List, length, subst, Result, arith}
 use Rattle.tiny_http_head.specs.declared.common.Header.{Header}
 use Rattle.tiny_http_standard_head.specs.declared.judging.HeadSummary.{HeadSummary}
-use Rattle.tiny_http_standard_head.specs.declared.judging.Refusal.{Refusal}
+use Rattle.tiny_http_standard_head.specs.declared.judging.Judgement.{Judgement}
 use Rattle.tiny_http_standard_head.specs.Judging.{Judges}
 use Rattle.tiny_http_standard_head.proofs.HeadsLemmas.{head-shorter, whole-head, fields-stop}
 use Rattle.tiny_http_standard_head.proofs.heads.read_whole.Goals as goal
@@ -26,7 +26,7 @@ returns-in-Ok-judge-clause-some c =
       f.1.now,
       whole-head c.args.bytes.now r.0 r.1 r.2 r.3.now f.0.items f.1.now c.in-Ok.ensures.some c.in-Ok-read_fields.ensures.some,
       omega (arith, short),
-      subst (λ (j : Result HeadSummary Refusal). Judges r.2 r.0 f.0.items j) c.in-Ok-judge.is judged,
+      subst (λ (j : Result HeadSummary Judgement). Judges r.2 r.0 f.0.items j) c.in-Ok-judge.is judged,
     )
 
 pub returns-in-Err-judge-clause-some : goal.returns-in-Err-judge-clause-some
@@ -37,5 +37,5 @@ returns-in-Err-judge-clause-some c =
       record { method = r.0; path = r.1; version = r.2; headers = f.0.items },
       f.1.now,
       whole-head c.args.bytes.now r.0 r.1 r.2 r.3.now f.0.items f.1.now c.in-Ok.ensures.some c.in-Ok-read_fields.ensures.some,
-      subst (λ (j : Result HeadSummary Refusal). Judges r.2 r.0 f.0.items j) c.in-Err-judge.is judged,
+      subst (λ (j : Result HeadSummary Judgement). Judges r.2 r.0 f.0.items j) c.in-Err-judge.is judged,
     )

@@ -26,7 +26,7 @@ use Rattle.tiny_http_connection.proofs.ConnectionClosing.{asked_kept, asked_stat
 use Rattle.tiny_http_open_request.specs.declared.exchange.EndOfRequests.{EndOfRequests}
 use Rattle.tiny_http_connection.specs.Conversation.{State}
 use Rattle.tiny_http_connection.specs.Steps.{asked_to_close as closes_reached}
-use Rattle.tiny_http_body.specs.declared.body.Body.{Body}
+use Rattle.tiny_http_body.specs.declared.body.UnreadBody.{UnreadBody}
 use Rattle.tiny_http_open_request.specs.declared.open_request.OpenRequest.{OpenRequest}
 use Rattle.tiny_http_body.specs.Body.{remainder, is_long, GivesUp}
 use Rattle.tiny_http_body.proofs.BodyReads.{gives-up}
@@ -118,7 +118,7 @@ refuses-told status (Some (still.Waiting w)) = refl
 refuses-told status (Some still.Raw) = refl
 refuses-told status (Some (still.Upgraded b)) = refl
 
-abbrev body_at : Option (Option Unfinished) → Option Body
+abbrev body_at : Option (Option Unfinished) → Option UnreadBody
 body_at None = None
 body_at (Some u) = kept_body u
 
@@ -156,7 +156,7 @@ let-go : (r : Bool) → (r ≡ false → ⊥) → IsTrue r
 let-go true f = refl
 let-go false f = absurd (f refl)
 
-waits-still : {R W : Type 0} (n : ℕ) (w : OpenRequest Body) (c d : ConnectionState R W) → c ≡ d → slice_get c.requests n ≡ Some (Some (still.Waiting w)) → waiting_answer_context (slice_get d.requests n) ≡ None → ⊥
+waits-still : {R W : Type 0} (n : ℕ) (w : OpenRequest UnreadBody) (c d : ConnectionState R W) → c ≡ d → slice_get c.requests n ≡ Some (Some (still.Waiting w)) → waiting_answer_context (slice_get d.requests n) ≡ None → ⊥
 waits-still {R = R} {W = W} n w c d same e f =
     let P : ConnectionState R W → Type 0 = λ y. waiting_answer_context (slice_get y.requests n) ≡ None in
     let none : Some (final_context w (remainder w.body)) ≡ None = sym (ap waiting_answer_context e) ∙ subst P (sym same) f in cc

@@ -15,7 +15,7 @@ use Rattle.tiny_http_connection.proofs.ConnectionAsk.{StepIsAnswered}
 use Rattle.tiny_http_open_request.specs.OpenRequest.{final_context, request_check}
 use Rattle.tiny_http_body.specs.Body.{remainder, is_long, is_whole}
 use Rattle.tiny_http_connection.specs.Connection.{Kept, ConnectionState, kept}
-use Rattle.tiny_http_body.specs.declared.body.Body.{Body}
+use Rattle.tiny_http_body.specs.declared.body.UnreadBody.{UnreadBody}
 use Rattle.tiny_http_open_request.specs.declared.open_request.OpenRequest.{OpenRequest}
 use Rattle.tiny_http_connection.specs.declared.pending.Unfinished.{Unfinished}
 use Rattle.tiny_http_connection.specs.declared.pending.Unfinished.TheVariants as still
@@ -43,7 +43,7 @@ let-go true f = refl
 let-go false f = absurd (f refl)
 
 -- a protocol that isn't refused is ASCII
-ascii-of : (w : OpenRequest Body) (protocol : List ℕ) (code : ℕ) (whole : Bool) → is_err (request_check w protocol code whole) ≡ false → list_all is_ascii protocol ≡ true
+ascii-of : (w : OpenRequest UnreadBody) (protocol : List ℕ) (code : ℕ) (whole : Bool) → is_err (request_check w protocol code whole) ≡ false → list_all is_ascii protocol ≡ true
 ascii-of w protocol code whole = by (list_all is_ascii protocol) refl
   where
     by : (t : Bool) → list_all is_ascii protocol ≡ t → is_err (request_check w protocol code whole) ≡ false → list_all is_ascii protocol ≡ true
@@ -53,7 +53,7 @@ ascii-of w protocol code whole = by (list_all is_ascii protocol) refl
 view-none : {R W : Type 0} (n : ℕ) (c d : ConnectionState R W) → c ≡ d → waiting_answer_context (slice_get d.requests n) ≡ None → waiting_answer_context (slice_get c.requests n) ≡ None
 view-none {R = R} {W = W} n c d e h = let P : ConnectionState R W → Type 0 = λ y. waiting_answer_context (slice_get y.requests n) ≡ None in subst P (sym e) h
 
-waits-still : (w : OpenRequest Body) (o : Option (Option Unfinished)) → o ≡ Some (Some (still.Waiting w)) → waiting_answer_context o ≡ None → ⊥
+waits-still : (w : OpenRequest UnreadBody) (o : Option (Option Unfinished)) → o ≡ Some (Some (still.Waiting w)) → waiting_answer_context o ≡ None → ⊥
 waits-still w o e f = let none : Some (final_context w (remainder w.body)) ≡ None = sym (ap waiting_answer_context e) ∙ f in cc
 
 pub returns-then-refuses_upgrade : goal.returns-then-refuses_upgrade

@@ -1,5 +1,5 @@
 use Rattle.std.proofs.Common.{ap, ◌∙◌, sym, Some, arith, slice_set}
-use Rattle.tiny_http_body.specs.declared.body.Body.{Body}
+use Rattle.tiny_http_body.specs.declared.body.UnreadBody.{UnreadBody}
 use Rattle.tiny_http_open_request.specs.declared.open_request.OpenRequest.{OpenRequest}
 use Rattle.tiny_http_connection.specs.declared.pending.Unfinished.TheVariants as still
 use Rattle.tiny_http_connection.specs.Pending.{asked_to_close}
@@ -15,7 +15,7 @@ returns-in-Some-take-clause-requests c =
     let took = c.in-Some-take.ensures.some in
     put-in-place us c.take.new.self.requests c.replace.new.self n (still.Waiting c.in-Some-take.request) still.Raw (still.Waiting c.close.new.self) c.replace.result
     took.0 took.1 c.replace.ensures.some c.replace.ensures.none
-    ∙ ap (λ (w : OpenRequest Body). slice_set us n (Some (still.Waiting w))) c.close.ensures
+    ∙ ap (λ (w : OpenRequest UnreadBody). slice_set us n (Some (still.Waiting w))) c.close.ensures
     ∙ closing-set us n c.in-Some-take.request (omega (arith, at, len)) took.0
     ∙ ap (λ b. asked_to_close b us) (sym c.if-not-closes.false)
 

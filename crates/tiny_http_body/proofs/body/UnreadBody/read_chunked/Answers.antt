@@ -1,7 +1,7 @@
 use Rattle.std.proofs.Common.{rules}
 use Rattle.tiny_http_io.proofs.SourceGoesOn.{goes-on_given, goes-on_more}
 use Rattle.tiny_http_body.proofs.BodyReads.{goes-on_end}
-use Rattle.tiny_http_body.proofs.body.Body.read_chunked.Goals as goal
+use Rattle.tiny_http_body.proofs.body.UnreadBody.read_chunked.Goals as goal
 
 pub returns-in-Ok-eq0 : goal.returns-in-Ok-eq0
 returns-in-Ok-eq0 g c =

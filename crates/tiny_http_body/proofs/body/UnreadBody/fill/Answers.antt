@@ -5,7 +5,7 @@ use Rattle.tiny_http_io.specs.declared.device.Stop.TheVariants.{End}
 use Rattle.tiny_http_body.specs.Body.{Remaining, remaining, prepended_body, BodyStops, NoneRemains, ReadsOn}
 use Rattle.tiny_http_io.proofs.SourceGoesOn.{goes-on_more}
 use Rattle.tiny_http_body.proofs.BodyReads.{read-more, moves-more, stays-settled, bytes-none, stops-none-left, standing-more}
-use Rattle.tiny_http_body.proofs.body.Body.fill.Goals as goal
+use Rattle.tiny_http_body.proofs.body.UnreadBody.fill.Goals as goal
 
 pub loop-at-preserved : goal.loop-at-preserved
 loop-at-preserved g c =

@@ -1,17 +1,17 @@
 use Rattle.std.proofs.Common.{rules, ap, sym, subst, ◌∙◌}
 use Rattle.tiny_http_io.specs.Source.{SourceState}
-use Rattle.tiny_http_body.specs.declared.body.Body.{Body}
-use Rattle.tiny_http_body.specs.declared.body.Body.TheVariants.{Counted, Chunked}
+use Rattle.tiny_http_body.specs.declared.body.UnreadBody.{UnreadBody}
+use Rattle.tiny_http_body.specs.declared.body.UnreadBody.TheVariants.{Counted, Chunked}
 use Rattle.tiny_http_io.specs.Standing.{after_body, after_abandoned}
 use Rattle.tiny_http_body.specs.Body.{GivesUp}
-use Rattle.tiny_http_body.proofs.body.Body.give_up.Goals.{in-Counted, in-Chunked, in-Over, in-WithHead, in-Rest}
-use Rattle.tiny_http_body.proofs.body.Body.give_up.Goals as goal
+use Rattle.tiny_http_body.proofs.body.UnreadBody.give_up.Goals.{in-Counted, in-Chunked, in-Over, in-WithHead, in-Rest}
+use Rattle.tiny_http_body.proofs.body.UnreadBody.give_up.Goals as goal
 
 pub returns-clause-gives_up : goal.returns-clause-gives_up
 returns-clause-gives_up g c =
     let S = SourceState g.row.R.Denot in
     let old = c.args.source.now in
-    let P : Body → Type 0 = λ b. GivesUp b old c.match-self.source in
+    let P : UnreadBody → Type 0 = λ b. GivesUp b old c.match-self.source in
     elim c.match-self.branch [
       | in-Counted w ↦
           let Q : S → Type 0 = λ x. GivesUp (Counted w.in-Counted.left w.in-Counted.by_standard) old x in

@@ -1,7 +1,7 @@
 use Rattle.std.proofs.Common.{◌≡◌, ◌-◌, ◌<◌, ◌≤◌, true, false, length, take}
 use Rattle.tiny_http_io.specs.Source.{GoesOn}
 use Rattle.tiny_http_body.specs.Body.{remaining, prepended_body, is_streaming, body_standing, ReadsOn}
-use Rattle.tiny_http_body.proofs.body.Body.fill.Given as goal
+use Rattle.tiny_http_body.proofs.body.UnreadBody.fill.Given as goal
 
 abbrev pub invariant-loop-at : goal.invariant-loop-at
 invariant-loop-at g l = record {

@@ -4,11 +4,11 @@ use Rattle.std.specs.Option.{option_map}
 use Rattle.std.specs.IoError.{error_kind}
 use Rattle.std.specs.declared.io.ErrorKind.TheVariants.{UnexpectedEof}
 use Rattle.tiny_http_io.specs.declared.device.Stop.TheVariants.{End, Fault}
-use Rattle.tiny_http_body.specs.declared.body.Body.TheVariants.{Over}
+use Rattle.tiny_http_body.specs.declared.body.UnreadBody.TheVariants.{Over}
 use Rattle.tiny_http_body.specs.Body.{remaining, prepended_body, counted_remaining, cut_stop, BodyStops}
 use Rattle.tiny_http_io.proofs.FeedPartsLemmas.{nothing-given}
 use Rattle.tiny_http_body.proofs.BodyReads.{counted-bytes, counted-none, body-cut-is, cut-fault, cut-stops, taken-stops, read-nothing}
-use Rattle.tiny_http_body.proofs.body.Body.read_counted.Goals as goal
+use Rattle.tiny_http_body.proofs.body.UnreadBody.read_counted.Goals as goal
 
 pub returns-then-left-eq0 : goal.returns-then-left-eq0
 returns-then-left-eq0 g c =
