@@ -279,10 +279,7 @@ impl UnreadBody {
     pub fn holds_reader(&self) -> bool
         ensures { result ≡ is_streaming self.now }
     {
-        matches!(
-            self,
-            UnreadBody::Counted { .. } | UnreadBody::Chunked(_) | UnreadBody::Rest
-        )
+        !matches!(self, UnreadBody::Over(_) | UnreadBody::WithHead(_))
     }
 
     /// What is left of it, if its request is finished now.

@@ -62,7 +62,7 @@ impl StandardFault {
 #[derive(Drop)]
 pub enum StandardRead {
     /// A whole head.
-    Whole(Head),
+    Whole(StandardHead),
     /// A head that is refused.
     Refused(StandardFault),
     /// More bytes are needed.
