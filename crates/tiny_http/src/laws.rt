@@ -1,6 +1,6 @@
 //! The laws of the definitions, each the contract of a function that does nothing.
 
-pub use tiny_http_client_laws::laws::{
+pub use tiny_http_connection_laws::laws::{
     close_is_the_last, conversation_is_read, response_can_be_read, slots_are_read,
     steps_can_be_read,
 };

@@ -8,3 +8,4 @@ pub mod ReadableLemmas
 pub mod HeaderTextsReadable
 pub mod AddHeaderRows
 pub mod SendingLemmas
+mod ByStandardLemmas

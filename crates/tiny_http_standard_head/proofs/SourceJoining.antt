@@ -267,7 +267,7 @@ left-behind f new rest n goes is long =
 head-length : (limit left : ℕ) (bytes rest : List ℕ) → left ≤ limit → IsSpent limit bytes left rest → limit - left + length (take left rest) ≡ length (take limit bytes)
 head-length limit left bytes rest le spent = grind (arith, le, spent, length-take)
 
-pub reads-whole_head : (limit mid left : ℕ) (old at new : Option Feed) (start : Method × List ℕ × HTTPVersion) (headers : Vec Header) (h : Head) → left ≤ limit → GoesOn old new → ReadsStart limit mid old at (Ok start) → ReadsFields mid left at new (Ok headers)
+pub reads-whole_head : (limit mid left : ℕ) (old at new : Option Feed) (start : Method × List ℕ × HTTPVersion) (headers : Vec Header) (h : StandardHead) → left ≤ limit → GoesOn old new → ReadsStart limit mid old at (Ok start) → ReadsFields mid left at new (Ok headers)
     → message_of h ≡ record { method = start.0; path = start.1; version = start.2; headers = headers.items } → h.length ≡ limit - left → Judges h.version h.method h.headers.items (Ok h.summary) → ReadsFrom limit old new (read.Whole h)
 reads-whole_head limit mid left None at new start headers h le goes s k is long judged = tt
 reads-whole_head limit mid left (Some f) at new start headers h le goes s k is long judged =

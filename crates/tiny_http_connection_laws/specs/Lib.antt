@@ -1,2 +1,3 @@
+pub mod InShort
 pub mod ClientReads
 pub mod Closes

@@ -1,7 +1,11 @@
-//! The client theorem.
-ghost use Rattle.std.specs.Prelude.{◌≡◌, ◌<◌, ◌≤◌, ◌^◌, length, ℕ, Bool, false, List, [], Option, None, IsTrue};
+//! What follows from the connection theorem: what it says in short words, and what a client reads.
+ghost use Rattle.std.specs.Prelude.{◌≡◌, ◌<◌, ◌≤◌, ◌^◌, ◌+◌, ◌++◌, length, map, slice_get, ℕ, Bool, false, List, []};
+ghost use Rattle.std.specs.Prelude.{Option, Some, None, IsTrue};
 ghost use Rattle.std.specs.List.{AllByRecursion, list_all};
-ghost use Rattle.tiny_http_io.specs.Device.{Feed, Sink};
+ghost use Rattle.tiny_http_io.specs.Device.{Feed, Sink, IsFront};
+ghost use Rattle.tiny_http_head.specs.Heads.{Message};
+ghost use Rattle.tiny_http_body.specs.declared.framing.Framing.{Framing};
+ghost use Rattle.tiny_http_open_request.specs.Pipeline.{Request, Asks};
 ghost use Rattle.tiny_http_connection.specs.Slots.{is_finished};
 ghost use Rattle.tiny_http_connection.specs.Steps.{ReplyValue};
 ghost use Rattle.tiny_http_body.specs.declared.framing.Profile.{Profile};
@@ -9,11 +13,54 @@ ghost use Rattle.tiny_http_connection.specs.Conversation.{TimedValue, IsConversa
 ghost use Rattle.tiny_http_client.specs.ClientAnswer.{ClientAnswer, ReadsAnswers};
 ghost use Rattle.tiny_http_client.specs.SentTexts.{methods, whole_answers, remains};
 ghost use Rattle.tiny_http_response.specs.Readable.{IsReadable};
-ghost use Rattle.tiny_http_client_laws.specs.Closes.{NoneFollowsClose, IsReadAsSaid};
-ghost use Rattle.tiny_http_client_laws.specs.ClientReads.{headers_printed, CanBeRead, AreReadable, CanBeReadAt};
-ghost use Rattle.tiny_http_client_laws.specs.ClientReads.{IsOutputOf, HaveAnswers, ReadsNumbers, sent_texts};
+ghost use Rattle.tiny_http_connection_laws.specs.InShort.{handed, requests_from, ReadsBody, sent, segment_of};
+ghost use Rattle.tiny_http_connection_laws.specs.Closes.{NoneFollowsClose, IsReadAsSaid};
+ghost use Rattle.tiny_http_connection_laws.specs.ClientReads.{headers_printed, CanBeRead, AreReadable, CanBeReadAt};
+ghost use Rattle.tiny_http_connection_laws.specs.ClientReads.{IsOutputOf, HaveAnswers, ReadsNumbers, sent_texts};
 
 use tiny_http_response::response::Response;
+
+/// THE REQUESTS ARE THE PIPELINE'S: those that were handed out are the first of the pipeline that stands in the
+/// client's bytes, in its order, each under its place there. None is left out, added or changed.
+pub fn requests_begin_the_pipeline()
+    ensures first { (p : Profile) (feed : Feed) (before after : Sink) (steps : List TimedValue)
+        (replies : List ReplyValue) (held : List ℕ) (ended : Bool) (unread : Option Feed)
+        → (c : IsConversation p feed before steps replies after held ended unread)
+        → (later : List (ℕ × Message × Framing))
+        × (requests_from 0 c.items ≡ handed replies ++ later) }
+{}
+
+/// THE READS ARE THE BODY'S: the reads of each request give the next bytes of its own body, one after another. An end
+/// is told only behind the last byte of a whole body, and a fault only behind the last byte of one that breaks off.
+pub fn reads_give_the_body()
+    ensures next { (p : Profile) (feed : Feed) (before after : Sink) (steps : List TimedValue)
+        (replies : List ReplyValue) (held : List ℕ) (ended : Bool) (unread : Option Feed)
+        → (c : IsConversation p feed before steps replies after held ended unread)
+        → (k : ℕ) (r : Request)
+        → slice_get c.items k ≡ Some (Asks r)
+        → ReadsBody k r r.body steps replies }
+{}
+
+/// THE OUTPUT IS THE SEGMENTS: what was taken and is held begins the segments in the order of their numbers, each whole
+/// up to the first that isn't, after which nothing follows. It is all of that where the writer did not fail. There is
+/// one segment for each item of the pipeline that was reached: a request, or a refused head.
+pub fn output_joins_the_segments()
+    ensures front { (p : Profile) (feed : Feed) (before after : Sink) (steps : List TimedValue)
+        (replies : List ReplyValue) (held out : List ℕ) (ended : Bool) (unread : Option Feed)
+        → (c : IsConversation p feed before steps replies after held ended unread)
+        → IsOutputOf after held out
+        → IsFront out (sent (map segment_of c.end.reached.slots)) }
+    ensures whole { (p : Profile) (feed : Feed) (before after : Sink) (steps : List TimedValue)
+        (replies : List ReplyValue) (held out : List ℕ) (ended : Bool) (unread : Option Feed)
+        → (c : IsConversation p feed before steps replies after held ended unread)
+        → IsOutputOf after held out
+        → after.failures ≡ before.failures
+        → out ≡ sent (map segment_of c.end.reached.slots) }
+    ensures each { (p : Profile) (feed : Feed) (before after : Sink) (steps : List TimedValue)
+        (replies : List ReplyValue) (held : List ℕ) (ended : Bool) (unread : Option Feed)
+        → (c : IsConversation p feed before steps replies after held ended unread)
+        → length c.end.reached.slots + length c.end.reached.rest ≡ length c.items }
+{}
 
 /// THE CLIENT THEOREM, of the contract of `tiny_http_connection::driver::run` alone: a client that knows only the
 /// methods reads the output as one answer after another, in the order of the numbers.

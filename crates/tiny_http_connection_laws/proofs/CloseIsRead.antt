@@ -27,9 +27,9 @@ use Rattle.tiny_http_open_request.specs.Pipeline.{Item, Asks, Refuses, Refusal, 
 use Rattle.tiny_http_response.specs.ResponseValue.{ResponseValue}
 use Rattle.tiny_http_connection.specs.Slots.{Slot, Stage, Unanswered, Answered, ByServer, Raw, Upgraded, printing_for, server_response, stage_text}
 use Rattle.tiny_http_client.specs.ClientAnswer.{ClientAnswer}
-use Rattle.tiny_http_client_laws.specs.ClientReads.{IsReadableStage, CanBeReadAt, answer_if_whole, stage_answer}
-use Rattle.tiny_http_client_laws.specs.Closes.{is_close_printed, says_close_by, says_close, reads_close, OwnsNoConnection, IsReadAsSaid}
-use Rattle.tiny_http_client_laws.proofs.StepsAdd.{AllSound, is_standard_item}
+use Rattle.tiny_http_connection_laws.specs.ClientReads.{IsReadableStage, CanBeReadAt, answer_if_whole, stage_answer}
+use Rattle.tiny_http_connection_laws.specs.Closes.{is_close_printed, says_close_by, says_close, reads_close, OwnsNoConnection, IsReadAsSaid}
+use Rattle.tiny_http_connection_laws.proofs.StepsAdd.{AllSound, is_standard_item}
 
 abbrev closing_in : List Header → Bool
 closing_in headers = has_element (codes "Connection") (codes "close") headers

@@ -1,5 +1,5 @@
-use Rattle.tiny_http_client_laws.proofs.ConversationReads.{all-sent, all-whole, all-complete}
-use Rattle.tiny_http_client_laws.proofs.laws.slots_are_read.Goals as goal
+use Rattle.tiny_http_connection_laws.proofs.ConversationReads.{all-sent, all-whole, all-complete}
+use Rattle.tiny_http_connection_laws.proofs.laws.slots_are_read.Goals as goal
 
 pub returns-clause-output : goal.returns-clause-output
 returns-clause-output c = λ p feed before after steps replies held out ended unread k can o. all-sent p feed before after steps replies held out ended unread k can o

@@ -1,6 +1,6 @@
-use Rattle.tiny_http_client_laws.proofs.CloseSteps.{close-is_last}
-use Rattle.tiny_http_client_laws.proofs.ConversationReads.{all-closes_read}
-use Rattle.tiny_http_client_laws.proofs.laws.close_is_the_last.Goals as goal
+use Rattle.tiny_http_connection_laws.proofs.CloseSteps.{close-is_last}
+use Rattle.tiny_http_connection_laws.proofs.ConversationReads.{all-closes_read}
+use Rattle.tiny_http_connection_laws.proofs.laws.close_is_the_last.Goals as goal
 
 pub returns-clause-none : goal.returns-clause-none
 returns-clause-none c = λ feed before after steps replies held ended unread k. close-is_last feed before after steps replies held ended unread k

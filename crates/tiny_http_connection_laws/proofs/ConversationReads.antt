@@ -9,17 +9,17 @@ use Rattle.tiny_http_connection.specs.Steps.{ReplyValue}
 use Rattle.tiny_http_connection.specs.Conversation.{TimedValue, start_state, IsConversation}
 use Rattle.tiny_http_client.specs.ClientAnswer.{ClientAnswer, ReadsAnswers}
 use Rattle.tiny_http_client.specs.SentTexts.{methods, whole_answers, remains}
-use Rattle.tiny_http_client_laws.specs.ClientReads.{goes_by_standard, IsOutputOf, HaveAnswers, ReadsNumbers, sent_texts}
-use Rattle.tiny_http_client_laws.proofs.ItemsFit.{items-fit}
-use Rattle.tiny_http_client_laws.proofs.RunFronts.{IsSoundState, run-sound, start-sound, output-front, output-all, output-unended}
-use Rattle.tiny_http_client_laws.proofs.ReadableSteps.{CanAllBeRead}
-use Rattle.tiny_http_client_laws.proofs.SlotsAreRead.{slots-are-read, slots-are-read-all, all-answered}
+use Rattle.tiny_http_connection_laws.specs.ClientReads.{goes_by_standard, IsOutputOf, HaveAnswers, ReadsNumbers, sent_texts}
+use Rattle.tiny_http_connection_laws.proofs.ItemsFit.{items-fit}
+use Rattle.tiny_http_connection_laws.proofs.RunFronts.{IsSoundState, run-sound, start-sound, output-front, output-all, output-unended}
+use Rattle.tiny_http_connection_laws.proofs.ReadableSteps.{CanAllBeRead}
+use Rattle.tiny_http_connection_laws.proofs.SlotsAreRead.{slots-are-read, slots-are-read-all, all-answered}
 use Rattle.std.specs.List.{AllByRecursion}
 use Rattle.tiny_http_body.specs.declared.framing.Profile.TheVariants.{Standard}
-use Rattle.tiny_http_client_laws.specs.Closes.{IsReadAsSaid}
-use Rattle.tiny_http_client_laws.proofs.CloseIsRead.{all-read}
+use Rattle.tiny_http_connection_laws.specs.Closes.{IsReadAsSaid}
+use Rattle.tiny_http_connection_laws.proofs.CloseIsRead.{all-read}
 
-end-sound : (p : Profile) (feed : Feed) (before after : Sink) (steps : List TimedValue) (replies : List ReplyValue) (held : List ℕ) (ended : Bool) (unread : Option Feed)
+pub end-sound : (p : Profile) (feed : Feed) (before after : Sink) (steps : List TimedValue) (replies : List ReplyValue) (held : List ℕ) (ended : Bool) (unread : Option Feed)
     → (c : IsConversation p feed before steps replies after held ended unread) → IsSoundState (goes_by_standard p) c.end
 end-sound p feed before after steps replies held ended unread c =
     run-sound (goes_by_standard p) (start_state c.items) c.end steps replies (start-sound (goes_by_standard p) c.items (items-fit p (Some feed.bytes) feed.stop c.items c.pipeline)) c.run

@@ -28,8 +28,8 @@ use Rattle.tiny_http_client.specs.SentTexts.{BreaksOff, IsSentText, joined_texts
 use Rattle.tiny_http_client.proofs.TextLaw.{read_back}
 use Rattle.tiny_http_client.proofs.BrokenLemmas.{broken-off, nothing-off, passed-over, interim-head}
 use Rattle.tiny_http_client.proofs.SentTextsLemmas.{reads, reads-all, Reads}
-use Rattle.tiny_http_client_laws.specs.ClientReads.{counts_as, goes_by_standard, offer_headers, headers_printed, CanBeRead, IsReadableStage, CanBeReadAt, answer_if_whole, stage_answer, sent_text, sent_texts, HaveAnswers}
-use Rattle.tiny_http_client_laws.proofs.StepsAdd.{ItemFits, AllSound}
+use Rattle.tiny_http_connection_laws.specs.ClientReads.{counts_as, goes_by_standard, offer_headers, headers_printed, CanBeRead, IsReadableStage, CanBeReadAt, answer_if_whole, stage_answer, sent_text, sent_texts, HaveAnswers}
+use Rattle.tiny_http_connection_laws.proofs.StepsAdd.{ItemFits, AllSound}
 
 -- a HEAD is a HEAD
 same-head : (m : Method) → is_head_method m ≡ is_head m

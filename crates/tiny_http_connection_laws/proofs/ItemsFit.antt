@@ -17,8 +17,8 @@ use Rattle.tiny_http_standard_head.specs.Judging.{is_1_0}
 use Rattle.tiny_http_standard_head.specs.Heads.{is_begun, Reading, ReadWhole, ReadBad, ReadOpen}
 use Rattle.tiny_http_body.specs.Framing.{head_limit}
 use Rattle.tiny_http_open_request.specs.Pipeline.{place_feed, Item, Asks, Refuses, Manner, plainly, by_the_standard, Refusal, BadRequest, RequestTimeout, ExpectationFailed, HeaderFieldsTooLarge, VersionNotSupported, RequestLineTooLong, CodingNotImplemented, MajorVersionNotSupported, Place, is_timed_out, is_cut_with_head, body_length_or_0, served_version, served_message, standard_framing, standard_cut, standard_heading, long_refusal, RulesHeadAt, is_head_method, BeginsWithin, IsTooLarge, IsRefused, Heading, Silence, Refused, Heads, HeadAt, FoundAt, ends_too_new, Pipeline}
-use Rattle.tiny_http_client_laws.specs.ClientReads.{goes_by_standard}
-use Rattle.tiny_http_client_laws.proofs.StepsAdd.{VersionFits, ItemFits, AllFit}
+use Rattle.tiny_http_connection_laws.specs.ClientReads.{goes_by_standard}
+use Rattle.tiny_http_connection_laws.proofs.StepsAdd.{VersionFits, ItemFits, AllFit}
 
 -- a version that a text names
 fits-if : (t : Bool) (major minor : ℕ) (o : Option HTTPVersion) (v : HTTPVersion) → major ≤ 255 → minor ≤ 255 → (o ≡ Some v → VersionFits v) → (if t then Some (version major minor) else o) ≡ Some v → VersionFits v

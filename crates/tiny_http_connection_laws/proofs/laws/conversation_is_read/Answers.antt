@@ -1,7 +1,7 @@
-use Rattle.tiny_http_client_laws.proofs.ConversationReads.{all-sent, all-whole, all-complete}
-use Rattle.tiny_http_client_laws.proofs.ReadableSteps.{steps-can_be_read, run-unfailed}
+use Rattle.tiny_http_connection_laws.proofs.ConversationReads.{all-sent, all-whole, all-complete}
+use Rattle.tiny_http_connection_laws.proofs.ReadableSteps.{steps-can_be_read, run-unfailed}
 use Rattle.std.proofs.Common.{false}
-use Rattle.tiny_http_client_laws.proofs.laws.conversation_is_read.Goals as goal
+use Rattle.tiny_http_connection_laws.proofs.laws.conversation_is_read.Goals as goal
 
 pub returns-clause-output : goal.returns-clause-output
 returns-clause-output c = λ p feed before after steps replies held out ended unread k can o.

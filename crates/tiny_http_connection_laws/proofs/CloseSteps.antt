@@ -19,10 +19,10 @@ use Rattle.tiny_http_connection.specs.Slots.{Slot, Stage, Unanswered, Answered, 
 use Rattle.tiny_http_connection.specs.Steps.{StepValue, Ask, AsReader, Read, Respond, IntoWriter, Write, Flush, Upgrade, Finish, Drop, ReplyValue, Given, Done, NoSuch, NotYet, Ended, Refused, WriterUse, Unused, Unreported, Outcome, Reached, unchanged, changes, ends_asking, is_last_with_stream, finished_as, written_to, stage_closed, accepts_step, needs_turn, use_in_turn, asked_to_close, answers, answers_slot, asks_from, ask, effect, at_item, at_slot, at_number, outcome}
 use Rattle.tiny_http_connection.specs.Conversation.{State, FindsNoMemory, IsPassedOver, StepsTo, TimedValue, Run, start_state, IsConversation}
 use Rattle.tiny_http_connection.proofs.ConnectionReader.{last-snoc}
-use Rattle.tiny_http_client_laws.specs.Closes.{says_close_by, NoneFollowsClose}
-use Rattle.tiny_http_client_laws.proofs.StepsAdd.{number_of, told, by-respond, by-upgrade, by-drop}
-use Rattle.tiny_http_client_laws.proofs.PipelineEnds.{lasts, AllEnd, Owes, pipeline-ends, pipeline-owes}
-use Rattle.tiny_http_client_laws.proofs.CloseIsLast.{IsPassedRequest, IsPassed, IsLastRequest, IsLastItem, Fit, Inv, InvAt, InvOf, no-both, so-false, or-none, not-true, weaken, snoc-fit, closing-fit, fit-none, change, change-kept, finishes, streams}
+use Rattle.tiny_http_connection_laws.specs.Closes.{says_close_by, NoneFollowsClose}
+use Rattle.tiny_http_connection_laws.proofs.StepsAdd.{number_of, told, by-respond, by-upgrade, by-drop}
+use Rattle.tiny_http_connection_laws.proofs.PipelineEnds.{lasts, AllEnd, Owes, pipeline-ends, pipeline-owes}
+use Rattle.tiny_http_connection_laws.proofs.CloseIsLast.{IsPassedRequest, IsPassed, IsLastRequest, IsLastItem, Fit, Inv, InvAt, InvOf, no-both, so-false, or-none, not-true, weaken, snoc-fit, closing-fit, fit-none, change, change-kept, finishes, streams}
 
 keeps : (old : Reached) (reply : ReplyValue) → InvAt old → InvOf (unchanged old reply)
 keeps old reply h = h

@@ -11,7 +11,7 @@ use Rattle.tiny_http_open_request.specs.Pipeline.{Item, Asks, Refuses, Request}
 use Rattle.tiny_http_response.specs.ResponseValue.{ResponseValue, upgrade_text}
 use Rattle.tiny_http_connection.specs.Slots.{is_last_once_finished, closes_now, is_last_item, refuses_response, Slot, Stage, Unanswered, Answered, ByServer, Raw, Upgraded, printing_for, to_request, text_if, stage_text, opening, segment, is_stage_finished, turn_has_come, joined, is_output_broken, rest_of, as_stream, upgraded_slot, refuses_upgrade, last_closing, is_finished, closing}
 use Rattle.tiny_http_connection.specs.Steps.{StepValue, Ask, AsReader, Read, Respond, IntoWriter, Write, Flush, Upgrade, Finish, Drop, ReplyValue, Given, Done, Refused, NoSuch, WriterUse, Unused, Unreported, Reported, Outcome, Reached, unchanged, changes, ends_asking, is_last_with_stream, read_reply, finished_as, written_to, stage_closed, fault_in, fault_reply, Fault, accepts_step, needs_turn, use_in_turn, effect, answers, answers_slot, asked_to_close}
-use Rattle.tiny_http_client_laws.proofs.JoinedGrows.{SendsMore, set-grows, set-own, AddsOwn, Adds, in-turn-ownless, taken-unfinished}
+use Rattle.tiny_http_connection_laws.proofs.JoinedGrows.{SendsMore, set-grows, set-own, AddsOwn, Adds, in-turn-ownless, taken-unfinished}
 use Rattle.tiny_http_connection.proofs.ConnectionClosing.{by-closing, closing-item, closing-stage, joined-closing, broken-closing}
 
 -- a version fits its bytes

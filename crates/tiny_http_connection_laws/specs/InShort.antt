@@ -1,0 +1,68 @@
+-- What the connection theorem says in short words, of its replies and its output alone. The laws of this crate that
+-- carry these definitions need no other: not how a step is judged, and not what the driver keeps.
+use Rattle.std.specs.Prelude.{◌≡◌, ℕ, ◌+◌, ◌⊎◌, ⊤, ◌==◌, Bool, not, ◌&&◌, List, [], ◌∷◌, ◌++◌, take, drop, MatchBool}
+use Rattle.std.specs.Prelude.{if◌then◌else◌}
+use Rattle.tiny_http_io.specs.declared.device.Stop.TheVariants.{Fault as Faults}
+use Rattle.tiny_http_io.specs.Device.{Feed, whole_feed}
+use Rattle.tiny_http_head.specs.Heads.{Message}
+use Rattle.tiny_http_body.specs.declared.framing.Framing.{Framing}
+use Rattle.tiny_http_open_request.specs.Pipeline.{Item, Asks, Refuses, Request}
+use Rattle.tiny_http_connection.specs.Slots.{Slot, segment, is_slot_broken, is_finished}
+use Rattle.tiny_http_connection.specs.Steps.{StepValue, Read, Upgrade, ReplyValue, Handed, Given, Fault, Done}
+use Rattle.tiny_http_connection.specs.Conversation.{TimedValue}
+
+-- ---- which requests are handed out
+
+-- the requests that the replies hand out, each with its number
+abbrev pub handed : List ReplyValue → List (ℕ × Message × Framing)
+handed [] = []
+handed (Handed k message framing ∷ replies) = (k, message, framing) ∷ handed replies
+handed (_ ∷ replies) = handed replies
+
+-- the requests of a pipeline, each with its place, if its first item has this one; a refused head has a place, too
+abbrev pub requests_from : ℕ → List Item → List (ℕ × Message × Framing)
+requests_from k [] = []
+requests_from k (Asks r ∷ items) = (k, r.message, r.framing) ∷ requests_from (k + 1) items
+requests_from k (Refuses refusal manner no_body last ∷ items) = requests_from (k + 1) items
+
+-- ---- what a body gives
+
+-- A read of at most n bytes of which this is left, and what is left then: it gives the next bytes, and none only where
+-- n is 0 or the end is all that is left; or it tells the fault that is all that is left. Another reply took nothing.
+abbrev pub ReadsNext : ℕ → Feed → ReplyValue → Feed → Type 0
+ReadsNext n left (Given bytes) next =
+    (bytes ≡ take n left.bytes)
+    × (next ≡ record { bytes = drop n left.bytes; stop = left.stop })
+    × (bytes ≡ [] → (n ≡ 0) ⊎ (left ≡ whole_feed []))
+ReadsNext n left (Fault kind) next = (left ≡ record { bytes = []; stop = Faults kind }) × (next ≡ left)
+ReadsNext n left _ next = next ≡ left
+
+-- What is left of the body of request k, after a step with this reply. An upgrade by the standard goes on to the bytes
+-- behind the request.
+abbrev pub LeavesBody : ℕ → Request → Feed → StepValue → ReplyValue → Feed → Type 0
+LeavesBody k r left (Read j n) reply next = MatchBool (j == k) (ReadsNext n left reply next) (next ≡ left)
+LeavesBody k r left (Upgrade j protocol response) Done next =
+    next ≡ (if (j == k && r.framing.by_standard) then r.behind else left)
+LeavesBody k r left _ reply next = next ≡ left
+
+-- THE READS OF A BODY: each step leaves what the next one begins with.
+abbrev pub ReadsBody : ℕ → Request → Feed → List TimedValue → List ReplyValue → Type 0
+ReadsBody k r left (s ∷ steps) (reply ∷ replies) =
+    (next : Feed) × LeavesBody k r left s.1 reply next × ReadsBody k r next steps replies
+ReadsBody k r left _ _ = ⊤
+
+-- ---- what is sent
+
+-- the bytes that were made for one number, and whether they are all, so that those of the next number follow
+pub record Segment : Type 0 where
+  pub bytes : List ℕ
+  pub is_whole : Bool
+
+-- the segments one after another up to the first that isn't whole, after which nothing follows
+abbrev pub sent : List Segment → List ℕ
+sent [] = []
+sent (s ∷ segments) = s.bytes ++ (if s.is_whole then sent segments else [])
+
+-- the segment of a number: whole once the number is finished, unless its data broke off
+abbrev pub segment_of : Slot → Segment
+segment_of s = record { bytes = segment s; is_whole = is_finished s && not (is_slot_broken s) }
