@@ -211,8 +211,7 @@ holds_next_head r = r.framing.asks_upgrade && not r.framing.is_last
 abbrev pub remainder_of : Request → ℕ → Bool → Remainder
 remainder_of r given end_reported =
     if (is_chunked r.framing.form && not end_reported)
-    ||
-    (body_finished r.framing.form (body_length_or_0 r.framing) given end_reported
+    || (body_finished r.framing.form (body_length_or_0 r.framing) given end_reported
     && not (is_end r.body.stop)) then left.Endless else
     if is_counted r.framing.form
     && (not end_reported && nat_lt MOST_SKIPPED (body_length_or_0 r.framing - given)) then left.Long

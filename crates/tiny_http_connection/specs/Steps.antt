@@ -105,8 +105,8 @@ abbrev pub ask : HttpDate → Reached → Outcome
 ask date old =
     if old.asking_ended then unchanged old Ended else
     if last_holds_reader (last_slot old.slots) then unchanged old NotYet else
-    if last_was_abandoned (last_slot old.slots) then record
-    { reply = Ended; slots = old.slots; rest = old.rest; asking_ended = true; writer = Unused } else
+    if last_was_abandoned (last_slot old.slots)
+    then record { reply = Ended; slots = old.slots; rest = old.rest; asking_ended = true; writer = Unused } else
     asks_from date Unused old.slots old.rest
 
 -- the bytes that a read gives, or how the body closes

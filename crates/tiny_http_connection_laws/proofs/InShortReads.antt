@@ -430,3 +430,217 @@ refused-reads k r feed old j s t protocol response turn here same h =
     by : (b : Bool) (x : ReplyValue) → Planned (use_in_turn b) Refused x → LeavesBody k r feed (Upgrade j protocol response) x feed
     by true x p = let L : ReplyValue → Type 0 = λ y. LeavesBody k r feed (Upgrade j protocol response) y feed in subst L (sym p) refl
     by false x p = let L : ReplyValue → Type 0 = λ y. LeavesBody k r feed (Upgrade j protocol response) y feed in subst L (sym p) refl
+
+-- ---- what a number does in its time
+
+effect-reads : (k : ℕ) (r : Request) (feed : Feed) (found : Bool) (date : HttpDate) (old : Reached) (q : Request) (s : Slot) (turn : Bool) (step : StepValue)
+    → slice_get old.slots (number_of step) ≡ Some s → s.item ≡ Asks q → accepts_step s.stage s.owed step ≡ true → Stands k r feed old.slots old.rest
+    → Reads k r feed step (effect found date old q s turn step)
+effect-reads k r feed found date old q s turn Ask here is takes h = idle k r feed Ask old NoSuch refl h
+effect-reads k r feed found date old q s turn (AsReader j) here is takes h =
+    let step = AsReader j in
+    let t : Slot = record s { owed = false; continued = Some date } in
+    reads-if k r feed step s.owed (changes old j t Done Unreported) (unchanged old Done)
+    (λ o. changed k r feed step old j s t Done Unreported (λ x. refl) here (record { item = refl; given = refl; stage = λ v. v }) h)
+    (λ o. idle k r feed step old Done refl h)
+effect-reads k r feed found date old q s turn (Read j n) here is takes h =
+    let left = (rest_of q s.given).bytes in
+    let t : Slot = record s { given = s.given + length (take n left); end_reported = s.end_reported || nat_lt (length left) n } in
+    reads-if k r feed (Read j n) (n == 0) (unchanged old (Given [])) (changes old j t (read_reply n left q.body.stop) Unused)
+    (λ e. idle k r feed (Read j n) old (Given []) (zero-read k r feed j n e) h)
+    (λ e. read-effect k r feed old q s j n here is e h)
+effect-reads k r feed found date old q s turn (Respond j response) here is takes h =
+    let step = Respond j response in
+    let closes = closes_now q s.closes s.owed s.given s.end_reported in
+    let d = finished_as closes s ByServer in
+    let ends = is_last_once_finished q s.owed s.given s.end_reported in
+    let refused = changes old j d Refused (use_in_turn turn) in
+    reads-if k r feed step (refuses_response q response) (ends_asking ends refused) (answers found date (asked_to_close response.answer.closes old) q j response)
+    (λ e. reads-ended k r feed step ends refused (changed k r feed step old j s d Refused (use_in_turn turn) (λ x. refl) here (dropped-same closes s) h))
+    (λ e. answered-reads k r feed found date (asked_to_close response.answer.closes old) q j response (asked-stands k r feed old response.answer.closes h))
+effect-reads k r feed found date old q s turn (IntoWriter j) here is takes h =
+    let step = IntoWriter j in
+    let t : Slot = record s { stage = Raw [] false; given_up = true; owed = false } in
+    reads-ended k r feed step (is_last_with_stream q s.owed s.given s.end_reported) (changes old j t Done Unused)
+    (changed k r feed step old j s t Done Unused (λ x. refl) here (record { item = refl; given = refl; stage = λ v. cc }) h)
+effect-reads k r feed found date old q s turn (Write j bytes) here is takes h =
+    let t : Slot = record s { stage = written_to bytes s.stage } in
+    changed k r feed (Write j bytes) old j s t Done (Reported bytes None false Fault) (λ x. refl) here (record { item = refl; given = refl; stage = λ v. written-stage bytes s.stage v }) h
+effect-reads k r feed found date old q s turn (Flush j) here is takes h =
+    changed k r feed (Flush j) old j s s Done (Reported [] None true Fault) (λ x. refl) here (record { item = refl; given = refl; stage = λ v. v }) h
+effect-reads k r feed found date old q s turn (Upgrade j protocol response) here is takes h =
+    let step = Upgrade j protocol response in
+    let closes = closes_now q s.closes s.owed s.given s.end_reported in
+    let d = finished_as closes s ByServer in
+    let ends = is_last_once_finished q s.owed s.given s.end_reported in
+    let refused = changes old j d Refused (use_in_turn turn) in
+    let stage = Upgraded protocol response date [] false in
+    let goes = is_last_with_stream q s.owed s.given s.end_reported in
+    let u = by-upgrade s.stage s.owed j protocol response takes in
+    reads-if k r feed step (refuses_upgrade q s protocol response) (ends_asking ends refused) (ends_asking goes (changes old j (upgraded_slot q s stage) Done Unreported))
+    (λ e. reads-ended k r feed step ends refused (refused-reads k r feed old j s d protocol response turn here (dropped-same closes s) h))
+    (λ e. reads-ended k r feed step goes (changes old j (upgraded_slot q s stage) Done Unreported) (upgrade-effect k r feed old q s j protocol response stage here is u (λ v. cc) h))
+effect-reads k r feed found date old q s turn (Finish j) here is takes h =
+    let t = finished_as s.closes s (stage_closed s.stage) in
+    changed k r feed (Finish j) old j s t Done (use_in_turn turn) (λ x. refl) here (finished-same s.closes s (stage_closed s.stage) (λ v. closed-stage s.stage v)) h
+effect-reads k r feed found date old q s turn (Drop j) here is takes h =
+    let step = Drop j in
+    let closes = closes_now q s.closes s.owed s.given s.end_reported in
+    let d = finished_as closes s ByServer in
+    reads-ended k r feed step (is_last_once_finished q s.owed s.given s.end_reported) (changes old j d Done (use_in_turn turn))
+    (changed k r feed step old j s d Done (use_in_turn turn) (λ x. refl) here (dropped-same closes s) h)
+
+not-true : {b : Bool} → not b ≡ false → b ≡ true
+not-true {b = true} e = refl
+not-true {b = false} e = cc
+
+number-reads : (k : ℕ) (r : Request) (feed : Feed) (found : Bool) (date : HttpDate) (old : Reached) (step : StepValue) → Stands k r feed old.slots old.rest → Reads k r feed step (at_number found date old (number_of step) step)
+number-reads k r feed found date old step h = go (slice_get old.slots (number_of step)) refl
+  where
+    item : (s : Slot) (i : Item) → slice_get old.slots (number_of step) ≡ Some s → s.item ≡ i → Reads k r feed step (at_item found date old (number_of step) step s i)
+    item s (Refuses refusal manner no_body last) here is = idle k r feed step old NoSuch (no-such k r feed step) h
+    item s (Asks q) here is =
+        let turn = turn_has_come (number_of step) old.slots in
+        reads-if k r feed step (not (accepts_step s.stage s.owed step)) (unchanged old NoSuch)
+        (if (needs_turn q s step && not turn) then unchanged old NotYet else effect found date old q s turn step)
+        (λ no. idle k r feed step old NoSuch (no-such k r feed step) h)
+        (λ takes. reads-if k r feed step (needs_turn q s step && not turn) (unchanged old NotYet) (effect found date old q s turn step)
+        (λ waits. idle k r feed step old NotYet (not-yet k r feed step) h)
+        (λ goes. effect-reads k r feed found date old q s turn step here is (not-true takes) h))
+
+    go : (o : Option Slot) → slice_get old.slots (number_of step) ≡ o → Reads k r feed step (at_slot found date old (number_of step) step o)
+    go None e = idle k r feed step old NoSuch (no-such k r feed step) h
+    go (Some s) e = item s s.item e refl
+
+-- ---- an Ask
+
+new-under : (k : ℕ) (r : Request) (feed : Feed) (slots : List Slot) (date : HttpDate) (item : Item) → k ≡ length slots + 0 → item ≡ Asks r → feed ≡ r.body → Under k r feed (slots ++ new_slot date item ∷ [])
+new-under k r feed slots date item place is left =
+    let s = new_slot date (Asks r) in
+    let U : Item → Type 0 = λ x. Under k r feed (slots ++ new_slot date x ∷ []) in
+    let get : slice_get (slots ++ s ∷ []) k ≡ Some s = ap (λ n. slice_get (slots ++ s ∷ []) n) place ∙ get-last slots s in
+    subst U (sym is) (record { slot = s; asked = r; get = get; item = refl; left = left; own = λ x. refl })
+
+further : (k : ℕ) (r : Request) (feed : Feed) (slots : List Slot) (rest : List Item) (date : HttpDate) (item : Item) (behind : ℕ)
+    → k ≡ length slots + behind → slice_get (item ∷ rest) behind ≡ Some (Asks r) → feed ≡ r.body → Stands k r feed (slots ++ new_slot date item ∷ []) rest
+further k r feed slots rest date item zero place get left =
+    let is : item ≡ Asks r = cc in
+    inl (new-under k r feed slots date item place is left)
+further k r feed slots rest date item (suc n) place get left =
+    let more = one-more slots (new_slot date item) in
+    inr (record { behind = n; place = omega (arith, place, more); get = get; left = left })
+
+one-on : (k : ℕ) (r : Request) (feed : Feed) (slots : List Slot) (rest : List Item) (date : HttpDate) (item : Item) → Stands k r feed slots (item ∷ rest) → Stands k r feed (slots ++ new_slot date item ∷ []) rest
+one-on k r feed slots rest date item h =
+    ⊎_elim
+    (λ u. inl (same-under k r feed slots u (slots ++ new_slot date item ∷ []) u.slot (get-append slots (new_slot date item ∷ []) k u.slot u.get) (record { item = refl; given = refl; stage = λ v. v })))
+    (λ a. further k r feed slots rest date item a.behind a.place a.get a.left)
+    h
+
+asks-stand : (k : ℕ) (r : Request) (feed : Feed) (date : HttpDate) (w : WriterUse) (slots : List Slot) (items : List Item) → Stands k r feed slots items
+    → Stands k r feed (asks_from date w slots items).slots (asks_from date w slots items).rest
+asks-stand k r feed date w slots [] h = h
+asks-stand k r feed date w slots (Asks q ∷ items) h = one-on k r feed slots items date (Asks q) h
+asks-stand k r feed date w slots (Refuses refusal manner no_body last ∷ items) h =
+    let item = Refuses refusal manner no_body last in
+    asks-stand k r feed date (if turn_has_come (length slots) slots then Unreported else w) (slots ++ new_slot date item ∷ []) items (one-on k r feed slots items date item h)
+
+all-on : (k : ℕ) (r : Request) (feed : Feed) (slots : List Slot) (rest : List Item) (date : HttpDate) (items : List Item) → Stands k r feed slots (items ++ rest) → Stands k r feed (slots ++ map (new_slot date) items) rest
+all-on k r feed slots rest date [] h = subst (λ (x : List Slot). Stands k r feed x rest) (sym (append-nil slots)) h
+all-on k r feed slots rest date (item ∷ items) h =
+    let more = all-on k r feed (slots ++ new_slot date item ∷ []) rest date items (one-on k r feed slots (items ++ rest) date item h) in
+    subst (λ (x : List Slot). Stands k r feed x rest) (append_assoc slots (new_slot date item ∷ []) (map (new_slot date) items)) more
+
+ask-reads : (k : ℕ) (r : Request) (feed : Feed) (date : HttpDate) (old : Reached) → Stands k r feed old.slots old.rest → Reads k r feed Ask (ask date old)
+ask-reads k r feed date old h =
+    let left : Outcome = record { reply = Ended; slots = old.slots; rest = old.rest; asking_ended = true; writer = Unused } in
+    let goes = asks_from date Unused old.slots old.rest in
+    reads-if k r feed Ask old.asking_ended (unchanged old Ended) (if last_holds_reader (last_slot old.slots) then unchanged old NotYet else if last_was_abandoned (last_slot old.slots) then left else goes)
+    (λ e. idle k r feed Ask old Ended refl h)
+    (λ e. reads-if k r feed Ask (last_holds_reader (last_slot old.slots)) (unchanged old NotYet) (if last_was_abandoned (last_slot old.slots) then left else goes)
+    (λ e. idle k r feed Ask old NotYet refl h)
+    (λ e. reads-if k r feed Ask (last_was_abandoned (last_slot old.slots)) left goes
+    (λ e. record { next = feed; leaves = λ x p. refl; stands = h })
+    (λ e. record { next = feed; leaves = λ x p. refl; stands = asks-stand k r feed date Unused old.slots old.rest h })))
+
+outcome-reads : (k : ℕ) (r : Request) (feed : Feed) (found : Bool) (date : HttpDate) (old : Reached) (step : StepValue) → Stands k r feed old.slots old.rest → Reads k r feed step (outcome found date old step)
+outcome-reads k r feed found date old Ask h = ask-reads k r feed date old h
+outcome-reads k r feed found date old (AsReader j) h = number-reads k r feed found date old (AsReader j) h
+outcome-reads k r feed found date old (Read j n) h = number-reads k r feed found date old (Read j n) h
+outcome-reads k r feed found date old (Respond j response) h = number-reads k r feed found date old (Respond j response) h
+outcome-reads k r feed found date old (IntoWriter j) h = number-reads k r feed found date old (IntoWriter j) h
+outcome-reads k r feed found date old (Write j bytes) h = number-reads k r feed found date old (Write j bytes) h
+outcome-reads k r feed found date old (Flush j) h = number-reads k r feed found date old (Flush j) h
+outcome-reads k r feed found date old (Upgrade j protocol response) h = number-reads k r feed found date old (Upgrade j protocol response) h
+outcome-reads k r feed found date old (Finish j) h = number-reads k r feed found date old (Finish j) h
+outcome-reads k r feed found date old (Drop j) h = number-reads k r feed found date old (Drop j) h
+
+-- ---- a run
+
+part-planned : (w : WriterUse) (old : State) (planned reply : ReplyValue) (slots : List Slot) (failure : Option Failure) (silent : Bool)
+    → MatchBool silent ((reply ≡ planned) × (failure ≡ old.failure)) ((fares : Fares) × MayFare w old slots fares × (reply ≡ reply_in w planned fares) × (failure ≡ failure_in fares))
+    → Planned w planned reply
+part-planned Unused old planned reply slots failure true p = p.0
+part-planned Unused old planned reply slots failure false p = p.2
+part-planned Unreported old planned reply slots failure true p = p.0
+part-planned Unreported old planned reply slots failure false p = p.2
+part-planned (Reported own broken flushes report) old planned reply slots failure silent p = tt
+
+record StepReads (k : ℕ) (r : Request) (feed : Feed) (step : StepValue) (reply : ReplyValue) (new : State) : Type 0 where
+  next : Feed
+  leaves : LeavesBody k r feed step reply next
+  stands : Stands k r next new.reached.slots new.reached.rest
+
+outcome-step : (k : ℕ) (r : Request) (feed : Feed) (step : StepValue) (o : Outcome) (old : State) (reply : ReplyValue) (new : State) → Reads k r feed step o → HasOutcome o old reply new → StepReads k r feed step reply new
+outcome-step k r feed step o old reply new h has =
+    let planned = part-planned o.writer old o.reply reply o.slots new.failure (is_silent o.writer old) has.2 in
+    let S : Reached → Type 0 = λ x. Stands k r h.next x.slots x.rest in
+    record { next = h.next; leaves = h.leaves reply planned; stands = subst S (sym has.0) h.stands }
+
+memory-leaves : (k : ℕ) (r : Request) (feed : Feed) (j n : ℕ) → LeavesBody k r feed (Read j n) Memory feed
+memory-leaves k r feed j n = either (j == k) refl
+
+no-memory-reads : (k : ℕ) (r : Request) (feed : Feed) (date : HttpDate) (old : State) (step : StepValue) (reply : ReplyValue) (new : State)
+    → Stands k r feed old.reached.slots old.reached.rest → FindsNoMemory date old step reply new → StepReads k r feed step reply new
+no-memory-reads k r feed date old Ask reply new h f =
+    let refused = f.4 in
+    let rest = f.5 in
+    let slots = old.reached.slots ++ map (new_slot date) refused in
+    let o : Outcome = record { reply = Memory; slots = slots; rest = rest; asking_ended = true; writer = answers_to old.reached.slots refused } in
+    let S : List Item → Type 0 = λ x. Stands k r feed old.reached.slots x in
+    let stands = all-on k r feed old.reached.slots rest date refused (subst S f.6 h) in
+    outcome-step k r feed Ask o old reply new (record { next = feed; leaves = λ x p. refl; stands = stands }) f.8
+no-memory-reads k r feed date old (Read j n) reply new h f =
+    let L : ReplyValue → Type 0 = λ x. LeavesBody k r feed (Read j n) x feed in
+    let S : State → Type 0 = λ x. Stands k r feed x.reached.slots x.reached.rest in
+    record { next = feed; leaves = subst L (sym f.2) (memory-leaves k r feed j n); stands = subst S (sym f.3) h }
+no-memory-reads k r feed date old (AsReader j) reply new h f = elim f [ ]
+no-memory-reads k r feed date old (Respond j a) reply new h f = elim f [ ]
+no-memory-reads k r feed date old (IntoWriter j) reply new h f = elim f [ ]
+no-memory-reads k r feed date old (Write j b) reply new h f = elim f [ ]
+no-memory-reads k r feed date old (Flush j) reply new h f = elim f [ ]
+no-memory-reads k r feed date old (Upgrade j p a) reply new h f = elim f [ ]
+no-memory-reads k r feed date old (Finish j) reply new h f = elim f [ ]
+no-memory-reads k r feed date old (Drop j) reply new h f = elim f [ ]
+
+step-reads : (k : ℕ) (r : Request) (feed : Feed) (old : State) (date : HttpDate) (step : StepValue) (reply : ReplyValue) (new : State)
+    → Stands k r feed old.reached.slots old.reached.rest → StepsTo old date step reply new → StepReads k r feed step reply new
+step-reads k r feed old date step reply new h s =
+    ⊎_elim
+    (λ g. outcome-step k r feed step (outcome g.0 date old.reached step) old reply new (outcome-reads k r feed g.0 date old.reached step h) g.2)
+    (λ f. no-memory-reads k r feed date old step reply new h f)
+    s
+
+run-reads : (k : ℕ) (r : Request) (feed : Feed) (old new : State) (steps : List TimedValue) (replies : List ReplyValue)
+    → Stands k r feed old.reached.slots old.reached.rest → Run old steps replies new → ReadsBody k r feed steps replies
+run-reads k r feed old new [] [] h run = tt
+run-reads k r feed old new [] (x ∷ replies) h run = elim run [ ]
+run-reads k r feed old new (s ∷ steps) [] h run = elim run [ ]
+run-reads k r feed old new (s ∷ steps) (x ∷ replies) h run =
+    let one = step-reads k r feed old s.0 s.1 x run.0 h run.1 in
+    (one.next, one.leaves, run-reads k r one.next run.0 new steps replies one.stands run.2)
+
+pub conversation-reads : (p : Profile) (client : Feed) (before after : Sink) (steps : List TimedValue) (replies : List ReplyValue) (held : List ℕ) (ended : Bool) (unread : Option Feed)
+    → (c : IsConversation p client before steps replies after held ended unread) (k : ℕ) (r : Request) → slice_get c.items k ≡ Some (Asks r) → ReadsBody k r r.body steps replies
+conversation-reads p client before after steps replies held ended unread c k r here =
+    run-reads k r r.body (start_state c.items) c.end steps replies (inr (record { behind = k; place = refl; get = here; left = refl })) c.run

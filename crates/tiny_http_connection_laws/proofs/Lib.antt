@@ -5,6 +5,9 @@ pub mod ReadableSteps
 pub mod ItemsFit
 pub mod SlotsAreRead
 pub mod ConversationReads
+pub mod InShortHanded
+pub mod InShortReads
+pub mod InShortSent
 pub mod PipelineEnds
 pub mod CloseIsLast
 pub mod CloseSteps

@@ -11,8 +11,7 @@ use Rattle.tiny_http_response.specs.Answer.{Answer, has_header}
 abbrev pub is_reserved : List ℕ → Bool
 is_reserved name =
     same_name name (codes "Connection")
-    ||
-    (same_name name (codes "Trailer")
+    || (same_name name (codes "Trailer")
     || (same_name name (codes "Transfer-Encoding") || same_name name (codes "Upgrade")))
 
 -- the first header of this name has this value, at its place

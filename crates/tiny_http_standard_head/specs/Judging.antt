@@ -95,8 +95,7 @@ is_protocol text = is_one_or_two_tokens (parts slash text) && list_all (λ b. no
 abbrev pub asks_upgrade : HTTPVersion → List Header → Bool
 asks_upgrade v headers =
     not (is_1_0 v)
-    &&
-    (has_element (codes "Connection") (codes "upgrade") headers
+    && (has_element (codes "Connection") (codes "upgrade") headers
     && has_element_that (codes "Upgrade") is_protocol headers)
 
 -- this is a protocol, and this one, without case
