@@ -3,9 +3,8 @@ use Rattle.std.proofs.Common.{◌≡◌, refl, ap, subst, ℕ, ◌+◌, false, L
 use Rattle.httpdate.specs.declared.date.HttpDate.{HttpDate}
 use Rattle.tiny_http_wire.specs.Device.{Feed, Sink}
 use Rattle.tiny_http_core.specs.HeadReads.{head_message, head_framing}
-use Rattle.tiny_http_core.specs.Steps.{Ask, Respond, ReplyValue, Handed}
+use Rattle.tiny_http_core.specs.Steps.{Ask, Respond, ReplyValue, Handed, TimedValue}
 use Rattle.tiny_http_core.specs.ResponseValue.{response_of}
-use Rattle.tiny_http_core.specs.Conversation.{TimedValue}
 use Rattle.tiny_http_core.specs.Connection.{ConnectionState}
 use Rattle.tiny_http_core.specs.Driving.{HasDone}
 use Rattle.tiny_http_core.specs.declared.framing.Profile.TheVariants.{Lenient}

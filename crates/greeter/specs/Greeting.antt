@@ -10,8 +10,8 @@ use Rattle.tiny_http_core.specs.declared.driver.Reply.{Reply}
 use Rattle.tiny_http_core.specs.Seen.{seen}
 use Rattle.tiny_http_core.specs.HeadReads.{head_message, head_framing}
 use Rattle.tiny_http_core.specs.ResponseValue.{response_of}
-use Rattle.tiny_http_core.specs.Steps.{Ask, Respond, ReplyValue, Handed}
-use Rattle.tiny_http_core.specs.Conversation.{TimedValue, IsConversation}
+use Rattle.tiny_http_core.specs.Steps.{Ask, Respond, ReplyValue, Handed, TimedValue}
+use Rattle.tiny_http_core.specs.Conversation.{IsConversation}
 
 -- the root is found, and nothing else
 pub record IsStatus (path : List ℕ) (status : ℕ) : Type 0 where

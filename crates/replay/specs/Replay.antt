@@ -4,8 +4,8 @@ use Rattle.std.specs.List.{flat_map}
 use Rattle.std.specs.Io.KnownBytes.{Appends}
 use Rattle.tiny_http_wire.specs.Device.{Feed, Sink, whole_feed}
 use Rattle.tiny_http_core.specs.declared.framing.Profile.{Profile}
-use Rattle.tiny_http_core.specs.Steps.{ReplyValue}
-use Rattle.tiny_http_core.specs.Conversation.{TimedValue, IsFresh, IsConversation}
+use Rattle.tiny_http_core.specs.Steps.{ReplyValue, TimedValue}
+use Rattle.tiny_http_core.specs.Conversation.{IsFresh, IsConversation}
 use Rattle.replay_script.specs.Reply.{reply_line}
 use Rattle.replay_script.specs.Script.{IsScript}
 

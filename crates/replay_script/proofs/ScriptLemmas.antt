@@ -3,7 +3,7 @@ use Rattle.std.proofs.Common.{◌≡◌, refl, sym, ap, subst, ◌∙◌, rules,
 use Rattle.std.proofs.lemmas.List.{take-append-drop, take_more, map_more, map-append, length-map, length-take-le, length-drop, length-replicate}
 use Rattle.std.specs.List.{AllZip, AllByRecursion}
 use Rattle.httpdate.specs.declared.date.HttpDate.{HttpDate}
-use Rattle.tiny_http_core.specs.Conversation.{TimedValue}
+use Rattle.tiny_http_core.specs.Steps.{TimedValue}
 use Rattle.tiny_http_core.specs.Seen.{IsTimedStep, IsStep}
 use Rattle.tiny_http_core.specs.declared.driver.Step.{Step}
 use Rattle.tiny_http_core.specs.declared.driver.Step.TheVariants.{Ask as AskStep, AsReader as AsReaderStep, Read as ReadStep, Respond as RespondStep, IntoWriter as IntoWriterStep, Write as WriteStep, Flush as FlushStep, Upgrade as UpgradeStep, Finish as FinishStep, Drop as DropStep}

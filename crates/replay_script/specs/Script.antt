@@ -9,8 +9,7 @@ use Rattle.tiny_http_wire.specs.declared.device.Stop.{Stop}
 use Rattle.tiny_http_wire.specs.declared.device.Stop.TheVariants.{End, Fault}
 use Rattle.tiny_http_core.specs.ResponseValue.{ResponseValue, response_of}
 use Rattle.tiny_http_core.specs.Steps.{StepValue, Ask, AsReader, Read, Respond, IntoWriter, Write, Flush, Upgrade}
-use Rattle.tiny_http_core.specs.Steps.{Finish, Drop}
-use Rattle.tiny_http_core.specs.Conversation.{TimedValue}
+use Rattle.tiny_http_core.specs.Steps.{Finish, Drop, TimedValue}
 use Rattle.tiny_http_core.specs.declared.driver.Step.{Step}
 use Rattle.tiny_http_core.specs.declared.driver.Step.TheVariants.{Ask as AskStep, AsReader as AsReaderStep}
 use Rattle.tiny_http_core.specs.declared.driver.Step.TheVariants.{Read as ReadStep, Respond as RespondStep}

@@ -37,10 +37,12 @@ use Rattle.tiny_http_io.specs.declared.source.Standing.TheVariants as in_place
 use Rattle.tiny_http_head.specs.declared.common.StatusCode.{StatusCode}
 use Rattle.tiny_http_open_request.specs.Exchange.{KeepsRequest}
 use Rattle.tiny_http_body.specs.Body.{Remaining, remaining, taken_remaining, is_streaming}
-use Rattle.tiny_http_connection.specs.Slots.{closes_now, Slot, is_finished, is_broken, is_slot_broken, segment, new_slot, turn_has_come, is_chunked, last_slot, last_is_open, last_is_holding, last_holds_reader, last_was_abandoned, is_last_slot}
+use Rattle.tiny_http_connection.specs.Segments.{Slot, is_finished, is_broken, is_slot_broken, segment}
+use Rattle.tiny_http_connection.specs.Slots.{turn_has_come, closes_now, new_slot, is_chunked, last_slot, last_is_open, last_is_holding, last_holds_reader, last_was_abandoned, is_last_slot}
 use Rattle.tiny_http_open_request.specs.OwnAnswer.{persistence_of, refusal_response, refused_text}
 use Rattle.tiny_http_response.specs.declared.answer_context.Persistence.{Persistence}
-use Rattle.tiny_http_connection.specs.Steps.{StepValue, Ask, ReplyValue, Handed, Ended, NotYet, Memory, Unused, Unreported, Outcome, Reached, unchanged, ask, asks_from, outcome}
+use Rattle.tiny_http_connection.specs.Steps.{StepValue, Ask, ReplyValue, Handed, Ended, NotYet, Memory}
+use Rattle.tiny_http_connection.specs.Outcomes.{Unused, Unreported, Outcome, Reached, unchanged, ask, asks_from, outcome}
 use Rattle.tiny_http_connection.specs.Conversation.{Failure, State, PlaceAt, WriterPart, flushed_after, HasOutcome, StepsTo}
 use Rattle.tiny_http_connection.proofs.ConversationWriting.{unreported, flushed-is}
 use Rattle.tiny_http_response.specs.Sending.{IsFlushed, SendsUnlessEnded}

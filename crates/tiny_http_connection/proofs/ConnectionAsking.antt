@@ -18,8 +18,10 @@ use Rattle.tiny_http_open_request.specs.HeadReads.{ReadsHead}
 use Rattle.tiny_http_open_request.specs.Pipeline.{Item, Asks, Refuses, Place, Pipeline, place_feed}
 use Rattle.tiny_http_open_request.proofs.PipelineLemmas.{pipeline-first}
 use Rattle.tiny_http_turns.specs.Turns.{Mark, first_unfinished}
-use Rattle.tiny_http_connection.specs.Slots.{Slot, is_finished, is_slot_broken, segment, joined, is_output_broken, new_slot, turn_has_come, last_slot, last_holds_reader, last_was_abandoned, is_last_slot}
-use Rattle.tiny_http_connection.specs.Steps.{Ask, ReplyValue, Ended, Memory, WriterUse, Unused, Unreported, Outcome, Reached, use_in_turn, ask, asks_from}
+use Rattle.tiny_http_connection.specs.Segments.{Slot, is_finished, is_slot_broken, segment}
+use Rattle.tiny_http_connection.specs.Slots.{is_output_broken, joined, turn_has_come, new_slot, last_slot, last_holds_reader, last_was_abandoned, is_last_slot}
+use Rattle.tiny_http_connection.specs.Steps.{Ask, ReplyValue, Ended, Memory}
+use Rattle.tiny_http_connection.specs.Outcomes.{WriterUse, Unused, Unreported, Outcome, Reached, use_in_turn, ask, asks_from}
 use Rattle.tiny_http_connection.specs.Conversation.{Failure, State, IsPassedOver, PlaceAt, Fares, Well, FailsWithin, FailsAfter, MayFare, WriterPart, reply_in, failure_in, has_output_ended, flushed_after, answers_to, HasOutcome, StepsTo}
 use Rattle.tiny_http_connection.specs.Pending.{LeavesText, last_body, is_streaming_body}
 use Rattle.tiny_http_connection.specs.Connection.{Kept, OutputAt, behind_body, GivesRest, InputEnded, is_past_last, is_in_body, InputStands, Stands, FollowsLast}

@@ -16,9 +16,10 @@ use Rattle.tiny_http_io.specs.ToCome.{skipped, stopped}
 use Rattle.tiny_http_io.specs.Source.{SourceState, GoesOn}
 use Rattle.tiny_http_body.specs.declared.framing.Profile.{Profile}
 use Rattle.tiny_http_open_request.specs.Pipeline.{Item, Request, body_length_or_0}
-use Rattle.tiny_http_connection.specs.Slots.{Slot, Stage, is_chunked, last_slot, last_was_abandoned, is_last_item, is_last_slot}
+use Rattle.tiny_http_connection.specs.Segments.{Slot, Stage, is_last_item}
+use Rattle.tiny_http_connection.specs.Slots.{is_chunked, last_slot, last_was_abandoned, is_last_slot}
 use Rattle.tiny_http_body.specs.Body.{body_finished}
-use Rattle.tiny_http_connection.specs.Steps.{finished_as}
+use Rattle.tiny_http_connection.specs.Outcomes.{finished_as}
 use Rattle.tiny_http_connection.specs.Conversation.{PlaceAt}
 use Rattle.tiny_http_body.specs.Body.{Remaining, remaining, is_streaming, body_standing, Fits, GivesUp}
 use Rattle.tiny_http_connection.specs.Pending.{last_holds_next_head, kept_body, last_body, is_streaming_body, holds_next_head_at}

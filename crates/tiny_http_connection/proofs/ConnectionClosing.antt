@@ -16,10 +16,12 @@ use Rattle.tiny_http_open_request.specs.OpenRequest.{closing as closing_request}
 use Rattle.tiny_http_turns.specs.Turns.{Mark, Open, Held, Left, Finished}
 use Rattle.tiny_http_connection.specs.declared.pending.Unfinished.{Unfinished}
 use Rattle.tiny_http_connection.specs.declared.pending.Unfinished.TheVariants as still
-use Rattle.tiny_http_connection.specs.Slots.{Slot, Stage, Unanswered, Answered, ByServer, Raw, Upgraded, is_unanswered, is_stage_finished, is_finished, is_broken, is_slot_broken, stage_text, opening, segment, joined, is_output_broken, closing, last_closing, last_slot}
+use Rattle.tiny_http_connection.specs.Segments.{Slot, Stage, Unanswered, Answered, ByServer, Raw, Upgraded, is_stage_finished, is_finished, is_broken, is_slot_broken, stage_text, opening, segment}
+use Rattle.tiny_http_connection.specs.Slots.{is_output_broken, joined, is_unanswered, closing, last_closing, last_slot}
 use Rattle.tiny_http_connection.specs.Pending.{kept_body, last_body, holds_next_head_at, last_holds_next_head, closing_number, last_closing as last_closing_number, asked_to_close as closing_if_asked}
 use Rattle.tiny_http_connection.specs.Connection.{Kept, IsWaiting, IsRaw, IsUpgraded, IsDone, IsLeft, IsKept, AreKept, HasSentNothing, AreSentInTurn, AreSettled, GivesRest, FollowsLast, behind_body, slot_rest, behind_item, OutputAt, InputStands, Stands}
-use Rattle.tiny_http_connection.specs.Steps.{asked_to_close, WriterUse, Unused, Unreported, Reported, Outcome, ReplyValue}
+use Rattle.tiny_http_connection.specs.Steps.{ReplyValue}
+use Rattle.tiny_http_connection.specs.Outcomes.{asked_to_close, WriterUse, Unused, Unreported, Reported, Outcome}
 use Rattle.tiny_http_connection.specs.Conversation.{Failure, State, finished_front, Fares, Well, FailsWithin, FailsAfter, FallsBetween, MayFare, reply_in, failure_in, is_silent, flushes, HasOutcome}
 use Rattle.tiny_http_connection.proofs.SlotsLemmas.{joined-cons}
 

@@ -14,8 +14,10 @@ use Rattle.tiny_http_open_request.specs.declared.open_request.OpenRequest.{OpenR
 use Rattle.tiny_http_open_request.specs.OwnAnswer.{own_text_by}
 use Rattle.tiny_http_open_request.specs.Pipeline.{Asks}
 use Rattle.tiny_http_turns.specs.Turns.{Mark, Open, AreInShape, first_unfinished}
-use Rattle.tiny_http_connection.specs.Slots.{Slot, Unanswered, Answered as AnsweredBy, ByServer, Raw, Upgraded, is_chunked, is_finished, segment, opening, joined, is_last_slot, to_request}
-use Rattle.tiny_http_connection.specs.Steps.{AsReader, Done, NotYet, Unreported, Outcome, Reached, changes, at_slot, at_number}
+use Rattle.tiny_http_connection.specs.Segments.{Slot, Unanswered, Answered as AnsweredBy, ByServer, Raw, Upgraded, is_finished, segment, opening, to_request}
+use Rattle.tiny_http_connection.specs.Slots.{joined, is_chunked, is_last_slot}
+use Rattle.tiny_http_connection.specs.Steps.{AsReader, Done, NotYet}
+use Rattle.tiny_http_connection.specs.Outcomes.{Unreported, Outcome, Reached, changes, at_slot, at_number}
 use Rattle.tiny_http_connection.specs.Conversation.{State, flushed_after, WriterPart, HasOutcome}
 use Rattle.tiny_http_connection.specs.declared.pending.Unfinished.{Unfinished}
 use Rattle.tiny_http_connection.specs.declared.pending.Unfinished.TheVariants as still

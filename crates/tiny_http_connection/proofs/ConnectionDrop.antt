@@ -17,8 +17,10 @@ use Rattle.tiny_http_io.specs.Source.{SourceState}
 use Rattle.tiny_http_turns.specs.Turns.{Mark, Open, first_unfinished}
 use Rattle.tiny_http_connection.specs.declared.pending.Unfinished.{Unfinished}
 use Rattle.tiny_http_connection.specs.declared.pending.Unfinished.TheVariants as still
-use Rattle.tiny_http_connection.specs.Slots.{closes_now, stage_text, Slot, Unanswered, Answered as AnsweredBy, ByServer, Raw, Upgraded, opening, segment, is_last_once_finished, refuses_response, turn_has_come, asks_protocol, is_end, is_body_whole, refuses_upgrade}
-use Rattle.tiny_http_connection.specs.Steps.{StepValue, ReplyValue, Respond, Upgrade, Drop, Done, Refused, Reached, changes, ends_asking, use_in_turn, at_slot, outcome}
+use Rattle.tiny_http_connection.specs.Segments.{stage_text, Slot, Unanswered, Answered as AnsweredBy, ByServer, Raw, Upgraded, opening, segment}
+use Rattle.tiny_http_connection.specs.Slots.{turn_has_come, closes_now, is_last_once_finished, refuses_response, asks_protocol, is_end, is_body_whole, refuses_upgrade}
+use Rattle.tiny_http_connection.specs.Steps.{StepValue, ReplyValue, Respond, Upgrade, Drop, Done, Refused}
+use Rattle.tiny_http_connection.specs.Outcomes.{Reached, changes, ends_asking, use_in_turn, at_slot, outcome}
 use Rattle.tiny_http_connection.specs.Conversation.{State}
 use Rattle.tiny_http_connection.specs.Pending.{LeavesText}
 use Rattle.tiny_http_connection.specs.Connection.{Kept, HandedOut, open_slot, dropped, IsWaiting, InputStands, Stands}

@@ -7,7 +7,7 @@ use Rattle.tiny_http_connection.specs.declared.pending.Unfinished.{Unfinished}
 use Rattle.tiny_http_connection.specs.declared.pending.Unfinished.TheVariants as still
 use Rattle.tiny_http_body.specs.Text.{Whole}
 use Rattle.tiny_http_open_request.specs.Pipeline.{Item, Asks, Request}
-use Rattle.tiny_http_connection.specs.Slots.{Slot, Stage, Unanswered, Raw, Upgraded, stage_text, is_broken, is_stage_finished, is_slot_broken, is_finished}
+use Rattle.tiny_http_connection.specs.Segments.{Slot, Stage, Unanswered, Raw, Upgraded, stage_text, is_broken, is_stage_finished, is_slot_broken, is_finished}
 use Rattle.tiny_http_turns.specs.Turns.{Mark, Open, Held, Left, Finished, AreInShape, AreOpenOrLeft, first_unfinished}
 use Rattle.tiny_http_connection.specs.Pending.{with_left_finished}
 use Rattle.tiny_http_connection.specs.Connection.{IsUnfinished, IsKept, AreKept}

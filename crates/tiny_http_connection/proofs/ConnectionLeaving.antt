@@ -10,8 +10,10 @@ use Rattle.tiny_http_response.specs.Sending.{CanSend}
 use Rattle.tiny_http_io.specs.Source.{SourceState}
 use Rattle.tiny_http_turns.specs.Turns.{Mark, Open, Left, Finished, AreInShape, first_unfinished}
 use Rattle.tiny_http_connection.specs.declared.pending.Unfinished.{Unfinished}
-use Rattle.tiny_http_connection.specs.Slots.{Slot, is_finished, is_slot_broken, opening, stage_text, segment, joined, is_output_broken, turn_has_come}
-use Rattle.tiny_http_connection.specs.Steps.{StepValue, ReplyValue, Outcome, Reached, outcome, changes, use_in_turn}
+use Rattle.tiny_http_connection.specs.Segments.{Slot, is_finished, is_slot_broken, opening, stage_text, segment}
+use Rattle.tiny_http_connection.specs.Slots.{is_output_broken, joined, turn_has_come}
+use Rattle.tiny_http_connection.specs.Steps.{StepValue, ReplyValue}
+use Rattle.tiny_http_connection.specs.Outcomes.{Outcome, Reached, outcome, changes, use_in_turn}
 use Rattle.tiny_http_connection.specs.Conversation.{Failure, State, flushed_after, WriterPart, HasOutcome}
 use Rattle.tiny_http_connection.specs.Pending.{left_text, with_left_finished, LeavesText}
 use Rattle.tiny_http_connection.specs.Connection.{Kept, HasSentNothing, AreSentInTurn, AreKept, OutputAt, InputStands, Stands}

@@ -8,7 +8,8 @@ use Rattle.std.proofs.lemmas.Bool.{and_parts}
 use Rattle.tiny_http_io.specs.Device.{Sink, IsFront, IsKnownFront, BeginsKnown, IsAllKnown, HoldsNothing, StatesKind, next_count}
 use Rattle.tiny_http_io.proofs.DeviceLemmas.{IsFront-append}
 use Rattle.tiny_http_connection.specs.declared.pending.Unfinished.{Unfinished}
-use Rattle.tiny_http_connection.specs.Slots.{Slot, is_finished, is_slot_broken, opening, stage_text, segment, joined, is_output_broken}
+use Rattle.tiny_http_connection.specs.Segments.{Slot, is_finished, is_slot_broken, opening, stage_text, segment}
+use Rattle.tiny_http_connection.specs.Slots.{is_output_broken, joined}
 use Rattle.tiny_http_connection.specs.Conversation.{Failure, finished_front}
 use Rattle.tiny_http_connection.proofs.ConversationWriting.{FailsBetween, flushed_if}
 use Rattle.tiny_http_response.specs.Sending.{CanSend, IsFlushed, OutletFailed, Idles, SendsUnlessEnded}

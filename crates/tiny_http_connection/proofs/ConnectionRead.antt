@@ -18,9 +18,11 @@ use Rattle.tiny_http_body.specs.declared.body.UnreadBody.TheVariants as body
 use Rattle.tiny_http_io.specs.ToCome.{stopped}
 use Rattle.tiny_http_io.specs.Source.{SourceState, GoesOn}
 use Rattle.tiny_http_open_request.specs.Pipeline.{Item, Request, body_length_or_0}
-use Rattle.tiny_http_connection.specs.Slots.{Slot, Unanswered, Answered as AnsweredBy, ByServer, Raw, Upgraded, is_chunked, is_finished, is_slot_broken, joined, is_output_broken, last_slot, last_was_abandoned, turn_has_come, is_last_item, is_last_slot, rest_of}
+use Rattle.tiny_http_connection.specs.Segments.{Slot, Unanswered, Answered as AnsweredBy, ByServer, Raw, Upgraded, is_finished, is_slot_broken, is_last_item}
+use Rattle.tiny_http_connection.specs.Slots.{is_output_broken, joined, turn_has_come, is_chunked, last_slot, last_was_abandoned, is_last_slot, rest_of}
 use Rattle.tiny_http_body.specs.Body.{body_finished}
-use Rattle.tiny_http_connection.specs.Steps.{Read, accepts_step, ReplyValue, Given, Fault, Memory, NoSuch, Unused, Outcome, Reached, changes, read_reply, effect, at_slot, at_number}
+use Rattle.tiny_http_connection.specs.Steps.{Read, ReplyValue, Given, Fault, Memory, NoSuch}
+use Rattle.tiny_http_connection.specs.Outcomes.{accepts_step, Unused, Outcome, Reached, changes, read_reply, effect, at_slot, at_number}
 use Rattle.tiny_http_connection.specs.Conversation.{State, PlaceAt, HasOutcome}
 use Rattle.tiny_http_body.specs.Body.{Remaining, remaining, taken_remaining, prepend_body, prepended_body, BodyStops, NoneRemains, is_streaming, body_standing, IsBodyOver, ReadsOn, Fits, FillsFromBody}
 use Rattle.tiny_http_turns.specs.Turns.{Mark, Open}

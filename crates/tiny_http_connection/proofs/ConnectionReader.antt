@@ -24,7 +24,8 @@ use Rattle.tiny_http_body.specs.declared.body.UnreadBody.TheVariants as body
 use Rattle.tiny_http_body.specs.declared.framing.Form.TheVariants as form
 use Rattle.std.specs.Prelude.{if◌then◌else◌, ◌==◌, nat_lt}
 use Rattle.tiny_http_open_request.specs.Pipeline.{Item, Asks, Refuses, body_length_or_0, Request}
-use Rattle.tiny_http_connection.specs.Slots.{remainder_of, closes_now, is_counted, Slot, Stage, Unanswered, Answered, ByServer, Raw, Upgraded, is_finished, is_stage_finished, is_unanswered, is_form_streamed, is_chunked, is_body_finished, body_is_open, is_last_item, holds_next_head, is_holding, last_slot, last_is_open, last_is_holding, last_holds_reader, last_was_abandoned, is_last_slot, is_end, rest_of}
+use Rattle.tiny_http_connection.specs.Segments.{Slot, Stage, Unanswered, Answered, ByServer, Raw, Upgraded, is_finished, is_stage_finished, is_last_item}
+use Rattle.tiny_http_connection.specs.Slots.{remainder_of, closes_now, is_counted, is_unanswered, is_form_streamed, is_chunked, is_body_finished, body_is_open, holds_next_head, is_holding, last_slot, last_is_open, last_is_holding, last_holds_reader, last_was_abandoned, is_last_slot, is_end, rest_of}
 use Rattle.tiny_http_body.specs.Body.{remainder, is_skipped, body_finished, is_whole, taken_remaining}
 use Rattle.tiny_http_turns.specs.Turns.{Mark, Open, Held, Left, Finished}
 use Rattle.tiny_http_body.specs.Body.{Remaining, remaining, is_streaming, Fits}

@@ -19,8 +19,10 @@ use Rattle.tiny_http_open_request.specs.Pipeline.{Item, Asks, Refuses, Request, 
 use Rattle.tiny_http_open_request.specs.OpenRequest.{coding_for, final_context, refuses_code}
 use Rattle.tiny_http_response.specs.ResponseValue.{ResponseValue, printing_to}
 use Rattle.tiny_http_response.specs.Answer.{IsGathered, answer_coding}
-use Rattle.tiny_http_connection.specs.Slots.{remainder_of, closes_now, Slot, Stage, Unanswered, Answered as AnsweredBy, ByServer, Raw, Upgraded, is_stage_finished, is_finished, is_broken, is_slot_broken, segment, stage_text, opening, joined, is_output_broken, is_last_once_finished, refuses_response, last_slot, turn_has_come, to_request, text_if}
-use Rattle.tiny_http_connection.specs.Steps.{StepValue, outcome, Respond, ReplyValue, Done, NoSuch, NotYet, Outcome, Reached, unchanged, changes, ends_asking, is_last_with_stream, finished_as, accepts_step, fault_in, fault_reply, at_item, at_slot, at_number, asked_to_close, answers, answers_slot}
+use Rattle.tiny_http_connection.specs.Segments.{Slot, Stage, Unanswered, Answered as AnsweredBy, ByServer, Raw, Upgraded, is_stage_finished, is_finished, is_broken, is_slot_broken, segment, stage_text, opening, to_request, text_if}
+use Rattle.tiny_http_connection.specs.Slots.{is_output_broken, joined, turn_has_come, remainder_of, closes_now, is_last_once_finished, refuses_response, last_slot}
+use Rattle.tiny_http_connection.specs.Steps.{StepValue, Respond, ReplyValue, Done, NoSuch, NotYet}
+use Rattle.tiny_http_connection.specs.Outcomes.{outcome, Outcome, Reached, unchanged, changes, ends_asking, is_last_with_stream, finished_as, accepts_step, fault_in, fault_reply, at_item, at_slot, at_number, asked_to_close, answers, answers_slot}
 use Rattle.tiny_http_connection.specs.Conversation.{Failure, State, has_output_ended, finished_front, flushed_after, CanMeet, WriterPart, HasOutcome, GathersAt, MayLack, GathersFor, StepsTo}
 use Rattle.tiny_http_connection.proofs.ConversationWriting.{FailsBetween, FailsReported, FailsBehind, broken_reply, used, WritesIf, flushed_if, reported, flushed-is}
 use Rattle.tiny_http_response.specs.ResponseValue.{printing_in}

@@ -3,7 +3,7 @@ use Rattle.std.proofs.Common.{◌≡◌, refl, sym, ◌∙◌, subst, Bool, true
 use Rattle.std.specs.Prelude.{MatchBool}
 use Rattle.std.specs.List.{list_all, AllByRecursion}
 use Rattle.std.proofs.lemmas.Bool.{and_parts}
-use Rattle.tiny_http_connection.specs.Slots.{Slot, is_finished}
+use Rattle.tiny_http_connection.specs.Segments.{Slot, is_finished}
 use Rattle.tiny_http_connection.specs.Connection.{HasSentNothing, AreSentInTurn}
 
 -- nothing was sent, so nothing out of turn

@@ -27,8 +27,10 @@ use Rattle.tiny_http_response.specs.Answer.{text_of}
 use Rattle.tiny_http_turns.specs.Turns.{Mark, Open, AreInShape, first_unfinished}
 use Rattle.tiny_http_connection.specs.declared.pending.Unfinished.{Unfinished}
 use Rattle.tiny_http_connection.specs.declared.pending.Unfinished.TheVariants as still
-use Rattle.tiny_http_connection.specs.Slots.{Slot, Unanswered, Answered as AnsweredBy, ByServer, Raw, Upgraded, is_chunked, is_finished, segment, opening, joined, is_last_slot, to_request, Stage, is_slot_broken, as_stream, upgraded_slot, refuses_upgrade, last_slot}
-use Rattle.tiny_http_connection.specs.Steps.{Upgrade, Done, NotYet, Unreported, Outcome, Reached, ends_asking, is_last_with_stream, changes, at_slot, at_number}
+use Rattle.tiny_http_connection.specs.Segments.{Slot, Unanswered, Answered as AnsweredBy, ByServer, Raw, Upgraded, is_finished, segment, opening, to_request, Stage, is_slot_broken}
+use Rattle.tiny_http_connection.specs.Slots.{joined, is_chunked, is_last_slot, as_stream, upgraded_slot, refuses_upgrade, last_slot}
+use Rattle.tiny_http_connection.specs.Steps.{Upgrade, Done, NotYet}
+use Rattle.tiny_http_connection.specs.Outcomes.{Unreported, Outcome, Reached, ends_asking, is_last_with_stream, changes, at_slot, at_number}
 use Rattle.tiny_http_connection.specs.Conversation.{State, flushed_after, WriterPart, HasOutcome}
 use Rattle.tiny_http_connection.specs.Connection.{Kept, open_slot, IsWaiting, IsUpgraded, AreSentInTurn, AreKept, OutputAt, slot_rest, InputStands, Stands, AreSettled, GivesRest, behind_body, behind_item}
 use Rattle.tiny_http_connection.proofs.SlotsLemmas.{breaks-waits}

@@ -18,8 +18,7 @@ use Rattle.tiny_http_body.specs.declared.framing.Framing.{Framing}
 use Rattle.tiny_http_body.specs.declared.framing.HeadRules.TheVariants.{Lenient, Strict}
 use Rattle.tiny_http_body.specs.FramingReading.{framing}
 use Rattle.tiny_http_response.specs.ResponseValue.{ResponseValue, response_of}
-use Rattle.tiny_http_connection.specs.Steps.{StepValue, Ask, Respond, Drop, ReplyValue, Handed, Ended, NotYet, Done}
-use Rattle.tiny_http_connection.specs.Conversation.{TimedValue}
+use Rattle.tiny_http_connection.specs.Steps.{StepValue, Ask, Respond, Drop, ReplyValue, Handed, Ended, NotYet, Done, TimedValue}
 use Rattle.tiny_http_connection.specs.ConversationReading.{conversed, Conversed}
 
 abbrev on_date : HttpDate → List StepValue → List TimedValue

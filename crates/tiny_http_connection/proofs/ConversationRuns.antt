@@ -16,9 +16,10 @@ use Rattle.tiny_http_open_request.specs.BodyRemains.{RemainsAt}
 use Rattle.tiny_http_open_request.proofs.BodyRemainsLemmas.{remains-of}
 use Rattle.tiny_http_open_request.proofs.PipelineLemmas.{pipeline-none}
 use Rattle.tiny_http_io.specs.declared.device.Stop.{Stop}
-use Rattle.tiny_http_connection.specs.Slots.{Slot, joined, last_slot, last_is_open, last_was_abandoned, is_last_item, is_last_slot}
-use Rattle.tiny_http_connection.specs.Steps.{ReplyValue}
-use Rattle.tiny_http_connection.specs.Conversation.{State, Failure, StepsTo, Run, TimedValue, start_state, IsFresh, PlaceAt, WithinBody, WithinLast, InputAt, IsOutput, IsConversation}
+use Rattle.tiny_http_connection.specs.Segments.{Slot, is_last_item}
+use Rattle.tiny_http_connection.specs.Slots.{joined, last_slot, last_is_open, last_was_abandoned, is_last_slot}
+use Rattle.tiny_http_connection.specs.Steps.{ReplyValue, TimedValue}
+use Rattle.tiny_http_connection.specs.Conversation.{State, Failure, StepsTo, Run, start_state, IsFresh, PlaceAt, WithinBody, WithinLast, InputAt, IsOutput, IsConversation}
 use Rattle.tiny_http_connection.specs.Connection.{Kept, OutputAt, IsOpen, behind_body, slot_rest, GivesRest, Stands}
 use Rattle.tiny_http_io.specs.ToCome.{stopped}
 use Rattle.tiny_http_body.specs.Body.{Remaining, remaining, is_streaming}

@@ -4,8 +4,10 @@ use Rattle.std.specs.Prelude.{MatchBool, unwrap_or, option_map, if◌then◌else
 use Rattle.std.specs.declared.io.ErrorKind.{ErrorKind}
 use Rattle.tiny_http_io.specs.Device.{IsFront}
 use Rattle.tiny_http_body.specs.Text.{Text}
-use Rattle.tiny_http_connection.specs.Slots.{Slot, joined}
-use Rattle.tiny_http_connection.specs.Steps.{ReplyValue, Done, Fault, WriterUse, Unreported, Reported, fault_in, fault_reply}
+use Rattle.tiny_http_connection.specs.Segments.{Slot}
+use Rattle.tiny_http_connection.specs.Slots.{joined}
+use Rattle.tiny_http_connection.specs.Steps.{ReplyValue, Done, Fault}
+use Rattle.tiny_http_connection.specs.Outcomes.{WriterUse, Unreported, Reported, fault_in, fault_reply}
 use Rattle.tiny_http_connection.specs.Conversation.{Failure, State, has_output_ended, finished_front, Fares, Well, FailsWithin, FailsAfter, CanMeet, MayFare, reply_in, failure_in, WriterPart}
 
 -- the writer failed while the output grew from one text to another

@@ -18,8 +18,9 @@ use Rattle.tiny_http_connection.specs.declared.pending.Pending.{Pending}
 use Rattle.tiny_http_io.specs.Source.{SourceState, GoesOn, IsAtEnd}
 use Rattle.tiny_http_io.specs.Outlet.{OutletState, output_of, SentOn}
 use Rattle.tiny_http_response.specs.ResponseValue.{ResponseValue}
-use Rattle.tiny_http_connection.specs.Steps.{StepValue, Ask, AsReader, Read, Respond, IntoWriter, Write, Flush, Upgrade, Finish, Drop, ReplyValue, Handed, Ended, Given, NotYet, Done, Refused, NoSuch, Memory, Fault, Reached, changes, ends_asking, use_in_turn, outcome}
-use Rattle.tiny_http_connection.specs.Conversation.{State, TimedValue, IsFresh, start_state}
+use Rattle.tiny_http_connection.specs.Steps.{StepValue, Ask, AsReader, Read, Respond, IntoWriter, Write, Flush, Upgrade, Finish, Drop, ReplyValue, Handed, Ended, Given, NotYet, Done, Refused, NoSuch, Memory, Fault, TimedValue}
+use Rattle.tiny_http_connection.specs.Outcomes.{Reached, changes, ends_asking, use_in_turn, outcome}
+use Rattle.tiny_http_connection.specs.Conversation.{State, IsFresh, start_state}
 use Rattle.tiny_http_response.specs.Sending.{FailsOnceUnlessEnded, IsHonest, FailsOnce}
 use Rattle.tiny_http_connection.specs.Seen.{seen, IsResponse, IsStep, IsTimedStep, MayFail, ReportsHonestly, IsAnswered, IsOfWriter, is_done, all_sent_after}
 use Rattle.tiny_http_body.specs.declared.body.UnreadBody.{UnreadBody}
@@ -28,7 +29,7 @@ use Rattle.tiny_http_open_request.specs.OpenRequest.{refuses_code, request_check
 use Rattle.tiny_http_body.specs.Body.{is_streaming, body_standing, is_whole}
 use Rattle.std.specs.Prelude.{MatchBool, is_err}
 use Rattle.tiny_http_connection.specs.Connection.{Kept, ConnectionState, kept, Stands, HandedOut, open_slot, dropped}
-use Rattle.tiny_http_connection.specs.Slots.{is_last_once_finished, turn_has_come}
+use Rattle.tiny_http_connection.specs.Slots.{turn_has_come, is_last_once_finished}
 use Rattle.tiny_http_connection.proofs.ConnectionDrop.{IsKeptOf, at-drop, at-unanswerable, at-refused}
 use Rattle.std.specs.Prelude.{String, string_bytes, slice_get}
 use Rattle.tiny_http_connection.specs.Driving.{HasDone, TakesStep, AskEnds, StepEnds, EndsBehind, UpgradeEnds, ends_behind, IsDeclined, stated_response, stated_step, StepLeaves, AskLeaves, LetsGo, StandsAfter, ReportsFault, AnswerLeaves, UpgradeLeaves, IsDropping, RefusesHeads, RespondEnds}

@@ -8,8 +8,8 @@ use Rattle.httpdate.specs.declared.date.HttpDate.{HttpDate}
 use Rattle.tiny_http_connection.specs.declared.driver.Step.{Step}
 use Rattle.tiny_http_connection.specs.declared.driver.Step.TheVariants as step
 use Rattle.tiny_http_response.specs.ResponseValue.{ResponseValue}
-use Rattle.tiny_http_connection.specs.Steps.{StepValue, Ask, AsReader, Read, Respond, IntoWriter, Write, Flush, Upgrade, Finish, Drop, ReplyValue}
-use Rattle.tiny_http_connection.specs.Conversation.{State, TimedValue}
+use Rattle.tiny_http_connection.specs.Steps.{StepValue, Ask, AsReader, Read, Respond, IntoWriter, Write, Flush, Upgrade, Finish, Drop, ReplyValue, TimedValue}
+use Rattle.tiny_http_connection.specs.Conversation.{State}
 use Rattle.tiny_http_connection.specs.Seen.{IsResponse, IsStep}
 use Rattle.tiny_http_connection.specs.Connection.{Kept}
 use Rattle.tiny_http_connection.proofs.ConnectionAsk.{StepIsAnswered}

@@ -3,7 +3,8 @@ use Rattle.std.proofs.Common.{◌≡◌, refl, sym, ap, ◌∙◌, ℕ, Bool, tr
 use Rattle.std.specs.Prelude.{if◌then◌else◌}
 use Rattle.std.specs.List.{list_all}
 use Rattle.std.proofs.lemmas.Bool.{and_parts}
-use Rattle.tiny_http_connection.specs.Slots.{Slot, is_finished, is_slot_broken, segment, joined, is_output_broken}
+use Rattle.tiny_http_connection.specs.Segments.{Slot, is_finished, is_slot_broken, segment}
+use Rattle.tiny_http_connection.specs.Slots.{is_output_broken, joined}
 use Rattle.tiny_http_response.proofs.SendingLemmas.{or-parts}
 
 -- a test of all, and of one more

@@ -1,4 +1,5 @@
 -- How the driver's connection stands to a state of the definitions.
+-- Nobody needs this file to believe the laws of `InShort`.
 use Rattle.std.specs.Prelude.{◌≡◌, ℕ, ◌+◌, Bool, true, false, not, ◌&&◌, List, [], ◌∷◌, Option, Some, None, is_some}
 use Rattle.std.specs.Prelude.{MatchBool, ⊤}
 use Rattle.std.specs.Option.{option_map}
@@ -28,11 +29,12 @@ use Rattle.tiny_http_io.specs.declared.source.Standing.TheVariants as at
 use Rattle.tiny_http_io.specs.Outlet.{OutletState, output_of}
 use Rattle.tiny_http_open_request.specs.Pipeline.{Item, Asks, Refuses, Request, is_head_method, is_connect_method}
 use Rattle.tiny_http_open_request.specs.Pipeline.{body_length_or_0}
-use Rattle.tiny_http_connection.specs.Slots.{closes_now, Slot, Stage, ByServer, Raw, Upgraded, is_finished}
-use Rattle.tiny_http_connection.specs.Slots.{is_slot_broken, segment, stage_text, joined, is_output_broken, new_slot}
+use Rattle.tiny_http_connection.specs.Segments.{Slot, Stage, ByServer, Raw, Upgraded, is_finished}
+use Rattle.tiny_http_connection.specs.Slots.{closes_now, is_output_broken, joined, new_slot}
+use Rattle.tiny_http_connection.specs.Segments.{is_slot_broken, segment, stage_text}
 use Rattle.tiny_http_connection.specs.Slots.{holds_next_head, asks_protocol, last_slot, is_last_slot}
 use Rattle.tiny_http_connection.specs.Slots.{last_was_abandoned, rest_of}
-use Rattle.tiny_http_connection.specs.Steps.{finished_as}
+use Rattle.tiny_http_connection.specs.Outcomes.{finished_as}
 use Rattle.tiny_http_response.specs.ResponseValue.{ResponseValue}
 use Rattle.tiny_http_turns.specs.Turns.{Mark, Open, Left, Finished, AreInShape}
 use Rattle.tiny_http_connection.specs.Conversation.{State, Failure, PlaceAt}

@@ -1,4 +1,6 @@
 -- Whole conversations: which replies and which output a list of steps may have.
+-- Of this file the laws of `InShort` take `IsConversation` alone, which is what `run` promises. Nobody needs to read it
+-- to believe them.
 use Rattle.std.specs.Prelude.{◌≡◌, ℕ, ◌+◌, ◌-◌, ◌^◌, ◌<◌, ◌⊎◌, Bool, true, false, not, ◌&&◌, ◌||◌, List, [], ◌∷◌}
 use Rattle.std.specs.Prelude.{◌++◌, map, length, Option, Some, None, is_some, unwrap_or, option_map, MatchBool}
 use Rattle.std.specs.Prelude.{slice_get, if◌then◌else◌}
@@ -13,11 +15,13 @@ use Rattle.tiny_http_io.specs.declared.device.Stop.TheVariants.{End}
 use Rattle.tiny_http_io.specs.ToCome.{stopped}
 use Rattle.tiny_http_response.specs.ResponseValue.{ResponseValue}
 use Rattle.tiny_http_response.specs.Answer.{IsGathered}
-use Rattle.tiny_http_connection.specs.Slots.{Slot, is_finished, joined, is_output_broken, new_slot, rest_of}
-use Rattle.tiny_http_connection.specs.Slots.{last_slot, last_is_open, is_last_slot, last_holds_reader}
-use Rattle.tiny_http_connection.specs.Slots.{last_was_abandoned, turn_has_come, to_request}
-use Rattle.tiny_http_connection.specs.Steps.{StepValue, Ask, Read, Respond, ReplyValue, NoSuch, Memory, WriterUse}
-use Rattle.tiny_http_connection.specs.Steps.{Unused, Unreported, Reported, use_in_turn, Outcome, Reached, outcome}
+use Rattle.tiny_http_connection.specs.Segments.{Slot, is_finished}
+use Rattle.tiny_http_connection.specs.Slots.{is_output_broken, joined, new_slot, rest_of, last_was_abandoned}
+use Rattle.tiny_http_connection.specs.Slots.{last_slot, last_is_open, is_last_slot, last_holds_reader, turn_has_come}
+use Rattle.tiny_http_connection.specs.Segments.{to_request}
+use Rattle.tiny_http_connection.specs.Steps.{StepValue, Ask, Read, Respond, ReplyValue, NoSuch, Memory}
+use Rattle.tiny_http_connection.specs.Outcomes.{WriterUse}
+use Rattle.tiny_http_connection.specs.Outcomes.{Unused, Unreported, Reported, use_in_turn, Outcome, Reached, outcome}
 
 -- the writer's first fault: its kind, and all that the writer took
 pub record Failure : Type 0 where
@@ -173,10 +177,6 @@ StepsTo old date step reply new =
     × MayLack found date old.reached step
     × HasOutcome (outcome found date old.reached step) old reply new)
     ⊎ FindsNoMemory date old step reply new
-
--- a step on a date
-abbrev pub TimedValue : Type 0
-TimedValue = HttpDate × StepValue
 
 -- the steps may have these replies, one after another
 abbrev pub Run : State → List TimedValue → List ReplyValue → State → Type 0

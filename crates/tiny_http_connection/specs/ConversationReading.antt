@@ -1,13 +1,15 @@
 -- A run over a feed by the rules of tiny_http, computed for a writer that takes all: one plain reading, by which the
 -- definitions are tried out.
+-- Nobody needs this file to believe the laws of `InShort`.
 use Rattle.std.specs.Prelude.{ℕ, Bool, true, List, [], ◌∷◌, if◌then◌else◌}
 use Rattle.std.specs.Prelude.{false}
 use Rattle.tiny_http_io.specs.Device.{Feed}
 use Rattle.tiny_http_body.specs.declared.framing.HeadRules.{HeadRules}
 use Rattle.tiny_http_open_request.specs.PipelineReading.{heading_of, items_of}
-use Rattle.tiny_http_connection.specs.Slots.{joined, is_output_broken}
-use Rattle.tiny_http_connection.specs.Steps.{ReplyValue, WriterUse, Reached, outcome}
-use Rattle.tiny_http_connection.specs.Conversation.{TimedValue, Well, reply_in, reached_by}
+use Rattle.tiny_http_connection.specs.Slots.{is_output_broken, joined}
+use Rattle.tiny_http_connection.specs.Steps.{ReplyValue, TimedValue}
+use Rattle.tiny_http_connection.specs.Outcomes.{WriterUse, Reached, outcome}
+use Rattle.tiny_http_connection.specs.Conversation.{Well, reply_in, reached_by}
 
 -- the reply, where the writer takes all, or the output has ended
 abbrev pub reply_of : WriterUse → Bool → ReplyValue → ReplyValue

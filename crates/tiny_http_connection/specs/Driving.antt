@@ -1,4 +1,5 @@
 -- What the calls of a `Connection` come to.
+-- Nobody needs this file to believe the laws of `InShort`.
 use Rattle.std.specs.Prelude.{◌≡◌, ◌⊎◌, ◌||◌, ℕ, ◌+◌, Bool, true, false, List, [], ◌∷◌, ◌++◌, length, replicate}
 use Rattle.std.specs.Prelude.{Option, Some, None, IsSome, MatchBool, slice_get, slice_set, if◌then◌else◌}
 use Rattle.std.specs.Prelude.{string_bytes, ⊤}
@@ -21,8 +22,8 @@ use Rattle.tiny_http_io.specs.Outlet.{output_of, SentOn}
 use Rattle.tiny_http_open_request.specs.Pipeline.{Item, Manner, Refuses, Refusal, refusal_status, OneHead, Pipeline}
 use Rattle.tiny_http_open_request.specs.Pipeline.{Place, place_feed}
 use Rattle.tiny_http_connection.specs.Steps.{StepValue, ReplyValue, Handed, Ended, NotYet, Done, Refused, NoSuch}
-use Rattle.tiny_http_connection.specs.Steps.{Memory, Fault}
-use Rattle.tiny_http_connection.specs.Conversation.{State, TimedValue, Run, start_state, IsFresh, IsPassedOver}
+use Rattle.tiny_http_connection.specs.Steps.{Memory, Fault, TimedValue}
+use Rattle.tiny_http_connection.specs.Conversation.{State, Run, start_state, IsFresh, IsPassedOver}
 use Rattle.tiny_http_response.specs.declared.answer_context.AnswerContext.{AnswerContext}
 use Rattle.tiny_http_response.specs.ResponseValue.{printing_in}
 use Rattle.tiny_http_response.specs.Sending.{IsHonest, FailsOnce}

@@ -1,5 +1,7 @@
+pub mod Segments
 pub mod Slots
 pub mod Steps
+pub mod Outcomes
 pub mod Conversation
 pub mod Seen
 pub mod Pending

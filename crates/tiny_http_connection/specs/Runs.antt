@@ -1,4 +1,5 @@
 -- What a run of a list of steps comes to.
+-- Nobody needs this file to believe the laws of `InShort`.
 use Rattle.std.specs.Prelude.{◌≡◌, List, map, true, [], length, Option, Some}
 use Rattle.std.specs.List.{AllZip}
 use Rattle.tiny_http_io.specs.Device.{Feed, Sink, HoldsNothing}
@@ -9,7 +10,8 @@ use Rattle.tiny_http_body.specs.declared.framing.Profile.{Profile}
 use Rattle.tiny_http_connection.specs.declared.driver.Timed.{Timed}
 use Rattle.tiny_http_connection.specs.declared.driver.Record.{Record}
 use Rattle.tiny_http_connection.specs.Seen.{IsTimedStep, seen, ReportHonestly, all_sent}
-use Rattle.tiny_http_connection.specs.Conversation.{IsConversation, IsFresh, TimedValue}
+use Rattle.tiny_http_connection.specs.Conversation.{IsConversation, IsFresh}
+use Rattle.tiny_http_connection.specs.Steps.{TimedValue}
 
 -- THE CONNECTION THEOREM, of what a run leaves: where the reader states its feed, the writer states that it took
 -- nothing, has not ended, and its count can rise, and the data of the responses state feeds of fewer than 2^63 bytes,

@@ -1,4 +1,5 @@
 -- The program's steps and replies as the definitions see them.
+-- Nobody needs this file to believe the laws of `InShort`.
 use Rattle.std.specs.Prelude.{◌≡◌, ◌<◌, ◌^◌, List, [], ◌∷◌, length, Option, Some, Bool, true, false, not, ◌&&◌, ◌||◌}
 use Rattle.std.specs.Prelude.{Result, Ok, Err, string_bytes}
 use Rattle.std.specs.IoError.{error_kind}
@@ -17,8 +18,8 @@ use Rattle.tiny_http_open_request.specs.HeadReads.{head_message, head_framing}
 use Rattle.tiny_http_response.specs.ResponseValue.{ResponseValue, printing_in}
 use Rattle.tiny_http_connection.specs.Steps.{StepValue, Ask, AsReader, Read, Respond, IntoWriter, Write, Flush}
 use Rattle.tiny_http_connection.specs.Steps.{Upgrade, Finish, Drop, ReplyValue, Handed, Ended, Given, Fault, NotYet}
-use Rattle.tiny_http_connection.specs.Steps.{Done, Refused, NoSuch, Memory, fault_reply}
-use Rattle.tiny_http_connection.specs.Conversation.{TimedValue}
+use Rattle.tiny_http_connection.specs.Steps.{Done, Refused, NoSuch, Memory, TimedValue}
+use Rattle.tiny_http_connection.specs.Outcomes.{fault_reply}
 use Rattle.tiny_http_response.specs.Sending.{Sends, IsFlushed, IsHonest, FailsAtMostOnce}
 
 -- the response states its data, of fewer than 2^63 bytes

@@ -1,21 +1,10 @@
--- The steps of a connection, and what each answers and changes.
-use Rattle.std.specs.Prelude.{ℕ, ◌+◌, Bool, true, false, not, ◌&&◌, ◌||◌, ◌==◌, nat_lt, List, [], ◌∷◌, ◌++◌, length}
-use Rattle.std.specs.Prelude.{take, Option, Some, None, if◌then◌else◌, slice_get, slice_set}
+-- The steps of a connection, and what each can be answered.
+use Rattle.std.specs.Prelude.{ℕ, List}
 use Rattle.std.specs.declared.io.ErrorKind.{ErrorKind}
 use Rattle.httpdate.specs.declared.date.HttpDate.{HttpDate}
-use Rattle.tiny_http_io.specs.declared.device.Stop.{Stop}
-use Rattle.tiny_http_io.specs.declared.device.Stop.TheVariants.{End, Fault as Faults}
 use Rattle.tiny_http_head.specs.Heads.{Message}
-use Rattle.tiny_http_body.specs.Text.{Ending, Whole, Broken}
 use Rattle.tiny_http_body.specs.declared.framing.Framing.{Framing}
-use Rattle.tiny_http_open_request.specs.Pipeline.{Item, Asks, Refuses, Request}
 use Rattle.tiny_http_response.specs.ResponseValue.{ResponseValue}
-use Rattle.tiny_http_response.specs.Sending.{is_closed_client}
-use Rattle.tiny_http_connection.specs.Slots.{Slot, Stage, Unanswered, Answered, ByServer, Raw, Upgraded}
-use Rattle.tiny_http_connection.specs.Slots.{turn_has_come, to_request, text_if, new_slot, rest_of, last_slot}
-use Rattle.tiny_http_connection.specs.Slots.{last_closing, holds_next_head, is_last_once_finished, closes_now}
-use Rattle.tiny_http_connection.specs.Slots.{refuses_response, refuses_upgrade, upgraded_slot, last_holds_reader}
-use Rattle.tiny_http_connection.specs.Slots.{last_was_abandoned}
 
 -- a step, with its response as a value
 pub data StepValue : Type 0 where
@@ -42,230 +31,19 @@ pub data ReplyValue : Type 0 where
   NoSuch : ReplyValue
   Memory : ReplyValue
 
--- how a fault of an answer is replied: a client that has closed the connection is none
-abbrev pub fault_reply : ErrorKind → ReplyValue
-fault_reply kind = if is_closed_client kind then Done else Fault kind
+-- the number that a step is for; 0 for an Ask, which is for none
+abbrev pub number_of : StepValue → ℕ
+number_of Ask = 0
+number_of (AsReader k) = k
+number_of (Read k n) = k
+number_of (Respond k response) = k
+number_of (IntoWriter k) = k
+number_of (Write k bytes) = k
+number_of (Flush k) = k
+number_of (Upgrade k protocol response) = k
+number_of (Finish k) = k
+number_of (Drop k) = k
 
--- How a step uses the writer: not at all; or its texts are written and flushed, and no reply reports a fault; or its
--- own text is written, and flushed or not, and a fault of the writer in it is reported, or else that of its
--- response's data, if any. Where both fail, either may be reported.
-pub data WriterUse : Type 0 where
-  Unused : WriterUse
-  Unreported : WriterUse
-  Reported : (own : List ℕ) (broken : Option ErrorKind) (flushes : Bool) (report : ErrorKind → ReplyValue) → WriterUse
-
--- What a step answers and leaves, so far as the writer has no say in it.
-pub record Outcome : Type 0 where
-  pub reply : ReplyValue
-  pub slots : List Slot
-  pub rest : List Item
-  pub asking_ended : Bool
-  pub writer : WriterUse
-
--- What is reached of a pipeline, what isn't yet, and whether the asking has ended.
-pub record Reached : Type 0 where
-  pub slots : List Slot
-  pub rest : List Item
-  pub asking_ended : Bool
-
-abbrev pub unchanged : Reached → ReplyValue → Outcome
-unchanged old reply =
-    record { reply = reply; slots = old.slots; rest = old.rest; asking_ended = old.asking_ended; writer = Unused }
-
--- the step changes one slot
-abbrev pub changes : Reached → ℕ → Slot → ReplyValue → WriterUse → Outcome
-changes old k s reply writer =
-    record {
-      reply = reply;
-      slots = slice_set old.slots k s;
-      rest = old.rest;
-      asking_ended = old.asking_ended;
-      writer = writer;
-    }
-
--- an Ask goes to the next request, past the refused heads before it
-abbrev pub asks_from : HttpDate → WriterUse → List Slot → List Item → Outcome
-asks_from date writer slots [] =
-    record { reply = Ended; slots = slots; rest = []; asking_ended = true; writer = writer }
-asks_from date writer slots (Asks r ∷ items) =
-    record {
-      reply = Handed (length slots) r.message r.framing;
-      slots = slots ++ new_slot date (Asks r) ∷ [];
-      rest = items;
-      asking_ended = false;
-      writer = writer;
-    }
-asks_from date writer slots (Refuses refusal manner no_body last ∷ items) =
-    asks_from date (if turn_has_come (length slots) slots then Unreported else writer)
-    (slots ++ new_slot date (Refuses refusal manner no_body last) ∷ []) items
-
--- The answer to an Ask: Ended once it was; NotYet while the last request handed out holds the reader; Ended after a
--- chunked body that was given up before its end; else the next request of the pipeline, or its end.
-abbrev pub ask : HttpDate → Reached → Outcome
-ask date old =
-    if old.asking_ended then unchanged old Ended else
-    if last_holds_reader (last_slot old.slots) then unchanged old NotYet else
-    if last_was_abandoned (last_slot old.slots)
-    then record { reply = Ended; slots = old.slots; rest = old.rest; asking_ended = true; writer = Unused } else
-    asks_from date Unused old.slots old.rest
-
--- the bytes that a read gives, or how the body closes
-abbrev pub close_reply : Stop → ReplyValue
-close_reply End = Given []
-close_reply (Faults kind) = Fault kind
-
-abbrev pub read_reply : ℕ → List ℕ → Stop → ReplyValue
-read_reply n [] close = close_reply close
-read_reply n (b ∷ left) close = Given (take n (b ∷ left))
-
--- the number ends so, and its body is given up
-abbrev pub finished_as : Bool → Slot → Stage → Slot
-finished_as closes s stage = record s { stage = stage; given_up = true; owed = false; closes = closes }
-
--- more bytes were written, or the stream ends
-abbrev pub written_to : List ℕ → Stage → Stage
-written_to bytes (Raw written ends) = Raw (written ++ bytes) ends
-written_to bytes (Upgraded protocol response date written ends) =
-    Upgraded protocol response date (written ++ bytes) ends
-written_to bytes stage = stage
-
-abbrev pub stage_closed : Stage → Stage
-stage_closed (Raw written _) = Raw written true
-stage_closed (Upgraded protocol response date written _) = Upgraded protocol response date written true
-stage_closed stage = stage
-
-abbrev pub fault_in : Ending → Option ErrorKind
-fault_in Whole = None
-fault_in (Broken kind) = Some kind
-
--- whether a number takes a step
-abbrev pub accepts_step : Stage → Bool → StepValue → Bool
-accepts_step Unanswered owed (AsReader k) = true
-accepts_step Unanswered owed (Read k n) = not owed
-accepts_step Unanswered owed (Respond k response) = true
-accepts_step Unanswered owed (IntoWriter k) = true
-accepts_step Unanswered owed (Upgrade k protocol response) = true
-accepts_step Unanswered owed (Drop k) = true
-accepts_step Unanswered owed _ = false
-accepts_step (Raw written ends) owed (Write k bytes) = not ends
-accepts_step (Raw written ends) owed (Flush k) = not ends
-accepts_step (Raw written ends) owed (Finish k) = not ends
-accepts_step (Raw written ends) owed _ = false
-accepts_step (Upgraded protocol response date written ends) owed (Write k bytes) = not ends
-accepts_step (Upgraded protocol response date written ends) owed (Flush k) = not ends
-accepts_step (Upgraded protocol response date written ends) owed (Finish k) = not ends
-accepts_step (Upgraded protocol response date written ends) owed (Read k n) = not ends
-accepts_step (Upgraded protocol response date written ends) owed _ = false
-accepts_step (Answered response date found) owed _ = false
-accepts_step ByServer owed _ = false
-
--- whether a step waits for its number's turn
-abbrev pub needs_turn : Request → Slot → StepValue → Bool
-needs_turn r s (AsReader k) = s.owed
-needs_turn r s (Respond k response) = not (refuses_response r response)
-needs_turn r s (Write k bytes) = true
-needs_turn r s (Flush k) = true
-needs_turn r s (Upgrade k protocol response) = not (refuses_upgrade r s protocol response)
-needs_turn r s _ = false
-
--- a text of the server's own is written in its turn alone
-abbrev pub use_in_turn : Bool → WriterUse
-use_in_turn true = Unreported
-use_in_turn false = Unused
-
--- no head is read behind the number, if this holds
-abbrev pub ends_asking : Bool → Outcome → Outcome
-ends_asking ends o = record o { asking_ended = o.asking_ended || ends }
-
--- No head is read behind a request that gets the connection's stream now, if it holds the next head or would be the
--- last.
-abbrev pub is_last_with_stream : Request → Bool → ℕ → Bool → Bool
-is_last_with_stream r owed given end_reported = holds_next_head r || is_last_once_finished r owed given end_reported
-
--- An answer asks that the connection ends: no further head is read, and the last number that was reached says so in
--- its answer, if that isn't made yet.
-abbrev pub asked_to_close : Bool → Reached → Reached
-asked_to_close closes old = if closes then record old { slots = last_closing old.slots; asking_ended = true } else old
-
--- this slot of a request is answered by the response
-abbrev pub answers_slot : Bool → HttpDate → Reached → Request → ℕ → ResponseValue → Option Slot → Outcome
-answers_slot found date old r k response None = unchanged old NoSuch
-answers_slot found date old r k response (Some s) =
-    let closes = closes_now r s.closes s.owed s.given s.end_reported in
-    let text = text_if found response (to_request closes r date) in
-    ends_asking (is_last_once_finished r s.owed s.given s.end_reported)
-    (changes old k (finished_as closes s (Answered response date found)) Done
-    (Reported text.bytes (fault_in text.ending) true fault_reply))
-
--- the number of a request is answered by the response
-abbrev pub answers : Bool → HttpDate → Reached → Request → ℕ → ResponseValue → Outcome
-answers found date old r k response = answers_slot found date old r k response (slice_get old.slots k)
-
--- a step that the number of a request takes, in its time
-abbrev pub effect : Bool → HttpDate → Reached → Request → Slot → Bool → StepValue → Outcome
-effect found date old r s turn (AsReader k) =
-    if s.owed then changes old k (record s { owed = false; continued = Some date }) Done Unreported
-    else unchanged old Done
-effect found date old r s turn (Read k n) =
-    if n == 0 then unchanged old (Given [])
-    else changes old k
-    (record s {
-      given = s.given + length (take n (rest_of r s.given).bytes);
-      end_reported = s.end_reported
-          || nat_lt (length (rest_of r s.given).bytes) n;
-    })
-    (read_reply n (rest_of r s.given).bytes r.body.stop) Unused
-effect found date old r s turn (Respond k response) =
-    if refuses_response r response
-    then ends_asking (is_last_once_finished r s.owed s.given s.end_reported)
-    (changes old k (finished_as (closes_now r s.closes s.owed s.given s.end_reported) s ByServer) Refused
-    (use_in_turn turn))
-    else answers found date (asked_to_close response.answer.closes old) r k response
-effect found date old r s turn (IntoWriter k) =
-    ends_asking (is_last_with_stream r s.owed s.given s.end_reported)
-    (changes old k (record s { stage = Raw [] false; given_up = true; owed = false }) Done Unused)
-effect found date old r s turn (Write k bytes) =
-    changes old k (record s { stage = written_to bytes s.stage }) Done (Reported bytes None false Fault)
-effect found date old r s turn (Flush k) = changes old k s Done (Reported [] None true Fault)
-effect found date old r s turn (Upgrade k protocol response) =
-    if refuses_upgrade r s protocol response
-    then ends_asking (is_last_once_finished r s.owed s.given s.end_reported)
-    (changes old k (finished_as (closes_now r s.closes s.owed s.given s.end_reported) s ByServer) Refused
-    (use_in_turn turn))
-    else ends_asking (is_last_with_stream r s.owed s.given s.end_reported)
-    (changes old k (upgraded_slot r s (Upgraded protocol response date [] false)) Done Unreported)
-effect found date old r s turn (Finish k) =
-    changes old k (finished_as s.closes s (stage_closed s.stage)) Done (use_in_turn turn)
-effect found date old r s turn (Drop k) =
-    ends_asking (is_last_once_finished r s.owed s.given s.end_reported)
-    (changes old k (finished_as (closes_now r s.closes s.owed s.given s.end_reported) s ByServer) Done
-    (use_in_turn turn))
-effect found date old r s turn Ask = unchanged old NoSuch
-
-abbrev pub at_item : Bool → HttpDate → Reached → ℕ → StepValue → Slot → Item → Outcome
-at_item found date old k step s (Refuses refusal manner no_body last) = unchanged old NoSuch
-at_item found date old k step s (Asks r) =
-    if not (accepts_step s.stage s.owed step) then unchanged old NoSuch else
-    if (needs_turn r s step && not (turn_has_come k old.slots)) then unchanged old NotYet else
-    effect found date old r s (turn_has_come k old.slots) step
-
-abbrev pub at_slot : Bool → HttpDate → Reached → ℕ → StepValue → Option Slot → Outcome
-at_slot found date old k step None = unchanged old NoSuch
-at_slot found date old k step (Some s) = at_item found date old k step s s.item
-
--- a step of a number
-abbrev pub at_number : Bool → HttpDate → Reached → ℕ → StepValue → Outcome
-at_number found date old k step = at_slot found date old k step (slice_get old.slots k)
-
--- what a step answers and leaves
-abbrev pub outcome : Bool → HttpDate → Reached → StepValue → Outcome
-outcome found date old Ask = ask date old
-outcome found date old (AsReader k) = at_number found date old k (AsReader k)
-outcome found date old (Read k n) = at_number found date old k (Read k n)
-outcome found date old (Respond k response) = at_number found date old k (Respond k response)
-outcome found date old (IntoWriter k) = at_number found date old k (IntoWriter k)
-outcome found date old (Write k bytes) = at_number found date old k (Write k bytes)
-outcome found date old (Flush k) = at_number found date old k (Flush k)
-outcome found date old (Upgrade k protocol response) = at_number found date old k (Upgrade k protocol response)
-outcome found date old (Finish k) = at_number found date old k (Finish k)
-outcome found date old (Drop k) = at_number found date old k (Drop k)
+-- a step on a date
+abbrev pub TimedValue : Type 0
+TimedValue = HttpDate × StepValue

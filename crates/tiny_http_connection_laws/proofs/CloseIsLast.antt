@@ -12,8 +12,9 @@ use Rattle.tiny_http_body.specs.declared.body.Remainder.{Remainder}
 use Rattle.tiny_http_body.specs.declared.body.Remainder.TheVariants as left
 use Rattle.tiny_http_body.specs.Body.{body_finished, is_long, is_skipped}
 use Rattle.tiny_http_open_request.specs.Pipeline.{Item, Asks, Refuses, Request, body_length_or_0}
-use Rattle.tiny_http_connection.specs.Slots.{Slot, Stage, Unanswered, Answered, ByServer, Raw, Upgraded, is_unanswered, is_end, is_chunked, is_counted, body_is_open, body_was_abandoned, remainder_of, is_last_once_finished, closes_now, last_closing, last_slot}
-use Rattle.tiny_http_connection.specs.Steps.{Outcome, Reached, finished_as}
+use Rattle.tiny_http_connection.specs.Segments.{Slot, Stage, Unanswered, Answered, ByServer, Raw, Upgraded}
+use Rattle.tiny_http_connection.specs.Slots.{is_unanswered, is_end, is_chunked, is_counted, body_is_open, body_was_abandoned, remainder_of, is_last_once_finished, closes_now, last_closing, last_slot}
+use Rattle.tiny_http_connection.specs.Outcomes.{Outcome, Reached, finished_as}
 use Rattle.tiny_http_connection_laws.specs.Closes.{is_close_printed, says_close_by, NoneFollowsClose}
 use Rattle.tiny_http_connection_laws.proofs.PipelineEnds.{lasts, AllEnd, Owes}
 

@@ -25,7 +25,7 @@ use Rattle.tiny_http_body.specs.declared.framing.Profile.TheVariants.{Standard}
 use Rattle.tiny_http_open_request.specs.OwnAnswer.{persistence_of, refusal_response}
 use Rattle.tiny_http_open_request.specs.Pipeline.{Item, Asks, Refuses, Refusal, BadRequest, RequestTimeout, ExpectationFailed, HeaderFieldsTooLarge, VersionNotSupported, RequestLineTooLong, CodingNotImplemented, MajorVersionNotSupported}
 use Rattle.tiny_http_response.specs.ResponseValue.{ResponseValue}
-use Rattle.tiny_http_connection.specs.Slots.{Slot, Stage, Unanswered, Answered, ByServer, Raw, Upgraded, printing_for, server_response, stage_text}
+use Rattle.tiny_http_connection.specs.Segments.{Slot, Stage, Unanswered, Answered, ByServer, Raw, Upgraded, printing_for, server_response, stage_text}
 use Rattle.tiny_http_client.specs.ClientAnswer.{ClientAnswer}
 use Rattle.tiny_http_connection_laws.specs.ClientReads.{IsReadableStage, CanBeReadAt, answer_if_whole, stage_answer}
 use Rattle.tiny_http_connection_laws.specs.Closes.{is_close_printed, says_close_by, says_close, reads_close, OwnsNoConnection, IsReadAsSaid}

@@ -15,12 +15,14 @@ use Rattle.tiny_http_open_request.specs.declared.upgrading.UpgradeError.TheVaria
 use Rattle.tiny_http_body.specs.Body.{body_finished}
 use Rattle.tiny_http_open_request.specs.Pipeline.{Item, Asks, Refuses, Request, body_length_or_0}
 use Rattle.tiny_http_response.specs.ResponseValue.{ResponseValue}
-use Rattle.tiny_http_connection.specs.Slots.{Slot, Stage, Unanswered, Answered, ByServer, Raw, Upgraded, is_unanswered, is_end, is_form_streamed, is_chunked, is_counted, body_is_open, body_was_abandoned, is_last_once_finished, closes_now, holds_next_head, asks_protocol, is_body_whole, refuses_response, refuses_upgrade, as_stream, upgraded_slot, rest_of, new_slot, last_slot, is_last_item, is_holding, last_holds_reader, last_was_abandoned, turn_has_come}
-use Rattle.tiny_http_connection.specs.Steps.{StepValue, Ask, AsReader, Read, Respond, IntoWriter, Write, Flush, Upgrade, Finish, Drop, ReplyValue, Given, Done, NoSuch, NotYet, Ended, Refused, WriterUse, Unused, Unreported, Outcome, Reached, unchanged, changes, ends_asking, is_last_with_stream, finished_as, written_to, stage_closed, accepts_step, needs_turn, use_in_turn, asked_to_close, answers, answers_slot, asks_from, ask, effect, at_item, at_slot, at_number, outcome}
-use Rattle.tiny_http_connection.specs.Conversation.{State, FindsNoMemory, IsPassedOver, StepsTo, TimedValue, Run, start_state, IsConversation}
+use Rattle.tiny_http_connection.specs.Segments.{Slot, Stage, Unanswered, Answered, ByServer, Raw, Upgraded, is_last_item}
+use Rattle.tiny_http_connection.specs.Slots.{turn_has_come, is_unanswered, is_end, is_form_streamed, is_chunked, is_counted, body_is_open, body_was_abandoned, is_last_once_finished, closes_now, holds_next_head, asks_protocol, is_body_whole, refuses_response, refuses_upgrade, as_stream, upgraded_slot, rest_of, new_slot, last_slot, is_holding, last_holds_reader, last_was_abandoned}
+use Rattle.tiny_http_connection.specs.Steps.{StepValue, Ask, AsReader, Read, Respond, IntoWriter, Write, Flush, Upgrade, Finish, Drop, ReplyValue, Given, Done, NoSuch, NotYet, Ended, Refused, TimedValue, number_of}
+use Rattle.tiny_http_connection.specs.Outcomes.{WriterUse, Unused, Unreported, Outcome, Reached, unchanged, changes, ends_asking, is_last_with_stream, finished_as, written_to, stage_closed, accepts_step, needs_turn, use_in_turn, asked_to_close, answers, answers_slot, asks_from, ask, effect, at_item, at_slot, at_number, outcome}
+use Rattle.tiny_http_connection.specs.Conversation.{State, FindsNoMemory, IsPassedOver, StepsTo, Run, start_state, IsConversation}
 use Rattle.tiny_http_connection.proofs.ConnectionReader.{last-snoc}
 use Rattle.tiny_http_connection_laws.specs.Closes.{says_close_by, NoneFollowsClose}
-use Rattle.tiny_http_connection_laws.proofs.StepsAdd.{number_of, told, by-respond, by-upgrade, by-drop}
+use Rattle.tiny_http_connection_laws.proofs.StepsAdd.{told, by-respond, by-upgrade, by-drop}
 use Rattle.tiny_http_connection_laws.proofs.PipelineEnds.{lasts, AllEnd, Owes, pipeline-ends, pipeline-owes}
 use Rattle.tiny_http_connection_laws.proofs.CloseIsLast.{IsPassedRequest, IsPassed, IsLastRequest, IsLastItem, Fit, Inv, InvAt, InvOf, no-both, so-false, or-none, not-true, weaken, snoc-fit, closing-fit, fit-none, change, change-kept, finishes, streams}
 

@@ -4,9 +4,9 @@ use Rattle.std.specs.Prelude.{IsTrue}
 use Rattle.std.specs.List.{list_all}
 use Rattle.tiny_http_io.specs.Device.{Feed, Sink}
 use Rattle.tiny_http_body.specs.declared.framing.Profile.{Profile}
-use Rattle.tiny_http_connection.specs.Slots.{is_finished}
-use Rattle.tiny_http_connection.specs.Steps.{ReplyValue}
-use Rattle.tiny_http_connection.specs.Conversation.{TimedValue, start_state, IsConversation}
+use Rattle.tiny_http_connection.specs.Segments.{is_finished}
+use Rattle.tiny_http_connection.specs.Steps.{ReplyValue, TimedValue}
+use Rattle.tiny_http_connection.specs.Conversation.{start_state, IsConversation}
 use Rattle.tiny_http_client.specs.ClientAnswer.{ClientAnswer, ReadsAnswers}
 use Rattle.tiny_http_client.specs.SentTexts.{methods, whole_answers, remains}
 use Rattle.tiny_http_connection_laws.specs.ClientReads.{goes_by_standard, IsOutputOf, HaveAnswers, ReadsNumbers, sent_texts}

@@ -11,13 +11,15 @@ use Rattle.tiny_http_io.specs.Device.{Feed, Sink, whole_feed}
 use Rattle.tiny_http_body.specs.declared.framing.Profile.{Profile}
 use Rattle.tiny_http_open_request.specs.Pipeline.{Item, Asks, Refuses, Request}
 use Rattle.tiny_http_response.specs.ResponseValue.{ResponseValue}
-use Rattle.tiny_http_connection.specs.Slots.{Slot, Stage, Unanswered, Answered, ByServer, Raw, Upgraded, turn_has_come, new_slot, rest_of, last_slot, last_closing, closing, last_holds_reader, last_was_abandoned, is_last_once_finished, closes_now, refuses_response, refuses_upgrade, upgraded_slot, as_stream, to_request, text_if}
-use Rattle.tiny_http_connection.specs.Steps.{StepValue, Ask, AsReader, Read, Respond, IntoWriter, Write, Flush, Upgrade, Finish, Drop, ReplyValue, Handed, Ended, Given, Fault, NotYet, Done, Refused, NoSuch, Memory, WriterUse, Unused, Unreported, Reported, Outcome, Reached, unchanged, changes, asks_from, ask, read_reply, finished_as, written_to, stage_closed, fault_in, fault_reply, accepts_step, needs_turn, use_in_turn, ends_asking, is_last_with_stream, asked_to_close, answers_slot, answers, effect, at_item, at_slot, at_number, outcome}
-use Rattle.tiny_http_connection.specs.Conversation.{Failure, State, Fares, MayFare, reply_in, failure_in, is_silent, HasOutcome, FindsNoMemory, answers_to, StepsTo, TimedValue, Run, start_state, IsConversation}
+use Rattle.tiny_http_connection.specs.Segments.{Slot, Stage, Unanswered, Answered, ByServer, Raw, Upgraded, to_request, text_if}
+use Rattle.tiny_http_connection.specs.Slots.{turn_has_come, new_slot, rest_of, last_slot, last_closing, closing, last_holds_reader, last_was_abandoned, is_last_once_finished, closes_now, refuses_response, refuses_upgrade, upgraded_slot, as_stream}
+use Rattle.tiny_http_connection.specs.Steps.{StepValue, Ask, AsReader, Read, Respond, IntoWriter, Write, Flush, Upgrade, Finish, Drop, ReplyValue, Handed, Ended, Given, Fault, NotYet, Done, Refused, NoSuch, Memory, TimedValue, number_of}
+use Rattle.tiny_http_connection.specs.Outcomes.{WriterUse, Unused, Unreported, Reported, Outcome, Reached, unchanged, changes, asks_from, ask, read_reply, finished_as, written_to, stage_closed, fault_in, fault_reply, accepts_step, needs_turn, use_in_turn, ends_asking, is_last_with_stream, asked_to_close, answers_slot, answers, effect, at_item, at_slot, at_number, outcome}
+use Rattle.tiny_http_connection.specs.Conversation.{Failure, State, Fares, MayFare, reply_in, failure_in, is_silent, HasOutcome, FindsNoMemory, answers_to, StepsTo, Run, start_state, IsConversation}
 use Rattle.tiny_http_connection.proofs.ConnectionClosing.{by-closing}
 use Rattle.tiny_http_connection_laws.specs.InShort.{ReadsNext, LeavesBody, ReadsBody}
 use Rattle.tiny_http_connection_laws.proofs.InShortHanded.{closing-length, set-length, one-more}
-use Rattle.tiny_http_connection_laws.proofs.StepsAdd.{number_of, by-upgrade}
+use Rattle.tiny_http_connection_laws.proofs.StepsAdd.{by-upgrade}
 
 -- ---- numbers in a list
 

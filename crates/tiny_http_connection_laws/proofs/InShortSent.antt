@@ -3,9 +3,10 @@ use Rattle.std.proofs.Common.{◌≡◌, refl, sym, ap, ◌∙◌, subst, ℕ, B
 use Rattle.std.specs.Prelude.{Option, if◌then◌else◌}
 use Rattle.tiny_http_io.specs.Device.{Feed, Sink, IsFront}
 use Rattle.tiny_http_body.specs.declared.framing.Profile.{Profile}
-use Rattle.tiny_http_connection.specs.Slots.{Slot, segment, is_finished, is_slot_broken, joined}
-use Rattle.tiny_http_connection.specs.Steps.{ReplyValue}
-use Rattle.tiny_http_connection.specs.Conversation.{TimedValue, IsConversation}
+use Rattle.tiny_http_connection.specs.Segments.{Slot, segment, is_finished, is_slot_broken}
+use Rattle.tiny_http_connection.specs.Slots.{joined}
+use Rattle.tiny_http_connection.specs.Steps.{ReplyValue, TimedValue}
+use Rattle.tiny_http_connection.specs.Conversation.{IsConversation}
 use Rattle.tiny_http_connection_laws.specs.ClientReads.{IsOutputOf}
 use Rattle.tiny_http_connection_laws.specs.InShort.{sent, segment_of}
 use Rattle.tiny_http_connection_laws.proofs.ConversationReads.{end-sound}

@@ -6,8 +6,10 @@ use Rattle.std.specs.declared.io.ErrorKind.{ErrorKind}
 use Rattle.std.proofs.lemmas.Bool.{and_parts}
 use Rattle.tiny_http_io.specs.Device.{IsFront}
 use Rattle.tiny_http_response.proofs.SendingLemmas.{or-parts}
-use Rattle.tiny_http_connection.specs.Slots.{Slot, Stage, Unanswered, Answered, ByServer, Raw, Upgraded, segment, is_slot_broken, is_stage_finished, is_finished, turn_has_come, joined, is_output_broken}
-use Rattle.tiny_http_connection.specs.Steps.{StepValue, Read, Write, Flush, Finish, ReplyValue, WriterUse, Unused, Unreported, Reported, Outcome, Reached, unchanged, changes, accepts_step, use_in_turn}
+use Rattle.tiny_http_connection.specs.Segments.{Slot, Stage, Unanswered, Answered, ByServer, Raw, Upgraded, segment, is_slot_broken, is_stage_finished, is_finished}
+use Rattle.tiny_http_connection.specs.Slots.{is_output_broken, joined, turn_has_come}
+use Rattle.tiny_http_connection.specs.Steps.{StepValue, Read, Write, Flush, Finish, ReplyValue}
+use Rattle.tiny_http_connection.specs.Outcomes.{WriterUse, Unused, Unreported, Reported, Outcome, Reached, unchanged, changes, accepts_step, use_in_turn}
 
 -- more numbers send as much, and more
 pub rest-grows : (c : Bool) (w u v : List ℕ) → IsFront u v → IsFront (w ++ (if c then u else [])) (w ++ (if c then v else []))

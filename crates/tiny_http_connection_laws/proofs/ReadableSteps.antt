@@ -6,11 +6,13 @@ use Rattle.httpdate.specs.declared.date.HttpDate.{HttpDate}
 use Rattle.tiny_http_io.specs.Device.{Feed, Sink}
 use Rattle.tiny_http_open_request.specs.Pipeline.{Item, Asks, Refuses, Request}
 use Rattle.tiny_http_body.specs.declared.framing.Profile.{Profile}
-use Rattle.tiny_http_connection.specs.Slots.{is_last_once_finished, closes_now, refuses_response, Slot, Stage, Unanswered, Answered, ByServer, Raw, Upgraded, new_slot, turn_has_come, rest_of, last_slot, last_holds_reader, last_was_abandoned, upgraded_slot, refuses_upgrade, last_closing}
-use Rattle.tiny_http_connection.specs.Steps.{StepValue, Ask, AsReader, Read, Respond, IntoWriter, Write, Flush, Upgrade, Finish, Drop, ReplyValue, Ended, Given, Done, Refused, NoSuch, NotYet, WriterUse, Unused, Unreported, Outcome, Reached, unchanged, changes, ends_asking, is_last_with_stream, read_reply, finished_as, written_to, stage_closed, accepts_step, needs_turn, use_in_turn, effect, at_item, at_slot, at_number, asks_from, ask, outcome, answers, answers_slot, asked_to_close}
-use Rattle.tiny_http_connection.specs.Conversation.{Failure, State, HasOutcome, FindsNoMemory, StepsTo, TimedValue, Run, start_state, IsOutput, IsConversation}
+use Rattle.tiny_http_connection.specs.Segments.{Slot, Stage, Unanswered, Answered, ByServer, Raw, Upgraded}
+use Rattle.tiny_http_connection.specs.Slots.{turn_has_come, is_last_once_finished, closes_now, refuses_response, new_slot, rest_of, last_slot, last_holds_reader, last_was_abandoned, upgraded_slot, refuses_upgrade, last_closing}
+use Rattle.tiny_http_connection.specs.Steps.{StepValue, Ask, AsReader, Read, Respond, IntoWriter, Write, Flush, Upgrade, Finish, Drop, ReplyValue, Ended, Given, Done, Refused, NoSuch, NotYet, TimedValue, number_of}
+use Rattle.tiny_http_connection.specs.Outcomes.{WriterUse, Unused, Unreported, Outcome, Reached, unchanged, changes, ends_asking, is_last_with_stream, read_reply, finished_as, written_to, stage_closed, accepts_step, needs_turn, use_in_turn, effect, at_item, at_slot, at_number, asks_from, ask, outcome, answers, answers_slot, asked_to_close}
+use Rattle.tiny_http_connection.specs.Conversation.{Failure, State, HasOutcome, FindsNoMemory, StepsTo, Run, start_state, IsOutput, IsConversation}
 use Rattle.tiny_http_connection_laws.specs.ClientReads.{CanBeRead, goes_by_standard, IsReadableStage, CanBeReadAt, IsReadableStep, AreReadable}
-use Rattle.tiny_http_connection_laws.proofs.StepsAdd.{all-append, number_of}
+use Rattle.tiny_http_connection_laws.proofs.StepsAdd.{all-append}
 use Rattle.tiny_http_connection.proofs.ConnectionClosing.{by-closing}
 use Rattle.tiny_http_response.specs.ResponseValue.{ResponseValue}
 

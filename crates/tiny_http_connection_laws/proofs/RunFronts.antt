@@ -6,11 +6,13 @@ use Rattle.tiny_http_io.specs.Device.{Sink, IsFront}
 use Rattle.tiny_http_open_request.specs.Pipeline.{Item, Asks, Refuses}
 use Rattle.tiny_http_io.proofs.DeviceLemmas.{IsFront-append}
 use Rattle.tiny_http_response.proofs.SendingLemmas.{or-parts}
-use Rattle.tiny_http_connection.specs.Slots.{Slot, turn_has_come, joined, is_output_broken, new_slot, last_slot, last_holds_reader, last_was_abandoned}
-use Rattle.tiny_http_connection.specs.Steps.{StepValue, Ask, AsReader, Read, Respond, IntoWriter, Write, Flush, Upgrade, Finish, Drop, ReplyValue, Ended, NotYet, NoSuch, Memory, WriterUse, Unused, Unreported, Reported, Outcome, Reached, unchanged, asks_from, ask, accepts_step, needs_turn, effect, at_item, at_slot, at_number, outcome}
-use Rattle.tiny_http_connection.specs.Conversation.{Failure, State, Fares, Well, FailsWithin, FailsAfter, MayFare, failure_in, is_silent, reply_in, HasOutcome, FindsNoMemory, answers_to, StepsTo, TimedValue, Run, start_state, IsOutput}
+use Rattle.tiny_http_connection.specs.Segments.{Slot}
+use Rattle.tiny_http_connection.specs.Slots.{is_output_broken, joined, turn_has_come, new_slot, last_slot, last_holds_reader, last_was_abandoned}
+use Rattle.tiny_http_connection.specs.Steps.{StepValue, Ask, AsReader, Read, Respond, IntoWriter, Write, Flush, Upgrade, Finish, Drop, ReplyValue, Ended, NotYet, NoSuch, Memory, TimedValue, number_of}
+use Rattle.tiny_http_connection.specs.Outcomes.{WriterUse, Unused, Unreported, Reported, Outcome, Reached, unchanged, asks_from, ask, accepts_step, needs_turn, effect, at_item, at_slot, at_number, outcome}
+use Rattle.tiny_http_connection.specs.Conversation.{Failure, State, Fares, Well, FailsWithin, FailsAfter, MayFare, failure_in, is_silent, reply_in, HasOutcome, FindsNoMemory, answers_to, StepsTo, Run, start_state, IsOutput}
 use Rattle.tiny_http_connection_laws.proofs.JoinedGrows.{joined-grows, AddsOwn, in-turn-ownless}
-use Rattle.tiny_http_connection_laws.proofs.StepsAdd.{ItemFits, IsSound, AllSound, AllFit, all-append, all-parts, Keeps, Holds, keeps-if, number_of, effect-keeps}
+use Rattle.tiny_http_connection_laws.proofs.StepsAdd.{ItemFits, IsSound, AllSound, AllFit, all-append, all-parts, Keeps, Holds, keeps-if, effect-keeps}
 
 keeps-unchanged : (bs : Bool) (old : Reached) (reply : ReplyValue) → Holds bs old → Keeps bs old (unchanged old reply)
 keeps-unchanged bs old reply h = record { adds = record { front = ([], sym (append-nil (joined old.slots))); own = tt }; slots = h.slots; rest = h.rest }

@@ -21,7 +21,8 @@ use Rattle.tiny_http_body.specs.declared.framing.Profile.{Profile}
 use Rattle.tiny_http_open_request.specs.Pipeline.{Item, Asks, Refuses, Refusal, BadRequest, RequestTimeout, ExpectationFailed, HeaderFieldsTooLarge, VersionNotSupported, RequestLineTooLong, CodingNotImplemented, MajorVersionNotSupported, is_head_method}
 use Rattle.tiny_http_open_request.specs.OwnAnswer.{persistence_of, refusal_response}
 use Rattle.tiny_http_response.specs.ResponseValue.{ResponseValue, response_of, response_text}
-use Rattle.tiny_http_connection.specs.Slots.{Slot, Stage, Unanswered, Answered, ByServer, Raw, Upgraded, drop_response, continue_response, printing_for, server_response, text_if, stage_text, opening, segment, is_broken, is_slot_broken, is_stage_finished, is_finished, joined, is_output_broken}
+use Rattle.tiny_http_connection.specs.Segments.{Slot, Stage, Unanswered, Answered, ByServer, Raw, Upgraded, drop_response, continue_response, printing_for, server_response, text_if, stage_text, opening, segment, is_broken, is_slot_broken, is_stage_finished, is_finished}
+use Rattle.tiny_http_connection.specs.Slots.{is_output_broken, joined}
 use Rattle.tiny_http_client.specs.ClientAnswer.{ClientAnswer, ReadsAnswer, ReadsAnswers, is_head}
 use Rattle.tiny_http_client.specs.ClientText.{IsReadableAnswer, received_answer}
 use Rattle.tiny_http_client.specs.SentTexts.{BreaksOff, IsSentText, joined_texts, joined_behind, methods, whole_by, whole_answers, remains_by, remains}

@@ -9,8 +9,10 @@ use Rattle.tiny_http_response.specs.Answer.{text_of}
 use Rattle.tiny_http_io.specs.Device.{IsFront}
 use Rattle.tiny_http_open_request.specs.Pipeline.{Item, Asks, Refuses, Request}
 use Rattle.tiny_http_response.specs.ResponseValue.{ResponseValue, upgrade_text}
-use Rattle.tiny_http_connection.specs.Slots.{is_last_once_finished, closes_now, is_last_item, refuses_response, Slot, Stage, Unanswered, Answered, ByServer, Raw, Upgraded, printing_for, to_request, text_if, stage_text, opening, segment, is_stage_finished, turn_has_come, joined, is_output_broken, rest_of, as_stream, upgraded_slot, refuses_upgrade, last_closing, is_finished, closing}
-use Rattle.tiny_http_connection.specs.Steps.{StepValue, Ask, AsReader, Read, Respond, IntoWriter, Write, Flush, Upgrade, Finish, Drop, ReplyValue, Given, Done, Refused, NoSuch, WriterUse, Unused, Unreported, Reported, Outcome, Reached, unchanged, changes, ends_asking, is_last_with_stream, read_reply, finished_as, written_to, stage_closed, fault_in, fault_reply, Fault, accepts_step, needs_turn, use_in_turn, effect, answers, answers_slot, asked_to_close}
+use Rattle.tiny_http_connection.specs.Segments.{is_last_item, Slot, Stage, Unanswered, Answered, ByServer, Raw, Upgraded, printing_for, to_request, text_if, stage_text, opening, segment, is_stage_finished, is_finished}
+use Rattle.tiny_http_connection.specs.Slots.{is_output_broken, joined, turn_has_come, is_last_once_finished, closes_now, refuses_response, rest_of, as_stream, upgraded_slot, refuses_upgrade, last_closing, closing}
+use Rattle.tiny_http_connection.specs.Steps.{number_of, StepValue, Ask, AsReader, Read, Respond, IntoWriter, Write, Flush, Upgrade, Finish, Drop, ReplyValue, Given, Done, Refused, NoSuch, Fault}
+use Rattle.tiny_http_connection.specs.Outcomes.{WriterUse, Unused, Unreported, Reported, Outcome, Reached, unchanged, changes, ends_asking, is_last_with_stream, read_reply, finished_as, written_to, stage_closed, fault_in, fault_reply, accepts_step, needs_turn, use_in_turn, effect, answers, answers_slot, asked_to_close}
 use Rattle.tiny_http_connection_laws.proofs.JoinedGrows.{SendsMore, set-grows, set-own, AddsOwn, Adds, in-turn-ownless, taken-unfinished}
 use Rattle.tiny_http_connection.proofs.ConnectionClosing.{by-closing, closing-item, closing-stage, joined-closing, broken-closing}
 
@@ -193,19 +195,6 @@ upgrade-sends bs true r s protocol response date e i is u =
     let P : Item → Type 0 = λ x. ItemFits bs x in
     let fits : ItemFits bs (Asks r) = subst P is i.fits in
     (unanswered-sends s t (text s.item) u whole, record { unsent = λ o. is-owed o; fits = fits })
-
--- the number that a step is for
-abbrev pub number_of : StepValue → ℕ
-number_of Ask = 0
-number_of (AsReader k) = k
-number_of (Read k n) = k
-number_of (Respond k response) = k
-number_of (IntoWriter k) = k
-number_of (Write k bytes) = k
-number_of (Flush k) = k
-number_of (Upgrade k protocol response) = k
-number_of (Finish k) = k
-number_of (Drop k) = k
 
 -- a request that waits, in its turn, is answered
 answered-keeps : (bs : Bool) (found : Bool) (date : HttpDate) (old : Reached) (r : Request) (s : Slot) (k : ℕ) (response : ResponseValue) → Holds bs old → slice_get old.slots k ≡ Some s → s.item ≡ Asks r

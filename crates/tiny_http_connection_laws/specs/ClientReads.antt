@@ -15,10 +15,10 @@ use Rattle.tiny_http_body.specs.Text.{Ending, Whole, Broken}
 use Rattle.tiny_http_response.specs.Readable.{IsReadable}
 use Rattle.tiny_http_open_request.specs.Pipeline.{Item, Asks, Refuses}
 use Rattle.tiny_http_response.specs.ResponseValue.{ResponseValue}
-use Rattle.tiny_http_connection.specs.Slots.{Slot, Stage, Unanswered, Answered, ByServer, Raw, Upgraded, printing_for}
-use Rattle.tiny_http_connection.specs.Slots.{server_response, stage_text, segment}
-use Rattle.tiny_http_connection.specs.Steps.{StepValue, Respond, IntoWriter, Upgrade}
-use Rattle.tiny_http_connection.specs.Conversation.{TimedValue}
+use Rattle.tiny_http_connection.specs.Segments.{Slot, Stage, Unanswered, Answered, ByServer, Raw, Upgraded}
+use Rattle.tiny_http_connection.specs.Segments.{printing_for}
+use Rattle.tiny_http_connection.specs.Segments.{server_response, stage_text, segment}
+use Rattle.tiny_http_connection.specs.Steps.{StepValue, Respond, IntoWriter, Upgrade, TimedValue}
 use Rattle.tiny_http_client.specs.ClientAnswer.{ClientAnswer, ReadsAnswers}
 use Rattle.tiny_http_client.specs.ClientText.{stated_length, received_answer}
 use Rattle.tiny_http_client.specs.SentTexts.{SentText, methods, StandIn}

@@ -6,7 +6,7 @@ use Rattle.tiny_http_standard_head.specs.Lists.{has_element}
 use Rattle.tiny_http_client.specs.ClientAnswer.{ClientAnswer}
 use Rattle.tiny_http_body.specs.declared.framing.Profile.TheVariants.{Standard}
 use Rattle.tiny_http_connection_laws.specs.ClientReads.{CanBeReadAt, stage_answer}
-use Rattle.tiny_http_connection.specs.Slots.{Slot, Stage, Unanswered, Answered, ByServer, Raw, Upgraded}
+use Rattle.tiny_http_connection.specs.Segments.{Slot, Stage, Unanswered, Answered, ByServer, Raw, Upgraded}
 
 -- `printing_for` prints a close: by the standard in a refusal, and in another answer where that was decided
 abbrev pub is_close_printed : Bool → Item → Bool

@@ -7,9 +7,9 @@ use Rattle.tiny_http_io.specs.Device.{Feed, whole_feed}
 use Rattle.tiny_http_head.specs.Heads.{Message}
 use Rattle.tiny_http_body.specs.declared.framing.Framing.{Framing}
 use Rattle.tiny_http_open_request.specs.Pipeline.{Item, Asks, Refuses, Request}
-use Rattle.tiny_http_connection.specs.Slots.{Slot, segment, is_slot_broken, is_finished}
+use Rattle.tiny_http_connection.specs.Segments.{Slot, segment, is_slot_broken, is_finished}
 use Rattle.tiny_http_connection.specs.Steps.{StepValue, Read, Upgrade, ReplyValue, Handed, Given, Fault, Done}
-use Rattle.tiny_http_connection.specs.Conversation.{TimedValue}
+use Rattle.tiny_http_connection.specs.Steps.{TimedValue}
 
 -- ---- which requests are handed out
 

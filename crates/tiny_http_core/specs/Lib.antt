@@ -26,8 +26,10 @@ pub use Rattle.tiny_http_open_request.specs.NextRequest
 pub use Rattle.tiny_http_turns.specs.Turns
 pub use Rattle.tiny_http_turns.specs.TurnsCalls
 pub use Rattle.tiny_http_turns.specs.TurnsLaw
+pub use Rattle.tiny_http_connection.specs.Segments
 pub use Rattle.tiny_http_connection.specs.Slots
 pub use Rattle.tiny_http_connection.specs.Steps
+pub use Rattle.tiny_http_connection.specs.Outcomes
 pub use Rattle.tiny_http_connection.specs.Conversation
 pub use Rattle.tiny_http_connection.specs.Seen
 pub use Rattle.tiny_http_connection.specs.Pending

@@ -1,4 +1,5 @@
 -- What is left of a body from a place within it.
+-- Nobody needs this file to believe the laws of `InShort`.
 use Rattle.std.specs.Prelude.{◌≡◌, ℕ, Bool, ◌<◌, ◌⊎◌, List, [], ◌++◌, length, Some, None}
 use Rattle.std.specs.declared.io.ErrorKind.{ErrorKind}
 use Rattle.tiny_http_io.specs.declared.device.Stop.{Stop}

@@ -2,7 +2,8 @@ use Rattle.std.proofs.Common.{[], true, ◌≡◌, ◌++◌, List, map, vec_len,
 use Rattle.std.specs.List.{AllZip}
 use Rattle.std.specs.Vec.Iter.{into_iter_items}
 use Rattle.tiny_http_io.specs.Device.{Feed, Sink, HoldsNothing}
-use Rattle.tiny_http_connection.specs.Conversation.{IsFresh, TimedValue}
+use Rattle.tiny_http_connection.specs.Conversation.{IsFresh}
+use Rattle.tiny_http_connection.specs.Steps.{TimedValue}
 use Rattle.tiny_http_io.specs.Source.{GoesOn}
 use Rattle.tiny_http_connection.specs.Seen.{IsTimedStep, seen, ReportHonestly, all_sent}
 use Rattle.tiny_http_response.specs.Sending.{SinkFailsOnce}

@@ -25,7 +25,7 @@ use Rattle.tiny_http_connection.proofs.ConnectionRespond.{no-such, respond-not_t
 use Rattle.tiny_http_connection.proofs.ConnectionClosing.{asked_kept, asked_state, at-asked, stands-asked, twice-asked}
 use Rattle.tiny_http_open_request.specs.declared.exchange.EndOfRequests.{EndOfRequests}
 use Rattle.tiny_http_connection.specs.Conversation.{State}
-use Rattle.tiny_http_connection.specs.Steps.{asked_to_close as closes_reached}
+use Rattle.tiny_http_connection.specs.Outcomes.{asked_to_close as closes_reached}
 use Rattle.tiny_http_body.specs.declared.body.UnreadBody.{UnreadBody}
 use Rattle.tiny_http_open_request.specs.declared.open_request.OpenRequest.{OpenRequest}
 use Rattle.tiny_http_body.specs.Body.{remainder, is_long, GivesUp}
