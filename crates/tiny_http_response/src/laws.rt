@@ -1,5 +1,5 @@
 //! Laws of the definitions, each the contract of a function that does nothing.
-ghost use Rattle.std.specs.Prelude.{◌≡◌, List, Option, [], Some};
+ghost use Rattle.std.specs.Prelude.{◌≡◌, ℕ, List, Option, [], Some};
 ghost use Rattle.tiny_http_head.specs.HeaderTexts.{AreHeaderTexts, header_of};
 ghost use Rattle.tiny_http_head.specs.declared.common.Header.{Header};
 ghost use Rattle.tiny_http_response.specs.AddHeader.{add_header, with_headers};
