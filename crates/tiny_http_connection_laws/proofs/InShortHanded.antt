@@ -60,7 +60,6 @@ in-turn false reply = tt
 -- what a step hands out is what the pipeline has less afterwards
 pub record Moves (slots : List Slot) (rest : List Item) (o : Outcome) : Type 0 where
   pub requests : requests_from (length slots) rest ≡ handed (o.reply ∷ []) ++ requests_from (length o.slots) o.rest
-  pub total : length slots + length rest ≡ length o.slots + length o.rest
   pub reports : MayReport o.writer o.reply
 
 pub set-length : (slots : List Slot) (k : ℕ) (s : Slot) → length (slice_set slots k s) ≡ length slots
@@ -77,7 +76,6 @@ still : (old : Reached) (reply : ReplyValue) → Quiet reply → Moves old.slots
 still old reply q =
     record {
       requests = ap (λ x. x ++ requests_from (length old.slots) old.rest) (sym q);
-      total = refl;
       reports = tt;
     }
 
@@ -86,7 +84,6 @@ changed old k t reply w q m =
     let same = set-length old.slots k t in
     record {
       requests = ap (λ x. x ++ requests_from (length old.slots) old.rest) (sym q) ∙ ap (λ n. handed (reply ∷ []) ++ requests_from n old.rest) (sym same);
-      total = ap (λ n. n + length old.rest) (sym same);
       reports = m;
     }
 
@@ -95,7 +92,7 @@ moves-if slots rest true x y h k = h
 moves-if slots rest false x y h k = k
 
 moves-ended : (slots : List Slot) (rest : List Item) (ends : Bool) (o : Outcome) → Moves slots rest o → Moves slots rest (ends_asking ends o)
-moves-ended slots rest ends o h = record { requests = h.requests; total = h.total; reports = h.reports }
+moves-ended slots rest ends o h = record { requests = h.requests; reports = h.reports }
 
 answered-moves : (found : Bool) (date : HttpDate) (old : Reached) (r : Request) (k : ℕ) (response : ResponseValue) → Moves old.slots old.rest (answers found date old r k response)
 answered-moves found date old r k response = go (slice_get old.slots k)
@@ -116,7 +113,6 @@ asked-moves found date old r k response true =
     let same = closing-length old.slots in
     record {
       requests = ap (λ n. requests_from n old.rest) (sym same) ∙ h.requests;
-      total = ap (λ n. n + length old.rest) (sym same) ∙ h.total;
       reports = h.reports;
     }
 
@@ -189,12 +185,11 @@ pub one-more : (slots : List Slot) (s : Slot) → length (slots ++ s ∷ []) ≡
 one-more slots s = length-append slots (s ∷ [])
 
 asks-move : (date : HttpDate) (w : WriterUse) (slots : List Slot) (items : List Item) → IsOwn w → Moves slots items (asks_from date w slots items)
-asks-move date w slots [] o = record { requests = refl; total = refl; reports = o Ended }
+asks-move date w slots [] o = record { requests = refl; reports = o Ended }
 asks-move date w slots (Asks r ∷ items) o =
     let more = one-more slots (new_slot date (Asks r)) in
     record {
       requests = ap (λ n. (length slots, r.message, r.framing) ∷ requests_from n items) (sym more);
-      total = omega (arith, more);
       reports = o (Handed (length slots) r.message r.framing);
     }
 asks-move date w slots (Refuses refusal manner no_body last ∷ items) o =
@@ -204,7 +199,6 @@ asks-move date w slots (Refuses refusal manner no_body last ∷ items) o =
     let h = asks-move date (if b then Unreported else w) (slots ++ new_slot date item ∷ []) items (own-if b w o) in
     record {
       requests = ap (λ n. requests_from n items) (sym more) ∙ h.requests;
-      total = omega (arith, more, h.total);
       reports = h.reports;
     }
 
@@ -212,7 +206,7 @@ ask-moves : (date : HttpDate) (old : Reached) → Moves old.slots old.rest (ask 
 ask-moves date old =
     let left : Outcome = record { reply = Ended; slots = old.slots; rest = old.rest; asking_ended = true; writer = Unused } in
     let goes = asks_from date Unused old.slots old.rest in
-    let ends : Moves old.slots old.rest left = record { requests = refl; total = refl; reports = tt } in
+    let ends : Moves old.slots old.rest left = record { requests = refl; reports = tt } in
     moves-if old.slots old.rest old.asking_ended (unchanged old Ended) (if last_holds_reader (last_slot old.slots) then unchanged old NotYet else if last_was_abandoned (last_slot old.slots) then left else goes) (still old Ended refl)
     (moves-if old.slots old.rest (last_holds_reader (last_slot old.slots)) (unchanged old NotYet) (if last_was_abandoned (last_slot old.slots) then left else goes) (still old NotYet refl)
     (moves-if old.slots old.rest (last_was_abandoned (last_slot old.slots)) left goes ends (asks-move date Unused old.slots old.rest (λ reply. tt))))
@@ -250,15 +244,13 @@ part-hands w old planned reply slots failure false p m = ap (λ x. handed (x ∷
 -- what a step hands out, of a state
 pub record StepMoves (old : State) (reply : ReplyValue) (new : State) : Type 0 where
   pub requests : requests_from (length old.reached.slots) old.reached.rest ≡ handed (reply ∷ []) ++ requests_from (length new.reached.slots) new.reached.rest
-  pub total : length old.reached.slots + length old.reached.rest ≡ length new.reached.slots + length new.reached.rest
 
 outcome-step : (o : Outcome) (old : State) (reply : ReplyValue) (new : State) → Moves old.reached.slots old.reached.rest o → HasOutcome o old reply new → StepMoves old reply new
 outcome-step o old reply new h has =
     let same = part-hands o.writer old o.reply reply o.slots new.failure (is_silent o.writer old) has.2 h.reports in
     let requests = h.requests ∙ ap (λ x. x ++ requests_from (length o.slots) o.rest) (sym same) in
     let R : Reached → Type 0 = λ x. requests_from (length old.reached.slots) old.reached.rest ≡ handed (reply ∷ []) ++ requests_from (length x.slots) x.rest in
-    let T : Reached → Type 0 = λ x. length old.reached.slots + length old.reached.rest ≡ length x.slots + length x.rest in
-    record { requests = subst R (sym has.0) requests; total = subst T (sym has.0) h.total }
+    record { requests = subst R (sym has.0) requests }
 
 abbrev AllPassedOver : List Item → Type 0
 AllPassedOver refused = AllByRecursion IsPassedOver refused
@@ -274,14 +266,6 @@ behind-refused date slots (Refuses refusal manner no_body last ∷ refused) rest
     ∙ behind-refused date (slots ++ new_slot date item ∷ []) refused rest h.1
     ∙ ap (λ x. requests_from (length x) rest) (append_assoc slots (new_slot date item ∷ []) (map (new_slot date) refused))
 
-total-refused : (date : HttpDate) (slots : List Slot) (refused rest : List Item) → length slots + length (refused ++ rest) ≡ length (slots ++ map (new_slot date) refused) + length rest
-total-refused date slots [] rest = ap (λ (x : List Slot). length x + length rest) (sym (append-nil slots))
-total-refused date slots (item ∷ refused) rest =
-    let one = one-more slots (new_slot date item) in
-    let more = total-refused date (slots ++ new_slot date item ∷ []) refused rest in
-    let same = ap (λ (x : List Slot). length x + length rest) (append_assoc slots (new_slot date item ∷ []) (map (new_slot date) refused)) in
-    omega (arith, one, more, same)
-
 own-answers : (slots : List Slot) (refused : List Item) → IsOwn (answers_to slots refused)
 own-answers slots [] = λ reply. tt
 own-answers slots (item ∷ refused) = λ reply. in-turn (turn_has_come (length slots) slots) reply
@@ -295,14 +279,13 @@ no-memory-moves date old Ask reply new f =
     let o : Outcome = record { reply = Memory; slots = slots; rest = rest; asking_ended = true; writer = w } in
     let moves : Moves old.reached.slots old.reached.rest o = record {
       requests = ap (λ x. requests_from (length old.reached.slots) x) f.6 ∙ behind-refused date old.reached.slots refused rest f.7;
-      total = ap (λ x. length old.reached.slots + length x) f.6 ∙ total-refused date old.reached.slots refused rest;
       reports = own-answers old.reached.slots refused Memory;
     } in
     outcome-step o old reply new moves f.8
 no-memory-moves date old (Read k n) reply new f =
     let P : State → Type 0 = λ x. StepMoves old reply x in
     let quiet : handed (reply ∷ []) ≡ [] = ap (λ x. handed (x ∷ [])) f.2 in
-    subst P (sym f.3) (record { requests = ap (λ x. x ++ requests_from (length old.reached.slots) old.reached.rest) (sym quiet); total = refl })
+    subst P (sym f.3) (record { requests = ap (λ x. x ++ requests_from (length old.reached.slots) old.reached.rest) (sym quiet) })
 no-memory-moves date old (AsReader k) reply new f = elim f [ ]
 no-memory-moves date old (Respond k a) reply new f = elim f [ ]
 no-memory-moves date old (IntoWriter k) reply new f = elim f [ ]
@@ -322,10 +305,9 @@ step-moves old date step reply new s =
 -- what a run hands out, and what its pipeline has left
 pub record RunMoves (old : State) (replies : List ReplyValue) (new : State) : Type 0 where
   pub requests : requests_from (length old.reached.slots) old.reached.rest ≡ handed replies ++ requests_from (length new.reached.slots) new.reached.rest
-  pub total : length old.reached.slots + length old.reached.rest ≡ length new.reached.slots + length new.reached.rest
 
 run-moves : (old new : State) (steps : List TimedValue) (replies : List ReplyValue) → Run old steps replies new → RunMoves old replies new
-run-moves old new [] [] r = let P : State → Type 0 = λ x. RunMoves old [] x in subst P (sym r) (record { requests = refl; total = refl })
+run-moves old new [] [] r = let P : State → Type 0 = λ x. RunMoves old [] x in subst P (sym r) (record { requests = refl })
 run-moves old new [] (x ∷ replies) r = elim r [ ]
 run-moves old new (s ∷ steps) [] r = elim r [ ]
 run-moves old new (s ∷ steps) (x ∷ replies) r =
@@ -334,7 +316,6 @@ run-moves old new (s ∷ steps) (x ∷ replies) r =
     let all = requests_from (length new.reached.slots) new.reached.rest in
     record {
       requests = one.requests ∙ ap (λ l. handed (x ∷ []) ++ l) more.requests ∙ sym (append_assoc (handed (x ∷ [])) (handed replies) all) ∙ ap (λ l. l ++ all) (sym (handed-more x replies));
-      total = one.total ∙ more.total;
     }
 
 pub conversation-moves : (p : Profile) (feed : Feed) (before after : Sink) (steps : List TimedValue) (replies : List ReplyValue) (held : List ℕ) (ended : Bool) (unread : Option Feed)

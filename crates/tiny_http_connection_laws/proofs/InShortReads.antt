@@ -1,5 +1,5 @@
 -- The reads of a run give the body of their request.
-use Rattle.std.proofs.Common.{◌≡◌, refl, sym, ap, ◌∙◌, subst, arith, ℕ, zero, suc, ◌+◌, ◌⊎◌, inl, inr, ⊥, ⊤, Bool, true, false, not, ◌&&◌, List, [], ◌∷◌, ◌++◌, map, length, Option, Some, None, append_assoc, append-nil, ⊎_elim}
+use Rattle.std.proofs.Common.{◌≡◌, refl, sym, ap, ◌∙◌, subst, arith, ℕ, zero, suc, ◌+◌, ◌⊎◌, inl, inr, ⊤, Bool, true, false, not, ◌&&◌, List, [], ◌∷◌, ◌++◌, map, length, Option, Some, None, append_assoc, append-nil, ⊎_elim}
 use Rattle.std.specs.Prelude.{if◌then◌else◌, slice_get, slice_set, take, drop, nat_lt, ◌==◌, ◌||◌, MatchBool}
 use Rattle.std.proofs.lemmas.Bool.{eqb-true, eq-eqb}
 use Rattle.std.proofs.lemmas.Bool.Decides.{eqb_tells}
@@ -23,15 +23,15 @@ use Rattle.tiny_http_connection_laws.proofs.StepsAdd.{by-upgrade}
 
 -- ---- numbers in a list
 
-same-some : {A : Type 0} (x y : A) → Some x ≡ Some y → x ≡ y
+pub same-some : {A : Type 0} (x y : A) → Some x ≡ Some y → x ≡ y
 same-some x y e = cc
 
-get-set : (slots : List Slot) (k : ℕ) (s t : Slot) → slice_get slots k ≡ Some s → slice_get (slice_set slots k t) k ≡ Some t
+pub get-set : (slots : List Slot) (k : ℕ) (s t : Slot) → slice_get slots k ≡ Some s → slice_get (slice_set slots k t) k ≡ Some t
 get-set [] k s t e = cc
 get-set (x ∷ xs) zero s t e = refl
 get-set (x ∷ xs) (suc k) s t e = get-set xs k s t e
 
-get-other : (slots : List Slot) (j k : ℕ) (t : Slot) → (j ≡ k → ⊥) → slice_get (slice_set slots j t) k ≡ slice_get slots k
+pub get-other : (slots : List Slot) (j k : ℕ) (t : Slot) → (j ≡ k → ⊥) → slice_get (slice_set slots j t) k ≡ slice_get slots k
 get-other [] j k t n = refl
 get-other (x ∷ xs) zero zero t n = elim (n refl) [ ]
 get-other (x ∷ xs) zero (suc k) t n = refl
@@ -492,7 +492,7 @@ effect-reads k r feed found date old q s turn (Drop j) here is takes h =
     reads-ended k r feed step (is_last_once_finished q s.owed s.given s.end_reported) (changes old j d Done (use_in_turn turn))
     (changed k r feed step old j s d Done (use_in_turn turn) (λ x. refl) here (dropped-same closes s) h)
 
-not-true : {b : Bool} → not b ≡ false → b ≡ true
+pub not-true : {b : Bool} → not b ≡ false → b ≡ true
 not-true {b = true} e = refl
 not-true {b = false} e = cc
 

@@ -7,6 +7,7 @@ pub mod SlotsAreRead
 pub mod ConversationReads
 pub mod InShortHanded
 pub mod InShortReads
+pub mod InShortSlots
 pub mod InShortSent
 pub mod PipelineEnds
 pub mod CloseIsLast

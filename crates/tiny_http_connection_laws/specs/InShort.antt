@@ -1,15 +1,16 @@
--- What the connection theorem says in short words, of its replies and its output alone. The laws of this crate that
--- carry these definitions need no other: not how a step is judged, and not what the driver keeps.
+-- What the connection theorem says in short words, of its replies and its output alone. To believe the laws of this
+-- crate that carry these definitions one needs to know what stands in the bytes (`Pipeline`) and what a number sends
+-- (`segment`), but not how a step is judged, and not what the driver keeps.
 use Rattle.std.specs.Prelude.{◌≡◌, ℕ, ◌+◌, ◌⊎◌, ⊤, ◌==◌, Bool, not, ◌&&◌, List, [], ◌∷◌, ◌++◌, take, drop, MatchBool}
-use Rattle.std.specs.Prelude.{if◌then◌else◌}
+use Rattle.std.specs.Prelude.{Option, Some, None, if◌then◌else◌}
 use Rattle.tiny_http_io.specs.declared.device.Stop.TheVariants.{Fault as Faults}
 use Rattle.tiny_http_io.specs.Device.{Feed, whole_feed}
 use Rattle.tiny_http_head.specs.Heads.{Message}
 use Rattle.tiny_http_body.specs.declared.framing.Framing.{Framing}
 use Rattle.tiny_http_open_request.specs.Pipeline.{Item, Asks, Refuses, Request}
-use Rattle.tiny_http_connection.specs.Segments.{Slot, segment, is_slot_broken, is_finished}
-use Rattle.tiny_http_connection.specs.Steps.{StepValue, Read, Upgrade, ReplyValue, Handed, Given, Fault, Done}
-use Rattle.tiny_http_connection.specs.Steps.{TimedValue}
+use Rattle.tiny_http_connection.specs.Segments.{Slot, Stage, Answered, Upgraded, segment, is_slot_broken, is_finished}
+use Rattle.tiny_http_connection.specs.Steps.{StepValue, Read, Respond, Upgrade, ReplyValue, Handed, Given, Fault}
+use Rattle.tiny_http_connection.specs.Steps.{Done, TimedValue}
 
 -- ---- which requests are handed out
 
@@ -27,8 +28,9 @@ requests_from k (Refuses refusal manner no_body last ∷ items) = requests_from 
 
 -- ---- what a body gives
 
--- A read of at most n bytes of which this is left, and what is left then: it gives the next bytes, and none only where
--- n is 0 or the end is all that is left; or it tells the fault that is all that is left. Another reply took nothing.
+-- A read of n bytes of which this is left, and what is left then: it gives the next n bytes, or all where fewer are
+-- left, and none only where n is 0 or the end is all that is left; or it tells the fault that is all that is left.
+-- Another reply took nothing.
 abbrev pub ReadsNext : ℕ → Feed → ReplyValue → Feed → Type 0
 ReadsNext n left (Given bytes) next =
     (bytes ≡ take n left.bytes)
@@ -66,3 +68,19 @@ sent (s ∷ segments) = s.bytes ++ (if s.is_whole then sent segments else [])
 -- the segment of a number: whole once the number is finished, unless its data broke off
 abbrev pub segment_of : Slot → Segment
 segment_of s = record { bytes = segment s; is_whole = is_finished s && not (is_slot_broken s) }
+
+-- items with one head; an upgrade changes only what is read behind it
+abbrev pub AreOfOneHead : Item → Item → Type 0
+AreOfOneHead (Asks q) (Asks r) = q.message ≡ r.message
+AreOfOneHead item other = item ≡ other
+
+-- the step that made the answer of number k, with its date, where a step of the program made it by a response
+abbrev pub maker : ℕ → Stage → Option TimedValue
+maker k (Answered response date found) = Some (date, Respond k response)
+maker k (Upgraded protocol response date written closed) = Some (date, Upgrade k protocol response)
+maker k _ = None
+
+-- it is one of these steps
+abbrev pub IsAmong : TimedValue → List TimedValue → Type 0
+IsAmong t [] = ⊥
+IsAmong t (s ∷ steps) = (s ≡ t) ⊎ IsAmong t steps

@@ -5,8 +5,8 @@ ghost use Rattle.std.specs.List.{AllByRecursion, list_all};
 ghost use Rattle.tiny_http_io.specs.Device.{Feed, Sink, IsFront};
 ghost use Rattle.tiny_http_head.specs.Heads.{Message};
 ghost use Rattle.tiny_http_body.specs.declared.framing.Framing.{Framing};
-ghost use Rattle.tiny_http_open_request.specs.Pipeline.{Request, Asks};
-ghost use Rattle.tiny_http_connection.specs.Segments.{is_finished};
+ghost use Rattle.tiny_http_open_request.specs.Pipeline.{Item, Request, Asks};
+ghost use Rattle.tiny_http_connection.specs.Segments.{Slot, is_finished};
 ghost use Rattle.tiny_http_connection.specs.Steps.{ReplyValue, TimedValue};
 ghost use Rattle.tiny_http_body.specs.declared.framing.Profile.{Profile};
 ghost use Rattle.tiny_http_connection.specs.Conversation.{IsConversation};
@@ -14,6 +14,7 @@ ghost use Rattle.tiny_http_client.specs.ClientAnswer.{ClientAnswer, ReadsAnswers
 ghost use Rattle.tiny_http_client.specs.SentTexts.{methods, whole_answers, remains};
 ghost use Rattle.tiny_http_response.specs.Readable.{IsReadable};
 ghost use Rattle.tiny_http_connection_laws.specs.InShort.{handed, requests_from, ReadsBody, sent, segment_of};
+ghost use Rattle.tiny_http_connection_laws.specs.InShort.{AreOfOneHead, maker, IsAmong};
 ghost use Rattle.tiny_http_connection_laws.specs.Closes.{NoneFollowsClose, IsReadAsSaid};
 ghost use Rattle.tiny_http_connection_laws.specs.ClientReads.{headers_printed, CanBeRead, AreReadable, CanBeReadAt};
 ghost use Rattle.tiny_http_connection_laws.specs.ClientReads.{IsOutputOf, HaveAnswers, ReadsNumbers, sent_texts};
@@ -21,7 +22,8 @@ ghost use Rattle.tiny_http_connection_laws.specs.ClientReads.{IsOutputOf, HaveAn
 use tiny_http_response::response::Response;
 
 /// THE REQUESTS ARE THE PIPELINE'S: those that were handed out are the first of the pipeline that stands in the
-/// client's bytes, in its order, each under its place there. None is left out, added or changed.
+/// client's bytes (there is one: `one_pipeline`), in its order, each under its place there. None is passed over,
+/// added or changed.
 pub fn requests_begin_the_pipeline()
     ensures first { (p : Profile) (feed : Feed) (before after : Sink) (steps : List TimedValue)
         (replies : List ReplyValue) (held : List ℕ) (ended : Bool) (unread : Option Feed)
@@ -31,7 +33,9 @@ pub fn requests_begin_the_pipeline()
 {}
 
 /// THE READS ARE THE BODY'S: the reads of each request give the next bytes of its own body, one after another. An end
-/// is told only behind the last byte of a whole body, and a fault only behind the last byte of one that breaks off.
+/// or a fault is told only behind the last byte, and it is the one that the body has. (A counted body that the
+/// client's end cuts has an end by `Lenient` and `Strict`, a fault by `Standard`.) After an upgrade by the standard
+/// they give what follows the request.
 pub fn reads_give_the_body()
     ensures next { (p : Profile) (feed : Feed) (before after : Sink) (steps : List TimedValue)
         (replies : List ReplyValue) (held : List ℕ) (ended : Bool) (unread : Option Feed)
@@ -41,9 +45,9 @@ pub fn reads_give_the_body()
         → ReadsBody k r r.body steps replies }
 {}
 
-/// THE OUTPUT IS THE SEGMENTS: what was taken and is held begins the segments in the order of their numbers, each whole
-/// up to the first that isn't, after which nothing follows. It is all of that where the writer did not fail. There is
-/// one segment for each item of the pipeline that was reached: a request, or a refused head.
+/// THE OUTPUT IS THE SEGMENTS: what was taken and is held begins the segments in the order of their numbers, each
+/// whole up to the first that isn't, after which nothing follows. It is all of that where the writer did not fail.
+/// Each number that was reached has one segment.
 pub fn output_joins_the_segments()
     ensures front { (p : Profile) (feed : Feed) (before after : Sink) (steps : List TimedValue)
         (replies : List ReplyValue) (held out : List ℕ) (ended : Bool) (unread : Option Feed)
@@ -56,10 +60,23 @@ pub fn output_joins_the_segments()
         → IsOutputOf after held out
         → after.failures ≡ before.failures
         → out ≡ sent (map segment_of c.end.reached.slots) }
+    // The segment of number k is of item k of the pipeline: a request, or a refused head.
     ensures each { (p : Profile) (feed : Feed) (before after : Sink) (steps : List TimedValue)
         (replies : List ReplyValue) (held : List ℕ) (ended : Bool) (unread : Option Feed)
         → (c : IsConversation p feed before steps replies after held ended unread)
-        → length c.end.reached.slots + length c.end.reached.rest ≡ length c.items }
+        → (k : ℕ) (s : Slot)
+        → slice_get c.end.reached.slots k ≡ Some s
+        → (item : Item)
+        × (slice_get c.items k ≡ Some item)
+        × AreOfOneHead s.item item }
+    // The answer that it has is that of a step for this number.
+    ensures made { (p : Profile) (feed : Feed) (before after : Sink) (steps : List TimedValue)
+        (replies : List ReplyValue) (held : List ℕ) (ended : Bool) (unread : Option Feed)
+        → (c : IsConversation p feed before steps replies after held ended unread)
+        → (k : ℕ) (s : Slot) (t : TimedValue)
+        → slice_get c.end.reached.slots k ≡ Some s
+        → maker k s.stage ≡ Some t
+        → IsAmong t steps }
 {}
 
 /// THE CLIENT THEOREM, of the contract of `tiny_http_connection::driver::run` alone: a client that knows only the

@@ -1,6 +1,5 @@
-use Rattle.std.proofs.Common.{sym}
-use Rattle.tiny_http_connection_laws.proofs.InShortHanded.{conversation-moves}
 use Rattle.tiny_http_connection_laws.proofs.InShortSent.{sent-front, sent-whole}
+use Rattle.tiny_http_connection_laws.proofs.InShortSlots.{conversation-items, conversation-makers}
 use Rattle.tiny_http_connection_laws.proofs.laws.output_joins_the_segments.Goals as goal
 
 pub returns-clause-front : goal.returns-clause-front
@@ -12,5 +11,9 @@ returns-clause-whole c = λ p feed before after steps replies held out ended unr
     sent-whole p feed before after steps replies held out ended unread k o same
 
 pub returns-clause-each : goal.returns-clause-each
-returns-clause-each c = λ p feed before after steps replies held ended unread k.
-    let m = conversation-moves p feed before after steps replies held ended unread k in sym m.total
+returns-clause-each c = λ p feed before after steps replies held ended unread k number s here.
+    conversation-items p feed before after steps replies held ended unread k number s here
+
+pub returns-clause-made : goal.returns-clause-made
+returns-clause-made c = λ p feed before after steps replies held ended unread k number s t here made.
+    conversation-makers p feed before after steps replies held ended unread k number s t here made
