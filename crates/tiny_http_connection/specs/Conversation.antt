@@ -19,7 +19,7 @@ use Rattle.tiny_http_connection.specs.Segments.{Slot, is_finished}
 use Rattle.tiny_http_connection.specs.Slots.{is_output_broken, joined, new_slot, rest_of, last_was_abandoned}
 use Rattle.tiny_http_connection.specs.Slots.{last_slot, last_is_open, is_last_slot, last_holds_reader, turn_has_come}
 use Rattle.tiny_http_connection.specs.Segments.{to_request}
-use Rattle.tiny_http_connection.specs.Steps.{StepValue, Ask, Read, Respond, ReplyValue, NoSuch, Memory}
+use Rattle.tiny_http_connection.specs.Steps.{StepValue, Ask, Read, Respond, ReplyValue, NoSuch, Memory, TimedValue}
 use Rattle.tiny_http_connection.specs.Outcomes.{WriterUse}
 use Rattle.tiny_http_connection.specs.Outcomes.{Unused, Unreported, Reported, use_in_turn, Outcome, Reached, outcome}
 
