@@ -1,9 +1,10 @@
 -- The reads of a run give the body of their request.
-use Rattle.std.proofs.Common.{◌≡◌, refl, sym, ap, ◌∙◌, subst, arith, ℕ, zero, suc, ◌+◌, ◌⊎◌, inl, inr, ⊤, Bool, true, false, not, ◌&&◌, List, [], ◌∷◌, ◌++◌, map, length, Option, Some, None, append_assoc, append-nil, ⊎_elim}
-use Rattle.std.specs.Prelude.{if◌then◌else◌, slice_get, slice_set, take, drop, nat_lt, ◌==◌, ◌||◌, MatchBool}
+use Rattle.std.proofs.Common.{◌≡◌, refl, sym, ap, ◌∙◌, subst, arith, ℕ, zero, suc, ◌+◌, ◌⊎◌, inl, inr, Bool, true, false, not, ◌&&◌, List, [], ◌∷◌, ◌++◌, map, length, Option, Some, None, append_assoc, append-nil, ⊎_elim}
+use Rattle.std.specs.Prelude.{⊤, if◌then◌else◌, slice_get, slice_set, take, drop, nat_lt, ◌==◌, ◌||◌, MatchBool}
 use Rattle.std.proofs.lemmas.Bool.{eqb-true, eq-eqb}
 use Rattle.std.proofs.lemmas.Bool.Decides.{eqb_tells}
 use Rattle.std.proofs.lemmas.List.{drop-drop}
+use Rattle.std.proofs.lemmas.Option.{slice_get_past}
 use Rattle.httpdate.specs.declared.date.HttpDate.{HttpDate}
 use Rattle.tiny_http_io.specs.declared.device.Stop.{Stop}
 use Rattle.tiny_http_io.specs.declared.device.Stop.TheVariants.{End, Fault as Faults}
@@ -39,17 +40,21 @@ get-other (x ∷ xs) (suc j) zero t n = refl
 get-other (x ∷ xs) (suc j) (suc k) t n = get-other xs j k t (λ e. n (ap suc e))
 
 get-past : (slots : List Slot) (n : ℕ) (s : Slot) → slice_get slots (length slots + n) ≡ Some s → ⊥
-get-past [] n s e = cc
-get-past (x ∷ xs) n s e = get-past xs n s e
+get-past slots n s e =
+    let none : slice_get slots (length slots + n) ≡ None = slice_get_past slots (length slots + n) (omega arith) in
+    let no : None ≡ Some s = sym none ∙ e in
+    cc
 
 get-append : (slots more : List Slot) (k : ℕ) (s : Slot) → slice_get slots k ≡ Some s → slice_get (slots ++ more) k ≡ Some s
 get-append [] more k s e = cc
 get-append (x ∷ xs) more zero s e = e
 get-append (x ∷ xs) more (suc k) s e = get-append xs more k s e
 
-get-last : (slots : List Slot) (s : Slot) → slice_get (slots ++ s ∷ []) (length slots + 0) ≡ Some s
-get-last [] s = refl
-get-last (x ∷ xs) s = get-last xs s
+get-last : (slots : List Slot) (s : Slot) (k : ℕ) → k ≡ length slots → slice_get (slots ++ s ∷ []) k ≡ Some s
+get-last [] s zero e = refl
+get-last [] s (suc k) e = cc
+get-last (x ∷ xs) s zero e = cc
+get-last (x ∷ xs) s (suc k) e = get-last xs s k (omega (arith, e))
 
 drop-taken : (n : ℕ) (xs : List ℕ) → drop (length (take n xs)) xs ≡ drop n xs
 drop-taken zero xs = refl
@@ -268,11 +273,11 @@ record Gives (n : ℕ) (left : Feed) : Type 0 where
   reads : ReadsNext n left (read_reply n left.bytes left.stop) next
   is : next ≡ record { bytes = drop n left.bytes; stop = left.stop }
 
-drop-none : (n : ℕ) → drop n [] ≡ []
+drop-none : (n : ℕ) → (let none : List ℕ = [] in drop n none ≡ none)
 drop-none zero = refl
 drop-none (suc n) = refl
 
-take-none : (n : ℕ) → [] ≡ take n []
+take-none : (n : ℕ) → (let none : List ℕ = [] in none ≡ take n none)
 take-none zero = refl
 take-none (suc n) = refl
 
@@ -520,7 +525,7 @@ new-under : (k : ℕ) (r : Request) (feed : Feed) (slots : List Slot) (date : Ht
 new-under k r feed slots date item place is left =
     let s = new_slot date (Asks r) in
     let U : Item → Type 0 = λ x. Under k r feed (slots ++ new_slot date x ∷ []) in
-    let get : slice_get (slots ++ s ∷ []) k ≡ Some s = ap (λ n. slice_get (slots ++ s ∷ []) n) place ∙ get-last slots s in
+    let get : slice_get (slots ++ s ∷ []) k ≡ Some s = get-last slots s k (omega (arith, place)) in
     subst U (sym is) (record { slot = s; asked = r; get = get; item = refl; left = left; own = λ x. refl })
 
 further : (k : ℕ) (r : Request) (feed : Feed) (slots : List Slot) (rest : List Item) (date : HttpDate) (item : Item) (behind : ℕ)
@@ -645,4 +650,4 @@ run-reads k r feed old new (s ∷ steps) (x ∷ replies) h run =
 pub conversation-reads : (p : Profile) (client : Feed) (before after : Sink) (steps : List TimedValue) (replies : List ReplyValue) (held : List ℕ) (ended : Bool) (unread : Option Feed)
     → (c : IsConversation p client before steps replies after held ended unread) (k : ℕ) (r : Request) → slice_get c.items k ≡ Some (Asks r) → ReadsBody k r r.body steps replies
 conversation-reads p client before after steps replies held ended unread c k r here =
-    run-reads k r r.body (start_state c.items) c.end steps replies (inr (record { behind = k; place = refl; get = here; left = refl })) c.run
+    run-reads k r r.body (start_state c.items) c.end steps replies (inr (record { behind = k; place = omega arith; get = here; left = refl })) c.run

@@ -1,6 +1,6 @@
 -- Each number that a run reached is that of one item of its pipeline, and has the answer of a step of its own.
-use Rattle.std.proofs.Common.{◌≡◌, refl, sym, ap, ◌∙◌, subst, ℕ, zero, suc, ◌+◌, ◌⊎◌, inl, inr, ⊤, Bool, true, false, not, ◌&&◌, List, [], ◌∷◌, ◌++◌, map, length, Option, Some, None, append_assoc, append-nil, ⊎_elim}
-use Rattle.std.specs.Prelude.{if◌then◌else◌, slice_get, slice_set, take, drop, nat_lt, ◌==◌, ◌||◌}
+use Rattle.std.proofs.Common.{◌≡◌, refl, sym, ap, ◌∙◌, subst, ℕ, zero, suc, ◌+◌, ◌⊎◌, inl, inr, Bool, true, false, not, ◌&&◌, List, [], ◌∷◌, ◌++◌, map, length, Option, Some, None, append_assoc, append-nil, ⊎_elim}
+use Rattle.std.specs.Prelude.{⊤, if◌then◌else◌, slice_get, slice_set, take, drop, nat_lt, ◌==◌, ◌||◌}
 use Rattle.std.proofs.lemmas.Bool.Decides.{eqb_tells}
 use Rattle.httpdate.specs.declared.date.HttpDate.{HttpDate}
 use Rattle.tiny_http_io.specs.Device.{Feed, Sink}
@@ -404,9 +404,9 @@ record RunFits (old : State) (steps : List TimedValue) (new : State) : Type 0 wh
 
 goes-on : (old mid new : State) → Goes old.reached.slots old.reached.rest mid.reached.slots mid.reached.rest → Goes mid.reached.slots mid.reached.rest new.reached.slots new.reached.rest
     → Goes old.reached.slots old.reached.rest new.reached.slots new.reached.rest
-goes-on old mid new first then items m =
+goes-on old mid new first second items m =
     let a = first items m in
-    let b = then (items ++ a.0) a.2 in
+    let b = second (items ++ a.0) a.2 in
     let split : old.reached.rest ≡ (a.0 ++ b.0) ++ new.reached.rest = a.1 ∙ ap (λ x. a.0 ++ x) b.1 ∙ sym (append_assoc a.0 b.0 new.reached.rest) in
     (a.0 ++ b.0, split, subst (λ (x : List Item). Matches new.reached.slots x) (append_assoc items a.0 b.0) b.2)
 
