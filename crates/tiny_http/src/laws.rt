@@ -1,8 +1,10 @@
 //! The laws of the definitions, each the contract of a function that does nothing.
 
+pub use tiny_http_client::laws::streamed_chunks_are_read;
 pub use tiny_http_connection_laws::laws::{
     close_is_the_last, conversation_is_read, output_joins_the_segments, reads_give_the_body,
-    requests_begin_the_pipeline, response_can_be_read, slots_are_read, steps_can_be_read,
+    requests_begin_the_pipeline, response_can_be_read, size_of_what_is_skipped, slots_are_read,
+    steps_can_be_read,
 };
 pub use tiny_http_core::laws::{
     fronts_are_unfinished, one_client_answer, one_framing, one_list_of_client_answers,

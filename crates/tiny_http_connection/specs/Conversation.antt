@@ -1,6 +1,6 @@
 -- Whole conversations: which replies and which output a list of steps may have.
--- Of this file the laws of `InShort` take `IsConversation` alone, which is what `run` promises. Nobody needs to read it
--- to believe them.
+-- The laws of `InShort` are on the fields `items`, `pipeline` and `end` of `IsConversation`, which is what `run`
+-- promises. Nobody needs to read more of this file to believe them.
 use Rattle.std.specs.Prelude.{◌≡◌, ℕ, ◌+◌, ◌-◌, ◌^◌, ◌<◌, ◌⊎◌, Bool, true, false, not, ◌&&◌, ◌||◌, List, [], ◌∷◌}
 use Rattle.std.specs.Prelude.{◌++◌, map, length, Option, Some, None, is_some, unwrap_or, option_map, MatchBool}
 use Rattle.std.specs.Prelude.{slice_get, if◌then◌else◌}

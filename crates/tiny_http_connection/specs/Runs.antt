@@ -28,11 +28,8 @@ IsConversationOf client sink stated p reader writer steps done =
     (sink done.outlet.writer) done.outlet.held done.outlet.ended done.source.feed
 
 -- WHAT A RUN LEAVES, whatever reader, writer and data state.
-pub record RunsSteps {R W D : Type 0}
-    (client : R
-    → Option Feed) (sink : W
-    → Sink) (stated : D
-    → Option Feed) (reader : R) (writer : W) (steps : List (Timed D)) (done : Record R W) : Type 0 where
+pub record RunsSteps {R W D : Type 0} (client : R → Option Feed) (sink : W → Sink) (stated : D → Option Feed)
+    (reader : R) (writer : W) (steps : List (Timed D)) (done : Record R W) : Type 0 where
   -- one reply a step
   pub replies : length done.replies.items ≡ length steps
   -- what the source still gives is the client's bytes from some place on, if the reader states them
@@ -40,7 +37,7 @@ pub record RunsSteps {R W D : Type 0}
   -- the writer failed at most once, and a fault that an answer reports is the writer's, or that of its own data
   pub fails_once : FailsAtMostOnce (sink writer) (sink done.outlet.writer)
   pub honest : ReportHonestly stated (sink writer) steps done.replies.items (sink done.outlet.writer)
-  -- Nothing is held, unless a Write stands behind the last Flush and the last answer. If the writer held nothing back
-  -- before the run, it then sent on all that it took.
+  -- Nothing is held, unless a Write stands behind the last Flush, the last answer and the last upgrade. If the writer
+  -- held nothing back before the run, it then sent on all that it took.
   pub flushed : all_sent steps done.replies.items true ≡ true → done.outlet.held ≡ []
   pub sent_on : HoldsNothing (sink writer) → all_sent steps done.replies.items true ≡ true → SentOn done.outlet

@@ -211,8 +211,8 @@ fn zeros(alloc: Global, count: u16) -> Result<Vec<u8>, AllocError>
 }
 
 impl<R: ReadDevice, W: WriteDevice> Connection<R, W> {
-    /// A connection on which nothing was asked yet, under `Lenient`. Its theorem is for a writer that has taken
-    /// nothing and has not ended.
+    /// A connection on which nothing was asked yet, under `Lenient`. Its theorem is for a reader that states its bytes,
+    /// and a writer that has taken nothing, has not ended and can count a failure.
     pub fn new(alloc: Global, reader: R, writer: W) -> Connection<R, W>
         ensures profile { result.profile ≡ Profile.Lenient }
         ensures begins { (client : Feed)
@@ -604,9 +604,10 @@ impl<R: ReadDevice, W: WriteDevice> Connection<R, W> {
     }
 }
 
-/// Runs the steps over a connection under `Lenient`, one reply a step. It hands out exactly the requests that the
-/// grammar finds in the client's bytes, each body gives its own bytes and reports its end only there, and the output
-/// is one segment a request or refused head, in order, whole up to the first fault.
+/// Runs the steps over a connection under `Lenient`, one reply a step. Where reader, writer and data state their
+/// bytes, it hands out exactly the requests that the grammar finds in the client's bytes, each body gives its own
+/// bytes and reports its end only there, and the output is one segment a request or refused head, in order, whole up
+/// to the first fault.
 pub fn run<R: ReadDevice + Drop, W: WriteDevice + Drop, D: ReadDevice + Drop>(
     alloc: Global,
     reader: R,
@@ -623,9 +624,10 @@ pub fn run<R: ReadDevice + Drop, W: WriteDevice + Drop, D: ReadDevice + Drop>(
     run_with(alloc, Profile::Lenient, reader, writer, steps)
 }
 
-/// Runs the steps over a connection under this profile, one reply a step. It hands out exactly the requests that the
-/// grammar finds in the client's bytes, each body gives its own bytes and reports its end only there, and the output
-/// is one segment a request or refused head, in order, whole up to the first fault.
+/// Runs the steps over a connection under this profile, one reply a step. Where reader, writer and data state their
+/// bytes, it hands out exactly the requests that the grammar finds in the client's bytes, each body gives its own
+/// bytes and reports its end only there, and the output is one segment a request or refused head, in order, whole up
+/// to the first fault.
 pub fn run_with<R: ReadDevice + Drop, W: WriteDevice + Drop, D: ReadDevice + Drop>(
     alloc: Global,
     profile: Profile,

@@ -18,7 +18,7 @@ use Rattle.tiny_http_connection.specs.Steps.{StepValue, Ask, AsReader, Read, Res
 use Rattle.tiny_http_connection.specs.Outcomes.{WriterUse, Unused, Unreported, Reported, Outcome, Reached, unchanged, changes, asks_from, ask, read_reply, finished_as, written_to, stage_closed, fault_in, fault_reply, accepts_step, needs_turn, use_in_turn, ends_asking, is_last_with_stream, asked_to_close, answers_slot, answers, effect, at_item, at_slot, at_number, outcome}
 use Rattle.tiny_http_connection.specs.Conversation.{Failure, State, Fares, MayFare, reply_in, failure_in, is_silent, HasOutcome, FindsNoMemory, answers_to, StepsTo, Run, start_state, IsConversation}
 use Rattle.tiny_http_connection.proofs.ConnectionClosing.{by-closing}
-use Rattle.tiny_http_connection_laws.specs.InShort.{ReadsNext, LeavesBody, ReadsBody}
+use Rattle.tiny_http_connection_laws.specs.InShort.{ReadsNext, LeavesBody, ReadsInOrder}
 use Rattle.tiny_http_connection_laws.proofs.InShortHanded.{closing-length, set-length, one-more}
 use Rattle.tiny_http_connection_laws.proofs.StepsAdd.{by-upgrade}
 
@@ -639,7 +639,7 @@ step-reads k r feed old date step reply new h s =
     s
 
 run-reads : (k : ℕ) (r : Request) (feed : Feed) (old new : State) (steps : List TimedValue) (replies : List ReplyValue)
-    → Stands k r feed old.reached.slots old.reached.rest → Run old steps replies new → ReadsBody k r feed steps replies
+    → Stands k r feed old.reached.slots old.reached.rest → Run old steps replies new → ReadsInOrder k r feed steps replies
 run-reads k r feed old new [] [] h run = tt
 run-reads k r feed old new [] (x ∷ replies) h run = elim run [ ]
 run-reads k r feed old new (s ∷ steps) [] h run = elim run [ ]
@@ -648,6 +648,6 @@ run-reads k r feed old new (s ∷ steps) (x ∷ replies) h run =
     (one.next, one.leaves, run-reads k r one.next run.0 new steps replies one.stands run.2)
 
 pub conversation-reads : (p : Profile) (client : Feed) (before after : Sink) (steps : List TimedValue) (replies : List ReplyValue) (held : List ℕ) (ended : Bool) (unread : Option Feed)
-    → (c : IsConversation p client before steps replies after held ended unread) (k : ℕ) (r : Request) → slice_get c.items k ≡ Some (Asks r) → ReadsBody k r r.body steps replies
+    → (c : IsConversation p client before steps replies after held ended unread) (k : ℕ) (r : Request) → slice_get c.items k ≡ Some (Asks r) → ReadsInOrder k r r.body steps replies
 conversation-reads p client before after steps replies held ended unread c k r here =
     run-reads k r r.body (start_state c.items) c.end steps replies (inr (record { behind = k; place = omega arith; get = here; left = refl })) c.run

@@ -1,6 +1,8 @@
--- What the connection theorem says in short words, of its replies and its output alone. To believe the laws of this
--- crate that carry these definitions one needs to know what stands in the bytes (`Pipeline`) and what a number sends
--- (`segment`), but not how a step is judged, and not what the driver keeps.
+-- What the connection theorem says in short words. The laws of this crate that carry these definitions are on three
+-- fields of an `IsConversation`: `items`, which are the pipeline of the bytes by its field `pipeline`;
+-- `end.reached.slots`, the numbers that were reached; and its replies and output. To believe them one needs to know
+-- what stands in the bytes (`Pipeline`) and what a number sends (`segment`), but not how a step is judged, and not
+-- what the driver keeps.
 use Rattle.std.specs.Prelude.{◌≡◌, ℕ, ◌+◌, ◌⊎◌, ⊤, ◌==◌, Bool, not, ◌&&◌, List, [], ◌∷◌, ◌++◌, take, drop, MatchBool}
 use Rattle.std.specs.Prelude.{Option, Some, None, if◌then◌else◌}
 use Rattle.tiny_http_io.specs.declared.device.Stop.TheVariants.{Fault as Faults}
@@ -29,7 +31,7 @@ requests_from k (Refuses refusal manner no_body last ∷ items) = requests_from 
 -- ---- what a body gives
 
 -- A read of n bytes of which this is left, and what is left then: it gives the next n bytes, or all where fewer are
--- left, and none only where n is 0 or the end is all that is left; or it tells the fault that is all that is left.
+-- left, and none only where n is 0 or the end is all that is left; or it reports the fault that is all that is left.
 -- Another reply took nothing.
 abbrev pub ReadsNext : ℕ → Feed → ReplyValue → Feed → Type 0
 ReadsNext n left (Given bytes) next =
@@ -48,10 +50,10 @@ LeavesBody k r left (Upgrade j protocol response) Done next =
 LeavesBody k r left _ reply next = next ≡ left
 
 -- THE READS OF A BODY: each step leaves what the next one begins with.
-abbrev pub ReadsBody : ℕ → Request → Feed → List TimedValue → List ReplyValue → Type 0
-ReadsBody k r left (s ∷ steps) (reply ∷ replies) =
-    (next : Feed) × LeavesBody k r left s.1 reply next × ReadsBody k r next steps replies
-ReadsBody k r left _ _ = ⊤
+abbrev pub ReadsInOrder : ℕ → Request → Feed → List TimedValue → List ReplyValue → Type 0
+ReadsInOrder k r left (s ∷ steps) (reply ∷ replies) =
+    (next : Feed) × LeavesBody k r left s.1 reply next × ReadsInOrder k r next steps replies
+ReadsInOrder k r left _ _ = ⊤
 
 -- ---- what is sent
 
@@ -69,9 +71,9 @@ sent (s ∷ segments) = s.bytes ++ (if s.is_whole then sent segments else [])
 abbrev pub segment_of : Slot → Segment
 segment_of s = record { bytes = segment s; is_whole = is_finished s && not (is_slot_broken s) }
 
--- items with one head; an upgrade changes only what is read behind it
+-- items with one head, read by the same rules: an upgrade changes only how what follows the head is read
 abbrev pub AreOfOneHead : Item → Item → Type 0
-AreOfOneHead (Asks q) (Asks r) = q.message ≡ r.message
+AreOfOneHead (Asks q) (Asks r) = (q.message ≡ r.message) × (q.framing.by_standard ≡ r.framing.by_standard)
 AreOfOneHead item other = item ≡ other
 
 -- the step that made the answer of number k, with its date, where a step of the program made it by a response

@@ -13,12 +13,13 @@ ghost use Rattle.tiny_http_connection.specs.Conversation.{IsConversation};
 ghost use Rattle.tiny_http_client.specs.ClientAnswer.{ClientAnswer, ReadsAnswers};
 ghost use Rattle.tiny_http_client.specs.SentTexts.{methods, whole_answers, remains};
 ghost use Rattle.tiny_http_response.specs.Readable.{IsReadable};
-ghost use Rattle.tiny_http_connection_laws.specs.InShort.{handed, requests_from, ReadsBody, sent, segment_of};
+ghost use Rattle.tiny_http_connection_laws.specs.InShort.{handed, requests_from, ReadsInOrder, sent, segment_of};
 ghost use Rattle.tiny_http_connection_laws.specs.InShort.{AreOfOneHead, maker, IsAmong};
 ghost use Rattle.tiny_http_connection_laws.specs.Closes.{NoneFollowsClose, IsReadAsSaid};
 ghost use Rattle.tiny_http_connection_laws.specs.ClientReads.{headers_printed, CanBeRead, AreReadable, CanBeReadAt};
 ghost use Rattle.tiny_http_connection_laws.specs.ClientReads.{IsOutputOf, HaveAnswers, ReadsNumbers, sent_texts};
 
+use tiny_http_body::body::MOST_SKIPPED;
 use tiny_http_response::response::Response;
 
 /// THE REQUESTS ARE THE PIPELINE'S: those that were handed out are the first of the pipeline that stands in the
@@ -33,7 +34,7 @@ pub fn requests_begin_the_pipeline()
 {}
 
 /// THE READS ARE THE BODY'S: the reads of each request give the next bytes of its own body, one after another. An end
-/// or a fault is told only behind the last byte, and it is the one that the body has. (A counted body that the
+/// or a fault is reported only behind the last byte, and it is the one that the body has. (A counted body that the
 /// client's end cuts has an end by `Lenient` and `Strict`, a fault by `Standard`.) After an upgrade by the standard
 /// they give what follows the request.
 pub fn reads_give_the_body()
@@ -42,7 +43,7 @@ pub fn reads_give_the_body()
         → (c : IsConversation p feed before steps replies after held ended unread)
         → (k : ℕ) (r : Request)
         → slice_get c.items k ≡ Some (Asks r)
-        → ReadsBody k r r.body steps replies }
+        → ReadsInOrder k r r.body steps replies }
 {}
 
 /// THE OUTPUT IS THE SEGMENTS: what was taken and is held begins the segments in the order of their numbers, each
@@ -69,7 +70,7 @@ pub fn output_joins_the_segments()
         → (item : Item)
         × (slice_get c.items k ≡ Some item)
         × AreOfOneHead s.item item }
-    // The answer that it has is that of a step for this number.
+    // The answer that a response made is that of a step for this number, on its date.
     ensures made { (p : Profile) (feed : Feed) (before after : Sink) (steps : List TimedValue)
         (replies : List ReplyValue) (held : List ℕ) (ended : Bool) (unread : Option Feed)
         → (c : IsConversation p feed before steps replies after held ended unread)
@@ -125,6 +126,12 @@ pub fn conversation_is_read()
         → (answers : List ClientAnswer)
         × HaveAnswers c.end.reached.slots answers
         × ReadsAnswers (methods (sent_texts c.end.reached.slots)) out answers [] }
+{}
+
+/// The size that the definitions of a request's end take from the code: how many bytes of a counted body are passed
+/// over.
+pub fn size_of_what_is_skipped()
+    ensures { MOST_SKIPPED ≡ 65536 }
 {}
 
 /// CLOSE IS THE LAST: by the standard, no number follows one whose answer says `Connection: close`, in each

@@ -1,5 +1,5 @@
-//! What the client of a connection reads, as laws of the definitions. It stands on `tiny_http_connection` and
-//! `tiny_http_client`.
+//! What follows from the connection theorem, as laws of the definitions: what it says in short words, and what a client
+//! reads. It stands on `tiny_http_connection` and `tiny_http_client`.
 #![tactic(auto)]
 
 pub mod laws;
