@@ -58,3 +58,25 @@ fn a_head_is_unfinished_or_malformed(rt: HostRuntime) -> Result<(), Fail> {
     }
     Ok(())
 }
+
+// A head with this many headers, of 33 bytes each.
+fn head_of(alloc: Global, count: usize) -> Result<Vec<u8>, Fail> {
+    let mut bytes = b"HTTP/1.1 200 OK\r\n".to_vec(alloc)?;
+    for _ in 0..count {
+        bytes.extend_from_slice(b"A: 0123456789012345678901234567\r\n")?;
+    }
+    bytes.extend_from_slice(b"\r\n")?;
+    Ok(bytes)
+}
+
+#[test]
+fn a_head_has_64_headers_at_most(rt: HostRuntime) -> Result<(), Fail> {
+    let alloc = rt.alloc();
+    let (head, length) = read(alloc, head_of(alloc, 64)?.as_slice())?;
+    assert_eq!(rt; head.headers.len(), 64);
+    assert_eq!(rt; length, 2131);
+    match read_answer_head(alloc, head_of(alloc, 65)?.as_slice()) {
+        Err(AnswerHeadFault::Malformed) => Ok(()),
+        _ => Err("65 headers".into()),
+    }
+}
