@@ -2,3 +2,4 @@ pub mod Queue
 pub mod Pool
 pub mod Roster
 pub mod Sequential
+pub mod Turn

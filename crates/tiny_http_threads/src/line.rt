@@ -1,6 +1,8 @@
 //! An item that numbers have in turn, under a lock, and the threads that wait for their turns.
-ghost use Rattle.std.specs.Prelude.{◌≡◌, ◌+◌, ◌^◌, ◌<◌, length, IfSome, IfNone};
-ghost use Rattle.tiny_http_turns.specs.Turns.{Finish, marks_after_step, turn_answer};
+ghost use Rattle.std.specs.Prelude.{◌≡◌, ◌+◌, ◌^◌, ◌<◌, [], length, Some, IfOk, IfSome, IfNone, OnOk, OnErr};
+ghost use Rattle.std.specs.Prelude.{box_value};
+ghost use Rattle.std.specs.Option.{option_map};
+ghost use Rattle.tiny_http_turns.specs.Turns.{Issue, Finish, Issued, marks_after_step, turn_answer};
 ghost use Rattle.tiny_http_turns.specs.TurnsCalls.{Finishes};
 
 use std::alloc::{AllocError, Global};
@@ -52,8 +54,29 @@ fn take_waiter(waiters: &mut Vec<Waiter>, number: u64) -> Option<Arc<Condvar>>
 }
 
 impl<T: Drop> Queue<T> {
-    // The next number. An error where memory was refused, or no number is left.
-    fn issue(&mut self) -> Result<u64, AllocError> {
+    // No number is issued. An error where memory was refused.
+    fn new(alloc: Global, item: T) -> Result<Queue<T>, AllocError>
+        ensures marks { IfOk result (λ q. q.turns.marks ≡ []) }
+        ensures item { IfOk result (λ q. option_map box_value q.turns.resting ≡ Some item) }
+    {
+        Ok(Queue {
+            turns: Turns::new(alloc, Box::new(alloc, item)?),
+            last: None,
+            issued: 0,
+            open: None,
+            waiters: Vec::new(alloc),
+            wants_room: false,
+        })
+    }
+
+    // The next number. An error where memory was refused, or no number is left; then nothing has changed.
+    fn issue(&mut self) -> Result<u64, AllocError>
+        ensures number { IfOk result (λ n. turn_answer Issue self.old.turns.marks ≡ Issued n) }
+        ensures marks { OnOk result (self.new.turns.marks ≡ marks_after_step Issue self.old.turns.marks) }
+        ensures resting { OnOk result (self.new.turns.resting ≡ self.old.turns.resting) }
+        ensures waiters { self.new.waiters ≡ self.old.waiters }
+        ensures err { OnErr result (self.new ≡ self.old) }
+    {
         match self.turns.issue() {
             Ok(number) => {
                 self.issued = number.saturating_add(1);
@@ -116,6 +139,16 @@ impl<T: Drop> Queue<T> {
     }
 }
 
+// The line of these turns, on which no thread waits.
+fn share<T: Drop>(alloc: Global, queue: Queue<T>) -> Result<Arc<Line<T>>, AllocError> {
+    let line = Line {
+        queue: Mutex::new(queue),
+        finished: Condvar::new(),
+        is_closed: AtomicBool::new(false),
+    };
+    Ok(Arc::new(alloc, line)?)
+}
+
 /// The item and its numbers, which threads share. A number's text and its item are handed out, so nothing is read or
 /// written under the lock.
 #[derive(Drop)]
@@ -130,20 +163,7 @@ pub(crate) struct Line<T> {
 impl<T: Drop> Line<T> {
     /// No number is issued. An error where memory was refused.
     pub fn new(alloc: Global, item: T) -> Result<Arc<Line<T>>, AllocError> {
-        let queue = Queue {
-            turns: Turns::new(alloc, Box::new(alloc, item)?),
-            last: None,
-            issued: 0,
-            open: None,
-            waiters: Vec::new(alloc),
-            wants_room: false,
-        };
-        let line = Line {
-            queue: Mutex::new(queue),
-            finished: Condvar::new(),
-            is_closed: AtomicBool::new(false),
-        };
-        Ok(Arc::new(alloc, line)?)
+        share(alloc, Queue::new(alloc, item)?)
     }
 
     /// The next number, and whether its turn has come. An error where memory was refused, or no number is left.
@@ -332,11 +352,25 @@ impl<T: Drop, R: Wait + Drop> Turn<T, R> {
         }
     }
 
-    /// The item, if the number is held.
-    pub fn held(&mut self) -> Option<&mut T> {
-        match &mut self.item {
-            Some(item) => Some(item),
-            None => None,
+    /// Waits for the turn unless it is held, and holds it.
+    pub fn into_held(self) -> Held<T, R> {
+        let Turn {
+            rt,
+            alloc,
+            line,
+            number,
+            is_next: _,
+            item,
+        } = self;
+        let item = match item {
+            Some(item) => item,
+            None => line.take(&rt, alloc, number),
+        };
+        Held {
+            item,
+            rt,
+            line,
+            number,
         }
     }
 
@@ -355,28 +389,47 @@ impl<T: Drop, R: Wait + Drop> Turn<T, R> {
             None => line.leave(&rt, number, text)?,
         };
         let held = Held {
+            item,
             rt,
             line,
             number,
-            item,
         };
         Some((held, text))
     }
 }
 
-/// A number that is held.
+/// A number that is held, and the item.
 #[derive(Drop)]
-pub(crate) struct Held<T, R: Wait> {
+pub struct Held<T, R: Wait> {
+    /// The item.
+    pub item: Box<T>,
     rt: R,
     line: Arc<Line<T>>,
     number: u64,
-    item: Box<T>,
 }
 
 impl<T: Drop, R: Wait + Drop> Held<T, R> {
-    /// The item.
-    pub fn item(&mut self) -> &mut T {
-        &mut self.item
+    /// The first number of a new line of this item. An error where memory was refused.
+    pub(crate) fn first(rt: R, alloc: Global, item: T) -> Result<Held<T, R>, AllocError>
+        ensures { IfOk result (λ held. held.item.value ≡ item) }
+    {
+        let mut queue = Queue::new(alloc, item)?;
+        let number = queue.issue()?;
+        let Some(item) = queue.turns.take(number) else {
+            unreachable!()
+        };
+        let line = share(alloc, queue)?;
+        Ok(Held {
+            item,
+            rt,
+            line,
+            number,
+        })
+    }
+
+    /// Another handle of its line. An error where none is left.
+    pub(crate) fn line(&self) -> Result<Arc<Line<T>>, AllocError> {
+        Ok(Arc::try_clone(&self.line)?)
     }
 
     /// Whether the line was closed, and this number is the last that `issue_unless_closed` issued.
@@ -387,18 +440,18 @@ impl<T: Drop, R: Wait + Drop> Held<T, R> {
     /// Finishes the number. If the next one was left, that one is held, with the text that it was left with.
     pub fn finish(self) -> Option<(Held<T, R>, Vec<u8>)> {
         let Held {
+            item,
             rt,
             line,
             number,
-            item,
         } = self;
         let (item, text) = line.finish(&rt, number, item)?;
         let number = number.checked_add(1)?;
         let next = Held {
+            item,
             rt,
             line,
             number,
-            item,
         };
         Some((next, text))
     }

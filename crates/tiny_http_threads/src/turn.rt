@@ -1,22 +1,35 @@
 //! The turn of a sequential reader or writer, for a request that sees to its own: `tiny_http` doesn't name this
 //! module again.
-use crate::sequential::{SequentialReader, SequentialWriter, SequentialWriterBuilder};
-use std::alloc::AllocError;
+ghost use Rattle.std.specs.Prelude.{◌≡◌, IfOk};
+ghost use Rattle.tiny_http_threads.specs.Turn.{held_item};
+
+pub use crate::line::Held;
+pub use crate::sequential::HeldReader;
+use crate::sequential::{
+    SequentialReader, SequentialReaderBuilder, SequentialWriter, SequentialWriterBuilder,
+};
+use std::alloc::{AllocError, Global};
 use std::io::{Read, Write};
 use std::sync::atomic::AtomicU64;
 use std::sync::{Arc, Wait};
 use tiny_http_io::device::WriteDevice;
 
-/// Waits for the turn of this reader, and lends what it reads from.
-pub fn hold_reader<I: Read + Drop, R: Wait + Drop>(reader: &mut SequentialReader<I, R>) -> &mut I {
-    reader.hold()
+/// Gives out readers of this one, the first of which has its turn. An error where memory was refused.
+pub fn begin_readers<I: Read + Drop, R: Wait + Copy>(
+    rt: R,
+    alloc: Global,
+    reader: I,
+) -> Result<(SequentialReaderBuilder<I, R>, HeldReader<I, R>), AllocError>
+    ensures { IfOk result (λ made. held_item made.1 ≡ reader) }
+{
+    SequentialReaderBuilder::begin(rt, alloc, reader)
 }
 
-/// What this reader reads from, if its turn has come and it was used.
-pub fn held_reader<I: Read + Drop, R: Wait + Drop>(
-    reader: &mut SequentialReader<I, R>,
-) -> Option<&mut I> {
-    reader.held()
+/// Waits for the turn of this reader.
+pub fn hold_reader<I: Read + Drop, R: Wait + Drop>(
+    reader: SequentialReader<I, R>,
+) -> HeldReader<I, R> {
+    reader.into_held()
 }
 
 /// The next writer; none once `end_behind_writer` was called for one of them. An error where memory was refused, or
