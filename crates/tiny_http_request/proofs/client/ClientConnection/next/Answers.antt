@@ -10,7 +10,10 @@ use Rattle.tiny_http_open_request.specs.Exchange.{exchange_of}
 use Rattle.tiny_http_open_request.specs.HeadReads.{IsFramedRequest}
 use Rattle.tiny_http_open_request.specs.NextRequest.{At, Refuses, FindsNext}
 use Rattle.tiny_http_open_request.proofs.NextRequestLemmas.{next-framed}
+use Rattle.tiny_http_io.specs.Source.{SourceState}
 use Rattle.tiny_http_request.specs.Request.{request_head, request_open}
+use Rattle.tiny_http_request.specs.Client.{FindsRequest}
+use Rattle.tiny_http_request.proofs.ClientLemmas.{finds-request}
 use Rattle.tiny_http_request.proofs.client.ClientConnection.next.Goals as goal
 
 -- a request that is found is framed as its version and headers say
@@ -29,3 +32,14 @@ returns-in-Ok-clause-handed g c =
       last = c.in-Ok.ensures.last;
       goes_on = c.in-Ok.ensures.open;
     }
+
+found-by : {R P O : Type 0} {refuses : Refuses P O} {profile : Profile} {date : HttpDate} {here there : At R P O} {r : Result NextRequest AllocError} (x : Exchange)
+    → r ≡ Ok (next.Request x) → FindsNext refuses profile date here r there → FindsRequest profile date here.source x there.source
+found-by {refuses = refuses} {profile = profile} {date = date} {here = here} {there = there} x same found =
+    finds-request refuses profile date here there x (subst (λ r. FindsNext refuses profile date here r there) same found)
+
+pub returns-in-Ok-clause-reads : goal.returns-in-Ok-clause-reads
+returns-in-Ok-clause-reads g c = λ source held.
+    let x = exchange_of (request_head c.in-Ok.request) (request_open c.in-Ok.request) in
+    let same : c.next_request.result ≡ Ok (next.Request x) = c.in-Ok-Request.is ∙ ap (λ y. Ok y) c.in-Ok-Request.field-0-is ∙ ap (λ y. Ok (next.Request y)) c.in-Ok.ensures.exchange in
+    (_, found-by x same c.next_request.ensures, c.in-Ok.ensures.input)
