@@ -1,6 +1,7 @@
 -- How a body stands after some of it was read.
 use Rattle.std.proofs.Common.{◌≡◌, refl, sym, ap, ◌∙◌, subst, ℕ, zero, suc, ◌+◌, ◌-◌, ◌<◌, ◌≤◌, ◌==◌, ◌||◌, min, Bool, true, false, List, [], ◌∷◌, ◌++◌, length, take, Option, Some, None, ◌⊎◌, inl, inr, arith}
 use Rattle.std.proofs.Common.{append-nil, length-append, length-take}
+use Rattle.std.proofs.lemmas.Bool.{ltb-true}
 use Rattle.std.specs.Prelude.{MatchBool, nat_lt, ⊤}
 use Rattle.std.specs.declared.io.ErrorKind.{ErrorKind}
 use Rattle.tiny_http_io.specs.Cursor.{cursor_bytes}
@@ -77,6 +78,7 @@ length-zero (x ∷ xs) e = absurd (omega (arith, e))
 -- so many bytes of a feed are all there are, and then it ends
 front-all : (n : ℕ) (f : Feed) (items rest : List ℕ) → take n f.bytes ≡ items ++ rest → length items ≡ n
     → feed_front n f ≡ whole_feed items
+unfolding feed_front
 front-all n f items rest split all = whole (nat_lt (length f.bytes) n) refl
   where
     count : min n (length f.bytes) ≡ length items + length rest
@@ -88,7 +90,7 @@ front-all n f items rest split all = whole (nat_lt (length f.bytes) n) refl
     whole : (t : Bool) → nat_lt (length f.bytes) n ≡ t → feed_front n f ≡ whole_feed items
     whole false e = ap (λ (bs : List ℕ). record { bytes = bs; stop = stop_where (nat_lt (length f.bytes) n) f.stop }) same
         ∙ ap (λ (b : Bool). record { bytes = items; stop = stop_where b f.stop }) e
-    whole true e = absurd (omega (arith, e, count, all))
+    whole true e = absurd (omega (arith, ltb-true (length f.bytes) n e, count, all))
 
 some-feed : (f g : Feed) → Some f ≡ Some g → f ≡ g
 some-feed f g e = cc
@@ -114,6 +116,7 @@ held-whole held g count bytes h l e = ap whole_feed (split ∙ ap (λ (x : List 
 -- so many bytes of a body of a known length are the whole
 pub count-whole : (u : UnreadBody) (input rest : Option Feed) (count : ℕ) (bytes : List ℕ) → bytes_left u ≡ Some count → length bytes ≡ count
     → left_at u input ≡ prepended bytes rest → IsWholeOf bytes (left_at u input)
+unfolding feed_front
 count-whole u None rest count bytes k l e = untold u
   where
     untold : (u : UnreadBody) → IsWholeOf bytes (left_at u None)

@@ -1,8 +1,8 @@
 //! The body of a request that a thread may read, while the connection reads on.
-ghost use Rattle.std.specs.Prelude.{◌≡◌, ◌⊎◌, ◌≤◌, ◌<◌, ◌==◌, ◌&&◌, ◌||◌, false, length, take, Option, is_some, Ok};
-ghost use Rattle.std.specs.Prelude.{Some, None, IfOk, IfErr, IfSome};
+ghost use Rattle.std.specs.Prelude.{◌≡◌, ◌+◌, ◌≤◌, ◌<◌, ◌==◌, ◌||◌, false, length, take, drop, Option, is_some, Ok};
+ghost use Rattle.std.specs.Prelude.{Some, None, IfOk, IfErr, IfSome, OnOk};
 ghost use Rattle.std.specs.IoError.{error_kind};
-ghost use Rattle.tiny_http_io.specs.Device.{AnswersStop, Feed, Reads, bytes_of};
+ghost use Rattle.tiny_http_io.specs.Device.{AnswersStop, Feed, Reads, bytes_of, prepended};
 ghost use Rattle.tiny_http_io.specs.declared.device.Stop.TheVariants.{End, Fault};
 ghost use Rattle.tiny_http_body.specs.Body.{is_streaming, is_whole, bytes_left, remainder, body_stop, ReadsOn};
 ghost use Rattle.tiny_http_body.specs.Body.{BodyStops, remaining, prepended_body};
@@ -206,11 +206,24 @@ impl<R: ReadDevice + Drop, Rt: Wait + Drop> ReadDevice for Body<R, Rt> {
     }
 }
 
+// Reads into the buffer from `at` on.
+fn read_behind<R: ReadDevice>(reader: &mut R, buf: &mut [u8], at: usize) -> io::Result<usize>
+    requires { at < length buf.old }
+    ensures bound { IfOk result (λ n. at + n ≤ length buf.new) }
+    ensures len { length buf.new ≡ length buf.old }
+    ensures front { take at buf.new ≡ take at buf.old }
+    ensures reads { Reads (R.feed reader.old) (R.feed reader.new) result (drop at buf.new) }
+{
+    reader.read_in(&mut buf[at..])
+}
+
 // Reads until the buffer is full, or an end or a fault comes: the end as one of kind `UnexpectedEof`.
-fn read_whole<R: ReadDevice>(reader: &mut R, buf: &mut [u8]) -> io::Result<()> {
+fn read_whole<R: ReadDevice>(reader: &mut R, buf: &mut [u8]) -> io::Result<()>
+    ensures { OnOk result (R.feed reader.old ≡ prepended buf.new (R.feed reader.new)) }
+{
     let mut at = 0;
     while at < buf.len() {
-        let n = reader.read_in(&mut buf[at..])?;
+        let n = read_behind(reader, buf, at)?;
         if n == 0 {
             return Err(ErrorKind::UnexpectedEof.into());
         }
@@ -221,7 +234,7 @@ fn read_whole<R: ReadDevice>(reader: &mut R, buf: &mut [u8]) -> io::Result<()> {
 
 impl<R: ReadDevice + Drop, Rt: Wait + Drop> Read for Body<R, Rt> {
     ghost use Rattle.std.specs.Io.{ReadsAtMost};
-    ghost use Rattle.std.specs.Io.KnownBytes.{ReadConsumes};
+    ghost use Rattle.std.specs.Io.KnownBytes.{Consumes, ReadConsumes};
 
     ghost remaining = { λ b. bytes_of (body_left b) };
 
@@ -237,7 +250,10 @@ impl<R: ReadDevice + Drop, Rt: Wait + Drop> Read for Body<R, Rt> {
 
     /// Fills the buffer. The first fault is the error, also one of kind `Interrupted`; a body that ends before is one
     /// of kind `UnexpectedEof`.
-    fn read_exact(&mut self, buf: &mut [u8]) -> io::Result<()> {
+    fn read_exact(&mut self, buf: &mut [u8]) -> io::Result<()>
+        ensures bytes { OnOk result (Consumes (bytes_of (body_left self.old)) (bytes_of (body_left self.new)) buf.new) }
+        ensures reads { OnOk result (body_left self.old ≡ prepended buf.new (body_left self.new)) }
+    {
         read_whole(self, buf)
     }
 }

@@ -1,5 +1,5 @@
 //! A connection whose requests threads may hold.
-ghost use Rattle.std.specs.Prelude.{◌≡◌, ◌↔◌, ⊤, true, false, Ok, None, Some, IfOk, OnErr, IfSome, IfNone};
+ghost use Rattle.std.specs.Prelude.{◌≡◌, ◌↔◌, ⊤, true, false, Ok, None, Some, IfOk, OnErr, IsSome, IfSome, IfNone};
 ghost use Rattle.tiny_http_open_request.specs.Exchange.{exchange_of};
 ghost use Rattle.tiny_http_socket.specs.Stream.{MayHavePeer};
 ghost use Rattle.tiny_http_threads.specs.Turn.{held_item};
@@ -307,17 +307,12 @@ impl<R: ReadDevice + Drop, W: WriteDevice + Drop, Rt: Wait + Copy> ClientConnect
         let flush_policy = set_policy(&self.flush_policy, may_leave)?;
         let pace = begin_body(&self.pace, holds_reader)?;
         let client = (self.secure, self.remote_addr);
-        let (reader, next_head) = if holds_reader {
+        let (reader, held) = if holds_reader {
             (Some(reader), None)
         } else {
             (None, Some(reader))
         };
-        if !head.is_last {
-            self.next_head = match next_head {
-                Some(reader) => Some(NextHead::Here(reader)),
-                None => Some(NextHead::Behind(self.source.next()?)),
-            };
-        }
+        self.next_head = next_head(&mut self.source, head.is_last, held)?;
         Ok(Request::from_parts(
             self.alloc,
             client,
@@ -327,6 +322,25 @@ impl<R: ReadDevice + Drop, W: WriteDevice + Drop, Rt: Wait + Copy> ClientConnect
             writer,
             (flush_policy, pace),
         ))
+    }
+}
+
+// Where the head after a request is read, if one is: on the input that is held, or behind the request that took it.
+fn next_head<R: ReadDevice + Drop, Rt: Wait + Copy>(
+    source: &mut SequentialReaderBuilder<Source<R>, Rt>,
+    is_last: bool,
+    held: Option<HeldReader<Source<R>, Rt>>,
+) -> Result<Option<NextHead<R, Rt>>, AllocError>
+    ensures last { is_last ≡ true → result ≡ Ok None }
+    ensures some { is_last ≡ false → IfOk result IsSome }
+    ensures here { is_last ≡ false → IfSome held (λ reader. result ≡ Ok (Some (NextHead.Here reader))) }
+{
+    if is_last {
+        return Ok(None);
+    }
+    match held {
+        Some(reader) => Ok(Some(NextHead::Here(reader))),
+        None => Ok(Some(NextHead::Behind(source.next()?))),
     }
 }
 

@@ -23,7 +23,7 @@ ghost use Rattle.tiny_http_request.specs.Request.{request_address, request_open,
 ghost use Rattle.tiny_http_request.specs.Request.{cut_kind, IsCutShort, BeginsWith, Says, IsFramed, FailsBy};
 ghost use Rattle.tiny_http_request.specs.Request.{request_body, ReadsStream};
 ghost use Rattle.tiny_http_io.specs.CustomStream.{custom_reader};
-ghost use Rattle.tiny_http_request.specs.Body.{body_left, input_of};
+ghost use Rattle.tiny_http_request.specs.Body.{body_left, input_of, KeepsLeft, upgraded_body};
 ghost use Rattle.tiny_http_request.specs.WholeBody.{FailsWhole, IsWholeOf};
 ghost use Rattle.tiny_http_threads.specs.Turn.{held_item};
 
@@ -187,7 +187,9 @@ impl<R: ReadDevice + Drop, W: WriteDevice + Drop, Rt: Wait + Drop> Request<R, W,
     }
 
     // What is left of it as it is finished: what it owes, and its turn.
-    fn into_parts(self) -> (OpenRequest<Body<R, Rt>>, SequentialWriter<Outlet<W>, Rt>) {
+    fn into_parts(self) -> (OpenRequest<Body<R, Rt>>, SequentialWriter<Outlet<W>, Rt>)
+        ensures { result.0 ≡ self.open_request }
+    {
         let Self {
             alloc: _,
             secure: _,
@@ -586,12 +588,7 @@ impl<R: ReadDevice + Drop, W: WriteDevice + Drop, Rt: Wait + Drop> Request<R, W,
         }
         let alloc = self.alloc;
         let (mut open_request, mut writer) = self.into_parts();
-        let by_standard = open_request.by_standard;
-        let left = open_request.body.remainder();
-        open_request.body.become_stream(by_standard);
-        if open_request.is_last_with_stream(left) {
-            open_request.body.end_requests();
-        }
+        read_stream(&mut open_request);
         open_request.upgrade(alloc, hold_writer(&mut writer), protocol, response, now);
         CustomStream::new(open_request.body, writer)
     }
@@ -629,6 +626,17 @@ impl<R: ReadDevice + Drop, W: WriteDevice + Drop, Rt: Wait + Drop> fmt::Debug
         let path = self.head.path.as_str();
         let address = self.remote_addr;
         write!(f, "Request({method} {path} from {address:?})")
+    }
+}
+
+// Has the body read on as the stream of an upgrade. No head follows where that gets the connection.
+fn read_stream<R: ReadDevice + Drop, Rt: Wait + Drop>(open_request: &mut OpenRequest<Body<R, Rt>>)
+    ensures { KeepsLeft (upgraded_body open_request.old.by_standard open_request.old.body) open_request.new.body }
+{
+    let left = open_request.body.remainder();
+    open_request.body.become_stream(open_request.by_standard);
+    if open_request.is_last_with_stream(left) {
+        open_request.body.end_requests();
     }
 }
 

@@ -26,11 +26,11 @@ from_parts-requires g c =
     let framed : framing Lenient c.args.version c.args.headers.items ≡ Ok c.in-Ok.framing = search (rules, c.as_slice.ensures.value, c.framing_of.ensures, c.in-Ok.is) in
     let asks = asks-none Lenient c.args.version c.args.headers.items c.in-Ok.framing framed in
     let holds : w.holds_next_head ≡ false = kept.1.holds_next_head ∙ ap (λ b. b && not c.in-Ok.framing.is_last) asks in
-    c.in_ok-reader.ensures ∙ ap is_streaming (sym kept.0) ∙ sym (rw holds (or-false (is_streaming w.body)))
+    c.in_ok-reader.ensures.0 ∙ ap is_streaming (sym kept.0) ∙ sym (rw holds (or-false (is_streaming w.body)))
 
 pub returns-clause-body : goal.returns-clause-body
 returns-clause-body g c =
-    (c.body_of.new.source.feed, begins-by c.in-Ok.framing (head_framing (request_head c.from_parts.result)) c.new-source.result.feed (g.R.ReadDevice.feed c.args.source_data) c.body_of.new.source.feed c.in_ok-body.body c.from_parts.result.open_request.body (search rules) (search rules) (search rules) c.in_ok-body.ensures.begins)
+    (c.body_of.new.source.feed, begins-by c.in-Ok.framing (head_framing (request_head c.from_parts.result)) c.new-source.result.feed (g.R.ReadDevice.feed c.args.source_data) c.body_of.new.source.feed c.in_ok-body.body c.from_parts.result.open_request.body.unread (search rules) (search rules) (search rules) c.in_ok-body.ensures.begins)
 
 pub returns-in-Err-clause-fails : goal.returns-in-Err-clause-fails
 returns-in-Err-clause-fails g c = (
