@@ -3,7 +3,7 @@ ghost use Rattle.std.specs.Arc.{arc_value};
 ghost use Rattle.std.specs.BTreeMap.{get};
 ghost use Rattle.std.specs.Ordering.{nat_cmp};
 ghost use Rattle.std.specs.Prelude.{◌≡◌, ◌≢◌, ℕ, ◌+◌, ◌-◌, ◌<◌, ◌↔◌, max, true, false, Some, IfOk, OnOk, OnErr, IsSome};
-ghost use Rattle.std.specs.Prelude.{IsTrue, box_value, option_map};
+ghost use Rattle.std.specs.Prelude.{IsTrue, IfSome, box_value, option_map};
 ghost use Rattle.tiny_http_turns.specs.Turns.{Issue, Take, Finish, Leave, Issued, marks_after_step, turn_answer};
 ghost use Rattle.tiny_http_turns.specs.Turns.{first_unfinished};
 ghost use Rattle.tiny_http_turns.specs.TurnsCalls.{TakesTurn, Finishes, LeavesTurn, GivesBack};
@@ -27,7 +27,8 @@ enum Taking<T> {
     Refused,
 }
 
-// The turns, and the numbers whose threads wait for theirs. A contract sees a `LineState`.
+// The turns, and the numbers whose threads wait for theirs: each of them was issued, and its turn hasn't come. A
+// contract sees a `LineState`.
 #[derive(Drop)]
 struct Queue<T> {
     turns: Turns<Box<T>>,
@@ -348,7 +349,9 @@ impl<T: Drop> Line<T> {
 
     /// Leaves a number with a text, which is written in its turn; or holds it, and gives the item and the text, where
     /// its turn has come. It waits for no turn.
-    pub fn leave<R: Wait>(&self, rt: &R, number: u64, text: Vec<u8>) -> Option<(Box<T>, Vec<u8>)> {
+    pub fn leave<R: Wait>(&self, rt: &R, number: u64, text: Vec<u8>) -> Option<(Box<T>, Vec<u8>)>
+        ensures { IfSome result (λ held. held.1 ≡ text) }
+    {
         let left = self.queue.lock(rt).leave(number, text);
         match left {
             Leaving::Go(item, text) => Some((item, text)),
@@ -356,9 +359,11 @@ impl<T: Drop> Line<T> {
         }
     }
 
-    /// Finishes a held number. If the next one was left, that one is held: the item, and its text. Else the thread
-    /// that waits for the next turn is woken, if one does.
-    pub fn finish<R: Wait>(&self, rt: &R, number: u64, item: Box<T>) -> Option<(Box<T>, Vec<u8>)> {
+    /// Finishes a held number. If the next one was left, that one is held: the same item, and its text. Else the
+    /// thread that waits for the next turn is woken, if one does.
+    pub fn finish<R: Wait>(&self, rt: &R, number: u64, item: Box<T>) -> Option<(Box<T>, Vec<u8>)>
+        ensures { IfSome result (λ next. next.0 ≡ item) }
+    {
         let mut queue = self.queue.lock(rt);
         let (finishing, woken) = queue.finish(number, item);
         let gives_room = queue.gives_room();
@@ -478,8 +483,11 @@ impl<T: Drop, R: Wait + Drop> Turn<T, R> {
         }
     }
 
-    /// Holds the number if its turn has come, and else leaves it with this text. It waits for no turn.
-    pub fn leave(self, text: Vec<u8>) -> Option<(Held<T, R>, Vec<u8>)> {
+    /// Holds the number if its turn has come, and the text comes back; else leaves it with this text. It waits for no
+    /// turn.
+    pub fn leave(self, text: Vec<u8>) -> Option<(Held<T, R>, Vec<u8>)>
+        ensures { IfSome result (λ held. held.1 ≡ text) }
+    {
         let Turn {
             rt,
             alloc: _,
@@ -541,8 +549,11 @@ impl<T: Drop, R: Wait + Drop> Held<T, R> {
         self.line.is_last(&self.rt, self.number)
     }
 
-    /// Finishes the number. If the next one was left, that one is held, with the text that it was left with.
-    pub fn finish(self) -> Option<(Held<T, R>, Vec<u8>)> {
+    /// Finishes the number. If the next one was left, that one is held, with the same item and the text that it was
+    /// left with.
+    pub fn finish(self) -> Option<(Held<T, R>, Vec<u8>)>
+        ensures { IfSome result (λ next. next.0.item ≡ self.item) }
+    {
         let Held {
             item,
             rt,
