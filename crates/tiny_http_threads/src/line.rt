@@ -2,8 +2,8 @@
 ghost use Rattle.std.specs.Arc.{arc_value};
 ghost use Rattle.std.specs.BTreeMap.{get};
 ghost use Rattle.std.specs.Ordering.{nat_cmp};
-ghost use Rattle.std.specs.Prelude.{◌≡◌, ◌≢◌, ℕ, ◌+◌, ◌-◌, ◌<◌, ◌↔◌, max, true, false, Some, IfOk, OnOk, OnErr, IsSome};
-ghost use Rattle.std.specs.Prelude.{IsTrue, IfSome, box_value, option_map};
+ghost use Rattle.std.specs.Prelude.{◌≡◌, ◌≢◌, ℕ, ◌+◌, ◌-◌, ◌<◌, ◌↔◌, max, true, false, Some, None, IfOk, OnOk, OnErr};
+ghost use Rattle.std.specs.Prelude.{IsSome, IsTrue, IfSome, box_value, option_map};
 ghost use Rattle.tiny_http_turns.specs.Turns.{Issue, Take, Finish, Leave, Issued, marks_after_step, turn_answer};
 ghost use Rattle.tiny_http_turns.specs.Turns.{first_unfinished};
 ghost use Rattle.tiny_http_turns.specs.TurnsCalls.{TakesTurn, Finishes, LeavesTurn, GivesBack};
@@ -91,6 +91,15 @@ fn list_waiter(
     let theirs = Arc::try_clone(&woken)?;
     waiters.insert(number, woken)?;
     Ok(theirs)
+}
+
+// Takes out what wakes the thread of this number, if it waits: it waits no more.
+fn take_waiter(waiters: &mut BTreeMap<u64, Arc<Condvar>>, number: u64) -> Option<Arc<Condvar>>
+    ensures woken { result ≡ get nat_cmp waiters.old number }
+    ensures gone { get nat_cmp waiters.new number ≡ None }
+    ensures others { (n : ℕ) → n ≢ number → get nat_cmp waiters.new n ≡ get nat_cmp waiters.old n }
+{
+    waiters.remove(&number)
 }
 
 impl<T: Drop> Queue<T> {
@@ -240,7 +249,7 @@ impl<T: Drop> Queue<T> {
     {
         let finishing = self.turns.finish(number, item);
         let woken = if matches!(finishing, Finishing::Passed) {
-            self.waiters.remove(&self.turns.first_unfinished())
+            take_waiter(&mut self.waiters, self.turns.first_unfinished())
         } else {
             None
         };
