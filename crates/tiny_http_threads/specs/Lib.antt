@@ -3,3 +3,4 @@ pub mod Pool
 pub mod Roster
 pub mod Sequential
 pub mod Turn
+pub mod Line
