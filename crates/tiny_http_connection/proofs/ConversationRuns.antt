@@ -1,6 +1,6 @@
 -- A run goes on by one step.
 use Rattle.tiny_http_io.specs.declared.source.Standing.TheVariants as at
-use Rattle.std.proofs.Common.{◌≡◌, refl, sym, ap, ◌∙◌, subst, ℕ, ◌-◌, ◌<◌, ◌≤◌, Bool, true, false, List, [], ◌∷◌, ◌++◌, length, Option, Some, None, arith, append-nil, inl, inr}
+use Rattle.std.proofs.Common.{◌≡◌, refl, sym, ap, ◌∙◌, subst, ℕ, ◌-◌, ◌^◌, ◌<◌, ◌≤◌, Bool, true, false, List, [], ◌∷◌, ◌++◌, length, Option, Some, None, arith, append-nil, inl, inr}
 use Rattle.std.specs.Prelude.{MatchBool}
 use Rattle.std.specs.Option.{option_map}
 use Rattle.std.specs.List.{AllZip}
@@ -33,7 +33,7 @@ use Rattle.std.specs.declared.io.ErrorKind.{ErrorKind}
 use Rattle.tiny_http_connection.specs.declared.driver.Step.{Step}
 use Rattle.tiny_http_connection.specs.declared.driver.Step.TheVariants as step
 use Rattle.httpdate.specs.declared.date.HttpDate.{HttpDate}
-use Rattle.tiny_http_connection.specs.Seen.{seen, ReportsHonestly, ReportHonestly, MayFail, all_sent_after, all_sent}
+use Rattle.tiny_http_connection.specs.Seen.{seen, ReportsHonestly, ReportHonestly, TellsFailure, TellsOfWriter, MayFail, all_sent_after, all_sent}
 use Rattle.tiny_http_connection.specs.Driving.{stated_step}
 use Rattle.tiny_http_response.specs.Sending.{SinkFailsOnce, FailsOnceUnlessEnded, FailsAtMostOnce}
 use Rattle.tiny_http_io.proofs.DeviceLemmas.{grown-nil}
@@ -217,16 +217,33 @@ fail-along feed a b c date (step.Write n v) kind e h = (h.0 ∙ ap next_count e,
 fail-along feed a b c date (step.Flush n) kind e h = (h.0 ∙ ap next_count e, h.1)
 fail-along {D = D} feed a b c date (step.Upgrade n p r) kind e h = elim h [ ]
 fail-along {D = D} feed a b c date (step.Finish n) kind e h = elim h [ ]
-fail-along feed a b c date (step.Respond n r) kind e (p, inl h) = (p, inl (h ∙ ap next_count e))
+fail-along feed a b c date (step.Respond n r) kind e (p, inl h) = let L : ℕ → Type 0 = λ m. m < 2 ^ 64 - 1 in (p, inl (h.0 ∙ ap next_count e, λ low. h.1 (subst L (sym e) low)))
 fail-along feed a b c date (step.Respond n r) kind e (p, inr h) = (p, inr h)
 
+-- what is told of a failure, along such sinks
+tells-of : (a b c : Sink) (reply : ReplyValue) → b.failures ≡ a.failures → TellsOfWriter b c reply → TellsOfWriter a c reply
+tells-of a b c reply e (inl h) = inl (h ∙ e)
+tells-of a b c reply e (inr h) = inr (h.0, h.1, (h.2.0 ∙ ap next_count e, h.2.1))
+
+tells-along : {D : Type 0} (a b c : Sink) (s : Step D) (reply : ReplyValue) → b.failures ≡ a.failures → TellsFailure b c s reply → TellsFailure a c s reply
+tells-along a b c step.Ask reply e h = h
+tells-along a b c (step.AsReader n) reply e h = h
+tells-along a b c (step.Read n m) reply e h = h
+tells-along a b c (step.Drop n) reply e h = h
+tells-along a b c (step.IntoWriter n) reply e h = h
+tells-along a b c (step.Write n v) reply e h = tells-of a b c reply e h
+tells-along a b c (step.Flush n) reply e h = tells-of a b c reply e h
+tells-along a b c (step.Upgrade n p r) reply e h = h
+tells-along a b c (step.Finish n) reply e h = h
+tells-along a b c (step.Respond n r) reply e h = h
+
 -- one step more
-pub honest-snoc : {D : Type 0} (feed : D → Option Feed) (a b c : Sink) (steps : List (Timed D)) (replies : List Reply) (t : Timed D) (r : Reply) → ReportHonestly feed a steps replies b → FailsAtMostOnce b c → ReportsHonestly feed b c t r
+pub honest-snoc : {D : Type 0} (feed : D → Option Feed) (a b c : Sink) (steps : List (Timed D)) (replies : List Reply) (t : Timed D) (r : Reply) → ReportHonestly feed a steps replies b → FailsAtMostOnce b c → ReportsHonestly feed b c t r → TellsFailure b c t.step (seen r)
     → ReportHonestly feed a (steps ++ t ∷ []) (replies ++ r ∷ []) c
-honest-snoc feed a b c [] [] t r h once k = (c, rise-along a b c h once, (λ kind stated. fail-along feed a b c t.now t.step kind h (k kind stated)), refl)
-honest-snoc feed a b c [] (x ∷ replies) t r h once k = absurd h
-honest-snoc feed a b c (x ∷ steps) [] t r h once k = absurd h
-honest-snoc feed a b c (x ∷ steps) (y ∷ replies) t r h once k = (h.0, h.1, h.2, honest-snoc feed h.0 b c steps replies t r h.3 once k)
+honest-snoc feed a b c [] [] t r h once k tells = (c, rise-along a b c h once, (λ kind stated. fail-along feed a b c t.now t.step kind h (k kind stated)), tells-along a b c t.step (seen r) h tells, refl)
+honest-snoc feed a b c [] (x ∷ replies) t r h once k tells = absurd h
+honest-snoc feed a b c (x ∷ steps) [] t r h once k tells = absurd h
+honest-snoc feed a b c (x ∷ steps) (y ∷ replies) t r h once k tells = (h.0, h.1, h.2, h.3, honest-snoc feed h.0 b c steps replies t r h.4 once k tells)
 
 -- a step of an outlet that may have ended
 at-most-once : (old new : Sink) (was ended : Bool) → FailsOnceUnlessEnded was old new ended → FailsAtMostOnce old new
@@ -235,15 +252,15 @@ at-most-once old new false ended (inl h) = inl h
 at-most-once old new false ended (inr h) = inr h.0
 
 pub honest-step : {D : Type 0} (feed : D → Option Feed) (writer old new : Sink) (was ended : Bool) (done : List (Timed D)) (replies : List Reply) (t : Timed D) (reply : Reply) → FailsOnceUnlessEnded was old new ended
-    → ReportHonestly feed writer done replies old → ReportsHonestly feed old new t reply → ReportHonestly feed writer (done ++ t ∷ []) (replies ++ reply ∷ []) new
-honest-step feed writer old new was ended done replies t reply once h k = honest-snoc feed writer old new done replies t reply h (at-most-once old new was ended once) k
+    → ReportHonestly feed writer done replies old → ReportsHonestly feed old new t reply → TellsFailure old new t.step (seen reply) → ReportHonestly feed writer (done ++ t ∷ []) (replies ++ reply ∷ []) new
+honest-step feed writer old new was ended done replies t reply once h k tells = honest-snoc feed writer old new done replies t reply h (at-most-once old new was ended once) k tells
 
 -- the end counts as another sink does
 pub honest-end : {D : Type 0} (feed : D → Option Feed) (a b c : Sink) (steps : List (Timed D)) (replies : List Reply) → c.failures ≡ b.failures → ReportHonestly feed a steps replies b → ReportHonestly feed a steps replies c
 honest-end feed a b c [] [] e h = e ∙ h
 honest-end feed a b c [] (x ∷ replies) e h = absurd h
 honest-end feed a b c (x ∷ steps) [] e h = absurd h
-honest-end feed a b c (x ∷ steps) (y ∷ replies) e h = (h.0, h.1, h.2, honest-end feed h.0 b c steps replies e h.3)
+honest-end feed a b c (x ∷ steps) (y ∷ replies) e h = (h.0, h.1, h.2, h.3, honest-end feed h.0 b c steps replies e h.4)
 
 -- whether all was sent on after one step more
 pub all-sent-snoc : {D : Type 0} (steps : List (Timed D)) (replies : List Reply) (t : Timed D) (r : Reply) (sent : Bool) → length steps ≡ length replies → all_sent (steps ++ t ∷ []) (replies ++ r ∷ []) sent ≡ all_sent_after t.step (seen r) (all_sent steps replies sent)

@@ -1,10 +1,15 @@
 -- The calls of a `Connection`, as steps.
-use Rattle.std.proofs.Common.{◌≡◌, refl, sym, ap, ◌∙◌, subst, arith, length, ℕ, suc, ◌+◌, ◌-◌, ◌<◌, ◌^◌, ◌⊎◌, inl, inr, ⊎_elim, Bool, true, false, not, ◌&&◌, ◌||◌, List, [], ◌∷◌, ◌++◌, Option, Some, None, Ok, append_assoc}
+use Rattle.std.proofs.Common.{◌≡◌, refl, sym, ap, ◌∙◌, subst, arith, length, ℕ, suc, ◌+◌, ◌-◌, ◌<◌, ◌^◌, ◌⊎◌, inl, inr, ⊎_elim, Bool, true, false, not, ◌&&◌, ◌||◌, List, [], ◌∷◌, ◌++◌, Option, Some, None, Result, Ok, Err, append_assoc}
 use Rattle.std.proofs.Math.Bool.{or-false}
 use Rattle.std.specs.declared.io.ErrorKind.{ErrorKind}
 use Rattle.httpdate.specs.declared.date.HttpDate.{HttpDate}
-use Rattle.tiny_http_io.specs.Device.{Feed, Sink}
-use Rattle.tiny_http_response.specs.Answer.{Answer, Printing, ResponseState}
+use Rattle.tiny_http_io.specs.Device.{Feed, Sink, StatesKind, IsFront, IsAllKnown}
+use Rattle.tiny_http_response.specs.Answer.{Answer, Printing, ResponseState, text_of}
+use Rattle.tiny_http_body.specs.Text.{Whole, Broken}
+use Rattle.std.specs.Io.KnownBytes.{append_known}
+use Rattle.std.specs.declared.io.Error.{Error}
+use Rattle.std.specs.declared.io.ErrorKind.TheVariants.{OutOfMemory}
+use Rattle.tiny_http_connection.specs.Outcomes.{fault_reply}
 use Rattle.tiny_http_io.specs.declared.device.Stop.{Stop}
 use Rattle.tiny_http_connection.specs.declared.pending.Unfinished.{Unfinished}
 use Rattle.tiny_http_connection.specs.declared.pending.Unfinished.TheVariants as still
@@ -21,8 +26,8 @@ use Rattle.tiny_http_response.specs.ResponseValue.{ResponseValue}
 use Rattle.tiny_http_connection.specs.Steps.{StepValue, Ask, AsReader, Read, Respond, IntoWriter, Write, Flush, Upgrade, Finish, Drop, ReplyValue, Handed, Ended, Given, NotYet, Done, Refused, NoSuch, Memory, Fault, TimedValue}
 use Rattle.tiny_http_connection.specs.Outcomes.{Reached, changes, ends_asking, use_in_turn, outcome}
 use Rattle.tiny_http_connection.specs.Conversation.{State, IsFresh, start_state}
-use Rattle.tiny_http_response.specs.Sending.{FailsOnceUnlessEnded, IsHonest, FailsOnce}
-use Rattle.tiny_http_connection.specs.Seen.{seen, IsResponse, IsStep, IsTimedStep, MayFail, ReportsHonestly, IsAnswered, IsOfWriter, is_done, all_sent_after}
+use Rattle.tiny_http_response.specs.Sending.{FailsOnceUnlessEnded, IsHonest, FailsOnce, Sends}
+use Rattle.tiny_http_connection.specs.Seen.{seen, IsResponse, IsStep, IsTimedStep, MayFail, ReportsHonestly, TellsFailure, TellsOfWriter, Answers, IsAnswered, IsOfWriter, is_done, all_sent_after}
 use Rattle.tiny_http_body.specs.declared.body.UnreadBody.{UnreadBody}
 use Rattle.tiny_http_open_request.specs.declared.open_request.OpenRequest.{OpenRequest}
 use Rattle.tiny_http_open_request.specs.OpenRequest.{refuses_code, request_check}
@@ -32,7 +37,7 @@ use Rattle.tiny_http_connection.specs.Connection.{Kept, ConnectionState, kept, S
 use Rattle.tiny_http_connection.specs.Slots.{turn_has_come, is_last_once_finished}
 use Rattle.tiny_http_connection.proofs.ConnectionDrop.{IsKeptOf, at-drop, at-unanswerable, at-refused}
 use Rattle.std.specs.Prelude.{String, string_bytes, slice_get}
-use Rattle.tiny_http_connection.specs.Driving.{HasDone, TakesStep, AskEnds, StepEnds, EndsBehind, UpgradeEnds, ends_behind, IsDeclined, stated_response, stated_step, StepLeaves, AskLeaves, LetsGo, StandsAfter, ReportsFault, AnswerLeaves, UpgradeLeaves, IsDropping, RefusesHeads, RespondEnds}
+use Rattle.tiny_http_connection.specs.Driving.{HasDone, TakesStep, AskEnds, StepEnds, EndsBehind, UpgradeEnds, ends_behind, IsDeclined, stated_response, stated_step, StepLeaves, AskLeaves, LetsGo, StandsAfter, ReportsFault, AnswerLeaves, UpgradeLeaves, IsDropping, RefusesHeads, RespondEnds, StepTells, RespondTells}
 use Rattle.tiny_http_connection.proofs.ConnectionAsk.{StepIsAnswered}
 use Rattle.tiny_http_connection.proofs.ConnectionReader.{holds-snoc}
 use Rattle.tiny_http_io.proofs.SourceGoesOn.{goes-on_same, goes-on_more}
@@ -188,8 +193,8 @@ moves-sent x reply all old new same done m = record {
 
 pub takes : {R W : Type 0} (old new : ConnectionState R W) (now : HttpDate) (x : Step (Option Feed)) (reply : ReplyValue)
     → ((client : Feed) (before : Sink) (s : State) (asked : StepValue) → before.failures < 2 ^ 64 - 1 → IsStep (λ f. f) x asked → Stands client before (kept old) s → StepIsAnswered client before (kept new) s now asked reply)
-    → (IsDeclined x reply → new ≡ old) → StepEnds x old new reply → StepLeaves x old new reply → MovesBy x reply old new → ((kind : ErrorKind) → reply ≡ Fault kind → ReportsFault old new now x kind) → TakesStep old new now x reply
-takes old new now x reply answers declined ends leaves moves honest =
+    → (IsDeclined x reply → new ≡ old) → StepEnds x old new reply → StepLeaves x old new reply → MovesBy x reply old new → ((kind : ErrorKind) → reply ≡ Fault kind → ReportsFault old new now x kind) → StepTells old new now x reply → TakesStep old new now x reply
+takes old new now x reply answers declined ends leaves moves honest tells =
     record {
       does = λ p client before steps replies asked is done.
           let a = answers client before done.at asked done.fresh.can_count is done.stands in
@@ -203,6 +208,7 @@ takes old new now x reply answers declined ends leaves moves honest =
       flushed = moves.flushed;
       sent_on = moves.sent_on;
       honest = honest;
+      tells = tells;
     }
 
 -- the body of what is kept under one number was given up
@@ -269,7 +275,7 @@ takes-ask old new now reply a =
     (λ client before s asked low is st. step-ask {D = Option Feed} (λ f. f) client before (kept new) s now (now, asked) step.Ask reply refl refl is (a.does client before s low st))
     a.declined a.ends a.leaves
     (moves-kept step.Ask reply old new (λ sent. refl) (record { profile = a.profile; goes_on = a.goes_on; fails_once = a.fails_once; flushed = λ was. a.flushed (was refl); sent_on = λ was. a.sent_on (was refl) }))
-    (λ kind e. absurd (ask-reports-none old new reply a.ends kind e))
+    (λ kind e. absurd (ask-reports-none old new reply a.ends kind e)) tt
 
 -- What a head that is passed leaves: what stood in front of it asks no more than what stands behind it.
 pub record PassesHead {R W : Type 0} (old mid : ConnectionState R W) (now : HttpDate) : Type 0 where
@@ -368,7 +374,7 @@ pub takes-as_reader : {R W : Type 0} (old new : ConnectionState R W) (now : Http
 takes-as_reader old new now n reply answers declined ends leaves moves none =
     takes old new now (step.AsReader n) reply
     (λ client before s asked low is st. step-as_reader {D = Option Feed} (λ f. f) client before (kept new) s now (now, asked) (step.AsReader n) n reply refl refl is (answers client before s low st))
-    declined ends leaves (moves-kept (step.AsReader n) reply old new (λ sent. refl) moves) (λ kind e. absurd (none kind e))
+    declined ends leaves (moves-kept (step.AsReader n) reply old new (λ sent. refl) moves) (λ kind e. absurd (none kind e)) tt
 
 pub takes-drop : {R W : Type 0} (old new : ConnectionState R W) (now : HttpDate) (n : ℕ) (reply : ReplyValue)
     → ((client : Feed) (before : Sink) (s : State) → before.failures < 2 ^ 64 - 1 → Stands client before (kept old) s → StepIsAnswered client before (kept new) s now (Drop n) reply)
@@ -376,7 +382,7 @@ pub takes-drop : {R W : Type 0} (old new : ConnectionState R W) (now : HttpDate)
 takes-drop old new now n reply answers declined ends leaves moves none =
     takes old new now (step.Drop n) reply
     (λ client before s asked low is st. step-drop {D = Option Feed} (λ f. f) client before (kept new) s (now, asked) (step.Drop n) n reply refl is (answers client before s low st))
-    declined ends leaves (moves-kept (step.Drop n) reply old new (λ sent. refl) moves) (λ kind e. absurd (none kind e))
+    declined ends leaves (moves-kept (step.Drop n) reply old new (λ sent. refl) moves) (λ kind e. absurd (none kind e)) tt
 
 pub takes-read : {R W : Type 0} (old new : ConnectionState R W) (now : HttpDate) (n m : ℕ) (reply : ReplyValue)
     → ((client : Feed) (before : Sink) (s : State) → Stands client before (kept old) s → StepIsAnswered client before (kept new) s now (Read n m) reply)
@@ -384,16 +390,16 @@ pub takes-read : {R W : Type 0} (old new : ConnectionState R W) (now : HttpDate)
 takes-read old new now n m reply answers declined ends leaves moves =
     takes old new now (step.Read n m) reply
     (λ client before s asked low is st. step-read {D = Option Feed} (λ f. f) client before (kept new) s (now, asked) (step.Read n m) n m reply refl is (answers client before s st))
-    declined ends leaves (moves-kept (step.Read n m) reply old new (λ sent. refl) moves) (λ kind e. tt)
+    declined ends leaves (moves-kept (step.Read n m) reply old new (λ sent. refl) moves) (λ kind e. tt) tt
 
 pub takes-respond : {R W D : Type 0} (feed : D → Option Feed) (all : Bool) (old new : ConnectionState R W) (now : HttpDate) (n : ℕ) (r : ResponseState D) (reply : ReplyValue)
     → ((client : Feed) (before : Sink) (s : State) (value : ResponseValue) → before.failures < 2 ^ 64 - 1 → IsResponse feed r value → Stands client before (kept old) s → StepIsAnswered client before (kept new) s now (Respond n value) reply)
     → (IsDeclined (step.Respond n (stated_response feed r)) reply → new ≡ old) → RespondEnds n r.answer.closes old new reply → AnswerLeaves n r.answer old new reply → is_done reply ≡ all → Moves all old new → ((kind : ErrorKind) → reply ≡ Fault kind → ReportsFault old new now (step.Respond n (stated_response feed r)) kind)
-    → TakesStep old new now (step.Respond n (stated_response feed r)) reply
-takes-respond feed all old new now n r reply answers declined ends leaves done moves honest =
+    → RespondTells old new now n (stated_response feed r) reply → TakesStep old new now (step.Respond n (stated_response feed r)) reply
+takes-respond feed all old new now n r reply answers declined ends leaves done moves honest tells =
     takes old new now (step.Respond n (stated_response feed r)) reply
     (λ client before s asked low is st. step-respond {D = Option Feed} (λ f. f) client before (kept new) s now (now, asked) (step.Respond n (stated_response feed r)) n (stated_response feed r) reply refl refl is (λ v h. answers client before s v low h st))
-    declined ends leaves (moves-sent (step.Respond n (stated_response feed r)) reply all old new (λ sent. refl) done moves) honest
+    declined ends leaves (moves-sent (step.Respond n (stated_response feed r)) reply all old new (λ sent. refl) done moves) honest tells
 
 pub takes-into_writer : {R W : Type 0} (old new : ConnectionState R W) (now : HttpDate) (n : ℕ) (reply : ReplyValue)
     → ((client : Feed) (before : Sink) (s : State) → before.failures < 2 ^ 64 - 1 → Stands client before (kept old) s → StepIsAnswered client before (kept new) s now (IntoWriter n) reply)
@@ -401,7 +407,7 @@ pub takes-into_writer : {R W : Type 0} (old new : ConnectionState R W) (now : Ht
 takes-into_writer old new now n reply answers declined ends leaves moves none =
     takes old new now (step.IntoWriter n) reply
     (λ client before s asked low is st. step-into_writer {D = Option Feed} (λ f. f) client before (kept new) s (now, asked) (step.IntoWriter n) n reply refl is (answers client before s low st))
-    declined ends leaves (moves-kept (step.IntoWriter n) reply old new (λ sent. refl) moves) (λ kind e. absurd (none kind e))
+    declined ends leaves (moves-kept (step.IntoWriter n) reply old new (λ sent. refl) moves) (λ kind e. absurd (none kind e)) tt
 
 pub takes-finish : {R W : Type 0} (old new : ConnectionState R W) (now : HttpDate) (n : ℕ) (reply : ReplyValue)
     → ((client : Feed) (before : Sink) (s : State) → before.failures < 2 ^ 64 - 1 → Stands client before (kept old) s → StepIsAnswered client before (kept new) s now (Finish n) reply)
@@ -409,24 +415,24 @@ pub takes-finish : {R W : Type 0} (old new : ConnectionState R W) (now : HttpDat
 takes-finish old new now n reply answers declined ends leaves moves none =
     takes old new now (step.Finish n) reply
     (λ client before s asked low is st. step-finish {D = Option Feed} (λ f. f) client before (kept new) s (now, asked) (step.Finish n) n reply refl is (answers client before s low st))
-    declined ends leaves (moves-kept (step.Finish n) reply old new (λ sent. refl) moves) (λ kind e. absurd (none kind e))
+    declined ends leaves (moves-kept (step.Finish n) reply old new (λ sent. refl) moves) (λ kind e. absurd (none kind e)) tt
 
 pub takes-flush : {R W : Type 0} (all : Bool) (old new : ConnectionState R W) (now : HttpDate) (n : ℕ) (reply : ReplyValue)
     → ((client : Feed) (before : Sink) (s : State) → before.failures < 2 ^ 64 - 1 → Stands client before (kept old) s → StepIsAnswered client before (kept new) s now (Flush n) reply)
     → (IsDeclined (step.Flush n) reply → new ≡ old) → new.end ≡ old.end → StepLeaves (step.Flush n) old new reply → is_done reply ≡ all → Moves all old new → ((kind : ErrorKind) → reply ≡ Fault kind → IsOfWriter (output_of old.outlet) (output_of new.outlet) kind)
-    → TakesStep old new now (step.Flush n) reply
-takes-flush all old new now n reply answers declined ends leaves done moves honest =
+    → TellsOfWriter (output_of old.outlet) (output_of new.outlet) reply → TakesStep old new now (step.Flush n) reply
+takes-flush all old new now n reply answers declined ends leaves done moves honest tells =
     takes old new now (step.Flush n) reply
     (λ client before s asked low is st. step-flush {D = Option Feed} (λ f. f) client before (kept new) s (now, asked) (step.Flush n) n reply refl is (answers client before s low st))
-    declined ends leaves (moves-sent (step.Flush n) reply all old new (λ sent. refl) done moves) honest
+    declined ends leaves (moves-sent (step.Flush n) reply all old new (λ sent. refl) done moves) honest tells
 
 -- a Write that wasn't done leaves what is sent on as it was; of one that was nothing is said
 pub takes-write : {R W : Type 0} (old new : ConnectionState R W) (now : HttpDate) (n : ℕ) (v : Vec ℕ) (bytes : List ℕ) (reply : ReplyValue)
     → v.items ≡ bytes → ((client : Feed) (before : Sink) (s : State) → before.failures < 2 ^ 64 - 1 → Stands client before (kept old) s → StepIsAnswered client before (kept new) s now (Write n bytes) reply)
     → (IsDeclined (step.Write n v) reply → new ≡ old) → new.end ≡ old.end → StepLeaves (step.Write n v) old new reply → new.profile ≡ old.profile → GoesOn old.source.feed new.source.feed
     → FailsOnce old.outlet new.outlet → (is_done reply ≡ false → new.outlet ≡ old.outlet) → ((kind : ErrorKind) → reply ≡ Fault kind → IsOfWriter (output_of old.outlet) (output_of new.outlet) kind)
-    → TakesStep old new now (step.Write n v) reply
-takes-write {W = W} old new now n v bytes reply same answers declined ends leaves profile_is goes once still honest =
+    → TellsOfWriter (output_of old.outlet) (output_of new.outlet) reply → TakesStep old new now (step.Write n v) reply
+takes-write {W = W} old new now n v bytes reply same answers declined ends leaves profile_is goes once still honest tells =
     takes old new now (step.Write n v) reply
     (λ client before s asked low is st.
     let P : List ℕ → Type 0 = λ l. StepIsAnswered client before (kept new) s now (Write n l) reply in
@@ -437,7 +443,7 @@ takes-write {W = W} old new now n v bytes reply same answers declined ends leave
       fails_once = once;
       flushed = λ sent was e. let h = apart sent (is_done reply) refl e in ap (λ (o : OutletState W). o.held) (still h.1) ∙ was h.0;
       sent_on = λ sent was e. let h = apart sent (is_done reply) refl e in subst (λ (o : OutletState W). SentOn o) (sym (still h.1)) (was h.0);
-    }) honest
+    }) honest tells
   where
     apart : (sent done : Bool) → is_done reply ≡ done → (sent && not done) ≡ true → (sent ≡ true) × (is_done reply ≡ false)
     apart true false d e = (refl, d)
@@ -451,7 +457,7 @@ pub takes-upgrade : {R W D : Type 0} (feed : D → Option Feed) (all : Bool) (ol
 takes-upgrade feed all old new now n p r reply answers declined ends leaves done moves none =
     takes old new now (step.Upgrade n p (stated_response feed r)) reply
     (λ client before s asked low is st. step-upgrade {D = Option Feed} (λ f. f) client before (kept new) s (now, asked) (step.Upgrade n p (stated_response feed r)) n p (stated_response feed r) reply refl is (λ v same. answers client before s v low same st))
-    declined ends leaves (moves-sent (step.Upgrade n p (stated_response feed r)) reply all old new (λ sent. refl) done moves) (λ kind e. absurd (none kind e))
+    declined ends leaves (moves-sent (step.Upgrade n p (stated_response feed r)) reply all old new (λ sent. refl) done moves) (λ kind e. absurd (none kind e)) tt
 
 -- a step that drops a request
 pub drops-by : {R W : Type 0} (n : ℕ) (w : OpenRequest UnreadBody) (old new : ConnectionState R W) (now : HttpDate) → slice_get old.requests n ≡ Some (Some (still.Waiting w))
@@ -477,7 +483,7 @@ drops-by n w old new now kept answers ends leaves moves = by
         subst T (sym is.0) (takes-respond {D = Option Feed} (λ f. f) false old new now n r Refused
         (λ client before s v low same st.
         let A : Answer → Type 0 = λ a. refuses_code w.by_standard w.is_connect a.status ≡ true in
-        answers client before s (Respond n v) Refused (at-unanswerable now n v w (subst A (sym same.0) refused)) low st) (λ no. elim no [ ]) ends (leaves, is.1) refl moves (λ kind e. cc))
+        answers client before s (Respond n v) Refused (at-unanswerable now n v w (subst A (sym same.0) refused)) low st) (λ no. elim no [ ]) ends (leaves, is.1) refl moves (λ kind e. cc) tt)
     by (step.Respond k r) NoSuch is = elim is [ ]
     by (step.Respond k r) Memory is = elim is [ ]
     by (step.IntoWriter k) reply is = elim is [ ]
@@ -528,10 +534,44 @@ begins {W = W} client before writer c m r o e feed stop outlet fresh =
     let st6 = subst (λ x. S (K x c.requests c.source.standing c.end c.source.stop c.outlet)) (sym m) st5 in
     record { profile = refl; fresh = fresh; items = has.0; pipeline = has.1; at = start_state has.0; run = refl; stands = st6 }
 
-pub honest-more : (mid ended : Bool) (a b c : Sink) (x : Answer) (feed : Option Feed) (p : Printing) (kind : ErrorKind) → mid ≡ true → FailsOnceUnlessEnded mid b c ended → IsHonest a b x feed p kind → IsHonest a c x feed p kind
-honest-more true ended a b c x feed p kind e k (inl h) = inl (k.0 ∙ h)
-honest-more true ended a b c x feed p kind e k (inr h) = inr h
-honest-more false ended a b c x feed p kind e k h = let no : false ≡ true = e in cc
+pub honest-more : (mid ended : Bool) (a b c : Sink) (x : Answer) (feed : Option Feed) (p : Printing) (kind : ErrorKind) → mid ≡ true → FailsOnceUnlessEnded mid b c ended → c.last_kind ≡ b.last_kind → IsHonest a b x feed p kind → IsHonest a c x feed p kind
+honest-more true ended a b c x feed p kind e k last (inl h) = let K : Option ErrorKind → Type 0 = λ y. StatesKind y kind in inl (k.0 ∙ h.0, λ low. subst K (sym last) (h.1 low))
+honest-more true ended a b c x feed p kind e k last (inr h) = inr h
+honest-more false ended a b c x feed p kind e k last h = let no : false ≡ true = e in cc
+
+-- what an answer tells of a failure of the writer, before the texts behind it are sent
+abbrev pub AnswerTells : Sink → Sink → Bool → ReplyValue → Answer → Option Feed → Printing → Type 0
+AnswerTells old mid ended reply x feed p = (mid.failures ≡ old.failures) ⊎ ((kind : ErrorKind) × (reply ≡ fault_reply kind) × (ended ≡ true) × IsHonest old mid x feed p kind)
+
+-- and behind them
+pub answer-tells : {W : Type 0} (old : Sink) (mid new : OutletState W) (reply : ReplyValue) (left : Bool) (x : Answer) (feed : Option Feed) (p : Printing) (Own : Type 0)
+    → AnswerTells old (output_of mid) mid.ended reply x feed p → FailsOnce mid new → (mid.ended ≡ true → (output_of new).last_kind ≡ (output_of mid).last_kind) → (left ≡ false → new ≡ mid) → (mid.ended ≡ false → Own)
+    → ((output_of new).failures ≡ old.failures) ⊎ ((kind : ErrorKind) × (reply ≡ fault_reply kind) × IsHonest old (output_of new) x feed p kind) ⊎ ((left ≡ true) × Own)
+answer-tells old mid new reply left x feed p Own (inr h) once last idle own = inr (inl (h.0, h.1, honest-more mid.ended new.ended old (output_of mid) (output_of new) x feed p h.0 h.2 once (last h.2) h.3))
+answer-tells {W = W} old mid new reply left x feed p Own (inl same) once last idle own = by mid.ended refl left refl
+  where
+    Tells : Type 0
+    Tells = ((output_of new).failures ≡ old.failures) ⊎ ((kind : ErrorKind) × (reply ≡ fault_reply kind) × IsHonest old (output_of new) x feed p kind) ⊎ ((left ≡ true) × Own)
+
+    by : (t : Bool) → mid.ended ≡ t → (u : Bool) → left ≡ u → Tells
+    by true e u f = let F : Bool → Type 0 = λ y. FailsOnceUnlessEnded y (output_of mid) (output_of new) new.ended in inl ((subst F e once).0 ∙ same)
+    by false e true f = inr (inr (f, own e))
+    by false e false f = inl (ap (λ (o : OutletState W). (output_of o).failures) (idle f) ∙ same)
+
+-- an answer that is reported as sent was flushed
+pub answer-sent_on : (old mid new : Sink) (ended : Bool) (reply : ReplyValue) (x : Answer) (content : Feed) (p : Printing) (taken : List ℕ) → ended ≡ false → Answers old mid ended reply x content p → old.taken ≡ Some taken → IsFront mid.sent new.sent → IsFront (taken ++ (text_of x content p).bytes) new.sent
+answer-sent_on old mid new ended reply x content p taken goes a known keeps = by a.0 a.2
+  where
+    by : (r : Result (Unit {0}) Error) → Sends old mid ended r x content p → IsFront (taken ++ (text_of x content p).bytes) new.sent
+    by (Ok u) (inl s) =
+        let A : Option (List ℕ) → Type 0 = λ y. IsAllKnown mid.sent y in
+        let F : List ℕ → Type 0 = λ y. IsFront y new.sent in
+        let text = (text_of x content p).bytes in
+        let all = subst A (s.1.bytes ∙ ap (λ y. append_known y text) known) (a.3 s.3) in
+        subst F all keeps
+    by (Ok u) (inr s) = let no : Broken OutOfMemory ≡ Whole = s.1.0 in cc
+    by (Err e) (inl s) = let no : true ≡ false = sym s.0 ∙ goes in cc
+    by (Err e) (inr s) = let no : true ≡ false = sym s.1.0 ∙ goes in cc
 
 -- a step, and what it is in place of its data
 is-stated : {D : Type 0} (feed : D → Option Feed) (x : Step D) (asked : StepValue) → IsStep feed x asked → IsStep (λ f. f) (stated_step feed x) asked
@@ -564,6 +604,18 @@ may-fail feed old new now (step.Drop k) kind h = h
 
 pub reports-step : {R W D : Type 0} (feed : D → Option Feed) (old new : ConnectionState R W) (t : Timed D) (reply : Reply) → ((kind : ErrorKind) → seen reply ≡ Fault kind → ReportsFault old new t.now (stated_step feed t.step) kind) → ReportsHonestly feed (output_of old.outlet) (output_of new.outlet) t reply
 reports-step feed old new t reply h kind e = may-fail feed old new t.now t.step kind (h kind e)
+
+pub tells-step : {R W D : Type 0} (feed : D → Option Feed) (old new : ConnectionState R W) (now : HttpDate) (x : Step D) (reply : ReplyValue) → StepTells old new now (stated_step feed x) reply → TellsFailure (output_of old.outlet) (output_of new.outlet) x reply
+tells-step feed old new now step.Ask reply h = tt
+tells-step feed old new now (step.AsReader k) reply h = tt
+tells-step feed old new now (step.Read k n) reply h = tt
+tells-step feed old new now (step.Respond k r) reply h = tt
+tells-step feed old new now (step.IntoWriter k) reply h = tt
+tells-step feed old new now (step.Write k v) reply h = h
+tells-step feed old new now (step.Flush k) reply h = h
+tells-step feed old new now (step.Upgrade k p r) reply h = tt
+tells-step feed old new now (step.Finish k) reply h = tt
+tells-step feed old new now (step.Drop k) reply h = tt
 
 pub done-none : {R W X : Type 0} (stated : X → TimedValue → Type 0) (p : Profile) (client : Feed) (before : Sink) (c : ConnectionState R W) (dated : List TimedValue) → HasDone p client before c [] [] → AllZip stated [] dated → HasDone p client before c dated []
 done-none stated p client before c [] h t = h
