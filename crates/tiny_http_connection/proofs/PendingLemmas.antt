@@ -10,7 +10,7 @@ use Rattle.tiny_http_turns.specs.declared.turns.Finishing.{Finishing}
 use Rattle.tiny_http_turns.specs.declared.turns.Finishing.TheVariants.{Passed as IsPassed, Go, Strange as IsStrange}
 use Rattle.tiny_http_turns.specs.declared.turns.Leaving.{Leaving}
 use Rattle.tiny_http_turns.specs.declared.turns.Leaving.TheVariants.{Left as IsLeft, Go as LeaveGo, Strange as LeaveStrange}
-use Rattle.tiny_http_response.specs.Sending.{CanSend, IsFlushed, FailsOnce, KeepsSent, Idles, SendsQuietlyOn, SendsUnlessEnded}
+use Rattle.tiny_http_response.specs.Sending.{CanSend, IsFlushed, FailsOnce, KeepsSent, SendsQuietlyOn, SendsUnlessEnded}
 use Rattle.tiny_http_io.specs.Outlet.{OutletState, output_of}
 use Rattle.tiny_http_io.proofs.DeviceLemmas.{IsFront-append}
 use Rattle.tiny_http_turns.specs.Passing.{Holds, WritesTexts, FinishesOne, PassesOn}

@@ -23,7 +23,7 @@ use Rattle.tiny_http_open_request.specs.Pipeline.{Item, Manner, Refuses, Refusal
 use Rattle.tiny_http_open_request.specs.Pipeline.{Place, place_feed}
 use Rattle.tiny_http_connection.specs.Steps.{StepValue, ReplyValue, Handed, Ended, NotYet, Done, Refused, NoSuch}
 use Rattle.tiny_http_connection.specs.Steps.{Memory, Fault, TimedValue}
-use Rattle.tiny_http_connection.specs.Conversation.{State, Run, start_state, IsFresh, IsPassedOver}
+use Rattle.tiny_http_connection.specs.Conversation.{State, Run, start_state, IsFresh, IsPassedOver, AsksInVain}
 use Rattle.tiny_http_response.specs.declared.answer_context.AnswerContext.{AnswerContext}
 use Rattle.tiny_http_response.specs.ResponseValue.{printing_in}
 use Rattle.tiny_http_response.specs.Sending.{CanSend, IsHonest, FailsOnce}
@@ -38,7 +38,7 @@ use Rattle.tiny_http_body.specs.Body.{is_streaming, stream_body, body_standing}
 use Rattle.tiny_http_connection.specs.Seen.{IsStep, IsAnswered, IsOfWriter, TellsOfWriter, all_sent_after}
 use Rattle.tiny_http_connection.specs.Outcomes.{fault_reply}
 use Rattle.tiny_http_turns.specs.Turns.{Mark}
-use Rattle.tiny_http_connection.specs.Connection.{ConnectionState, kept, Stands}
+use Rattle.tiny_http_connection.specs.Connection.{ConnectionState, kept, Stands, BeginsMore}
 
 -- By a connection of this profile, over this client's feed and a fresh writer, these steps were done, with these
 -- replies: they are a run over the pipeline that stands in the feed, and the connection stands where it leads.
@@ -51,6 +51,7 @@ pub record HasDone {R W : Type 0} (p : Profile) (client : Feed) (before : Sink) 
   pub at : State
   pub run : Run (start_state items) steps replies at
   pub stands : Stands client before (kept c) at
+  pub memory : AsksInVain steps replies → (at.reached.asking_ended ≡ true) × (at.reached.rest ≡ [] → BeginsMore p client)
 
 -- a response with what its data state, in their place
 abbrev pub stated_response : {D : Type 0} → (D → Option Feed) → ResponseState D → ResponseState (Option Feed)

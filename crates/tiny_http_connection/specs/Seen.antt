@@ -89,10 +89,10 @@ TellsOfWriter old new reply =
     (new.failures ≡ old.failures) ⊎ ((kind : ErrorKind) × (reply ≡ Fault kind) × IsOfWriter old new kind)
 
 -- a Write and a Flush tell a failure of the writer that they meet
-abbrev pub TellsFailure : {D : Type 0} → Sink → Sink → Step D → ReplyValue → Type 0
-TellsFailure old new (step.Write k v) reply = TellsOfWriter old new reply
-TellsFailure old new (step.Flush k) reply = TellsOfWriter old new reply
-TellsFailure old new _ reply = Unit {0}
+abbrev pub WriteTells : {D : Type 0} → Sink → Sink → Step D → ReplyValue → Type 0
+WriteTells old new (step.Write k v) reply = TellsOfWriter old new reply
+WriteTells old new (step.Flush k) reply = TellsOfWriter old new reply
+WriteTells old new _ reply = Unit {0}
 
 -- Steps that report their faults so, while the writer's count goes from one number to another: a step raises it at
 -- most once, and a Write or a Flush that does so tells it.
@@ -102,7 +102,7 @@ ReportHonestly feed old (t ∷ steps) (r ∷ replies) new =
     (mid : Sink)
     × FailsAtMostOnce old mid
     × ReportsHonestly feed old mid t r
-    × TellsFailure old mid t.step (seen r)
+    × WriteTells old mid t.step (seen r)
     × ReportHonestly feed mid steps replies new
 ReportHonestly feed old [] (r ∷ replies) new = ⊥
 ReportHonestly feed old (t ∷ steps) [] new = ⊥
