@@ -8,8 +8,9 @@ use Rattle.tiny_http_io.specs.declared.source.Standing.TheVariants as at
 use Rattle.tiny_http_response.specs.Sending.{FailsOnce}
 use Rattle.tiny_http_connection.specs.declared.driver.Step.TheVariants as step
 use Rattle.tiny_http_connection.specs.Pending.{last_holds_next_head}
-use Rattle.tiny_http_connection.specs.Steps.{Ask, ReplyValue}
-use Rattle.tiny_http_connection.specs.Conversation.{State, StepsTo}
+use Rattle.tiny_http_connection.specs.Steps.{ReplyValue}
+use Rattle.tiny_http_connection.specs.Conversation.{State}
+use Rattle.tiny_http_connection.proofs.ConnectionAsk.{AskIsAnswered}
 use Rattle.tiny_http_connection.specs.Connection.{ConnectionState, kept, Stands}
 use Rattle.tiny_http_connection.specs.Driving.{AskEnds, AskLeaves, IsDeclined}
 
@@ -20,7 +21,7 @@ CanAsk c = (c.end ≡ None) × (c.source.standing ≡ at.Body → ⊥) × (last_
 -- An Ask leads from one connection to another with this reply: what `TakesStep` says of it, from wherever a run stands.
 pub record AskStep {R W : Type 0} (old new : ConnectionState R W) (now : HttpDate) (reply : ReplyValue) : Type 0 where
   pub does : (client : Feed) (before : Sink) (s : State) → before.failures < 2 ^ 64 - 1 → Stands client before (kept old) s
-      → (left : State) × Stands client before (kept new) left × StepsTo s now Ask reply left
+      → AskIsAnswered client before (kept new) s now reply
   pub profile : new.profile ≡ old.profile
   pub declined : IsDeclined step.Ask reply → new ≡ old
   pub ends : AskEnds old new reply

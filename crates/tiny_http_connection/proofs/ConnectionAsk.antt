@@ -30,7 +30,7 @@ use Rattle.tiny_http_body.specs.declared.framing.Form.TheVariants.{Rest}
 use Rattle.tiny_http_head.specs.Heads.{version, is_too_new}
 use Rattle.tiny_http_io.specs.Source.{GoesOn}
 use Rattle.tiny_http_open_request.specs.Pipeline.{Manner, plainly, Item, Asks, Refuses, VersionNotSupported, Refusal, Request, Place, Heading, HeadAt, Silence, Refused, Heads, OneHead, FoundAt, ends_too_new, is_head_method, Pipeline, place_after, place_feed}
-use Rattle.tiny_http_open_request.specs.HeadReads.{ReadsHead, IsBeforeHead, standing_of, request_of, head_message, head_framing}
+use Rattle.tiny_http_open_request.specs.HeadReads.{ReadsHead, HasByteOrTimedOut, IsBeforeHead, standing_of, request_of, head_message, head_framing}
 use Rattle.tiny_http_open_request.specs.declared.exchange.EndOfRequests.{EndOfRequests}
 use Rattle.tiny_http_io.specs.declared.source.Standing.{Standing}
 use Rattle.tiny_http_io.specs.declared.source.Standing.TheVariants as in_place
@@ -43,12 +43,12 @@ use Rattle.tiny_http_open_request.specs.OwnAnswer.{persistence_of, refusal_respo
 use Rattle.tiny_http_response.specs.declared.answer_context.Persistence.{Persistence}
 use Rattle.tiny_http_connection.specs.Steps.{StepValue, Ask, ReplyValue, Handed, Ended, NotYet, Memory}
 use Rattle.tiny_http_connection.specs.Outcomes.{Unused, Unreported, Outcome, Reached, unchanged, ask, asks_from, outcome}
-use Rattle.tiny_http_connection.specs.Conversation.{Failure, State, PlaceAt, WriterPart, flushed_after, HasOutcome, StepsTo}
+use Rattle.tiny_http_connection.specs.Conversation.{Failure, State, PlaceAt, BeginsBehind, WriterPart, flushed_after, HasOutcome, StepsTo}
 use Rattle.tiny_http_connection.proofs.ConversationWriting.{unreported, flushed-is}
 use Rattle.tiny_http_response.specs.Sending.{IsFlushed, SendsUnlessEnded}
 use Rattle.tiny_http_turns.specs.Turns.{Mark, Open, Left, Finished, AreInShape, first_unfinished}
 use Rattle.tiny_http_connection.specs.Pending.{LeavesText, last_holds_next_head, last_body, is_streaming_body}
-use Rattle.tiny_http_connection.specs.Connection.{Kept, dropped, IsWaiting, AreKept, OutputAt, behind_body, GivesRest, InputEnded, is_past_last, is_in_body, NextHead, InputStands, Stands, HandedOut, FollowsLast}
+use Rattle.tiny_http_connection.specs.Connection.{Kept, dropped, IsWaiting, AreKept, OutputAt, behind_body, GivesRest, InputEnded, is_past_last, is_in_body, BeginsMore, BeginsBehindAt, PlaceOf, NextHead, InputStands, Stands, HandedOut, FollowsLast}
 use Rattle.tiny_http_io.proofs.SourceGoesOn.{goes-on_more}
 use Rattle.tiny_http_open_request.proofs.PipelineLemmas.{pipeline-first, pipeline-none, heads-rest_last, empty-pipeline}
 use Rattle.tiny_http_connection.proofs.ConnectionReader.{LastKept, last-kept, last-awaits, last-awaits-none, last-snoc, body-snoc, settled-snoc, and-false, held-by, behind-settled, gives-settled}
@@ -62,6 +62,15 @@ use Rattle.tiny_http_connection.proofs.PendingLemmas.{first-issued}
 -- the step was answered so
 abbrev pub StepIsAnswered : Feed → Sink → Kept → State → HttpDate → StepValue → ReplyValue → Type 0
 StepIsAnswered client before k s date step reply = (new : State) × Stands client before k new × StepsTo s date step reply new
+
+-- where no memory was found for a head, and no item is left, a byte of a further head comes behind them all
+abbrev pub FoundHead : Feed → Profile → ReplyValue → State → Type 0
+FoundHead client p Memory new = new.reached.rest ≡ [] → BeginsMore p client
+FoundHead client p _ new = Unit {0}
+
+-- the same of an Ask
+abbrev pub AskIsAnswered : Feed → Sink → Kept → State → HttpDate → ReplyValue → Type 0
+AskIsAnswered client before k s date reply = (new : State) × Stands client before k new × StepsTo s date Ask reply new × FoundHead client k.profile reply new
 
 -- A step that changes nothing.
 pub step-unchanged : (client : Feed) (before : Sink) (k : Kept) (s : State) (date : HttpDate) (step : StepValue) (reply : ReplyValue) → Stands client before k s → outcome true date s.reached step ≡ unchanged s.reached reply
@@ -105,12 +114,13 @@ one-head-framed : (profile : Profile) (bytes : List ℕ) (stop : Stop) (r : Requ
 one-head-framed profile bytes stop r next h = found-framed profile bytes stop h.0 r next h.1 h.2
 
 -- where the asking goes on the rest of the pipeline stands where the input does
-pub record Going (k : Kept) (s : State) : Type 0 where
+pub record Going (client : Feed) (k : Kept) (s : State) : Type 0 where
   pub feed : Feed
   pub stated : k.feed ≡ Some feed
   pub unheld : last_holds_reader (last_slot s.reached.slots) ≡ false
   pub kept : last_was_abandoned (last_slot s.reached.slots) ≡ false
   pub pipeline : Pipeline k.profile (Some feed.bytes) feed.stop s.reached.rest
+  pub begins : BeginsBehind k.profile (Some feed.bytes) feed.stop s.reached.rest → BeginsMore k.profile client
 
 pub stated-feed : (client : Feed) (o : Option Feed) → GoesOn (Some client) o → (f : Feed) × (o ≡ Some f)
 stated-feed client None h = absurd h
@@ -128,17 +138,18 @@ unheld client before k s h quiet =
     held-by (last_slot s.reached.slots) (last_body k.requests) (last-of client before k s h)
     ∙ rw (quiet.0, and-false (not (is_last_slot (last_slot s.reached.slots))), last-awaits s.reached.slots k.marks k.requests h.numbers) quiet.1
 
-pub going : (client : Feed) (before : Sink) (k : Kept) (s : State) → Stands client before k s → k.asking_ended ≡ false → is_past_last k.standing ≡ false → IsQuiet k.requests → (InputEnded k → ⊥) → Going k s
+pub going : (client : Feed) (before : Sink) (k : Kept) (s : State) → Stands client before k s → k.asking_ended ≡ false → is_past_last k.standing ≡ false → IsQuiet k.requests → (InputEnded k → ⊥) → Going client k s
 going client before k s h e o quiet open_input =
     let f = stated-feed client k.feed h.reader.source in
     let next = h.reader.next e in
     let kept : last_was_abandoned (last_slot s.reached.slots) ≡ false = by next (last_was_abandoned (last_slot s.reached.slots)) refl in
     let here : behind_body (last_body k.requests) k.feed ≡ Some f.0 = ap (behind_body (last_body k.requests)) f.1 ∙ behind-settled (last_slot s.reached.slots) (last_body k.requests) f.0 (last-of client before k s h) quiet.0 in
-    let P : Bool → Type 0 = λ x. PlaceAt k.profile x (behind_body (last_body k.requests) k.feed) s.reached.rest in
-    let Q : Option Feed → Type 0 = λ x. PlaceAt k.profile false x s.reached.rest in
-    record { feed = f.0; stated = f.1; unheld = unheld client before k s h quiet; kept = kept; pipeline = subst Q here (subst P o (next.place kept)) }
+    let P : Bool → Type 0 = λ x. PlaceOf client k.profile x (behind_body (last_body k.requests) k.feed) s.reached.rest in
+    let Q : Option Feed → Type 0 = λ x. PlaceOf client k.profile false x s.reached.rest in
+    let place = subst Q here (subst P o (next.place kept)) in
+    record { feed = f.0; stated = f.1; unheld = unheld client before k s h quiet; kept = kept; pipeline = place.0; begins = place.1 refl }
   where
-    by : NextHead k (last_slot s.reached.slots) s.reached.rest → (t : Bool) → last_was_abandoned (last_slot s.reached.slots) ≡ t → t ≡ false
+    by : NextHead client k (last_slot s.reached.slots) s.reached.rest → (t : Bool) → last_was_abandoned (last_slot s.reached.slots) ≡ t → t ≡ false
     by next true z = absurd (open_input (next.lost z).0)
     by next false z = refl
 
@@ -210,6 +221,21 @@ handed-place profile true stop next more items = no-items profile stop more item
 handed-place profile false stop None more items = let P : List Item → Type 0 = λ x. Pipeline profile (Some []) End x in subst P (sym (no-items profile stop more items)) (empty-pipeline profile)
 handed-place profile false stop (Some bytes) more items = items
 
+-- the same, of the client's pipeline
+pub handed-of : (client : Feed) (profile : Profile) (last : Bool) (stop : Stop) (next : Place) (more : List Item) → Pipeline profile (place_after last next) stop more → (BeginsBehind profile (place_after last next) stop more → BeginsMore profile client) → PlaceOf client profile last (Some (place_feed stop next)) more
+handed-of client profile true stop next more items begins = (handed-place profile true stop next more items, λ no. cc)
+handed-of client profile false stop None more items begins = (handed-place profile false stop None more items, λ open_is b. absurd (none more items b))
+  where
+    none : (xs : List Item) → Pipeline profile None stop xs → BeginsBehindAt profile (Some (place_feed stop None)) xs → ⊥
+    none [] h (inl b) = b refl
+    none [] h (inr b) = let no : false ≡ true = b in cc
+    none (x ∷ xs) h b = elim h [ ]
+handed-of client profile false stop (Some bytes) more items begins = (handed-place profile false stop (Some bytes) more items, λ open_is b. begins b)
+
+-- what begins behind the rest begins behind it and the head before it
+pub begins-from : (client : Feed) (profile : Profile) (f : Feed) (item : Item) (next : Place) (rest more : List Item) → (BeginsBehind profile (Some f.bytes) f.stop rest → BeginsMore profile client) → rest ≡ item ∷ more → OneHead profile f.bytes f.stop (Some item) next → BeginsBehind profile next f.stop more → BeginsMore profile client
+begins-from client profile f item next rest more begins is head b = let P : List Item → Type 0 = λ x. BeginsBehind profile (Some f.bytes) f.stop x in begins (subst P (sym is) (next, head, b))
+
 -- the input as it stands now
 abbrev pub with_input : Kept → Option Feed → Option Stop → Bool → Standing → Kept
 with_input k p stop over at = record k { feed = p; stop = stop; is_over = over; standing = at }
@@ -233,18 +259,18 @@ stands-for x content behind at e =
     by false false l t = record { past = rw (l, t) refl; within = rw (l, t) refl }
 
 handed-reader : (client : Feed) (k : Kept) (slots : List Slot) (rest more : List Item) (date : HttpDate) (r : Request) (w : OpenRequest UnreadBody) (p : Option Feed) (stop : Option Stop) (over : Bool) (at : Standing) (close : Stop) (next : Place) → InputStands client k slots rest → IsQuiet k.requests → r.behind ≡ place_feed close next
-    → remaining w.body p ≡ Some (record { body = r.body; behind = place_feed close next }) → Pipeline k.profile (place_after r.framing.is_last next) close more → GoesOn (Some client) p → StandsFor r w at
+    → remaining w.body p ≡ Some (record { body = r.body; behind = place_feed close next }) → Pipeline k.profile (place_after r.framing.is_last next) close more → (BeginsBehind k.profile (place_after r.framing.is_last next) close more → BeginsMore k.profile client) → GoesOn (Some client) p → StandsFor r w at
     → InputStands client (after_handed k w p stop over at) (slots ++ (handed_slot date r ∷ [])) more
-handed-reader client k slots rest more date r w p stop over at close next old quiet after left items source stands =
+handed-reader client k slots rest more date r w p stop over at close next old quiet after left items begins source stands =
     let x = handed_slot date r in
     let last : last_slot (slots ++ (x ∷ [])) ≡ Some x = last-snoc None slots x in
     let content : last_body (k.requests ++ (Some (still.Waiting w) ∷ [])) ≡ Some w.body = body-snoc k.requests (Some (still.Waiting w)) in
     let B : Option Remaining → Option Feed = λ o. option_map (λ (y : Remaining). y.body) o in
     let P : Option Slot → Option UnreadBody → Type 0 = λ o b. GivesRest b o p in
     let here : P (Some x) (Some w.body) = ap B left in
-    let Q : Bool → Option UnreadBody → Type 0 = λ y b. PlaceAt k.profile y (behind_body b p) more in
+    let Q : Bool → Option UnreadBody → Type 0 = λ y b. PlaceOf client k.profile y (behind_body b p) more in
     let W : Option Slot → Option UnreadBody → Bool = λ o b. not (is_last_slot o) && is_streaming_body b in
-    let F : Option Feed → Type 0 = λ o. PlaceAt k.profile r.framing.is_last o more in
+    let F : Option Feed → Type 0 = λ o. PlaceOf client k.profile r.framing.is_last o more in
     let behind : behind_body (Some w.body) p ≡ Some (place_feed close next) = ap (λ (o : Option Remaining). option_map (λ (y : Remaining). y.behind) o) left in
     let L : Option Slot → Option UnreadBody → Type 0 = λ o b. FollowsLast b o p in
     let k2 : Kept = after_handed k w p stop over at in
@@ -255,7 +281,7 @@ handed-reader client k slots rest more date r w p stop over at close next old qu
         is_last = stands.past ∙ ap is_last_slot (sym last);
         within = stands.within ∙ ap (λ b. W (Some x) b) (sym content) ∙ ap (λ o. W o (last_body (k.requests ++ (Some (still.Waiting w) ∷ [])))) (sym last);
         lost = λ lost. (let no : true ≡ false = sym lost ∙ (ap last_was_abandoned last ∙ and-false (is_chunked r.framing.form)) in cc);
-        place = λ e. subst (λ y. Q y (last_body (k.requests ++ (Some (still.Waiting w) ∷ [])))) (sym stands.past) (subst (λ y. Q r.framing.is_last y) (sym content) (subst F (sym behind) (handed-place k.profile r.framing.is_last close next more items)));
+        place = λ e. subst (λ y. Q y (last_body (k.requests ++ (Some (still.Waiting w) ∷ [])))) (sym stands.past) (subst (λ y. Q r.framing.is_last y) (sym content) (subst F (sym behind) (handed-of client k.profile r.framing.is_last close next more items begins)));
       };
       follows = λ holds. subst (λ o. L o (last_body (k.requests ++ (Some (still.Waiting w) ∷ [])))) (sym last) (subst (λ b. L (Some x) b) (sym content) (behind ∙ ap Some (sym after)));
       source = source;
@@ -286,7 +312,7 @@ ask-handed client before k s date x from_here p stop over at n st e o quiet open
         shape = shape;
         in_turn = turn-more s.reached.slots y st.in_turn (refl, λ z. refl);
         asking_ended = sym e;
-        reader = handed-reader client k s.reached.slots s.reached.rest first.0 date r x.open_request p stop over at g.feed.stop found.1 st.reader quiet refl found.3 first.2 (goes-on_more (Some client) k.feed p st.reader.source goes) (stands-for x found.0 (place_feed g.feed.stop found.1) at stands);
+        reader = handed-reader client k s.reached.slots s.reached.rest first.0 date r x.open_request p stop over at g.feed.stop found.1 st.reader quiet refl found.3 first.2 (begins-from client k.profile g.feed (Asks r) (place_after h.is_last found.1) s.reached.rest first.0 g.begins first.1 found.2) (goes-on_more (Some client) k.feed p st.reader.source goes) (stands-for x found.0 (place_feed g.feed.stop found.1) at stands);
         output = output-waiting before k.sink k.output_ended s.reached.slots date r s.flushed s.failure st.output;
       },
       inl (true, tt, subst G (sym is) (refl, refl, (ap (λ z. Handed z (head_message h) (head_framing h)) end_reported, refl))),
@@ -360,7 +386,7 @@ ask-over client before k s date st e o = by (last_was_abandoned (last_slot s.rea
     slots : List Slot
     slots = s.reached.slots
 
-    next : NextHead k (last_slot slots) s.reached.rest
+    next : NextHead client k (last_slot slots) s.reached.rest
     next = st.reader.next e
 
     unheld_now : last_holds_reader (last_slot slots) ≡ false
@@ -381,7 +407,7 @@ ask-over client before k s date st e o = by (last_was_abandoned (last_slot s.rea
         )
     by false l =
         let P : Bool → Type 0 = λ x. PlaceAt k.profile x (behind_body (last_body k.requests) k.feed) s.reached.rest in
-        let none : s.reached.rest ≡ [] = subst P o (next.place l) in
+        let none : s.reached.rest ≡ [] = subst P o (next.place l).0 in
         let F : List Item → Outcome = λ x. asks_from date Unused slots x in
         let is : ask date s.reached ≡ ends_with s.reached = ask-goes date s.reached (st.asking_ended ∙ e) unheld_now l ∙ ap F none in
         let new : State = record { reached = record { slots = slots; rest = []; asking_ended = true }; flushed = s.flushed; failure = s.failure } in
@@ -417,7 +443,7 @@ ask-none client before k s date from_here why p stop over at st e o quiet reads 
         let P : Bool → Type 0 = λ x. PlaceAt k.profile x (behind_body (last_body k.requests) k.feed) s.reached.rest in
         let Q : Option Feed → Type 0 = λ x. PlaceAt k.profile false x s.reached.rest in
         let R : Option Feed → Type 0 = λ x. ReadsHead k.profile from_here date x p (Ok (read.Ended why)) in
-        let none = pipeline-none k.profile f.0.bytes f.0.stop s.reached.rest (subst R f.1 reads).0 (subst Q here (subst P o ((st.reader.next e).place l))) in
+        let none = pipeline-none k.profile f.0.bytes f.0.stop s.reached.rest (subst R f.1 reads).0 (subst Q here (subst P o ((st.reader.next e).place l).0)) in
         let F : List Item → Outcome = λ x. asks_from date Unused slots x in
         let is : ask date s.reached ≡ ends_with s.reached = ask-goes date s.reached (st.asking_ended ∙ e) quiet_now l ∙ ap F none in
         let new : State = record { reached = record { slots = slots; rest = []; asking_ended = true }; flushed = s.flushed; failure = s.failure } in
@@ -428,9 +454,9 @@ ask-none client before k s date from_here why p stop over at st e o quiet reads 
         )
 
 -- no memory was found
-pub ask-memory : (client : Feed) (before : Sink) (k : Kept) (s : State) (date : HttpDate) (p : Option Feed) (stop : Option Stop) (over : Bool) (at : Standing) → Stands client before k s → k.asking_ended ≡ false → is_past_last k.standing ≡ false → IsQuiet k.requests → is_last_slot (last_slot s.reached.slots) ≡ false → (InputEnded k → ⊥) → GoesOn k.feed p
-    → StepIsAnswered client before (after_end k p stop over at) s date Ask Memory
-ask-memory client before k s date p stop over at st e o quiet more open_input goes =
+pub ask-memory : (client : Feed) (before : Sink) (k : Kept) (s : State) (date : HttpDate) (p : Option Feed) (stop : Option Stop) (over : Bool) (at : Standing) → Stands client before k s → k.asking_ended ≡ false → is_past_last k.standing ≡ false → IsQuiet k.requests → is_last_slot (last_slot s.reached.slots) ≡ false → (InputEnded k → ⊥) → HasByteOrTimedOut k.feed → GoesOn k.feed p
+    → AskIsAnswered client before (after_end k p stop over at) s date Memory
+ask-memory client before k s date p stop over at st e o quiet more open_input begun goes =
     let g = going client before k s st e o quiet open_input in
     let new : State = record { reached = record { slots = s.reached.slots; rest = s.reached.rest; asking_ended = true }; flushed = s.flushed; failure = s.failure } in
     let R : List Slot → Reached = λ x. record { slots = x; rest = s.reached.rest; asking_ended = true } in (
@@ -447,6 +473,7 @@ ask-memory client before k s date p stop over at st e o quiet more open_input go
         tt,
         (ap R (sym (append-nil s.reached.slots)), refl, (refl, refl)),
       ),
+      λ none. g.begins (subst (λ x. BeginsBehind k.profile (Some g.feed.bytes) g.feed.stop x) (sym none) (subst (λ o. HasByteOrTimedOut o) g.stated begun)),
     )
 
 -- a refused head has its number, and its answer was sent, or waits for its turn

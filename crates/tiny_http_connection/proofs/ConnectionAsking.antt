@@ -20,14 +20,14 @@ use Rattle.tiny_http_open_request.proofs.PipelineLemmas.{pipeline-first}
 use Rattle.tiny_http_turns.specs.Turns.{Mark, first_unfinished}
 use Rattle.tiny_http_connection.specs.Segments.{Slot, is_finished, is_slot_broken, segment}
 use Rattle.tiny_http_connection.specs.Slots.{is_output_broken, joined, turn_has_come, new_slot, last_slot, last_holds_reader, last_was_abandoned, is_last_slot}
-use Rattle.tiny_http_connection.specs.Steps.{Ask, ReplyValue, Ended, Memory}
+use Rattle.tiny_http_connection.specs.Steps.{Ask, ReplyValue, Handed, Ended, Given, Fault, NotYet, Done, Refused, NoSuch, Memory}
 use Rattle.tiny_http_connection.specs.Outcomes.{WriterUse, Unused, Unreported, Outcome, Reached, use_in_turn, ask, asks_from}
-use Rattle.tiny_http_connection.specs.Conversation.{Failure, State, IsPassedOver, PlaceAt, Fares, Well, FailsWithin, FailsAfter, MayFare, WriterPart, reply_in, failure_in, has_output_ended, flushed_after, answers_to, HasOutcome, StepsTo}
+use Rattle.tiny_http_connection.specs.Conversation.{Failure, State, IsPassedOver, BeginsBehind, Fares, Well, FailsWithin, FailsAfter, MayFare, WriterPart, reply_in, failure_in, has_output_ended, flushed_after, answers_to, HasOutcome, StepsTo}
 use Rattle.tiny_http_connection.specs.Pending.{LeavesText, last_body, is_streaming_body}
-use Rattle.tiny_http_connection.specs.Connection.{Kept, OutputAt, behind_body, GivesRest, InputEnded, is_past_last, is_in_body, InputStands, Stands, FollowsLast}
+use Rattle.tiny_http_connection.specs.Connection.{Kept, OutputAt, behind_body, GivesRest, InputEnded, is_past_last, is_in_body, BeginsMore, PlaceOf, InputStands, Stands, FollowsLast}
 use Rattle.tiny_http_connection.proofs.SlotsLemmas.{joined-waits}
 use Rattle.tiny_http_connection.proofs.ConversationWriting.{unreported, flushed-is}
-use Rattle.tiny_http_connection.proofs.ConnectionAsk.{StepIsAnswered, IsQuiet, going, ask-goes, handed-place, turn-next, refused-whole, refused-text, refuses}
+use Rattle.tiny_http_connection.proofs.ConnectionAsk.{AskIsAnswered, FoundHead, IsQuiet, going, ask-goes, handed-of, begins-from, turn-next, refused-whole, refused-text, refuses}
 use Rattle.tiny_http_connection.proofs.ConnectionReader.{last-snoc, body-snoc, settled-snoc}
 use Rattle.tiny_http_connection.proofs.ConnectionTurns.{turn-more}
 
@@ -286,7 +286,7 @@ firm-of before sink ended slots flushed (Some f) h e = cc
 pub record AskGoesOn (client : Feed) (before : Sink) (k : Kept) (s : State) (date : HttpDate) : Type 0 where
   pub mid : State
   pub stands : Stands client before k mid
-  pub asks : (later : Kept) (reply : ReplyValue) → StepIsAnswered client before later mid date Ask reply → StepIsAnswered client before later s date Ask reply
+  pub asks : (later : Kept) (reply : ReplyValue) → AskIsAnswered client before later mid date reply → AskIsAnswered client before later s date reply
 
 -- a refused head has its number, and the input stands behind its body
 abbrev pub after_passed : Kept → List Mark → Option Feed → Option Stop → Bool → Standing → Sink → Bool → Kept
@@ -295,14 +295,14 @@ after_passed k marks p stop over at sink ended = record k { marks = marks; reque
 -- the input stands in front of the next head
 passed-reader : (client : Feed) (k : Kept) (slots : List Slot) (rest more : List Item) (n : Slot) (p : Option Feed) (stop : Option Stop) (over : Bool) (at : Standing) (marks : List Mark) (sink : Sink) (ended : Bool) (close : Stop) (next : Place)
     → InputStands client k slots rest → IsQuiet k.requests → is_last_slot (Some n) ≡ false → last_was_abandoned (Some n) ≡ false
-    → p ≡ Some (place_feed close next) → Pipeline k.profile next close more → GoesOn (Some client) p → at ≡ in_place.Head
+    → p ≡ Some (place_feed close next) → Pipeline k.profile next close more → (BeginsBehind k.profile next close more → BeginsMore k.profile client) → GoesOn (Some client) p → at ≡ in_place.Head
     → InputStands client (after_passed k marks p stop over at sink ended) (slots ++ (n ∷ [])) more
-passed-reader client k slots rest more n p stop over at marks sink ended close next old quiet unread unlost here items source stands =
+passed-reader client k slots rest more n p stop over at marks sink ended close next old quiet unread unlost here items begins source stands =
     let last : last_slot (slots ++ (n ∷ [])) ≡ Some n = last-snoc None slots n in
     let content : last_body (k.requests ++ (None ∷ [])) ≡ None = body-snoc k.requests None in
     let B : Option UnreadBody → Type 0 = λ b. GivesRest b (last_slot (slots ++ (n ∷ []))) p in
-    let Q : Option UnreadBody → Type 0 = λ b. PlaceAt k.profile (is_past_last at) (behind_body b p) more in
-    let F : Bool → Option Feed → Type 0 = λ y o. PlaceAt k.profile y o more in
+    let Q : Option UnreadBody → Type 0 = λ b. PlaceOf client k.profile (is_past_last at) (behind_body b p) more in
+    let F : Bool → Option Feed → Type 0 = λ y o. PlaceOf client k.profile y o more in
     record {
       settled = settled-snoc k.requests None old.settled quiet;
       gives = subst B (sym content) tt;
@@ -310,7 +310,7 @@ passed-reader client k slots rest more n p stop over at marks sink ended close n
         is_last = ap is_past_last stands ∙ sym (ap is_last_slot last ∙ unread);
         within = ap is_in_body stands ∙ sym (ap (λ o. not (is_last_slot o) && is_streaming_body (last_body (k.requests ++ (None ∷ [])))) last ∙ rw unread (ap is_streaming_body content));
         lost = λ lost. (let no : true ≡ false = sym lost ∙ (ap last_was_abandoned last ∙ unlost) in cc);
-        place = λ e. subst Q (sym content) (subst (λ y. F y p) (sym (ap is_past_last stands)) (subst (λ o. F false o) (sym here) (handed-place k.profile false close next more items)));
+        place = λ e. subst Q (sym content) (subst (λ y. F y p) (sym (ap is_past_last stands)) (subst (λ o. F false o) (sym here) (handed-of client k.profile false close next more items begins)));
       };
       follows = λ holds. subst (λ b. FollowsLast b (last_slot (slots ++ (n ∷ []))) p) (sym content) tt;
       source = source;
@@ -347,14 +347,25 @@ ask-from-behind : (client : Feed) (before : Sink) (later : Kept) (s m : State) (
     → m.reached ≡ record { slots = s.reached.slots ++ (new_slot date item ∷ []); rest = rest; asking_ended = false } → s.reached.rest ≡ item ∷ rest
     → s.reached.asking_ended ≡ false → is_last_slot (last_slot s.reached.slots) ≡ false → last_holds_reader (last_slot s.reached.slots) ≡ false → last_was_abandoned (last_slot s.reached.slots) ≡ false
     → ask date s.reached ≡ asks_from date (used_by t) m.reached.slots rest
-    → StepIsAnswered client before later m date Ask reply → StepIsAnswered client before later s date Ask reply
+    → AskIsAnswered client before later m date reply → AskIsAnswered client before later s date reply
 ask-from-behind client before later s m date item rest t reply p turn passed reached items open_is more unheld kept is a = by a.2
   where
     new : State
     new = a.0
 
-    answered : (flushed : List ℕ) → (new.failure ≡ None → flushed ≡ new.flushed) → StepsTo s date Ask reply (record { reached = new.reached; flushed = flushed; failure = new.failure }) → StepIsAnswered client before later s date Ask reply
-    answered flushed same steps = (record { reached = new.reached; flushed = flushed; failure = new.failure }, stands-as client before later new flushed same a.1, steps)
+    found : (flushed : List ℕ) (y : ReplyValue) → FoundHead client later.profile y new → FoundHead client later.profile y (record { reached = new.reached; flushed = flushed; failure = new.failure })
+    found flushed (Handed k m f) h = tt
+    found flushed Ended h = tt
+    found flushed (Given bytes) h = tt
+    found flushed (Fault kind) h = tt
+    found flushed NotYet h = tt
+    found flushed Done h = tt
+    found flushed Refused h = tt
+    found flushed NoSuch h = tt
+    found flushed Memory h = h
+
+    answered : (flushed : List ℕ) → (new.failure ≡ None → flushed ≡ new.flushed) → StepsTo s date Ask reply (record { reached = new.reached; flushed = flushed; failure = new.failure }) → AskIsAnswered client before later s date reply
+    answered flushed same steps = (record { reached = new.reached; flushed = flushed; failure = new.failure }, stands-as client before later new flushed same a.1, steps, found flushed reply a.3)
 
     slots_are : m.reached.slots ≡ s.reached.slots ++ (new_slot date item ∷ [])
     slots_are = ap (λ (x : Reached). x.slots) reached
@@ -373,7 +384,7 @@ ask-from-behind client before later s m date item rest t reply p turn passed rea
     lost-none (Asks r) h = elim h [ ]
     lost-none (Refuses refusal v no_body last) h = refl
 
-    by : StepsTo m date Ask reply new → StepIsAnswered client before later s date Ask reply
+    by : StepsTo m date Ask reply new → AskIsAnswered client before later s date reply
     by (inl x) =
         let o = asks_from date Unused m.reached.slots rest in
         let H : Outcome → Type 0 = λ z. HasOutcome z m reply new in
@@ -427,7 +438,7 @@ ask-passes client before k s date from_here status text p stop over at marks sin
         shape = out.shape;
         in_turn = turn-more s.reached.slots n st.in_turn (refl, λ z. (let no : true ≡ false = z in cc));
         asking_ended = sym e;
-        reader = passed-reader client k s.reached.slots s.reached.rest first.0 n p stop over at marks sink ended g.feed.stop found.3 st.reader quiet refl refl found.7 first.2 (goes-on_more (Some client) k.feed p st.reader.source goes) head;
+        reader = passed-reader client k s.reached.slots s.reached.rest first.0 n p stop over at marks sink ended g.feed.stop found.3 st.reader quiet refl refl found.7 first.2 (begins-from client k.profile g.feed item found.3 s.reached.rest first.0 g.begins first.1 found.4) (goes-on_more (Some client) k.feed p st.reader.source goes) head;
         output = out.output;
       };
       asks = λ later reply a. ask-from-behind client before later s mid date item first.0 t reply passes refl refl refl first.1 (st.asking_ended ∙ e) more g.unheld g.kept is a;

@@ -20,10 +20,9 @@ use Rattle.tiny_http_connection.specs.Segments.{Slot, Stage, is_last_item}
 use Rattle.tiny_http_connection.specs.Slots.{is_chunked, last_slot, last_was_abandoned, is_last_slot}
 use Rattle.tiny_http_body.specs.Body.{body_finished}
 use Rattle.tiny_http_connection.specs.Outcomes.{finished_as}
-use Rattle.tiny_http_connection.specs.Conversation.{PlaceAt}
 use Rattle.tiny_http_body.specs.Body.{Remaining, remaining, is_streaming, body_standing, Fits, GivesUp}
 use Rattle.tiny_http_connection.specs.Pending.{last_holds_next_head, kept_body, last_body, is_streaming_body, holds_next_head_at}
-use Rattle.tiny_http_connection.specs.Connection.{Kept, open_slot, IsOpen, IsSettled, AreSettled, behind_body, slot_rest, GivesRest, is_past_last, is_in_body, NextHead, InputStands, FollowsLast, behind_item}
+use Rattle.tiny_http_connection.specs.Connection.{Kept, open_slot, IsOpen, IsSettled, AreSettled, behind_body, slot_rest, GivesRest, is_past_last, is_in_body, PlaceOf, NextHead, InputStands, FollowsLast, behind_item}
 use Rattle.tiny_http_io.proofs.SourceGoesOn.{goes-on_more}
 use Rattle.tiny_http_connection.proofs.ConnectionAsk.{stated-feed}
 use Rattle.tiny_http_body.proofs.BodyReads.{gives-up}
@@ -50,22 +49,22 @@ lost-chunked {R = R} body.Rest old new f r given end_reported fits h e lost = le
 lost-chunked {R = R} (body.Over stop) old new f r given end_reported fits h e lost = absurd (over-kept r.framing.form (body_length_or_0 r.framing) given end_reported fits lost)
 
 -- where the next head is read after a body that was given up
-given-place : {R : Type 0} (profile : Profile) (b : UnreadBody) (old new : SourceState R) (f : Feed) (r : Request) (given : ℕ) (end_reported over : Bool) (rest : List Item) → Fits r.framing.by_standard b r.framing.form (body_length_or_0 r.framing) given end_reported → GivesUp b old new → old.feed ≡ Some f
-    → (is_streaming b ≡ false → (g : Feed) → behind_body (Some b) (Some g) ≡ Some g) → (is_chunked r.framing.form && not end_reported) ≡ false → (r.framing.form ≡ Rest → over ≡ true) → PlaceAt profile over (behind_body (Some b) old.feed) rest → PlaceAt profile over new.feed rest
-given-place profile b old new f r given end_reported true rest fits h e quiet kept ends place = place
-given-place {R = R} profile (body.Over stop) old new f r given end_reported false rest fits h e quiet kept ends place =
-    let P : Option Feed → Type 0 = λ o. PlaceAt profile false o rest in
+given-place : {R : Type 0} (client : Feed) (profile : Profile) (b : UnreadBody) (old new : SourceState R) (f : Feed) (r : Request) (given : ℕ) (end_reported over : Bool) (rest : List Item) → Fits r.framing.by_standard b r.framing.form (body_length_or_0 r.framing) given end_reported → GivesUp b old new → old.feed ≡ Some f
+    → (is_streaming b ≡ false → (g : Feed) → behind_body (Some b) (Some g) ≡ Some g) → (is_chunked r.framing.form && not end_reported) ≡ false → (r.framing.form ≡ Rest → over ≡ true) → PlaceOf client profile over (behind_body (Some b) old.feed) rest → PlaceOf client profile over new.feed rest
+given-place client profile b old new f r given end_reported true rest fits h e quiet kept ends place = (place.0, λ no. cc)
+given-place {R = R} client profile (body.Over stop) old new f r given end_reported false rest fits h e quiet kept ends place =
+    let P : Option Feed → Type 0 = λ o. PlaceOf client profile false o rest in
     subst P (ap (behind_body (Some (body.Over stop))) e ∙ quiet refl f ∙ sym e ∙ ap (λ (x : SourceState R). x.feed) (sym h)) place
-given-place {R = R} profile (body.WithHead bytes) old new f r given end_reported false rest fits h e quiet kept ends place =
-    let P : Option Feed → Type 0 = λ o. PlaceAt profile false o rest in
+given-place {R = R} client profile (body.WithHead bytes) old new f r given end_reported false rest fits h e quiet kept ends place =
+    let P : Option Feed → Type 0 = λ o. PlaceOf client profile false o rest in
     subst P (ap (behind_body (Some (body.WithHead bytes))) e ∙ quiet refl f ∙ sym e ∙ ap (λ (x : SourceState R). x.feed) (sym h)) place
-given-place {R = R} profile (body.Counted left by_standard) old new f r given end_reported false rest fits h e quiet kept ends place =
-    let P : Option Feed → Type 0 = λ o. PlaceAt profile false o rest in
+given-place {R = R} client profile (body.Counted left by_standard) old new f r given end_reported false rest fits h e quiet kept ends place =
+    let P : Option Feed → Type 0 = λ o. PlaceOf client profile false o rest in
     let skips : behind_body (Some (body.Counted left by_standard)) old.feed ≡ option_map (skipped left) old.feed = rw e refl in
     subst P (skips ∙ sym h.0) place
-given-place {R = R} profile (body.Chunked d) old new f r given end_reported false rest fits h e quiet kept ends place =
+given-place {R = R} client profile (body.Chunked d) old new f r given end_reported false rest fits h e quiet kept ends place =
     let no : true ≡ false = rw (fits.0, fits.1) refl ∙ kept in cc
-given-place {R = R} profile body.Rest old new f r given end_reported false rest fits h e quiet kept ends place = let no : false ≡ true = ends fits.0 in cc
+given-place {R = R} client profile body.Rest old new f r given end_reported false rest fits h e quiet kept ends place = let no : false ≡ true = ends fits.0 in cc
 
 -- where the input stands after a body, whether the last head was read is the same, and it isn't within a body
 past-body : (p : Standing) → is_past_last (after_body p) ≡ is_past_last p
@@ -162,16 +161,16 @@ given-same (body.Chunked d) old new h e = cc
 given-same body.Rest old new h e = cc
 
 -- where the last number and its body are the same, the next head is read at the same place
-pub next-same : (k q : Kept) (o u : Option Slot) (rest : List Item) → q.profile ≡ k.profile → q.standing ≡ k.standing → is_last_slot u ≡ is_last_slot o → last_was_abandoned u ≡ last_was_abandoned o → last_body q.requests ≡ last_body k.requests → q.feed ≡ k.feed → q.stop ≡ k.stop → q.is_over ≡ k.is_over → NextHead k o rest → NextHead q u rest
-next-same k q o u rest profile standing last abandoned content feed stop ends n =
-    let P : Bool → Option UnreadBody → Option Feed → Type 0 = λ x y z. PlaceAt q.profile x (behind_body y z) rest in
+pub next-same : (client : Feed) (k q : Kept) (o u : Option Slot) (rest : List Item) → q.profile ≡ k.profile → q.standing ≡ k.standing → is_last_slot u ≡ is_last_slot o → last_was_abandoned u ≡ last_was_abandoned o → last_body q.requests ≡ last_body k.requests → q.feed ≡ k.feed → q.stop ≡ k.stop → q.is_over ≡ k.is_over → NextHead client k o rest → NextHead client q u rest
+next-same client k q o u rest profile standing last abandoned content feed stop ends n =
+    let P : Bool → Option UnreadBody → Option Feed → Type 0 = λ x y z. PlaceOf client q.profile x (behind_body y z) rest in
     let over : is_past_last q.standing ≡ is_past_last k.standing = ap is_past_last standing in
     let W : Bool → Option UnreadBody → Bool = λ x y. not x && is_streaming_body y in
     record {
       is_last = over ∙ n.is_last ∙ sym last;
       within = ap is_in_body standing ∙ n.within ∙ ap (λ y. W (is_last_slot o) y) (sym content) ∙ ap (λ x. W x (last_body q.requests)) (sym last);
       lost = λ l. (let m = n.lost (sym abandoned ∙ l) in ((ends ∙ m.0.0, stop ∙ m.0.1), feed ∙ m.1));
-      place = λ l. subst (λ x. P x (last_body q.requests) q.feed) (sym over) (subst (λ y. P (is_past_last k.standing) y q.feed) (sym content) (subst (λ z. P (is_past_last k.standing) (last_body k.requests) z) (sym feed) (subst (λ w. PlaceAt w (is_past_last k.standing) (behind_body (last_body k.requests) k.feed) rest) (sym profile) (n.place (sym abandoned ∙ l)))));
+      place = λ l. subst (λ x. P x (last_body q.requests) q.feed) (sym over) (subst (λ y. P (is_past_last k.standing) y q.feed) (sym content) (subst (λ z. P (is_past_last k.standing) (last_body k.requests) z) (sym feed) (subst (λ w. PlaceOf client w (is_past_last k.standing) (behind_body (last_body k.requests) k.feed) rest) (sym profile) (n.place (sym abandoned ∙ l)))));
     }
 
 -- the connection's input is this source
@@ -194,7 +193,7 @@ reader-within client k source bs cs us vs rest s t c v x u from reader is quiet 
     record {
       settled = settled-set us u x (v ∷ vs) (subst A is reader.settled) (inl quiet);
       gives = subst (λ b. G b (last_slot (bs ++ (t ∷ (c ∷ cs)))) source.feed) (sym content) (subst (λ o. G (last_body k.requests) o source.feed) (sym last) (subst (λ f. G (last_body k.requests) (last_slot (bs ++ (s ∷ (c ∷ cs)))) f) from.feed reader.gives));
-      next = λ e. next-same k (with_reader k (us ++ (x ∷ (v ∷ vs))) source) (last_slot (bs ++ (s ∷ (c ∷ cs)))) (last_slot (bs ++ (t ∷ (c ∷ cs)))) rest refl (sym from.standing) (ap is_last_slot last) (ap last_was_abandoned last) content (sym from.feed) (sym from.stop) (sym from.ends) (reader.next e);
+      next = λ e. next-same client k (with_reader k (us ++ (x ∷ (v ∷ vs))) source) (last_slot (bs ++ (s ∷ (c ∷ cs)))) (last_slot (bs ++ (t ∷ (c ∷ cs)))) rest refl (sym from.standing) (ap is_last_slot last) (ap last_was_abandoned last) content (sym from.feed) (sym from.stop) (sym from.ends) (reader.next e);
       follows = λ holds.
           let held : last_holds_next_head k.requests ≡ true = ap last_holds_next_head is ∙ sym (holds-within us x u v vs) ∙ holds in
           subst (λ b. L b (last_slot (bs ++ (t ∷ (c ∷ cs)))) source.feed) (sym content) (subst (λ o. L (last_body k.requests) o source.feed) (sym last) (subst (λ f. L (last_body k.requests) (last_slot (bs ++ (s ∷ (c ∷ cs)))) f) from.feed (reader.follows held)));
@@ -202,24 +201,24 @@ reader-within client k source bs cs us vs rest s t c v x u from reader is quiet 
     }
 
 -- what is known of the last number, while its body can be read
-pub record LastWaits {R : Type 0} (k : Kept) (source : SourceState R) (bs : List Slot) (s : Slot) (b : UnreadBody) (rest : List Item) : Type 0 where
+pub record LastWaits {R : Type 0} (client : Feed) (k : Kept) (source : SourceState R) (bs : List Slot) (s : Slot) (b : UnreadBody) (rest : List Item) : Type 0 where
   pub feed : Feed
   pub stated : source.feed ≡ Some feed
   pub content : last_body k.requests ≡ Some b
   pub gives : option_map (λ (x : Remaining). x.body) (remaining b source.feed) ≡ Some (slot_rest s)
   pub is_last : k.asking_ended ≡ false → is_past_last source.standing ≡ is_last_item s.item
   pub within : k.asking_ended ≡ false → is_in_body source.standing ≡ (not (is_last_item s.item) && is_streaming b)
-  pub place : k.asking_ended ≡ false → PlaceAt k.profile (is_past_last source.standing) (behind_body (Some b) source.feed) rest
+  pub place : k.asking_ended ≡ false → PlaceOf client k.profile (is_past_last source.standing) (behind_body (Some b) source.feed) rest
   pub follows : last_holds_next_head k.requests ≡ true → behind_body (Some b) source.feed ≡ Some (behind_item s.item)
 
 pub last-waits : {R : Type 0} (client : Feed) (k : Kept) (source : SourceState R) (bs : List Slot) (us : List (Option Unfinished)) (rest : List Item) (s : Slot) (u : Option Unfinished) (b : UnreadBody) → IsOpen s b → kept_body u ≡ Some b → IsInput k source → InputStands client k (bs ++ (s ∷ [])) rest → k.requests ≡ us ++ (u ∷ [])
-    → LastWaits k source bs s b rest
+    → LastWaits client k source bs s b rest
 last-waits client k source bs us rest s u b h has from reader is =
     let f = stated-feed client k.feed reader.source in
     let last : last_slot (bs ++ (s ∷ [])) ≡ Some s = last-snoc None bs s in
     let content : last_body k.requests ≡ Some b = ap last_body is ∙ body-snoc us u ∙ has in
     let G : Option UnreadBody → Option Slot → Option Feed → Type 0 = λ b o z. GivesRest b o z in
-    let P : Bool → Option UnreadBody → Option Feed → Type 0 = λ x y z. PlaceAt k.profile x (behind_body y z) rest in
+    let P : Bool → Option UnreadBody → Option Feed → Type 0 = λ x y z. PlaceOf client k.profile x (behind_body y z) rest in
     let over : is_past_last k.standing ≡ is_past_last source.standing = ap is_past_last from.standing in
     let W : Option Slot → Option UnreadBody → Bool = λ x y. not (is_last_slot x) && is_streaming_body y in
     let L : Option UnreadBody → Option Slot → Option Feed → Type 0 = λ b o f. FollowsLast b o f in
@@ -246,7 +245,7 @@ reader-last closes client k old new bs us rest s u x b stage h has none from rea
     let l = last-waits client k old bs us rest s u b h has from reader is in
     let A : List (Option Unfinished) → Type 0 = λ x. AreSettled x in
     let G : Option UnreadBody → Type 0 = λ b. GivesRest b (last_slot (bs ++ (t ∷ []))) new.feed in
-    let P : Bool → Option UnreadBody → Type 0 = λ x b. PlaceAt k.profile x (behind_body b new.feed) rest in
+    let P : Bool → Option UnreadBody → Type 0 = λ x b. PlaceOf client k.profile x (behind_body b new.feed) rest in
     let W : Option UnreadBody → Bool = λ y. not (is_last_slot (last_slot (bs ++ (t ∷ [])))) && is_streaming_body y in
     let past : is_past_last new.standing ≡ is_past_last old.standing = given-past b old new gives in
     let S : Option Feed → Type 0 = λ f. GoesOn f new.feed in
@@ -260,7 +259,7 @@ reader-last closes client k old new bs us rest s u x b stage h has none from rea
         within = given-within b old new (is_last_item s.item) gives (λ rest_is. item_last ∙ h.rest_is_last (rest-form b r h.given h.end_reported h.fits rest_is)) (l.within e) ∙ sym (ap W content ∙ and-false (not (is_last_slot (last_slot (bs ++ (t ∷ []))))));
         lost = λ lost. lost-chunked b old new l.feed r h.given h.end_reported h.fits gives l.stated (sym (ap last_was_abandoned last) ∙ lost);
         place = λ kept. subst (λ y. P y (last_body (us ++ (x ∷ [])))) (sym past) (subst (λ y. P (is_past_last old.standing) y) (sym content)
-            (given-place k.profile b old new l.feed r h.given h.end_reported (is_past_last old.standing) rest h.fits gives l.stated (λ quiet f. ap B (h.settled quiet f)) (sym (ap last_was_abandoned last) ∙ kept) (λ form. l.is_last e ∙ item_last ∙ h.rest_is_last form) (l.place e)));
+            (given-place client k.profile b old new l.feed r h.given h.end_reported (is_past_last old.standing) rest h.fits gives l.stated (λ quiet f. ap B (h.settled quiet f)) (sym (ap last_was_abandoned last) ∙ kept) (λ form. l.is_last e ∙ item_last ∙ h.rest_is_last form) (l.place e)));
       };
       follows = λ holds. subst (λ b. FollowsLast b (last_slot (bs ++ (t ∷ []))) new.feed) (sym content) tt;
       source = goes-on_more (Some client) k.feed new.feed reader.source (subst S (sym from.feed) (gives-up b old new gives));
@@ -320,7 +319,7 @@ reader-alike client k source bs [] us [] rest s t u x from reader is same body k
     record {
       settled = settled-set us u x [] (subst A is reader.settled) (inr refl);
       gives = subst (λ b. G b (last_slot (bs ++ (t ∷ []))) source.feed) (sym content) (subst (λ o. G (last_body k.requests) o source.feed) (sym last) (subst (λ f. G (last_body k.requests) (Some t) f) from.feed (gives-alike (last_body k.requests) s t k.feed alike.left gives)));
-      next = λ e. next-same k (with_reader k (us ++ (x ∷ [])) source) (last_slot (bs ++ (s ∷ []))) (last_slot (bs ++ (t ∷ []))) rest refl (sym from.standing) (ap is_last_slot last ∙ alike.last ∙ ap is_last_slot (sym was)) (ap last_was_abandoned last ∙ alike.abandoned ∙ ap last_was_abandoned (sym was)) content (sym from.feed) (sym from.stop)
+      next = λ e. next-same client k (with_reader k (us ++ (x ∷ [])) source) (last_slot (bs ++ (s ∷ []))) (last_slot (bs ++ (t ∷ []))) rest refl (sym from.standing) (ap is_last_slot last ∙ alike.last ∙ ap is_last_slot (sym was)) (ap last_was_abandoned last ∙ alike.abandoned ∙ ap last_was_abandoned (sym was)) content (sym from.feed) (sym from.stop)
           (sym from.ends) (reader.next e);
       follows = λ holds.
           let held : last_holds_next_head k.requests ≡ true = ap last_holds_next_head is ∙ holds-snoc us u ∙ still-true (holds_next_head_at (Some u)) (holds_next_head_at (Some x)) keeps (sym (holds-snoc us x) ∙ holds) in

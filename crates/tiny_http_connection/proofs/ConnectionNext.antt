@@ -27,10 +27,10 @@ use Rattle.tiny_http_connection.specs.Steps.{ReplyValue, Ask, Ended, Memory, Han
 use Rattle.tiny_http_connection.specs.Connection.{Kept, ConnectionState, kept}
 use Rattle.tiny_http_connection.proofs.Asking.{CanAsk, AskStep, IsAskBehind}
 use Rattle.tiny_http_connection.proofs.ConnectionAsking.{AskGoesOn, ask-passes}
-use Rattle.tiny_http_connection.proofs.ConnectionAsk.{StepIsAnswered, ask-final, ask-memory, ask-handed, ask-refused, before-head, stands-before}
+use Rattle.tiny_http_connection.proofs.ConnectionAsk.{StepIsAnswered, AskIsAnswered, ask-final, ask-memory, ask-handed, ask-refused, before-head, stands-before}
 use Rattle.tiny_http_connection.proofs.ConnectionOutput.{can-send}
 use Rattle.tiny_http_connection.proofs.ConnectionReader.{holds-snoc}
-use Rattle.tiny_http_connection.proofs.DrivingLemmas.{viewed, end-refused, end-final, ask-step, asks-behind-head, end-behind, begins-behind, begins-here, not-body, driving-reads-on}
+use Rattle.tiny_http_connection.proofs.DrivingLemmas.{viewed, end-refused, end-final, ask-step, ask-found, asks-behind-head, end-behind, begins-behind, begins-here, not-body, driving-reads-on}
 
 plus-none : (n : ℕ) → n ≡ n + 0
 plus-none n = omega arith
@@ -55,7 +55,7 @@ finds-request : {R W : Type 0} (profile : Profile) (date : HttpDate) (s t : Sour
     → n ≡ length p.turns.marks → q.turns.marks ≡ p.turns.marks ++ (Open ∷ []) → AreInShape q.turns.marks → q.requests ≡ p.requests ++ (Some (still.Waiting x.open_request) ∷ [])
     → AskStep (viewed profile s o p end) (viewed profile t o q end) date (Handed n (head_message x.head) (head_framing x.head))
 finds-request {R = R} {W = W} profile date s t o p q end x n h can number marks_are shape_is requests_are =
-    ask-step old new date (Handed n (head_message x.head) (head_framing x.head))
+    ask-step old new date (Handed n (head_message x.head) (head_framing x.head)) (λ client p left. tt)
     (λ client before s low st.
     let f = before-head client before k s st open_is here can.2 in
     let shape : AreInShape (k.marks ++ (Open ∷ [])) = subst (λ m. AreInShape m) marks_are shape_is in
@@ -112,12 +112,12 @@ finds-no-memory {R = R} {W = W} profile date s t o u p q end r h other can turns
     here = before profile date s t r h other can.1
 
     step : AskStep old new date Memory
-    step = ask-step old new date Memory
+    step = ask-found old new date Memory
         (λ client before s low st.
         let f = before-head client before k s st open_is here can.2 in
-        let P : List Mark → List (Option Unfinished) → Type 0 = λ m r. StepIsAnswered client before (record k { marks = m; requests = r; asking_ended = true; standing = t.standing; feed = t.feed; stop = t.stop; is_over = t.is_over }) s date Ask Memory in
+        let P : List Mark → List (Option Unfinished) → Type 0 = λ m r. AskIsAnswered client before (record k { marks = m; requests = r; asking_ended = true; standing = t.standing; feed = t.feed; stop = t.stop; is_over = t.is_over }) s date Memory in
         let done = ask-memory client before k s date t.feed t.stop t.is_over t.standing st open_is f.unread f.quiet f.more
-        (λ i. other (h.at_end i).0) h.goes_on in
+        (λ i. other (h.at_end i).0) (h.begun other) h.goes_on in
         subst (λ m. P m q.requests) (ap (λ t. t.marks) (sym turns_are)) (subst (λ r. P k.marks r) (sym requests_are) done))
         (λ no. elim no [ ]) (can.0, refl, here, begins-here profile from.feed (h.begun other)) (0, (requests_are ∙ sym (append-nil p.requests), λ z. (ap (λ t. t.marks) turns_are, refl))) (driving-reads-on old new refl refl h.goes_on)
 
@@ -126,7 +126,7 @@ finds-end : {R W : Type 0} (profile : Profile) (date : HttpDate) (s t : SourceSt
     → TakesHead profile date s t (Ok (read.Ended why)) → CanAsk (viewed profile s o p end)
     → AskStep (viewed profile s o p end) (viewed profile t o p (Some why)) date Ended
 finds-end {R = R} {W = W} profile date s t o p end why h can =
-    ask-step old new date Ended
+    ask-step old new date Ended (λ client p left. tt)
     (λ client before s low st.
     ask-final client before k s date why t.feed t.stop t.is_over t.standing st open_is can.1 can.2
     (λ i. (let same = (h.last i).1 in (ap (λ y. y.feed) same, ap (λ y. y.stop) same, ap (λ y. y.is_over) same, ap (λ y. y.standing) same)))
@@ -152,7 +152,7 @@ finds-refused : {R W : Type 0} (profile : Profile) (date : HttpDate) (s t : Sour
     → TakesHead profile date s t (Ok (read.Refused status text true)) → RefusesHead p o text.items true q u → CanAsk (viewed profile s o p end)
     → AskStep (viewed profile s o p end) (viewed profile t u q (Some (because.Refused status))) date Ended
 finds-refused {R = R} {W = W} profile date s t o u p q end status text h f can =
-    ask-step old new date Ended
+    ask-step old new date Ended (λ client p left. tt)
     (λ client before s low st.
     let n = before-head client before k s st open_is here can.2 in
     let done = ask-refused client before k s date from.standing status text t.feed t.stop t.is_over t.standing q.turns.marks (output_of u) (outlet_ended u) st low open_is n.unread n.quiet

@@ -537,7 +537,7 @@ after_number k marks requests source sink ended =
 pub reader-after : {R : Type 0} (client : Feed) (k : Kept) (marks : List Mark) (requests : List (Option Unfinished)) (source : SourceState R) (sink : Sink) (ended : Bool) (slots : List Slot) (rest : List Item) → InputStands client (with_reader k requests source) slots rest
     → InputStands client (after_number k marks requests source sink ended) slots rest
 reader-after client k marks requests source sink ended slots rest r =
-    record { settled = r.settled; gives = r.gives; next = λ e. next-same (with_reader k requests source) (after_number k marks requests source sink ended) (last_slot slots) (last_slot slots) rest refl refl refl refl refl refl refl refl (r.next e); follows = r.follows; source = r.source }
+    record { settled = r.settled; gives = r.gives; next = λ e. next-same client (with_reader k requests source) (after_number k marks requests source sink ended) (last_slot slots) (last_slot slots) rest refl refl refl refl refl refl refl refl (r.next e); follows = r.follows; source = r.source }
 
 -- whether the asking has ended after a step
 abbrev pub with_ended : Bool → Kept → Kept
@@ -553,7 +553,7 @@ neither false b e = refl
 
 pub reader-ended : (client : Feed) (k : Kept) (ended : Bool) (slots : List Slot) (rest : List Item) → (ended ≡ false → k.asking_ended ≡ false) → InputStands client k slots rest → InputStands client (with_ended ended k) slots rest
 reader-ended client k ended slots rest stays r =
-    record { settled = r.settled; gives = r.gives; next = λ e. next-same k (with_ended ended k) (last_slot slots) (last_slot slots) rest refl refl refl refl refl refl refl refl (r.next (stays e)); follows = r.follows; source = r.source }
+    record { settled = r.settled; gives = r.gives; next = λ e. next-same client k (with_ended ended k) (last_slot slots) (last_slot slots) rest refl refl refl refl refl refl refl refl (r.next (stays e)); follows = r.follows; source = r.source }
 
 -- whether the asking ends behind a number that waits, by what is kept of it
 pub lacks-same : (s : Slot) (w : OpenRequest UnreadBody) (h : IsWaiting s w) → is_last_once_finished h.request h.handed.owed h.given h.end_reported ≡ (w.by_standard && (w.owes_continue || is_long (remainder w.body)))

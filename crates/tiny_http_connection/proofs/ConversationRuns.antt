@@ -1,6 +1,6 @@
 -- A run goes on by one step.
 use Rattle.tiny_http_io.specs.declared.source.Standing.TheVariants as at
-use Rattle.std.proofs.Common.{◌≡◌, refl, sym, ap, ◌∙◌, subst, ℕ, ◌-◌, ◌<◌, ◌≤◌, Bool, true, false, List, [], ◌∷◌, ◌++◌, length, Option, Some, None, arith, append-nil, inl, inr}
+use Rattle.std.proofs.Common.{◌≡◌, refl, sym, ap, ◌∙◌, subst, ℕ, ◌-◌, ◌^◌, ◌<◌, ◌≤◌, Bool, true, false, List, [], ◌∷◌, ◌++◌, length, Option, Some, None, arith, append-nil, inl, inr}
 use Rattle.std.specs.Prelude.{MatchBool}
 use Rattle.std.specs.Option.{option_map}
 use Rattle.std.specs.List.{AllZip}
@@ -19,8 +19,9 @@ use Rattle.tiny_http_io.specs.declared.device.Stop.{Stop}
 use Rattle.tiny_http_connection.specs.Segments.{Slot, is_last_item}
 use Rattle.tiny_http_connection.specs.Slots.{joined, last_slot, last_is_open, last_was_abandoned, is_last_slot}
 use Rattle.tiny_http_connection.specs.Steps.{ReplyValue, TimedValue}
-use Rattle.tiny_http_connection.specs.Conversation.{State, Failure, StepsTo, Run, start_state, IsFresh, PlaceAt, WithinBody, WithinLast, InputAt, IsOutput, IsConversation}
-use Rattle.tiny_http_connection.specs.Connection.{Kept, OutputAt, IsOpen, behind_body, slot_rest, GivesRest, Stands}
+use Rattle.tiny_http_connection.specs.Conversation.{State, Failure, StepsTo, Run, start_state, IsFresh, AsksInVain, PlaceAt, WithinBody, WithinLast, InputAt, IsOutput, IsConversation}
+use Rattle.tiny_http_connection.specs.Connection.{Kept, OutputAt, IsOpen, behind_body, slot_rest, GivesRest, BeginsMore, PlaceOf, Stands}
+use Rattle.tiny_http_connection.proofs.ConversationEnded.{begins-behind_items}
 use Rattle.tiny_http_io.specs.ToCome.{stopped}
 use Rattle.tiny_http_body.specs.Body.{Remaining, remaining, is_streaming}
 use Rattle.tiny_http_connection.specs.Pending.{last_body, is_streaming_body}
@@ -33,7 +34,7 @@ use Rattle.std.specs.declared.io.ErrorKind.{ErrorKind}
 use Rattle.tiny_http_connection.specs.declared.driver.Step.{Step}
 use Rattle.tiny_http_connection.specs.declared.driver.Step.TheVariants as step
 use Rattle.httpdate.specs.declared.date.HttpDate.{HttpDate}
-use Rattle.tiny_http_connection.specs.Seen.{seen, ReportsHonestly, ReportHonestly, MayFail, all_sent_after, all_sent}
+use Rattle.tiny_http_connection.specs.Seen.{seen, ReportsHonestly, ReportHonestly, WriteTells, TellsOfWriter, MayFail, all_sent_after, all_sent}
 use Rattle.tiny_http_connection.specs.Driving.{stated_step}
 use Rattle.tiny_http_response.specs.Sending.{SinkFailsOnce, FailsOnceUnlessEnded, FailsAtMostOnce}
 use Rattle.tiny_http_io.proofs.DeviceLemmas.{grown-nil}
@@ -81,7 +82,7 @@ begun profile feed is_over sink = record { profile = profile; marks = []; reques
 pub stands-begun : (profile : Profile) (client : Feed) (feed : Option Feed) (is_over : Bool) (sink : Sink) (items : List Item) → feed ≡ Some client → IsFresh sink → Pipeline profile (Some client.bytes) client.stop items → Stands client sink (begun profile feed is_over sink) (start_state items)
 stands-begun profile client feed is_over sink items e fresh h =
     let G : Option Feed → Type 0 = λ x. GoesOn (Some client) x in
-    let P : Option Feed → Type 0 = λ x. PlaceAt profile false x items in
+    let P : Option Feed → Type 0 = λ x. PlaceOf client profile false x items in
     record {
       numbers = tt;
       shape = tt;
@@ -90,7 +91,7 @@ stands-begun profile client feed is_over sink items e fresh h =
       reader = record {
         settled = tt;
         gives = tt;
-        next = λ z. record { is_last = refl; within = refl; lost = λ l. cc; place = λ l. subst P (sym e) h };
+        next = λ z. record { is_last = refl; within = refl; lost = λ l. cc; place = λ l. subst P (sym e) (h, λ open_is b. (items, h, b)) };
         follows = λ holds. tt;
         source = subst G (sym e) (goes-on_same (Some client));
       };
@@ -142,7 +143,7 @@ input-end client before k s st = by-ended s.reached.asking_ended refl
     place : k.asking_ended ≡ false → last_was_abandoned last ≡ false → PlaceAt k.profile over (behind_body (last_body k.requests) k.feed) s.reached.rest
     place e l =
         let P : Bool → Type 0 = λ x. PlaceAt k.profile x (behind_body (last_body k.requests) k.feed) s.reached.rest in
-        subst P (st.reader.next e).is_last ((st.reader.next e).place l)
+        subst P (st.reader.next e).is_last ((st.reader.next e).place l).0
 
     quiet : k.asking_ended ≡ false → last_is_open last ≡ false → last_was_abandoned last ≡ false → PlaceAt k.profile over k.feed s.reached.rest
     quiet e h l =
@@ -188,11 +189,11 @@ output-end before sink held ended slots flushed (Some f) empty begins h =
 
 -- a run to where the connection stands is a conversation, with what is then held and left
 pub conversation : (profile : Profile) (client : Feed) (before sink : Sink) (held : List ℕ) (k : Kept) (ended : Bool) (items : List Item) (end : State) (replies : List ReplyValue) (dated : List TimedValue) → k.profile ≡ profile → k.sink ≡ holding sink held ended → k.output_ended ≡ ended → (ended ≡ true → held ≡ []) → BeginsKnown sink.sent sink.taken
-    → Pipeline profile (Some client.bytes) client.stop items → Run (start_state items) dated replies end → Stands client before k end → IsConversation profile client before dated replies sink held ended k.feed
-conversation profile client before sink held k ended items end replies dated profile_is same same_end empty begins pipeline run st =
+    → Pipeline profile (Some client.bytes) client.stop items → Run (start_state items) dated replies end → Stands client before k end → (AsksInVain dated replies → (end.reached.asking_ended ≡ true) × (end.reached.rest ≡ [] → BeginsMore profile client)) → IsConversation profile client before dated replies sink held ended k.feed
+conversation profile client before sink held k ended items end replies dated profile_is same same_end empty begins pipeline run st memory =
     let P : Sink → Bool → Type 0 = λ x y. OutputAt before x y end.reached.slots end.flushed end.failure in
     let out : P (holding sink held ended) ended = subst (λ y. P (holding sink held ended) y) same_end (subst (λ x. P x k.output_ended) same st.output) in
-    record { items = items; end = end; pipeline = pipeline; run = run; output = output-end before sink held ended end.reached.slots end.flushed end.failure empty begins out; input = subst (λ p. InputAt p end.reached k.feed) profile_is (input-end client before k end st) }
+    record { items = items; end = end; pipeline = pipeline; run = run; output = output-end before sink held ended end.reached.slots end.flushed end.failure empty begins out; input = subst (λ p. InputAt p end.reached k.feed) profile_is (input-end client before k end st); memory = λ vain none. begins-behind_items profile client items pipeline ((memory vain).1 none) }
 
 -- the writer's count over the steps
 pub fails-step : (writer old new : Sink) (was ended : Bool) → SinkFailsOnce writer old was → FailsOnceUnlessEnded was old new ended → SinkFailsOnce writer new ended
@@ -217,16 +218,33 @@ fail-along feed a b c date (step.Write n v) kind e h = (h.0 ∙ ap next_count e,
 fail-along feed a b c date (step.Flush n) kind e h = (h.0 ∙ ap next_count e, h.1)
 fail-along {D = D} feed a b c date (step.Upgrade n p r) kind e h = elim h [ ]
 fail-along {D = D} feed a b c date (step.Finish n) kind e h = elim h [ ]
-fail-along feed a b c date (step.Respond n r) kind e (p, inl h) = (p, inl (h ∙ ap next_count e))
+fail-along feed a b c date (step.Respond n r) kind e (p, inl h) = let L : ℕ → Type 0 = λ m. m < 2 ^ 64 - 1 in (p, inl (h.0 ∙ ap next_count e, λ low. h.1 (subst L (sym e) low)))
 fail-along feed a b c date (step.Respond n r) kind e (p, inr h) = (p, inr h)
 
+-- what is told of a failure, along such sinks
+tells-of : (a b c : Sink) (reply : ReplyValue) → b.failures ≡ a.failures → TellsOfWriter b c reply → TellsOfWriter a c reply
+tells-of a b c reply e (inl h) = inl (h ∙ e)
+tells-of a b c reply e (inr h) = inr (h.0, h.1, (h.2.0 ∙ ap next_count e, h.2.1))
+
+tells-along : {D : Type 0} (a b c : Sink) (s : Step D) (reply : ReplyValue) → b.failures ≡ a.failures → WriteTells b c s reply → WriteTells a c s reply
+tells-along a b c step.Ask reply e h = h
+tells-along a b c (step.AsReader n) reply e h = h
+tells-along a b c (step.Read n m) reply e h = h
+tells-along a b c (step.Drop n) reply e h = h
+tells-along a b c (step.IntoWriter n) reply e h = h
+tells-along a b c (step.Write n v) reply e h = tells-of a b c reply e h
+tells-along a b c (step.Flush n) reply e h = tells-of a b c reply e h
+tells-along a b c (step.Upgrade n p r) reply e h = h
+tells-along a b c (step.Finish n) reply e h = h
+tells-along a b c (step.Respond n r) reply e h = h
+
 -- one step more
-pub honest-snoc : {D : Type 0} (feed : D → Option Feed) (a b c : Sink) (steps : List (Timed D)) (replies : List Reply) (t : Timed D) (r : Reply) → ReportHonestly feed a steps replies b → FailsAtMostOnce b c → ReportsHonestly feed b c t r
+pub honest-snoc : {D : Type 0} (feed : D → Option Feed) (a b c : Sink) (steps : List (Timed D)) (replies : List Reply) (t : Timed D) (r : Reply) → ReportHonestly feed a steps replies b → FailsAtMostOnce b c → ReportsHonestly feed b c t r → WriteTells b c t.step (seen r)
     → ReportHonestly feed a (steps ++ t ∷ []) (replies ++ r ∷ []) c
-honest-snoc feed a b c [] [] t r h once k = (c, rise-along a b c h once, (λ kind stated. fail-along feed a b c t.now t.step kind h (k kind stated)), refl)
-honest-snoc feed a b c [] (x ∷ replies) t r h once k = absurd h
-honest-snoc feed a b c (x ∷ steps) [] t r h once k = absurd h
-honest-snoc feed a b c (x ∷ steps) (y ∷ replies) t r h once k = (h.0, h.1, h.2, honest-snoc feed h.0 b c steps replies t r h.3 once k)
+honest-snoc feed a b c [] [] t r h once k tells = (c, rise-along a b c h once, (λ kind stated. fail-along feed a b c t.now t.step kind h (k kind stated)), tells-along a b c t.step (seen r) h tells, refl)
+honest-snoc feed a b c [] (x ∷ replies) t r h once k tells = absurd h
+honest-snoc feed a b c (x ∷ steps) [] t r h once k tells = absurd h
+honest-snoc feed a b c (x ∷ steps) (y ∷ replies) t r h once k tells = (h.0, h.1, h.2, h.3, honest-snoc feed h.0 b c steps replies t r h.4 once k tells)
 
 -- a step of an outlet that may have ended
 at-most-once : (old new : Sink) (was ended : Bool) → FailsOnceUnlessEnded was old new ended → FailsAtMostOnce old new
@@ -235,15 +253,15 @@ at-most-once old new false ended (inl h) = inl h
 at-most-once old new false ended (inr h) = inr h.0
 
 pub honest-step : {D : Type 0} (feed : D → Option Feed) (writer old new : Sink) (was ended : Bool) (done : List (Timed D)) (replies : List Reply) (t : Timed D) (reply : Reply) → FailsOnceUnlessEnded was old new ended
-    → ReportHonestly feed writer done replies old → ReportsHonestly feed old new t reply → ReportHonestly feed writer (done ++ t ∷ []) (replies ++ reply ∷ []) new
-honest-step feed writer old new was ended done replies t reply once h k = honest-snoc feed writer old new done replies t reply h (at-most-once old new was ended once) k
+    → ReportHonestly feed writer done replies old → ReportsHonestly feed old new t reply → WriteTells old new t.step (seen reply) → ReportHonestly feed writer (done ++ t ∷ []) (replies ++ reply ∷ []) new
+honest-step feed writer old new was ended done replies t reply once h k tells = honest-snoc feed writer old new done replies t reply h (at-most-once old new was ended once) k tells
 
 -- the end counts as another sink does
 pub honest-end : {D : Type 0} (feed : D → Option Feed) (a b c : Sink) (steps : List (Timed D)) (replies : List Reply) → c.failures ≡ b.failures → ReportHonestly feed a steps replies b → ReportHonestly feed a steps replies c
 honest-end feed a b c [] [] e h = e ∙ h
 honest-end feed a b c [] (x ∷ replies) e h = absurd h
 honest-end feed a b c (x ∷ steps) [] e h = absurd h
-honest-end feed a b c (x ∷ steps) (y ∷ replies) e h = (h.0, h.1, h.2, honest-end feed h.0 b c steps replies e h.3)
+honest-end feed a b c (x ∷ steps) (y ∷ replies) e h = (h.0, h.1, h.2, h.3, honest-end feed h.0 b c steps replies e h.4)
 
 -- whether all was sent on after one step more
 pub all-sent-snoc : {D : Type 0} (steps : List (Timed D)) (replies : List Reply) (t : Timed D) (r : Reply) (sent : Bool) → length steps ≡ length replies → all_sent (steps ++ t ∷ []) (replies ++ r ∷ []) sent ≡ all_sent_after t.step (seen r) (all_sent steps replies sent)

@@ -1,10 +1,15 @@
 -- The calls of a `Connection`, as steps.
-use Rattle.std.proofs.Common.{◌≡◌, refl, sym, ap, ◌∙◌, subst, arith, length, ℕ, suc, ◌+◌, ◌-◌, ◌<◌, ◌^◌, ◌⊎◌, inl, inr, ⊎_elim, Bool, true, false, not, ◌&&◌, ◌||◌, List, [], ◌∷◌, ◌++◌, Option, Some, None, Ok, append_assoc}
+use Rattle.std.proofs.Common.{◌≡◌, refl, sym, ap, ◌∙◌, subst, arith, length, ℕ, suc, ◌+◌, ◌-◌, ◌<◌, ◌^◌, ◌⊎◌, inl, inr, ⊎_elim, Bool, true, false, not, ◌&&◌, ◌||◌, List, [], ◌∷◌, ◌++◌, Option, Some, None, Result, Ok, Err, append_assoc}
 use Rattle.std.proofs.Math.Bool.{or-false}
 use Rattle.std.specs.declared.io.ErrorKind.{ErrorKind}
 use Rattle.httpdate.specs.declared.date.HttpDate.{HttpDate}
-use Rattle.tiny_http_io.specs.Device.{Feed, Sink}
-use Rattle.tiny_http_response.specs.Answer.{Answer, Printing, ResponseState}
+use Rattle.tiny_http_io.specs.Device.{Feed, Sink, StatesKind, IsFront, IsAllKnown}
+use Rattle.tiny_http_response.specs.Answer.{Answer, Printing, ResponseState, text_of}
+use Rattle.tiny_http_body.specs.Text.{Whole, Broken}
+use Rattle.std.specs.Io.KnownBytes.{append_known}
+use Rattle.std.specs.declared.io.Error.{Error}
+use Rattle.std.specs.declared.io.ErrorKind.TheVariants.{OutOfMemory}
+use Rattle.tiny_http_connection.specs.Outcomes.{fault_reply}
 use Rattle.tiny_http_io.specs.declared.device.Stop.{Stop}
 use Rattle.tiny_http_connection.specs.declared.pending.Unfinished.{Unfinished}
 use Rattle.tiny_http_connection.specs.declared.pending.Unfinished.TheVariants as still
@@ -20,23 +25,24 @@ use Rattle.tiny_http_io.specs.Outlet.{OutletState, output_of, SentOn}
 use Rattle.tiny_http_response.specs.ResponseValue.{ResponseValue}
 use Rattle.tiny_http_connection.specs.Steps.{StepValue, Ask, AsReader, Read, Respond, IntoWriter, Write, Flush, Upgrade, Finish, Drop, ReplyValue, Handed, Ended, Given, NotYet, Done, Refused, NoSuch, Memory, Fault, TimedValue}
 use Rattle.tiny_http_connection.specs.Outcomes.{Reached, changes, ends_asking, use_in_turn, outcome}
-use Rattle.tiny_http_connection.specs.Conversation.{State, IsFresh, start_state}
-use Rattle.tiny_http_response.specs.Sending.{FailsOnceUnlessEnded, IsHonest, FailsOnce}
-use Rattle.tiny_http_connection.specs.Seen.{seen, IsResponse, IsStep, IsTimedStep, MayFail, ReportsHonestly, IsAnswered, IsOfWriter, is_done, all_sent_after}
+use Rattle.tiny_http_connection.specs.Conversation.{State, IsFresh, StepsTo, IsAskInVain, start_state}
+use Rattle.tiny_http_response.specs.Sending.{FailsOnceUnlessEnded, IsHonest, FailsOnce, Sends}
+use Rattle.tiny_http_connection.specs.Seen.{seen, IsResponse, IsStep, IsTimedStep, MayFail, ReportsHonestly, WriteTells, TellsOfWriter, Answers, IsAnswered, IsOfWriter, is_done, all_sent_after}
 use Rattle.tiny_http_body.specs.declared.body.UnreadBody.{UnreadBody}
 use Rattle.tiny_http_open_request.specs.declared.open_request.OpenRequest.{OpenRequest}
 use Rattle.tiny_http_open_request.specs.OpenRequest.{refuses_code, request_check}
 use Rattle.tiny_http_body.specs.Body.{is_streaming, body_standing, is_whole}
 use Rattle.std.specs.Prelude.{MatchBool, is_err}
-use Rattle.tiny_http_connection.specs.Connection.{Kept, ConnectionState, kept, Stands, HandedOut, open_slot, dropped}
+use Rattle.tiny_http_connection.specs.Connection.{Kept, ConnectionState, kept, Stands, HandedOut, open_slot, dropped, BeginsMore}
 use Rattle.tiny_http_connection.specs.Slots.{turn_has_come, is_last_once_finished}
 use Rattle.tiny_http_connection.proofs.ConnectionDrop.{IsKeptOf, at-drop, at-unanswerable, at-refused}
 use Rattle.std.specs.Prelude.{String, string_bytes, slice_get}
-use Rattle.tiny_http_connection.specs.Driving.{HasDone, TakesStep, AskEnds, StepEnds, EndsBehind, UpgradeEnds, ends_behind, IsDeclined, stated_response, stated_step, StepLeaves, AskLeaves, LetsGo, StandsAfter, ReportsFault, AnswerLeaves, UpgradeLeaves, IsDropping, RefusesHeads, RespondEnds}
-use Rattle.tiny_http_connection.proofs.ConnectionAsk.{StepIsAnswered}
+use Rattle.tiny_http_connection.specs.Driving.{HasDone, TakesStep, AskEnds, StepEnds, EndsBehind, UpgradeEnds, ends_behind, IsDeclined, stated_response, stated_step, StepLeaves, AskLeaves, LetsGo, StandsAfter, ReportsFault, AnswerLeaves, UpgradeLeaves, IsDropping, RefusesHeads, RespondEnds, StepTells, RespondTells}
+use Rattle.tiny_http_connection.proofs.ConnectionAsk.{StepIsAnswered, AskIsAnswered, FoundHead}
+use Rattle.tiny_http_connection.proofs.ConversationEnded.{steps-stay, vain-snoc}
 use Rattle.tiny_http_connection.proofs.ConnectionReader.{holds-snoc}
 use Rattle.tiny_http_io.proofs.SourceGoesOn.{goes-on_same, goes-on_more}
-use Rattle.tiny_http_connection.proofs.SeenLemmas.{is-ask, is-as_reader, is-read, is-respond, is-into_writer, is-write, is-flush, is-upgrade, is-finish, is-drop, step-ask, step-as_reader, step-read, step-respond, step-into_writer, step-write, step-flush, step-upgrade, step-finish, step-drop}
+use Rattle.tiny_http_connection.proofs.SeenLemmas.{is-ask, is-as_reader, is-read, is-respond, is-into_writer, is-write, is-flush, is-upgrade, is-finish, is-drop, step-as_reader, step-read, step-respond, step-into_writer, step-write, step-flush, step-upgrade, step-finish, step-drop}
 use Rattle.tiny_http_turns.specs.Turns.{Mark}
 use Rattle.std.specs.Prelude.{is_some, replicate}
 use Rattle.tiny_http_open_request.specs.declared.exchange.EndOfRequests.{EndOfRequests}
@@ -186,14 +192,60 @@ moves-sent x reply all old new same done m = record {
     before : (sent : Bool) → all_sent_after x reply sent ≡ true → all ≡ false → sent ≡ true
     before sent e z = sym (or-false sent) ∙ ap (λ b. sent || b) (sym (done ∙ z)) ∙ sym (same sent) ∙ e
 
-pub takes : {R W : Type 0} (old new : ConnectionState R W) (now : HttpDate) (x : Step (Option Feed)) (reply : ReplyValue)
-    → ((client : Feed) (before : Sink) (s : State) (asked : StepValue) → before.failures < 2 ^ 64 - 1 → IsStep (λ f. f) x asked → Stands client before (kept old) s → StepIsAnswered client before (kept new) s now asked reply)
-    → (IsDeclined x reply → new ≡ old) → StepEnds x old new reply → StepLeaves x old new reply → MovesBy x reply old new → ((kind : ErrorKind) → reply ≡ Fault kind → ReportsFault old new now x kind) → TakesStep old new now x reply
-takes old new now x reply answers declined ends leaves moves honest =
+-- the step is an Ask
+abbrev IsAskStep : Step (Option Feed) → Type 0
+IsAskStep step.Ask = Unit {0}
+IsAskStep _ = ⊥
+
+-- only an Ask asks in vain
+vain-asks : (x : Step (Option Feed)) (asked : StepValue) (reply : ReplyValue) → IsStep (λ f. f) x asked → IsAskInVain asked reply → IsAskStep x
+vain-asks step.Ask Ask reply is v = tt
+vain-asks (step.AsReader k) Ask reply is v = elim is [ ]
+vain-asks (step.Read k n) Ask reply is v = elim is [ ]
+vain-asks (step.Respond k r) Ask reply is v = elim is [ ]
+vain-asks (step.IntoWriter k) Ask reply is v = elim is [ ]
+vain-asks (step.Write k w) Ask reply is v = elim is [ ]
+vain-asks (step.Flush k) Ask reply is v = elim is [ ]
+vain-asks (step.Upgrade k p r) Ask reply is v = elim is [ ]
+vain-asks (step.Finish k) Ask reply is v = elim is [ ]
+vain-asks (step.Drop k) Ask reply is v = elim is [ ]
+vain-asks x (AsReader k) reply is v = elim v [ ]
+vain-asks x (Read k n) reply is v = elim v [ ]
+vain-asks x (Respond k r) reply is v = elim v [ ]
+vain-asks x (IntoWriter k) reply is v = elim v [ ]
+vain-asks x (Write k w) reply is v = elim v [ ]
+vain-asks x (Flush k) reply is v = elim v [ ]
+vain-asks x (Upgrade k p r) reply is v = elim v [ ]
+vain-asks x (Finish k) reply is v = elim v [ ]
+vain-asks x (Drop k) reply is v = elim v [ ]
+
+-- where a step has led, and what is known where it asked in vain
+abbrev Leads : Feed → Sink → Kept → State → HttpDate → StepValue → ReplyValue → Type 0
+Leads client before k s now asked reply =
+    (new : State) × Stands client before k new × StepsTo s now asked reply new × (IsAskInVain asked reply → (new.reached.asking_ended ≡ true) × (new.reached.rest ≡ [] → BeginsMore k.profile client))
+
+takes-found : {R W : Type 0} (old new : ConnectionState R W) (now : HttpDate) (x : Step (Option Feed)) (reply : ReplyValue)
+    → ((client : Feed) (before : Sink) (s : State) (asked : StepValue) → before.failures < 2 ^ 64 - 1 → IsStep (λ f. f) x asked → Stands client before (kept old) s → Leads client before (kept new) s now asked reply)
+    → (IsDeclined x reply → new ≡ old) → StepEnds x old new reply → StepLeaves x old new reply → MovesBy x reply old new → ((kind : ErrorKind) → reply ≡ Fault kind → ReportsFault old new now x kind) → StepTells old new now x reply → TakesStep old new now x reply
+takes-found old new now x reply answers declined ends leaves moves honest tells =
     record {
       does = λ p client before steps replies asked is done.
           let a = answers client before done.at asked done.fresh.can_count is done.stands in
-          record { profile = moves.profile ∙ done.profile; fresh = done.fresh; items = done.items; pipeline = done.pipeline; at = a.0; run = run-more _ done.at a.0 steps replies (now, asked) reply done.run a.2; stands = a.1 };
+          let profile = moves.profile ∙ done.profile in
+          let M : Profile → Type 0 = λ q. BeginsMore q client in
+          record {
+            profile = profile;
+            fresh = done.fresh;
+            items = done.items;
+            pipeline = done.pipeline;
+            at = a.0;
+            run = run-more _ done.at a.0 steps replies (now, asked) reply done.run a.2;
+            stands = a.1;
+            memory = λ vain. ⊎_elim
+                (λ before. (let m = done.memory before in let e = steps-stay done.at now asked reply a.0 m.0 a.2 in (e.0, λ none. m.1 (sym e.1 ∙ none))))
+                (λ v. (let m = a.3 v in (m.0, λ none. subst M profile (m.1 none))))
+                (vain-snoc (start_state done.items) done.at steps replies (now, asked) reply done.run vain);
+          };
       profile = moves.profile;
       declined = declined;
       ends = ends;
@@ -203,7 +255,16 @@ takes old new now x reply answers declined ends leaves moves honest =
       flushed = moves.flushed;
       sent_on = moves.sent_on;
       honest = honest;
+      tells = tells;
     }
+
+pub takes : {R W : Type 0} (old new : ConnectionState R W) (now : HttpDate) (x : Step (Option Feed)) (reply : ReplyValue)
+    → ((client : Feed) (before : Sink) (s : State) (asked : StepValue) → before.failures < 2 ^ 64 - 1 → IsStep (λ f. f) x asked → Stands client before (kept old) s → StepIsAnswered client before (kept new) s now asked reply)
+    → (IsDeclined x reply → new ≡ old) → StepEnds x old new reply → StepLeaves x old new reply → MovesBy x reply old new → ((kind : ErrorKind) → reply ≡ Fault kind → ReportsFault old new now x kind) → StepTells old new now x reply → (IsAskStep x → ⊥) → TakesStep old new now x reply
+takes old new now x reply answers declined ends leaves moves honest tells other =
+    takes-found old new now x reply
+    (λ client before s asked low is st. (let a = answers client before s asked low is st in (a.0, a.1, a.2, λ v. absurd (other (vain-asks x asked reply is v)))))
+    declined ends leaves moves honest tells
 
 -- the body of what is kept under one number was given up
 pub gives-up-of : {R : Type 0} (old new : SourceState R) (o : Option (Option Unfinished)) (u : Unfinished) → o ≡ Some (Some u) → GivesUpBody (kept_body (Some u)) old new → (v : Unfinished) → o ≡ Some (Some v) → GivesUpBody (kept_body (Some v)) old new
@@ -248,10 +309,10 @@ ask-reports-none old new Refused h kind e = cc
 ask-reports-none old new NoSuch h kind e = cc
 ask-reports-none old new Memory h kind e = cc
 
-pub ask-step : {R W : Type 0} (old new : ConnectionState R W) (now : HttpDate) (reply : ReplyValue)
-    → ((client : Feed) (before : Sink) (s : State) → before.failures < 2 ^ 64 - 1 → Stands client before (kept old) s → StepIsAnswered client before (kept new) s now Ask reply)
+pub ask-found : {R W : Type 0} (old new : ConnectionState R W) (now : HttpDate) (reply : ReplyValue)
+    → ((client : Feed) (before : Sink) (s : State) → before.failures < 2 ^ 64 - 1 → Stands client before (kept old) s → AskIsAnswered client before (kept new) s now reply)
     → (IsDeclined step.Ask reply → new ≡ old) → AskEnds old new reply → AskLeaves old new reply → Moves false old new → AskStep old new now reply
-ask-step old new now reply answers declined ends leaves moves = record {
+ask-found old new now reply answers declined ends leaves moves = record {
   does = answers;
   profile = moves.profile;
   declined = declined;
@@ -263,13 +324,44 @@ ask-step old new now reply answers declined ends leaves moves = record {
   sent_on = λ was. moves.sent_on (λ z. was);
 }
 
+-- memory was found
+pub ask-step : {R W : Type 0} (old new : ConnectionState R W) (now : HttpDate) (reply : ReplyValue) → ((client : Feed) (p : Profile) (left : State) → FoundHead client p reply left)
+    → ((client : Feed) (before : Sink) (s : State) → before.failures < 2 ^ 64 - 1 → Stands client before (kept old) s → StepIsAnswered client before (kept new) s now Ask reply)
+    → (IsDeclined step.Ask reply → new ≡ old) → AskEnds old new reply → AskLeaves old new reply → Moves false old new → AskStep old new now reply
+ask-step old new now reply found answers declined ends leaves moves =
+    ask-found old new now reply (λ client before s low st. (let a = answers client before s low st in (a.0, a.1, a.2, found client new.profile a.0))) declined ends leaves moves
+
+-- where no memory was found the asking has ended
+vain-ended : {R W : Type 0} (old new : ConnectionState R W) (client : Feed) (reply : ReplyValue) (left : State) → AskEnds old new reply → left.reached.asking_ended ≡ is_some new.end → FoundHead client new.profile reply left → IsAskInVain Ask reply → (left.reached.asking_ended ≡ true) × (left.reached.rest ≡ [] → BeginsMore new.profile client)
+vain-ended old new client Memory left ends same found v = (same ∙ ap is_some ends.1, found)
+vain-ended old new client (Handed k m f) left ends same found v = elim v [ ]
+vain-ended old new client Ended left ends same found v = elim v [ ]
+vain-ended old new client (Given bytes) left ends same found v = elim v [ ]
+vain-ended old new client (Fault kind) left ends same found v = elim v [ ]
+vain-ended old new client NotYet left ends same found v = elim v [ ]
+vain-ended old new client Done left ends same found v = elim v [ ]
+vain-ended old new client Refused left ends same found v = elim v [ ]
+vain-ended old new client NoSuch left ends same found v = elim v [ ]
+
 pub takes-ask : {R W : Type 0} (old new : ConnectionState R W) (now : HttpDate) (reply : ReplyValue) → AskStep old new now reply → TakesStep old new now step.Ask reply
 takes-ask old new now reply a =
-    takes old new now step.Ask reply
-    (λ client before s asked low is st. step-ask {D = Option Feed} (λ f. f) client before (kept new) s now (now, asked) step.Ask reply refl refl is (a.does client before s low st))
+    takes-found old new now step.Ask reply
+    (λ client before s asked low is st. leads client before s asked is (a.does client before s low st))
     a.declined a.ends a.leaves
     (moves-kept step.Ask reply old new (λ sent. refl) (record { profile = a.profile; goes_on = a.goes_on; fails_once = a.fails_once; flushed = λ was. a.flushed (was refl); sent_on = λ was. a.sent_on (was refl) }))
-    (λ kind e. absurd (ask-reports-none old new reply a.ends kind e))
+    (λ kind e. absurd (ask-reports-none old new reply a.ends kind e)) tt
+  where
+    leads : (client : Feed) (before : Sink) (s : State) (asked : StepValue) → IsStep (λ f. f) step.Ask asked → AskIsAnswered client before (kept new) s now reply → Leads client before (kept new) s now asked reply
+    leads client before s Ask is h = (h.0, h.1, h.2, vain-ended old new client reply h.0 a.ends h.1.asking_ended h.3)
+    leads client before s (AsReader k) is h = elim is [ ]
+    leads client before s (Read k n) is h = elim is [ ]
+    leads client before s (Respond k r) is h = elim is [ ]
+    leads client before s (IntoWriter k) is h = elim is [ ]
+    leads client before s (Write k w) is h = elim is [ ]
+    leads client before s (Flush k) is h = elim is [ ]
+    leads client before s (Upgrade k p r) is h = elim is [ ]
+    leads client before s (Finish k) is h = elim is [ ]
+    leads client before s (Drop k) is h = elim is [ ]
 
 -- What a head that is passed leaves: what stood in front of it asks no more than what stands behind it.
 pub record PassesHead {R W : Type 0} (old mid : ConnectionState R W) (now : HttpDate) : Type 0 where
@@ -368,7 +460,7 @@ pub takes-as_reader : {R W : Type 0} (old new : ConnectionState R W) (now : Http
 takes-as_reader old new now n reply answers declined ends leaves moves none =
     takes old new now (step.AsReader n) reply
     (λ client before s asked low is st. step-as_reader {D = Option Feed} (λ f. f) client before (kept new) s now (now, asked) (step.AsReader n) n reply refl refl is (answers client before s low st))
-    declined ends leaves (moves-kept (step.AsReader n) reply old new (λ sent. refl) moves) (λ kind e. absurd (none kind e))
+    declined ends leaves (moves-kept (step.AsReader n) reply old new (λ sent. refl) moves) (λ kind e. absurd (none kind e)) tt (λ ask. ask)
 
 pub takes-drop : {R W : Type 0} (old new : ConnectionState R W) (now : HttpDate) (n : ℕ) (reply : ReplyValue)
     → ((client : Feed) (before : Sink) (s : State) → before.failures < 2 ^ 64 - 1 → Stands client before (kept old) s → StepIsAnswered client before (kept new) s now (Drop n) reply)
@@ -376,7 +468,7 @@ pub takes-drop : {R W : Type 0} (old new : ConnectionState R W) (now : HttpDate)
 takes-drop old new now n reply answers declined ends leaves moves none =
     takes old new now (step.Drop n) reply
     (λ client before s asked low is st. step-drop {D = Option Feed} (λ f. f) client before (kept new) s (now, asked) (step.Drop n) n reply refl is (answers client before s low st))
-    declined ends leaves (moves-kept (step.Drop n) reply old new (λ sent. refl) moves) (λ kind e. absurd (none kind e))
+    declined ends leaves (moves-kept (step.Drop n) reply old new (λ sent. refl) moves) (λ kind e. absurd (none kind e)) tt (λ ask. ask)
 
 pub takes-read : {R W : Type 0} (old new : ConnectionState R W) (now : HttpDate) (n m : ℕ) (reply : ReplyValue)
     → ((client : Feed) (before : Sink) (s : State) → Stands client before (kept old) s → StepIsAnswered client before (kept new) s now (Read n m) reply)
@@ -384,16 +476,16 @@ pub takes-read : {R W : Type 0} (old new : ConnectionState R W) (now : HttpDate)
 takes-read old new now n m reply answers declined ends leaves moves =
     takes old new now (step.Read n m) reply
     (λ client before s asked low is st. step-read {D = Option Feed} (λ f. f) client before (kept new) s (now, asked) (step.Read n m) n m reply refl is (answers client before s st))
-    declined ends leaves (moves-kept (step.Read n m) reply old new (λ sent. refl) moves) (λ kind e. tt)
+    declined ends leaves (moves-kept (step.Read n m) reply old new (λ sent. refl) moves) (λ kind e. tt) tt (λ ask. ask)
 
 pub takes-respond : {R W D : Type 0} (feed : D → Option Feed) (all : Bool) (old new : ConnectionState R W) (now : HttpDate) (n : ℕ) (r : ResponseState D) (reply : ReplyValue)
     → ((client : Feed) (before : Sink) (s : State) (value : ResponseValue) → before.failures < 2 ^ 64 - 1 → IsResponse feed r value → Stands client before (kept old) s → StepIsAnswered client before (kept new) s now (Respond n value) reply)
     → (IsDeclined (step.Respond n (stated_response feed r)) reply → new ≡ old) → RespondEnds n r.answer.closes old new reply → AnswerLeaves n r.answer old new reply → is_done reply ≡ all → Moves all old new → ((kind : ErrorKind) → reply ≡ Fault kind → ReportsFault old new now (step.Respond n (stated_response feed r)) kind)
-    → TakesStep old new now (step.Respond n (stated_response feed r)) reply
-takes-respond feed all old new now n r reply answers declined ends leaves done moves honest =
+    → RespondTells old new now n (stated_response feed r) reply → TakesStep old new now (step.Respond n (stated_response feed r)) reply
+takes-respond feed all old new now n r reply answers declined ends leaves done moves honest tells =
     takes old new now (step.Respond n (stated_response feed r)) reply
     (λ client before s asked low is st. step-respond {D = Option Feed} (λ f. f) client before (kept new) s now (now, asked) (step.Respond n (stated_response feed r)) n (stated_response feed r) reply refl refl is (λ v h. answers client before s v low h st))
-    declined ends leaves (moves-sent (step.Respond n (stated_response feed r)) reply all old new (λ sent. refl) done moves) honest
+    declined ends leaves (moves-sent (step.Respond n (stated_response feed r)) reply all old new (λ sent. refl) done moves) honest tells (λ ask. ask)
 
 pub takes-into_writer : {R W : Type 0} (old new : ConnectionState R W) (now : HttpDate) (n : ℕ) (reply : ReplyValue)
     → ((client : Feed) (before : Sink) (s : State) → before.failures < 2 ^ 64 - 1 → Stands client before (kept old) s → StepIsAnswered client before (kept new) s now (IntoWriter n) reply)
@@ -401,7 +493,7 @@ pub takes-into_writer : {R W : Type 0} (old new : ConnectionState R W) (now : Ht
 takes-into_writer old new now n reply answers declined ends leaves moves none =
     takes old new now (step.IntoWriter n) reply
     (λ client before s asked low is st. step-into_writer {D = Option Feed} (λ f. f) client before (kept new) s (now, asked) (step.IntoWriter n) n reply refl is (answers client before s low st))
-    declined ends leaves (moves-kept (step.IntoWriter n) reply old new (λ sent. refl) moves) (λ kind e. absurd (none kind e))
+    declined ends leaves (moves-kept (step.IntoWriter n) reply old new (λ sent. refl) moves) (λ kind e. absurd (none kind e)) tt (λ ask. ask)
 
 pub takes-finish : {R W : Type 0} (old new : ConnectionState R W) (now : HttpDate) (n : ℕ) (reply : ReplyValue)
     → ((client : Feed) (before : Sink) (s : State) → before.failures < 2 ^ 64 - 1 → Stands client before (kept old) s → StepIsAnswered client before (kept new) s now (Finish n) reply)
@@ -409,24 +501,24 @@ pub takes-finish : {R W : Type 0} (old new : ConnectionState R W) (now : HttpDat
 takes-finish old new now n reply answers declined ends leaves moves none =
     takes old new now (step.Finish n) reply
     (λ client before s asked low is st. step-finish {D = Option Feed} (λ f. f) client before (kept new) s (now, asked) (step.Finish n) n reply refl is (answers client before s low st))
-    declined ends leaves (moves-kept (step.Finish n) reply old new (λ sent. refl) moves) (λ kind e. absurd (none kind e))
+    declined ends leaves (moves-kept (step.Finish n) reply old new (λ sent. refl) moves) (λ kind e. absurd (none kind e)) tt (λ ask. ask)
 
 pub takes-flush : {R W : Type 0} (all : Bool) (old new : ConnectionState R W) (now : HttpDate) (n : ℕ) (reply : ReplyValue)
     → ((client : Feed) (before : Sink) (s : State) → before.failures < 2 ^ 64 - 1 → Stands client before (kept old) s → StepIsAnswered client before (kept new) s now (Flush n) reply)
     → (IsDeclined (step.Flush n) reply → new ≡ old) → new.end ≡ old.end → StepLeaves (step.Flush n) old new reply → is_done reply ≡ all → Moves all old new → ((kind : ErrorKind) → reply ≡ Fault kind → IsOfWriter (output_of old.outlet) (output_of new.outlet) kind)
-    → TakesStep old new now (step.Flush n) reply
-takes-flush all old new now n reply answers declined ends leaves done moves honest =
+    → TellsOfWriter (output_of old.outlet) (output_of new.outlet) reply → TakesStep old new now (step.Flush n) reply
+takes-flush all old new now n reply answers declined ends leaves done moves honest tells =
     takes old new now (step.Flush n) reply
     (λ client before s asked low is st. step-flush {D = Option Feed} (λ f. f) client before (kept new) s (now, asked) (step.Flush n) n reply refl is (answers client before s low st))
-    declined ends leaves (moves-sent (step.Flush n) reply all old new (λ sent. refl) done moves) honest
+    declined ends leaves (moves-sent (step.Flush n) reply all old new (λ sent. refl) done moves) honest tells (λ ask. ask)
 
 -- a Write that wasn't done leaves what is sent on as it was; of one that was nothing is said
 pub takes-write : {R W : Type 0} (old new : ConnectionState R W) (now : HttpDate) (n : ℕ) (v : Vec ℕ) (bytes : List ℕ) (reply : ReplyValue)
     → v.items ≡ bytes → ((client : Feed) (before : Sink) (s : State) → before.failures < 2 ^ 64 - 1 → Stands client before (kept old) s → StepIsAnswered client before (kept new) s now (Write n bytes) reply)
     → (IsDeclined (step.Write n v) reply → new ≡ old) → new.end ≡ old.end → StepLeaves (step.Write n v) old new reply → new.profile ≡ old.profile → GoesOn old.source.feed new.source.feed
     → FailsOnce old.outlet new.outlet → (is_done reply ≡ false → new.outlet ≡ old.outlet) → ((kind : ErrorKind) → reply ≡ Fault kind → IsOfWriter (output_of old.outlet) (output_of new.outlet) kind)
-    → TakesStep old new now (step.Write n v) reply
-takes-write {W = W} old new now n v bytes reply same answers declined ends leaves profile_is goes once still honest =
+    → TellsOfWriter (output_of old.outlet) (output_of new.outlet) reply → TakesStep old new now (step.Write n v) reply
+takes-write {W = W} old new now n v bytes reply same answers declined ends leaves profile_is goes once still honest tells =
     takes old new now (step.Write n v) reply
     (λ client before s asked low is st.
     let P : List ℕ → Type 0 = λ l. StepIsAnswered client before (kept new) s now (Write n l) reply in
@@ -437,7 +529,7 @@ takes-write {W = W} old new now n v bytes reply same answers declined ends leave
       fails_once = once;
       flushed = λ sent was e. let h = apart sent (is_done reply) refl e in ap (λ (o : OutletState W). o.held) (still h.1) ∙ was h.0;
       sent_on = λ sent was e. let h = apart sent (is_done reply) refl e in subst (λ (o : OutletState W). SentOn o) (sym (still h.1)) (was h.0);
-    }) honest
+    }) honest tells (λ ask. ask)
   where
     apart : (sent done : Bool) → is_done reply ≡ done → (sent && not done) ≡ true → (sent ≡ true) × (is_done reply ≡ false)
     apart true false d e = (refl, d)
@@ -451,7 +543,7 @@ pub takes-upgrade : {R W D : Type 0} (feed : D → Option Feed) (all : Bool) (ol
 takes-upgrade feed all old new now n p r reply answers declined ends leaves done moves none =
     takes old new now (step.Upgrade n p (stated_response feed r)) reply
     (λ client before s asked low is st. step-upgrade {D = Option Feed} (λ f. f) client before (kept new) s (now, asked) (step.Upgrade n p (stated_response feed r)) n p (stated_response feed r) reply refl is (λ v same. answers client before s v low same st))
-    declined ends leaves (moves-sent (step.Upgrade n p (stated_response feed r)) reply all old new (λ sent. refl) done moves) (λ kind e. absurd (none kind e))
+    declined ends leaves (moves-sent (step.Upgrade n p (stated_response feed r)) reply all old new (λ sent. refl) done moves) (λ kind e. absurd (none kind e)) tt (λ ask. ask)
 
 -- a step that drops a request
 pub drops-by : {R W : Type 0} (n : ℕ) (w : OpenRequest UnreadBody) (old new : ConnectionState R W) (now : HttpDate) → slice_get old.requests n ≡ Some (Some (still.Waiting w))
@@ -477,7 +569,7 @@ drops-by n w old new now kept answers ends leaves moves = by
         subst T (sym is.0) (takes-respond {D = Option Feed} (λ f. f) false old new now n r Refused
         (λ client before s v low same st.
         let A : Answer → Type 0 = λ a. refuses_code w.by_standard w.is_connect a.status ≡ true in
-        answers client before s (Respond n v) Refused (at-unanswerable now n v w (subst A (sym same.0) refused)) low st) (λ no. elim no [ ]) ends (leaves, is.1) refl moves (λ kind e. cc))
+        answers client before s (Respond n v) Refused (at-unanswerable now n v w (subst A (sym same.0) refused)) low st) (λ no. elim no [ ]) ends (leaves, is.1) refl moves (λ kind e. cc) tt)
     by (step.Respond k r) NoSuch is = elim is [ ]
     by (step.Respond k r) Memory is = elim is [ ]
     by (step.IntoWriter k) reply is = elim is [ ]
@@ -526,12 +618,46 @@ begins {W = W} client before writer c m r o e feed stop outlet fresh =
     let st4 = subst (λ x. S (K [] [] x c.end c.source.stop c.outlet)) (sym o) st3 in
     let st5 = subst (λ x. S (K [] x c.source.standing c.end c.source.stop c.outlet)) (sym r) st4 in
     let st6 = subst (λ x. S (K x c.requests c.source.standing c.end c.source.stop c.outlet)) (sym m) st5 in
-    record { profile = refl; fresh = fresh; items = has.0; pipeline = has.1; at = start_state has.0; run = refl; stands = st6 }
+    record { profile = refl; fresh = fresh; items = has.0; pipeline = has.1; at = start_state has.0; run = refl; stands = st6; memory = λ vain. elim vain [ ] }
 
-pub honest-more : (mid ended : Bool) (a b c : Sink) (x : Answer) (feed : Option Feed) (p : Printing) (kind : ErrorKind) → mid ≡ true → FailsOnceUnlessEnded mid b c ended → IsHonest a b x feed p kind → IsHonest a c x feed p kind
-honest-more true ended a b c x feed p kind e k (inl h) = inl (k.0 ∙ h)
-honest-more true ended a b c x feed p kind e k (inr h) = inr h
-honest-more false ended a b c x feed p kind e k h = let no : false ≡ true = e in cc
+pub honest-more : (mid ended : Bool) (a b c : Sink) (x : Answer) (feed : Option Feed) (p : Printing) (kind : ErrorKind) → mid ≡ true → FailsOnceUnlessEnded mid b c ended → c.last_kind ≡ b.last_kind → IsHonest a b x feed p kind → IsHonest a c x feed p kind
+honest-more true ended a b c x feed p kind e k last (inl h) = let K : Option ErrorKind → Type 0 = λ y. StatesKind y kind in inl (k.0 ∙ h.0, λ low. subst K (sym last) (h.1 low))
+honest-more true ended a b c x feed p kind e k last (inr h) = inr h
+honest-more false ended a b c x feed p kind e k last h = let no : false ≡ true = e in cc
+
+-- what an answer tells of a failure of the writer, before the texts behind it are sent
+abbrev pub AnswerTells : Sink → Sink → Bool → ReplyValue → Answer → Option Feed → Printing → Type 0
+AnswerTells old mid ended reply x feed p = (mid.failures ≡ old.failures) ⊎ ((kind : ErrorKind) × (reply ≡ fault_reply kind) × (ended ≡ true) × IsHonest old mid x feed p kind)
+
+-- and behind them
+pub answer-tells : {W : Type 0} (old : Sink) (mid new : OutletState W) (reply : ReplyValue) (left : Bool) (x : Answer) (feed : Option Feed) (p : Printing) (Own : Type 0)
+    → AnswerTells old (output_of mid) mid.ended reply x feed p → FailsOnce mid new → (mid.ended ≡ true → (output_of new).last_kind ≡ (output_of mid).last_kind) → (left ≡ false → new ≡ mid) → (mid.ended ≡ false → Own)
+    → ((output_of new).failures ≡ old.failures) ⊎ ((kind : ErrorKind) × (reply ≡ fault_reply kind) × IsHonest old (output_of new) x feed p kind) ⊎ ((left ≡ true) × Own)
+answer-tells old mid new reply left x feed p Own (inr h) once last idle own = inr (inl (h.0, h.1, honest-more mid.ended new.ended old (output_of mid) (output_of new) x feed p h.0 h.2 once (last h.2) h.3))
+answer-tells {W = W} old mid new reply left x feed p Own (inl same) once last idle own = by mid.ended refl left refl
+  where
+    Tells : Type 0
+    Tells = ((output_of new).failures ≡ old.failures) ⊎ ((kind : ErrorKind) × (reply ≡ fault_reply kind) × IsHonest old (output_of new) x feed p kind) ⊎ ((left ≡ true) × Own)
+
+    by : (t : Bool) → mid.ended ≡ t → (u : Bool) → left ≡ u → Tells
+    by true e u f = let F : Bool → Type 0 = λ y. FailsOnceUnlessEnded y (output_of mid) (output_of new) new.ended in inl ((subst F e once).0 ∙ same)
+    by false e true f = inr (inr (f, own e))
+    by false e false f = inl (ap (λ (o : OutletState W). (output_of o).failures) (idle f) ∙ same)
+
+-- an answer that is reported as sent was flushed
+pub answer-sent_on : (old mid new : Sink) (ended : Bool) (reply : ReplyValue) (x : Answer) (content : Feed) (p : Printing) (taken : List ℕ) → ended ≡ false → Answers old mid ended reply x content p → old.taken ≡ Some taken → IsFront mid.sent new.sent → IsFront (taken ++ (text_of x content p).bytes) new.sent
+answer-sent_on old mid new ended reply x content p taken goes a known keeps = by a.0 a.2
+  where
+    by : (r : Result (Unit {0}) Error) → Sends old mid ended r x content p → IsFront (taken ++ (text_of x content p).bytes) new.sent
+    by (Ok u) (inl s) =
+        let A : Option (List ℕ) → Type 0 = λ y. IsAllKnown mid.sent y in
+        let F : List ℕ → Type 0 = λ y. IsFront y new.sent in
+        let text = (text_of x content p).bytes in
+        let all = subst A (s.1.bytes ∙ ap (λ y. append_known y text) known) (a.3 s.3) in
+        subst F all keeps
+    by (Ok u) (inr s) = let no : Broken OutOfMemory ≡ Whole = s.1.0 in cc
+    by (Err e) (inl s) = let no : true ≡ false = sym s.0 ∙ goes in cc
+    by (Err e) (inr s) = let no : true ≡ false = sym s.1.0 ∙ goes in cc
 
 -- a step, and what it is in place of its data
 is-stated : {D : Type 0} (feed : D → Option Feed) (x : Step D) (asked : StepValue) → IsStep feed x asked → IsStep (λ f. f) (stated_step feed x) asked
@@ -564,6 +690,18 @@ may-fail feed old new now (step.Drop k) kind h = h
 
 pub reports-step : {R W D : Type 0} (feed : D → Option Feed) (old new : ConnectionState R W) (t : Timed D) (reply : Reply) → ((kind : ErrorKind) → seen reply ≡ Fault kind → ReportsFault old new t.now (stated_step feed t.step) kind) → ReportsHonestly feed (output_of old.outlet) (output_of new.outlet) t reply
 reports-step feed old new t reply h kind e = may-fail feed old new t.now t.step kind (h kind e)
+
+pub tells-step : {R W D : Type 0} (feed : D → Option Feed) (old new : ConnectionState R W) (now : HttpDate) (x : Step D) (reply : ReplyValue) → StepTells old new now (stated_step feed x) reply → WriteTells (output_of old.outlet) (output_of new.outlet) x reply
+tells-step feed old new now step.Ask reply h = tt
+tells-step feed old new now (step.AsReader k) reply h = tt
+tells-step feed old new now (step.Read k n) reply h = tt
+tells-step feed old new now (step.Respond k r) reply h = tt
+tells-step feed old new now (step.IntoWriter k) reply h = tt
+tells-step feed old new now (step.Write k v) reply h = h
+tells-step feed old new now (step.Flush k) reply h = h
+tells-step feed old new now (step.Upgrade k p r) reply h = tt
+tells-step feed old new now (step.Finish k) reply h = tt
+tells-step feed old new now (step.Drop k) reply h = tt
 
 pub done-none : {R W X : Type 0} (stated : X → TimedValue → Type 0) (p : Profile) (client : Feed) (before : Sink) (c : ConnectionState R W) (dated : List TimedValue) → HasDone p client before c [] [] → AllZip stated [] dated → HasDone p client before c dated []
 done-none stated p client before c [] h t = h

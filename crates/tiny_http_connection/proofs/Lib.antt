@@ -19,6 +19,7 @@ pub mod ConnectionWriter
 pub mod ConnectionUpgrade
 pub mod PendingLemmas
 pub mod SeenLemmas
+pub mod ConversationEnded
 pub mod ConversationRuns
 pub mod DrivingLemmas
 pub mod ConversationReadingRows

@@ -10,8 +10,9 @@ use Rattle.tiny_http_turns.specs.declared.turns.Finishing.{Finishing}
 use Rattle.tiny_http_turns.specs.declared.turns.Finishing.TheVariants.{Passed as IsPassed, Go, Strange as IsStrange}
 use Rattle.tiny_http_turns.specs.declared.turns.Leaving.{Leaving}
 use Rattle.tiny_http_turns.specs.declared.turns.Leaving.TheVariants.{Left as IsLeft, Go as LeaveGo, Strange as LeaveStrange}
-use Rattle.tiny_http_response.specs.Sending.{CanSend, IsFlushed, FailsOnce, SendsQuietlyOn, SendsUnlessEnded}
+use Rattle.tiny_http_response.specs.Sending.{CanSend, IsFlushed, FailsOnce, KeepsSent, SendsQuietlyOn, SendsUnlessEnded}
 use Rattle.tiny_http_io.specs.Outlet.{OutletState, output_of}
+use Rattle.tiny_http_io.proofs.DeviceLemmas.{IsFront-append}
 use Rattle.tiny_http_turns.specs.Passing.{Holds, WritesTexts, FinishesOne, PassesOn}
 use Rattle.tiny_http_connection.specs.declared.pending.HeldNumber.{HeldNumber}
 use Rattle.tiny_http_turns.specs.Turns.{Mark, Open, Held, Left, Finished, AreInShape, TurnsState, first_unfinished, Goes, Passed, Waits, TurnOutcome, Finish, Leave, turn_outcome, turn_answer, marks_after_step, finish_at, pass_to, leave_at}
@@ -20,7 +21,7 @@ use Rattle.tiny_http_body.specs.declared.body.UnreadBody.{UnreadBody}
 use Rattle.tiny_http_open_request.specs.declared.open_request.OpenRequest.{OpenRequest}
 use Rattle.tiny_http_connection.specs.declared.pending.Unfinished.{Unfinished}
 use Rattle.tiny_http_connection.specs.declared.pending.Unfinished.TheVariants as still
-use Rattle.tiny_http_connection.specs.Pending.{left_text, with_left_finished, begins_left, SendsLeft, FinishesFront, LeavesText, WritesHeld, FinishesHeld, waiting_answer_context, closing_number, last_closing}
+use Rattle.tiny_http_connection.specs.Pending.{left_text, with_left_finished, begins_left, is_left, SendsLeft, FinishesFront, LeavesText, WritesHeld, FinishesHeld, waiting_answer_context, closing_number, last_closing}
 use Rattle.tiny_http_open_request.specs.OpenRequest.{closing}
 use Rattle.tiny_http_connection.proofs.ConnectionKept.{get-at, set-at}
 use Rattle.tiny_http_response.proofs.SendingLemmas.{once-append, sends-append, sends-can}
@@ -202,6 +203,39 @@ pass-goes front rest marks mid final number was old now ended r next u before be
         let P : List ℕ → Type 0 = λ y. SendsUnlessEnded was old now ended (y ++ left_text x) in
         (s.0 ∙ append_assoc front (Finished ∷ []) (Finished ∷ with_left_finished x), λ can. (subst P o.1.1 (s.1 can), flushed))
 
+-- a text comes out only where one was left
+pub goes-left : (front rest marks mid : List Mark) (number : ℕ) (r : Finishing (Unit {0})) (next : Vec ℕ) (u : Unit {0}) (before behind : Option (Unit {0}))
+    → marks ≡ front ++ (Held ∷ rest) → length front ≡ number → FinishingReported marks mid number r before behind → r ≡ Go u next → begins_left rest ≡ false → ⊥
+goes-left front rest marks mid number r next u before behind e place stated is none =
+    (finishing-other front rest mid (Go u next) before behind none (finishing-at front rest mid marks number (Go u next) before behind e place (subst (λ x. FinishingReported marks mid number x before behind) is stated))).1
+
+-- a number that is held, and those around it
+pub around-held : (marks : List Mark) (n : ℕ) → slice_get marks n ≡ Some Open → (front : List Mark) × (rest : List Mark) × (slice_set marks n Held ≡ front ++ (Held ∷ rest)) × (length front ≡ n) × (begins_left rest ≡ is_left (slice_get marks (n + 1)))
+around-held [] n e = cc
+around-held (m ∷ marks) zero e = ([], marks, refl, refl, first marks)
+  where
+    first : (l : List Mark) → begins_left l ≡ is_left (slice_get l 0)
+    first [] = refl
+    first (Open ∷ l) = refl
+    first (Held ∷ l) = refl
+    first (Left text ∷ l) = refl
+    first (Finished ∷ l) = refl
+around-held (m ∷ marks) (suc n) e =
+    let h = around-held marks n e in
+    let next : suc (n + 1) ≡ suc n + 1 = omega arith in
+    (m ∷ h.0, h.1, ap (λ l. m ∷ l) h.2, ap suc h.3, h.4 ∙ ap (λ k. is_left (slice_get (m ∷ marks) k)) next)
+
+-- what the writer states of its last fault stays where the outlet has ended
+pub left-kind : (rest : List Mark) (was : Bool) (old new : Sink) (ended : Bool) → was ≡ true → SendsLeft rest was old new ended → new.last_kind ≡ old.last_kind
+left-kind rest was old new ended e h = by (begins_left rest) h
+  where
+    idle : SendsUnlessEnded was old new ended (left_text rest) → new.last_kind ≡ old.last_kind
+    idle s = let P : Bool → Type 0 = λ x. SendsUnlessEnded x old new ended (left_text rest) in (subst P e s).0.last_kind
+
+    by : (t : Bool) → MatchBool t (SendsUnlessEnded was old new ended (left_text rest) × IsFlushed new) ((new ≡ old) × (ended ≡ was)) → new.last_kind ≡ old.last_kind
+    by true s = idle s.0
+    by false s = ap (λ (x : Sink). x.last_kind) s.0
+
 pub pass-ends : (front rest marks mid : List Mark) (number : ℕ) (was : Bool) (old : Sink) (r : Finishing (Unit {0})) (before behind : Option (Unit {0}))
     → marks ≡ front ++ (Held ∷ rest) → length front ≡ number → FinishingReported marks mid number r before behind → ((u : Unit {0}) (next : Vec ℕ) → r ≡ Go u next → ⊥)
     → FinishesFront front rest mid × SendsLeft rest was old old was
@@ -362,6 +396,7 @@ pub record TextsWritten {W : Type 0} (here : Holds HeldNumber (TurnsState (Unit 
       → WritesLeft front rest there.numbers.marks there.turn.0 text here.output.ended (output_of here.output) (output_of there.output) there.output.ended
   pub counts : length there.numbers.marks ≡ length here.numbers.marks
   pub once : FailsOnce here.output there.output
+  pub keeps : KeepsSent here.output there.output
   pub place : there.turn.0 ≡ here.turn.0 + n
   pub few : (n ≡ 0) ⊎ (there.turn.0 < 2 ^ 64)
 
@@ -377,6 +412,7 @@ texts-written here text there zero h = record {
   writes = λ front rest e place. writes-first front rest there.numbers.marks there.turn.0 text here.output.ended (output_of here.output) (output_of there.output) there.output.ended (ap (λ t. t.marks) h.1 ∙ e) (place ∙ ap (λ k. k.0) (sym h.0.0)) h.0.1;
   counts = ap (λ t. length t.marks) h.1;
   once = h.0.2;
+  keeps = h.0.3;
   place = ap (λ k. k.0) h.0.0 ∙ plus-none here.turn.0;
   few = inl refl;
 }
@@ -399,6 +435,7 @@ texts-written here text there (suc n) h =
           subst (λ k. R k there.numbers.marks) (sym number) (subst (λ marks. R (held.turn.0 + 1) marks) (ap (λ t. t.marks) (sym w.1)) done));
       counts = ap (λ t. length t.marks) w.1 ∙ (ap length f.1 ∙ (length-finished held.turn.0 held.numbers.marks ∙ was));
       once = once-append here.output.ended held.output.ended there.output.ended (output_of here.output) (output_of held.output) (output_of there.output) i.once (fails-at held.output mid.output there.output h.4.1 w.0.2);
+      keeps = IsFront-append (output_of here.output).sent (output_of held.output).sent (output_of there.output).sent i.keeps (keeps-at held.output mid.output there.output h.4.1 w.0.3);
       place = omega (arith, number, place);
       few = inr (rw (same) next.2);
     }
@@ -409,11 +446,14 @@ texts-written here text there (suc n) h =
     fails-at : {W : Type 0} (o p u : OutletState W) → p ≡ o → FailsOnce p u → FailsOnce o u
     fails-at {W = W} o p u e s = let P : OutletState W → Type 0 = λ x. FailsOnce x u in subst P e s
 
+    keeps-at : {W : Type 0} (o p u : OutletState W) → p ≡ o → KeepsSent p u → KeepsSent o u
+    keeps-at {W = W} o p u e s = let P : OutletState W → Type 0 = λ x. KeepsSent x u in subst P e s
+
 -- a turn passed on: the texts are written, and the front is finished
 pub passes-on : {W : Type 0} (here : Holds HeldNumber (TurnsState (Unit {0})) (OutletState W)) (text : List ℕ) (there : Holds HeldNumber (TurnsState (Unit {0})) (OutletState W)) → PassesOn WritesHeld FinishesHeld here text there
     → ((front rest : List Mark) → here.numbers.marks ≡ front ++ (Held ∷ rest) → length front ≡ here.turn.0
     → FinishesFront front rest there.numbers.marks × SendsQuietlyOn here.output there.output (text ++ left_text rest))
-    × (length there.numbers.marks ≡ length here.numbers.marks) × FailsOnce here.output there.output
+    × (length there.numbers.marks ≡ length here.numbers.marks) × FailsOnce here.output there.output × KeepsSent here.output there.output
 passes-on {W = W} here text there p = ⊎_elim ends (λ many. absurd (none many.0)) p.ends
   where
     i : TextsWritten here text p.last p.passed
@@ -425,7 +465,7 @@ passes-on {W = W} here text there p = ⊎_elim ends (λ many. absurd (none many.
     Goal : OutletState W → Type 0
     Goal o = ((front rest : List Mark) → here.numbers.marks ≡ front ++ (Held ∷ rest) → length front ≡ here.turn.0
         → FinishesFront front rest there.numbers.marks × SendsQuietlyOn here.output o (text ++ left_text rest))
-        × (length there.numbers.marks ≡ length here.numbers.marks) × FailsOnce here.output o
+        × (length there.numbers.marks ≡ length here.numbers.marks) × FailsOnce here.output o × KeepsSent here.output o
 
     ends : FinishesOne FinishesHeld p.last None there → Goal there.output
     ends f =
@@ -435,6 +475,7 @@ passes-on {W = W} here text there p = ⊎_elim ends (λ many. absurd (none many.
               (finishing-reported p.last.numbers.marks there.numbers.marks p.last.turn.0 g.0 p.last.numbers.resting there.numbers.resting g.1 g.2) g.3,
           ap length g.1 ∙ (length-finished p.last.turn.0 p.last.numbers.marks ∙ i.counts),
           i.once,
+          i.keeps,
         )
 
 -- the last number, if it waits, is told that the connection ends

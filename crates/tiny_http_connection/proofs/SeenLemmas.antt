@@ -84,15 +84,6 @@ step-drop feed client before k s d x n reply e stated h =
     let Q : StepValue → Type 0 = λ y. StepIsAnswered client before k s d.0 y reply in
     subst Q (sym is) h
 
-pub step-ask : {D : Type 0} (feed : D → Option Feed) (client : Feed) (before : Sink) (k : Kept) (s : State) (now : HttpDate) (d : TimedValue) (x : Step D) (reply : ReplyValue) → x ≡ step.Ask → d.0 ≡ now → IsStep feed x d.1
-    → StepIsAnswered client before k s now Ask reply → StepIsAnswered client before k s d.0 d.1 reply
-step-ask feed client before k s now d x reply e date stated h =
-    let P : Step _ → Type 0 = λ y. IsStep feed y d.1 in
-    let is = is-ask feed d.1 (subst P e stated) in
-    let Q : StepValue → Type 0 = λ y. StepIsAnswered client before k s now y reply in
-    let R : HttpDate → Type 0 = λ y. StepIsAnswered client before k s y d.1 reply in
-    subst R (sym date) (subst Q (sym is) h)
-
 pub step-respond : {D : Type 0} (feed : D → Option Feed) (client : Feed) (before : Sink) (k : Kept) (s : State) (now : HttpDate) (d : TimedValue) (x : Step D) (n : ℕ) (r : ResponseState D) (reply : ReplyValue) → x ≡ step.Respond n r → d.0 ≡ now → IsStep feed x d.1
     → ((v : ResponseValue) → IsResponse feed r v → StepIsAnswered client before k s now (Respond n v) reply) → StepIsAnswered client before k s d.0 d.1 reply
 step-respond feed client before k s now d x n r reply e date stated h =

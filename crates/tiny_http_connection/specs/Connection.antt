@@ -28,7 +28,7 @@ use Rattle.tiny_http_io.specs.declared.source.Standing.{Standing}
 use Rattle.tiny_http_io.specs.declared.source.Standing.TheVariants as at
 use Rattle.tiny_http_io.specs.Outlet.{OutletState, output_of}
 use Rattle.tiny_http_open_request.specs.Pipeline.{Item, Asks, Refuses, Request, is_head_method, is_connect_method}
-use Rattle.tiny_http_open_request.specs.Pipeline.{body_length_or_0}
+use Rattle.tiny_http_open_request.specs.Pipeline.{body_length_or_0, Pipeline}
 use Rattle.tiny_http_connection.specs.Segments.{Slot, Stage, ByServer, Raw, Upgraded, is_finished}
 use Rattle.tiny_http_connection.specs.Slots.{closes_now, is_output_broken, joined, new_slot}
 use Rattle.tiny_http_connection.specs.Segments.{is_slot_broken, segment, stage_text}
@@ -37,7 +37,7 @@ use Rattle.tiny_http_connection.specs.Slots.{last_was_abandoned, rest_of}
 use Rattle.tiny_http_connection.specs.Outcomes.{finished_as}
 use Rattle.tiny_http_response.specs.ResponseValue.{ResponseValue}
 use Rattle.tiny_http_turns.specs.Turns.{Mark, Open, Left, Finished, AreInShape}
-use Rattle.tiny_http_connection.specs.Conversation.{State, Failure, PlaceAt}
+use Rattle.tiny_http_connection.specs.Conversation.{State, Failure, PlaceAt, BeginsBehind}
 
 -- What the program keeps of a connection: its profile, the turns of its numbers, what is kept of those that aren't
 -- finished, where the input stands among heads and bodies, whether the asking has ended, what is still to come of the
@@ -262,20 +262,37 @@ is_in_body at.Last = false
 is_in_body at.Abandoned = false
 is_in_body (at.Broken kind) = false
 
+-- behind the client's whole pipeline a byte of a further head comes, or the reader times out there
+abbrev pub BeginsMore : Profile → Feed → Type 0
+BeginsMore p client =
+    (items : List Item)
+    × Pipeline p (Some client.bytes) client.stop items
+    × BeginsBehind p (Some client.bytes) client.stop items
+
+abbrev pub BeginsBehindAt : Profile → Option Feed → List Item → Type 0
+BeginsBehindAt p None rest = ⊥
+BeginsBehindAt p (Some f) rest = BeginsBehind p (Some f.bytes) f.stop rest
+
+-- The bytes still ask this of the client's pipeline; while a head may follow, what begins behind it begins behind the
+-- whole.
+abbrev pub PlaceOf : Feed → Profile → Bool → Option Feed → List Item → Type 0
+PlaceOf client p past feed rest =
+    PlaceAt p past feed rest × (past ≡ false → BeginsBehindAt p feed rest → BeginsMore p client)
+
 -- Where the next head is read, while the asking hasn't ended: after the last body; and nowhere after the last head, or
 -- after a chunked body that was given up before its end. The input knows whether it stands within that body.
-pub record NextHead (k : Kept) (last : Option Slot) (rest : List Item) : Type 0 where
+pub record NextHead (client : Feed) (k : Kept) (last : Option Slot) (rest : List Item) : Type 0 where
   pub is_last : is_past_last k.standing ≡ is_last_slot last
   pub within : is_in_body k.standing ≡ (not (is_last_slot last) && is_streaming_body (last_body k.requests))
   pub lost : last_was_abandoned last ≡ true → InputEnded k × (k.feed ≡ Some (stopped End))
   pub place : last_was_abandoned last ≡ false
-      → PlaceAt k.profile (is_past_last k.standing) (behind_body (last_body k.requests) k.feed) rest
+      → PlaceOf client k.profile (is_past_last k.standing) (behind_body (last_body k.requests) k.feed) rest
 
 -- how the input stands to the bodies and to the rest of the pipeline, after this much of the client's feed
 pub record InputStands (client : Feed) (k : Kept) (slots : List Slot) (rest : List Item) : Type 0 where
   pub settled : AreSettled k.requests
   pub gives : GivesRest (last_body k.requests) (last_slot slots) k.feed
-  pub next : k.asking_ended ≡ false → NextHead k (last_slot slots) rest
+  pub next : k.asking_ended ≡ false → NextHead client k (last_slot slots) rest
   pub follows : last_holds_next_head k.requests ≡ true → FollowsLast (last_body k.requests) (last_slot slots) k.feed
   pub source : GoesOn (Some client) k.feed
 

@@ -10,6 +10,9 @@ use Rattle.httpdate.specs.declared.date.HttpDate.{HttpDate}
 use Rattle.tiny_http_io.specs.Device.{Feed, Sink, IsFront, StatesKind}
 use Rattle.tiny_http_body.specs.declared.framing.Profile.{Profile}
 use Rattle.tiny_http_open_request.specs.Pipeline.{Item, Asks, Refuses, Place, body_length_or_0, Pipeline, place_after}
+use Rattle.tiny_http_open_request.specs.Pipeline.{OneHead}
+use Rattle.tiny_http_open_request.specs.HeadReads.{HasByteOrTimedOut}
+use Rattle.tiny_http_io.specs.declared.device.Stop.{Stop}
 use Rattle.tiny_http_open_request.specs.BodyRemains.{RemainsAt}
 use Rattle.tiny_http_io.specs.declared.device.Stop.TheVariants.{End}
 use Rattle.tiny_http_io.specs.ToCome.{stopped}
@@ -237,8 +240,26 @@ InputAt p old feed =
     (MatchBool (last_is_open (last_slot old.slots)) (WithinLast p (last_slot old.slots) feed old.rest)
     (PlaceAt p (is_last_slot (last_slot old.slots)) feed old.rest)))
 
+-- behind all these heads a byte of a further one comes, or the reader times out there
+abbrev pub BeginsBehind : Profile → Place → Stop → List Item → Type 0
+BeginsBehind p None stop items = ⊥
+BeginsBehind p (Some bytes) stop [] = HasByteOrTimedOut (Some (record { bytes = bytes; stop = stop }))
+BeginsBehind p (Some bytes) stop (item ∷ items) =
+    (next : Place) × OneHead p bytes stop (Some item) next × BeginsBehind p next stop items
+
+-- this is an Ask for which no memory was found
+abbrev pub IsAskInVain : StepValue → ReplyValue → Type 0
+IsAskInVain Ask Memory = Unit {0}
+IsAskInVain _ _ = ⊥
+
+-- one of the steps is
+abbrev pub AsksInVain : List TimedValue → List ReplyValue → Type 0
+AsksInVain (s ∷ steps) (r ∷ replies) = IsAskInVain s.1 r ⊎ AsksInVain steps replies
+AsksInVain _ _ = ⊥
+
 -- THE CONNECTION THEOREM: replies and output are those of a run over the pipeline that stands in the feed under this
--- profile; and this of the feed is left.
+-- profile; and this of the feed is left. No memory is asked for where no head comes: if an Ask found none, an item of
+-- the pipeline is left, or behind them all a byte of a further head comes, or the reader times out there.
 pub record IsConversation (p : Profile) (feed : Feed) (before : Sink) (steps : List TimedValue)
     (replies : List ReplyValue) (after : Sink) (held : List ℕ) (ended : Bool) (unread : Option Feed) : Type 0 where
   pub items : List Item
@@ -247,6 +268,7 @@ pub record IsConversation (p : Profile) (feed : Feed) (before : Sink) (steps : L
   pub run : Run (start_state items) steps replies end
   pub output : IsOutput end.reached.slots end.flushed end.failure before after held ended
   pub input : InputAt p end.reached unread
+  pub memory : AsksInVain steps replies → end.reached.rest ≡ [] → BeginsBehind p (Some feed.bytes) feed.stop items
 
 -- the writer as a run takes it: it states that it took no bytes, it has not ended, and its count can rise
 pub record IsFresh (sink : Sink) : Type 0 where

@@ -2,11 +2,11 @@
 -- Nobody needs this file to believe the laws of `InShort`.
 use Rattle.std.specs.Prelude.{◌≡◌, ◌⊎◌, ◌||◌, ℕ, ◌+◌, Bool, true, false, List, [], ◌∷◌, ◌++◌, length, replicate}
 use Rattle.std.specs.Prelude.{Option, Some, None, IsSome, MatchBool, slice_get, slice_set, if◌then◌else◌}
-use Rattle.std.specs.Prelude.{string_bytes, ⊤}
+use Rattle.std.specs.Prelude.{string_bytes, ◌<◌, ◌^◌, ⊤}
 use Rattle.std.specs.declared.io.ErrorKind.{ErrorKind}
 use Rattle.httpdate.specs.declared.date.HttpDate.{HttpDate}
-use Rattle.tiny_http_io.specs.Device.{Feed, Sink}
-use Rattle.tiny_http_response.specs.Answer.{Answer, ResponseState}
+use Rattle.tiny_http_io.specs.Device.{Feed, Sink, IsFront}
+use Rattle.tiny_http_response.specs.Answer.{Answer, ResponseState, text_of}
 use Rattle.tiny_http_connection.specs.declared.driver.Step.{Step}
 use Rattle.tiny_http_connection.specs.declared.driver.Step.TheVariants as step
 use Rattle.tiny_http_io.specs.Source.{SourceState, GoesOn, IsAtEnd}
@@ -23,20 +23,22 @@ use Rattle.tiny_http_open_request.specs.Pipeline.{Item, Manner, Refuses, Refusal
 use Rattle.tiny_http_open_request.specs.Pipeline.{Place, place_feed}
 use Rattle.tiny_http_connection.specs.Steps.{StepValue, ReplyValue, Handed, Ended, NotYet, Done, Refused, NoSuch}
 use Rattle.tiny_http_connection.specs.Steps.{Memory, Fault, TimedValue}
-use Rattle.tiny_http_connection.specs.Conversation.{State, Run, start_state, IsFresh, IsPassedOver}
+use Rattle.tiny_http_connection.specs.Conversation.{State, Run, start_state, IsFresh, IsPassedOver, AsksInVain}
 use Rattle.tiny_http_response.specs.declared.answer_context.AnswerContext.{AnswerContext}
 use Rattle.tiny_http_response.specs.ResponseValue.{printing_in}
-use Rattle.tiny_http_response.specs.Sending.{IsHonest, FailsOnce}
+use Rattle.tiny_http_response.specs.Sending.{CanSend, IsHonest, FailsOnce}
 use Rattle.tiny_http_connection.specs.Pending.{waiting_answer_context, owes_continue, is_last_once_finished_at}
 use Rattle.tiny_http_connection.specs.Pending.{refuses_at, refuses_upgrade_at, is_last_with_stream_at, asked_to_close}
-use Rattle.tiny_http_connection.specs.Pending.{last_holds_next_head, kept_body, GivesUpBody, with_body}
+use Rattle.tiny_http_connection.specs.Pending.{last_holds_next_head, kept_body, GivesUpBody, with_body, is_left}
 use Rattle.tiny_http_body.specs.declared.body.UnreadBody.{UnreadBody}
 use Rattle.tiny_http_open_request.specs.declared.open_request.OpenRequest.{OpenRequest}
 use Rattle.tiny_http_connection.specs.declared.pending.Unfinished.{Unfinished}
 use Rattle.tiny_http_connection.specs.declared.pending.Unfinished.TheVariants as still
 use Rattle.tiny_http_body.specs.Body.{is_streaming, stream_body, body_standing}
-use Rattle.tiny_http_connection.specs.Seen.{IsStep, IsAnswered, IsOfWriter, all_sent_after}
-use Rattle.tiny_http_connection.specs.Connection.{ConnectionState, kept, Stands}
+use Rattle.tiny_http_connection.specs.Seen.{IsStep, IsAnswered, IsOfWriter, TellsOfWriter, all_sent_after}
+use Rattle.tiny_http_connection.specs.Outcomes.{fault_reply}
+use Rattle.tiny_http_turns.specs.Turns.{Mark}
+use Rattle.tiny_http_connection.specs.Connection.{ConnectionState, kept, Stands, BeginsMore}
 
 -- By a connection of this profile, over this client's feed and a fresh writer, these steps were done, with these
 -- replies: they are a run over the pipeline that stands in the feed, and the connection stands where it leads.
@@ -49,6 +51,7 @@ pub record HasDone {R W : Type 0} (p : Profile) (client : Feed) (before : Sink) 
   pub at : State
   pub run : Run (start_state items) steps replies at
   pub stands : Stands client before (kept c) at
+  pub memory : AsksInVain steps replies → (at.reached.asking_ended ≡ true) × (at.reached.rest ≡ [] → BeginsMore p client)
 
 -- a response with what its data state, in their place
 abbrev pub stated_response : {D : Type 0} → (D → Option Feed) → ResponseState D → ResponseState (Option Feed)
@@ -311,10 +314,49 @@ ReportsFault old new now (step.Respond k r) kind =
     × (waiting_answer_context (slice_get (asked_to_close r.answer.closes old.requests) k) ≡ Some context)
     × IsHonest (output_of old.outlet) (output_of new.outlet) r.answer r.data_reader (printing_in context now) kind
 
+-- the number behind this one was left: its text is sent as this one is finished
+abbrev pub has_left_behind : List Mark → ℕ → Bool
+has_left_behind marks k = is_left (slice_get marks (k + 1))
+
+-- All of the answer's own text was sent on, behind what the writer had taken, where its data state fewer than 2^63
+-- bytes, the writer takes bytes, and its count can rise.
+abbrev pub AnswerIsSentOn : {R W : Type 0} → ConnectionState R W → ConnectionState R W → HttpDate → ℕ
+    → ResponseState (Option Feed) → Type 0
+AnswerIsSentOn old new now k r =
+    (context : AnswerContext)
+    × (waiting_answer_context (slice_get (asked_to_close r.answer.closes old.requests) k) ≡ Some context)
+    × ((content : Feed) (taken : List ℕ)
+    → r.data_reader ≡ Some content
+    → length content.bytes < 2 ^ 63
+    → CanSend (output_of old.outlet)
+    → (output_of old.outlet).taken ≡ Some taken
+    → IsFront (taken ++ (text_of r.answer content (printing_in context now)).bytes) (output_of new.outlet).sent)
+
+-- An answer tells a failure of the writer by its kind: as `Done` where that says that the client has closed the
+-- connection. It doesn't tell one that was met in a text behind its own, which had been sent on before. Where the
+-- answer is refused the request is dropped, of which no failure is told.
+abbrev pub RespondTells : {R W : Type 0} → ConnectionState R W → ConnectionState R W → HttpDate → ℕ
+    → ResponseState (Option Feed) → ReplyValue → Type 0
+RespondTells old new now k r Refused = Unit {0}
+RespondTells old new now k r reply =
+    ((output_of new.outlet).failures ≡ (output_of old.outlet).failures)
+    ⊎ ((kind : ErrorKind) × (reply ≡ fault_reply kind) × ReportsFault old new now (step.Respond k r) kind)
+    ⊎ ((has_left_behind old.marks k ≡ true) × AnswerIsSentOn old new now k r)
+
+-- WHERE THE WRITER FAILED in a step, and its count rose, the reply tells it: of a Write, of a Flush, and of an answer.
+-- The other steps report no fault of the writer.
+abbrev pub StepTells : {R W : Type 0} → ConnectionState R W → ConnectionState R W → HttpDate → Step (Option Feed)
+    → ReplyValue → Type 0
+StepTells old new now (step.Write k bytes) reply = TellsOfWriter (output_of old.outlet) (output_of new.outlet) reply
+StepTells old new now (step.Flush k) reply = TellsOfWriter (output_of old.outlet) (output_of new.outlet) reply
+StepTells old new now (step.Respond k r) reply = RespondTells old new now k r reply
+StepTells old new now _ reply = Unit {0}
+
 -- One step on a date: what was done is done with this step and its reply after it, and the profile is kept. And
 -- whatever reader, writer and data state: a step that was not done changes nothing, why the requests end is kept, the
 -- other requests are left alone, the source goes on, the writer fails once at most, what is held and what was sent on
--- is told by step and reply, and a fault that is reported is one.
+-- is told by step and reply, a fault that is reported is one, and a failure of the writer is told by the step that met
+-- it.
 pub record TakesStep {R W : Type 0} (old new : ConnectionState R W) (now : HttpDate) (step : Step (Option Feed))
     (reply : ReplyValue) : Type 0 where
   pub does : (p : Profile) (client : Feed) (before : Sink) (steps : List TimedValue) (replies : List ReplyValue)
@@ -332,6 +374,7 @@ pub record TakesStep {R W : Type 0} (old new : ConnectionState R W) (now : HttpD
   pub sent_on : (sent : Bool) → (sent ≡ true → SentOn old.outlet) → all_sent_after step reply sent ≡ true
       → SentOn new.outlet
   pub honest : (kind : ErrorKind) → reply ≡ Fault kind → ReportsFault old new now step kind
+  pub tells : StepTells old new now step reply
 
 -- a step that drops the request of this number, and its reply: a Drop, an answer that is refused, or an Upgrade that is
 abbrev pub IsDropping : List (Option Unfinished) → ℕ → Step (Option Feed) → ReplyValue → Type 0

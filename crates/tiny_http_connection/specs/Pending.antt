@@ -16,7 +16,7 @@ use Rattle.tiny_http_open_request.specs.OpenRequest.{closing, is_last_once_finis
 use Rattle.tiny_http_open_request.specs.OpenRequest.{request_check}
 use Rattle.tiny_http_io.specs.Source.{SourceState}
 use Rattle.tiny_http_io.specs.Outlet.{OutletState, output_of, outlet_ended, outlet_held, SentOn}
-use Rattle.tiny_http_response.specs.Sending.{CanSend, SendsUnlessEnded, SendsQuietlyOn, IsFlushed, FailsOnce}
+use Rattle.tiny_http_response.specs.Sending.{CanSend, SendsUnlessEnded, SendsQuietlyOn, IsFlushed, FailsOnce, KeepsSent}
 use Rattle.tiny_http_turns.specs.Turns.{Mark, Open, Held, Left, Finished, AreInShape, first_unfinished, TurnsState}
 use Rattle.tiny_http_turns.specs.Turns.{Finish, marks_after_step, turn_answer}
 use Rattle.tiny_http_turns.specs.TurnsCalls.{Finishes}
@@ -46,6 +46,14 @@ begins_left (Open ∷ marks) = false
 begins_left (Held ∷ marks) = false
 begins_left (Left text ∷ marks) = true
 begins_left (Finished ∷ marks) = false
+
+-- the number with this mark was left
+abbrev pub is_left : Option Mark → Bool
+is_left None = false
+is_left (Some Open) = false
+is_left (Some Held) = false
+is_left (Some (Left text)) = true
+is_left (Some Finished) = false
 
 -- as a turn passes to these numbers the texts that were left at their front are sent; if there is none, nothing is done
 abbrev pub SendsLeft : List Mark → Bool → Sink → Sink → Bool → Type 0
@@ -207,7 +215,7 @@ pub record RefusesHead {W : Type 0} (p : Pending) (o : OutletState W) (text : Li
 
 -- a text is written in the turn of a number that is held
 abbrev pub WritesHeld : {W : Type 0} → HeldNumber → OutletState W → List ℕ → HeldNumber → OutletState W → Type 0
-WritesHeld k o text l u = (l ≡ k) × SendsQuietlyOn o u text × FailsOnce o u
+WritesHeld k o text l u = (l ≡ k) × SendsQuietlyOn o u text × FailsOnce o u × KeepsSent o u
 
 -- what finishing says of the next number: it had been left with this text, and is held; or it hadn't
 abbrev pub NextHeld : HeldNumber → Finishing (Unit {0}) → Option (Vec ℕ) → HeldNumber → Type 0

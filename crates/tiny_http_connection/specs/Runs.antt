@@ -34,7 +34,8 @@ pub record RunsSteps {R W D : Type 0} (client : R → Option Feed) (sink : W →
   pub replies : length done.replies.items ≡ length steps
   -- what the source still gives is the client's bytes from some place on, if the reader states them
   pub source : GoesOn (client reader) done.source.feed
-  -- the writer failed at most once, and a fault that an answer reports is the writer's, or that of its own data
+  -- The writer failed at most once. A fault that an answer reports is the writer's, or that of its own data, and a
+  -- Write or a Flush that met the failure reports it.
   pub fails_once : FailsAtMostOnce (sink writer) (sink done.outlet.writer)
   pub honest : ReportHonestly stated (sink writer) steps done.replies.items (sink done.outlet.writer)
   -- Nothing is held, unless a Write stands behind the last Flush, the last answer and the last upgrade. If the writer

@@ -1,7 +1,7 @@
 -- The program's steps and replies as the definitions see them.
 -- Nobody needs this file to believe the laws of `InShort`.
-use Rattle.std.specs.Prelude.{◌≡◌, ◌<◌, ◌^◌, List, [], ◌∷◌, length, Option, Some, Bool, true, false, not, ◌&&◌, ◌||◌}
-use Rattle.std.specs.Prelude.{Result, Ok, Err, string_bytes}
+use Rattle.std.specs.Prelude.{◌≡◌, ◌⊎◌, ◌<◌, ◌^◌, List, [], ◌∷◌, length, Option, Some, Bool, true, false, not, ◌&&◌}
+use Rattle.std.specs.Prelude.{◌||◌, Result, Ok, Err, string_bytes}
 use Rattle.std.specs.IoError.{error_kind}
 use Rattle.std.specs.declared.io.Error.{Error}
 use Rattle.std.specs.declared.io.ErrorKind.{ErrorKind}
@@ -83,14 +83,26 @@ abbrev pub ReportsHonestly : {D : Type 0} → (D → Option Feed) → Sink → S
 ReportsHonestly feed old new t reply =
     (kind : ErrorKind) → seen reply ≡ Fault kind → MayFail feed old new t.now t.step kind
 
+-- the writer's count stays, or the reply is its fault
+abbrev pub TellsOfWriter : Sink → Sink → ReplyValue → Type 0
+TellsOfWriter old new reply =
+    (new.failures ≡ old.failures) ⊎ ((kind : ErrorKind) × (reply ≡ Fault kind) × IsOfWriter old new kind)
+
+-- a Write and a Flush tell a failure of the writer that they meet
+abbrev pub WriteTells : {D : Type 0} → Sink → Sink → Step D → ReplyValue → Type 0
+WriteTells old new (step.Write k v) reply = TellsOfWriter old new reply
+WriteTells old new (step.Flush k) reply = TellsOfWriter old new reply
+WriteTells old new _ reply = Unit {0}
+
 -- Steps that report their faults so, while the writer's count goes from one number to another: a step raises it at
--- most once.
+-- most once, and a Write or a Flush that does so tells it.
 abbrev pub ReportHonestly : {D : Type 0} → (D → Option Feed) → Sink → List (Timed D) → List Reply → Sink → Type 0
 ReportHonestly feed old [] [] new = new.failures ≡ old.failures
 ReportHonestly feed old (t ∷ steps) (r ∷ replies) new =
     (mid : Sink)
     × FailsAtMostOnce old mid
     × ReportsHonestly feed old mid t r
+    × WriteTells old mid t.step (seen r)
     × ReportHonestly feed mid steps replies new
 ReportHonestly feed old [] (r ∷ replies) new = ⊥
 ReportHonestly feed old (t ∷ steps) [] new = ⊥

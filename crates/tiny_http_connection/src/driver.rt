@@ -1,7 +1,7 @@
 //! A connection driven step by step, or by a list of steps, without threads.
 ghost use Rattle.std.specs.Global.{Global as Heap, Vec};
 ghost use Rattle.std.specs.Prelude.{◌≡◌, ℕ, ◌+◌, ◌-◌, ◌<◌, ◌^◌, true, false, List, [], length, Some, None, Ok, IfOk};
-ghost use Rattle.std.specs.Prelude.{IfErr, IsTrue, is_some, slice_get, String, string_bytes};
+ghost use Rattle.std.specs.Prelude.{◌⊎◌, IfErr, IsTrue, is_some, slice_get, String, string_bytes};
 ghost use Rattle.tiny_http_io.specs.Device.{Feed, Sink};
 ghost use Rattle.tiny_http_response.specs.ResponseValue.{ResponseValue};
 ghost use Rattle.tiny_http_open_request.specs.OpenRequest.{final_context};
@@ -10,6 +10,7 @@ ghost use Rattle.tiny_http_connection.specs.Conversation.{IsConversation, IsFres
 ghost use Rattle.tiny_http_connection.specs.Steps.{TimedValue, ReplyValue, Done, Fault};
 ghost use Rattle.httpdate.specs.declared.date.HttpDate.{HttpDate as Date};
 ghost use Rattle.std.specs.declared.io.ErrorKind.{ErrorKind};
+ghost use Rattle.tiny_http_connection.specs.Outcomes.{fault_reply};
 ghost use Rattle.tiny_http_connection.specs.Pending.{waiting_answer_context};
 ghost use Rattle.tiny_http_connection.specs.Driving.{HasDone, TakesStep, Drops, ends_behind, stated_response};
 ghost use Rattle.tiny_http_connection.specs.Driving.{stated_step};
@@ -187,6 +188,10 @@ fn answer<W: WriteDevice, D: ReadDevice + Drop>(
     ensures honest { (kind : ErrorKind) → seen result ≡ Fault kind → (outlet_ended outlet.new ≡ true)
         × IsHonest (output_of outlet.old) (output_of outlet.new) response.answer (D.feed response.data_reader)
         (printing_in (final_context request.old left) now) kind }
+    ensures tells { ((output_of outlet.new).failures ≡ (output_of outlet.old).failures)
+        ⊎ ((kind : ErrorKind) × (seen result ≡ fault_reply kind) × (outlet_ended outlet.new ≡ true)
+        × IsHonest (output_of outlet.old) (output_of outlet.new) response.answer (D.feed response.data_reader)
+        (printing_in (final_context request.old left) now) kind) }
 {
     Reply::write_reply(reported(request.respond(alloc, outlet, response, left, now)))
 }

@@ -4,7 +4,7 @@ ghost use Rattle.std.specs.Prelude.{None, IfOk, IfSome, IfNone, is_some, OnOk, O
 ghost use Rattle.std.specs.Prelude.{slice_set};
 ghost use Rattle.tiny_http_turns.specs.Turns.{Mark, Open, Held, AreInShape, first_unfinished};
 ghost use Rattle.tiny_http_io.specs.Outlet.{output_of, outlet_ended, outlet_held, SentOn};
-ghost use Rattle.tiny_http_response.specs.Sending.{CanSend, IsFlushed, FailsOnce, SendsQuietlyOn};
+ghost use Rattle.tiny_http_response.specs.Sending.{CanSend, IsFlushed, FailsOnce, KeepsSent, SendsQuietlyOn};
 ghost use Rattle.tiny_http_response.specs.ResponseValue.{printing_in, upgrade_text};
 ghost use Rattle.tiny_http_text.specs.Bytes.{is_ascii};
 ghost use Rattle.tiny_http_io.specs.Device.{Feed};
@@ -19,7 +19,7 @@ ghost use Rattle.tiny_http_connection.specs.Pending.{WaitsAt, left_text, SendsLe
 ghost use Rattle.tiny_http_connection.specs.Pending.{waiting_answer_context, is_readable, is_writable, owes_continue};
 ghost use Rattle.tiny_http_connection.specs.Pending.{holds_next_head_at, refuses_at, refuses_upgrade_at};
 ghost use Rattle.tiny_http_connection.specs.Pending.{is_last_with_stream_at, asked_to_close, last_holds_next_head};
-ghost use Rattle.tiny_http_connection.specs.Pending.{kept_body, GivesUpBody, with_body};
+ghost use Rattle.tiny_http_connection.specs.Pending.{kept_body, GivesUpBody, with_body, begins_left};
 
 use httpdate::HttpDate;
 use std::alloc::{AllocError, Global};
@@ -353,8 +353,12 @@ impl Pending {
             → (outlet_ended outlet.old ≡ false → CanSend (output_of outlet.old))
             → SendsLeft rest (outlet_ended outlet.old) (output_of outlet.old) (output_of outlet.new)
             (outlet_ended outlet.new) }
+        // Where none was left the outlet isn't used, whatever its writer states.
+        ensures idle { (front rest : List Mark) → self.old.turns.marks ≡ front ++ (Held ∷ rest)
+            → length front ≡ number → begins_left rest ≡ false → outlet.new ≡ outlet.old }
         ensures requests { self.new.requests ≡ self.old.requests }
         ensures fails_once { FailsOnce outlet.old outlet.new }
+        ensures keeps { KeepsSent outlet.old outlet.new }
         ensures flushed { outlet_held outlet.old ≡ [] → outlet_held outlet.new ≡ [] }
         ensures sent_on { SentOn outlet.old → SentOn outlet.new }
     {
@@ -468,6 +472,7 @@ fn write_texts<W: WriteDevice>(
         × SendsQuietlyOn outlet.old outlet.new (text.items ++ left_text rest) }
     ensures counts { length turns.new.marks ≡ length turns.old.marks }
     ensures fails_once { FailsOnce outlet.old outlet.new }
+    ensures keeps { KeepsSent outlet.old outlet.new }
 {
     pass_on(&mut HeldNumber(number), turns, outlet, text);
 }
@@ -484,6 +489,7 @@ fn write_left<W: WriteDevice>(
         × SendsQuietlyOn outlet.old outlet.new (text.items ++ left_text rest) }
     ensures counts { length turns.new.marks ≡ length turns.old.marks }
     ensures fails_once { FailsOnce outlet.old outlet.new }
+    ensures keeps { KeepsSent outlet.old outlet.new }
     ensures flushed { outlet_held outlet.new ≡ [] }
     ensures sent_on { SentOn outlet.new }
     ensures is_flushed { IsFlushed (output_of outlet.new) }

@@ -1,6 +1,6 @@
 -- From an answer that is printed to one that is sent.
 use Rattle.std.proofs.Common.{◌≡◌, refl, sym, ap, ◌∙◌, subst, ℕ, ◌-◌, ◌<◌, ◌^◌, ◌⊎◌, inl, inr, Bool, true, false, ◌||◌, List, [], ◌++◌, length, Option, Some, None, Result, Ok, Err, append_assoc, append-nil, arith, eq-eqb, eqb-true, ⊎_elim}
-use Rattle.std.specs.Prelude.{◌==◌, if◌then◌else◌, MatchBool, OnOk, OnErr, IfSome}
+use Rattle.std.specs.Prelude.{◌==◌, if◌then◌else◌, MatchBool, OnOk, OnErr, IfErr, IfSome}
 use Rattle.std.specs.IoError.{error_kind}
 use Rattle.std.specs.declared.io.Error.{Error}
 use Rattle.std.specs.declared.io.ErrorKind.{ErrorKind}
@@ -11,14 +11,14 @@ use Rattle.std.specs.List.{list_all}
 use Rattle.tiny_http_text.specs.Bytes.{is_ascii}
 use Rattle.tiny_http_response.specs.declared.coding.FramingHeader.TheVariants.{Neither}
 use Rattle.tiny_http_response.specs.ResponseValue.{upgrading}
-use Rattle.tiny_http_io.specs.Device.{Feed, whole_feed, Sink, IsFront, BeginsKnown, IsKnownFront, IsAllKnown, HoldsNothing, grown, StatesKind, Took, Failed, Puts, next_count, CountsFaults}
+use Rattle.tiny_http_io.specs.Device.{Feed, whole_feed, Sink, IsFront, BeginsKnown, IsKnownFront, IsAllKnown, HoldsNothing, grown, StatesKind, Took, Failed, Puts, next_count, CountsFaults, SameFaults, Faulted}
 use Rattle.tiny_http_response.specs.Answer.{Answer, Printing, PrintsAnswer, text_of, with_upgrade, head_text_of, listed_with}
 use Rattle.tiny_http_body.specs.Text.{Text, Whole, Broken, Prints, whole, nothing_sent}
 use Rattle.tiny_http_io.proofs.DeviceLemmas.{IsFront-same, IsFront-append, Took-nil}
 use Rattle.tiny_http_response.specs.ByStandard.{status_version}
 use Rattle.tiny_http_response.proofs.AnswerLemmas.{text-some, head-some}
 use Rattle.tiny_http_io.specs.Outlet.{holding, EndsOutlet}
-use Rattle.tiny_http_response.specs.Sending.{CanSend, OutletTook, OutletFailed, Idles, EndsQuietly, DropsHeld, SendsText, Sends, SendsQuietly, IsFlushed, SendsUnlessEnded, SinkFailsOnce, FailsOnceUnlessEnded, BreaksOff, IsHonest}
+use Rattle.tiny_http_response.specs.Sending.{CanSend, OutletTook, OutletFailed, Idles, EndsQuietly, DropsHeld, SendsText, Sends, SendsQuietly, IsFlushed, SendsUnlessEnded, SinkFailsOnce, FailsOnceUnlessEnded, BreaksOff, FailedBy, IsHonest}
 use Rattle.tiny_http_io.proofs.DeviceFeeds.{append_known-append}
 use Rattle.tiny_http_io.proofs.DeviceLemmas.{grown-nil}
 
@@ -193,9 +193,30 @@ rose a b c n true e same u (inl s) = s.failures ∙ u
 rose a b c n true e same u (inr l) = l.1.failures ∙ ap next_count (eqb-true b.failures n e ∙ same)
 rose a b c n false e same u m = m.failures ∙ u
 
+-- the writer's count could not rise
+at-top : (n : ℕ) → next_count n ≡ n → n < 2 ^ 64 - 1 → ⊥
+at-top n h lt = omega (arith, h, lt)
+
+-- what the writer stated of its fault stays as the outlet ends, where its count rose
+kind-stays : (a b c : Sink) (n : ℕ) (t : Bool) → (b.failures == n) ≡ t → n ≡ a.failures → b.failures ≡ next_count a.failures → MatchBool t (EndsQuietly b c) (DropsHeld b c) → a.failures < 2 ^ 64 - 1 → c.last_kind ≡ b.last_kind
+kind-stays a b c n true e same u m lt = absurd (at-top a.failures (sym u ∙ eqb-true b.failures n e ∙ same) lt)
+kind-stays a b c n false e same u m lt = m.last_kind
+
+failed-by : (a b c : Sink) (n : ℕ) (kind : ErrorKind) → n ≡ a.failures → Faulted a b kind → MatchBool (b.failures == n) (EndsQuietly b c) (DropsHeld b c) → FailedBy a c kind
+failed-by a b c n kind same u m =
+    let K : Option ErrorKind → Type 0 = λ x. StatesKind x kind in
+    (rose a b c n (b.failures == n) refl same u.failures m, λ lt. subst K (sym (kind-stays a b c n (b.failures == n) refl same u.failures m lt)) u.last_kind)
+
+-- the flush after the printing failed
+pub flushed-honest : {T : Type 0} (a b c : Sink) (r : Result T Error) (ans : Answer) (o : Option Feed) (p : Printing) → SameFaults a b → Puts b c r [] → IfErr r (λ e. IsHonest a c ans o p (error_kind e))
+flushed-honest {T = T} a b c (Ok x) ans o p same puts = tt
+flushed-honest {T = T} a b c (Err e) ans o p same puts = inl (puts.failures ∙ ap next_count same.failures, λ lt. puts.last_kind)
+
 honest-by : (T : Type 0) (o : Option Feed) (a b c : Sink) (n : ℕ) (e : Error) (ans : Answer) (p : Printing) (t : Bool) → (next_count a.failures == a.failures) ≡ t → b.failures ≡ a.failures
     → IfSome o (λ feed. length feed.bytes < 2 ^ 63 → PrintsAnswer {T = T} a b (Err e) ans feed p) → n ≡ a.failures → MatchBool (b.failures == n) (EndsQuietly b c) (DropsHeld b c) → IsHonest a c ans o p (error_kind e)
-honest-by T o a b c n e ans p true top u h same m = inl (rose a b c n (b.failures == n) refl same (u ∙ sym (eqb-true (next_count a.failures) a.failures top)) m)
+honest-by T o a b c n e ans p true top u h same m =
+    let stays = eqb-true (next_count a.failures) a.failures top in
+    inl (rose a b c n (b.failures == n) refl same (u ∙ sym stays) m, λ lt. absurd (at-top a.failures stays lt))
 honest-by T None a b c n e ans p false top u h same m = inr tt
 honest-by T (Some f) a b c n e ans p false top u h same m =
     let low : b.failures ≡ next_count a.failures → ⊥ = λ q. (let z : true ≡ false = sym (eq-eqb (next_count a.failures) a.failures (sym q ∙ u)) ∙ top in cc) in
@@ -204,7 +225,7 @@ honest-by T (Some f) a b c n e ans p false top u h same m =
 pub printed-honest : (T : Type 0) (o : Option Feed) (a b c : Sink) (n : ℕ) (e : Error) (ans : Answer) (p : Printing) → IfSome o (λ feed. length feed.bytes < 2 ^ 63 → PrintsAnswer {T = T} a b (Err e) ans feed p)
     → CountsFaults {T = T} a b (Err e) → n ≡ a.failures → MatchBool (b.failures == n) (EndsQuietly b c) (DropsHeld b c) → IsHonest a c ans o p (error_kind e)
 printed-honest T o a b c n e ans p h (inl u) same m = honest-by T o a b c n e ans p (next_count a.failures == a.failures) refl u.failures h same m
-printed-honest T o a b c n e ans p h (inr u) same m = inl (rose a b c n (b.failures == n) refl same u.failures m)
+printed-honest T o a b c n e ans p h (inr u) same m = inl (failed-by a b c n (error_kind e) same u m)
 
 sent-append : (a b c : Sink) (s t : List ℕ) → OutletTook a b s → OutletTook b c t → OutletTook a c (s ++ t)
 sent-append a b c s t h k = record {

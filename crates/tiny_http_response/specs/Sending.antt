@@ -1,6 +1,6 @@
 -- What sending an answer makes of an outlet.
 use Rattle.std.specs.Prelude.{◌≡◌, ℕ, ◌-◌, ◌^◌, ◌<◌, ◌⊎◌, ⊤, Bool, true, false, List, [], length, Option, None, Some}
-use Rattle.std.specs.Prelude.{Result, Ok, Err, IfErr, OnErr, MatchBool, if◌then◌else◌}
+use Rattle.std.specs.Prelude.{Result, Ok, Err, IfErr, OnErr, OnOk, MatchBool, if◌then◌else◌}
 use Rattle.std.specs.IoError.{error_kind}
 use Rattle.std.specs.declared.io.Error.{Error}
 use Rattle.std.specs.declared.io.ErrorKind.{ErrorKind}
@@ -106,6 +106,10 @@ FailsOnceUnlessEnded was old new ended =
 abbrev pub FailsOnce : {W : Type 0} → OutletState W → OutletState W → Type 0
 FailsOnce old new = FailsOnceUnlessEnded old.ended (output_of old) (output_of new) new.ended
 
+-- what the writer had sent on stays so
+abbrev pub KeepsSent : {W : Type 0} → OutletState W → OutletState W → Type 0
+KeepsSent old new = IsFront (output_of old).sent (output_of new).sent
+
 -- the writer failed at most once
 abbrev pub FailsAtMostOnce : Sink → Sink → Type 0
 FailsAtMostOnce old new = (new.failures ≡ old.failures) ⊎ (new.failures ≡ next_count old.failures)
@@ -120,9 +124,18 @@ abbrev pub MayBreakOff : Answer → Option Feed → Printing → ErrorKind → T
 MayBreakOff a None p kind = Unit {0}
 MayBreakOff a (Some f) p kind = length f.bytes < 2 ^ 63 → BreaksOff a f p kind
 
--- a fault that an answer reports is the writer's, whose count rose, or its data's
+-- the writer failed once more, and this is the kind that it states, where its count could rise
+abbrev pub FailedBy : Sink → Sink → ErrorKind → Type 0
+FailedBy old new kind =
+    (new.failures ≡ next_count old.failures) × (old.failures < 2 ^ 64 - 1 → StatesKind new.last_kind kind)
+
+-- a fault that an answer reports is the writer's, whose count rose and which states its kind, or its data's
 abbrev pub IsHonest : Sink → Sink → Answer → Option Feed → Printing → ErrorKind → Type 0
-IsHonest old new a feed p kind = (new.failures ≡ next_count old.failures) ⊎ MayBreakOff a feed p kind
+IsHonest old new a feed p kind = FailedBy old new kind ⊎ MayBreakOff a feed p kind
+
+-- where no fault is reported the writer did not fail
+abbrev pub TellsFailure : {T : Type 0} → Sink → Sink → Result T Error → Type 0
+TellsFailure old new r = OnOk r (new.failures ≡ old.failures)
 
 -- ONE ANSWER, sent on an outlet and flushed. One that had ended is left alone, and no fault is reported. On another
 -- the text of the answer is sent, if the data state a feed of fewer than 2^63 bytes, the writer takes bytes, and its
@@ -135,10 +148,11 @@ pub record SendsAnswer {W D : Type 0}
   pub sends : (content : Feed) → stated response.data_reader ≡ Some content → length content.bytes < 2 ^ 63
       → old.ended ≡ false → CanSend (output_of old)
       → Sends (output_of old) (output_of new) new.ended r response.answer content p
-  -- Whatever writer and data state: the writer fails once at most. A fault that is reported is the writer's, or that
-  -- of data that state fewer than 2^63 bytes; of other data nothing is said. After a fault the outlet has ended.
-  -- Nothing is held, and a writer that goes on has sent all on.
+  -- Whatever writer and data state: the writer fails once at most, and then a fault is reported. It is the writer's,
+  -- or that of data that state fewer than 2^63 bytes; of other data nothing is said. After a fault the outlet has
+  -- ended. Nothing is held, and a writer that goes on has sent all on.
   pub fails_once : FailsOnce old new
+  pub told : TellsFailure (output_of old) (output_of new) r
   pub honest : IfErr r
       (λ e. IsHonest (output_of old) (output_of new) response.answer (stated response.data_reader) p (error_kind e))
   pub ended : OnErr r (new.ended ≡ true)

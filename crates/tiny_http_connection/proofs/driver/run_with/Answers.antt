@@ -10,7 +10,7 @@ use Rattle.tiny_http_io.specs.Outlet.{OutletState, output_of, SentOn, outlet_wri
 use Rattle.tiny_http_response.specs.Sending.{SinkFailsOnce}
 use Rattle.tiny_http_io.proofs.SourceGoesOn.{goes-on_same, goes-on_more}
 use Rattle.tiny_http_connection.proofs.ConversationRuns.{all-sent-snoc, sent-stated, joins-more, joins-end, fails-step, honest-step, honest-end}
-use Rattle.tiny_http_connection.proofs.DrivingLemmas.{done-none, done-step, reports-step}
+use Rattle.tiny_http_connection.proofs.DrivingLemmas.{done-none, done-step, reports-step, tells-step}
 use Rattle.tiny_http_connection.proofs.driver.run_with.Goals as goal
 
 pub loop-timed-init : goal.loop-timed-init
@@ -56,7 +56,8 @@ loop-timed-preserved g c =
       sent_on = λ none e. step.sent_on (all_sent c.loop-timed.yielded c.loop-timed.replies.items true) (inv.sent_on none) (before e);
       honest = rw c.push_reserved.ensures.items
           (honest-step g.D.ReadDevice.feed writer (output_of old.outlet) (output_of new.outlet) old.outlet.ended new.outlet.ended c.loop-timed.yielded c.loop-timed.replies.items c.in-Some.timed c.step-reply.result step.fails_once inv.honest
-          (reports-step g.D.ReadDevice.feed old new c.in-Some.timed c.step-reply.result step.honest));
+          (reports-step g.D.ReadDevice.feed old new c.in-Some.timed c.step-reply.result step.honest)
+          (tells-step g.D.ReadDevice.feed old new c.in-Some.timed.now c.in-Some.timed.step (seen c.step-reply.result) step.tells));
     }
 
 pub returns-clause-conversation : goal.returns-clause-conversation

@@ -1,6 +1,6 @@
 use Rattle.std.proofs.Common.{◌≡◌, ap, true}
 use Rattle.std.specs.Prelude.{◌||◌}
-use Rattle.tiny_http_response.proofs.SendingLemmas.{printed-flushed, printed-ended, ended-once, flushed-once, printed-honest}
+use Rattle.tiny_http_response.proofs.SendingLemmas.{printed-flushed, printed-ended, ended-once, flushed-once, printed-honest, flushed-honest}
 use Rattle.tiny_http_response.proofs.sending.send_printed.Goals as goal
 use Rattle.tiny_http_response.proofs.SendingLemmas.{or-parts}
 
@@ -26,3 +26,6 @@ returns-clause-fails_once g c = flushed-once _ _ _ c.in_default.field-0 c.flush.
 pub returns-in-Err-clause-honest : goal.returns-in-Err-clause-honest
 returns-in-Err-clause-honest g c =
     printed-honest (Unit {0}) _ _ _ _ c.failures-failures.result c.in-Err.fault _ _ c.in-Err.ensures.text c.in-Err.ensures.uses c.failures-failures.ensures.count c.end_behind_fault.ensures.ends
+
+pub returns-clause-honest : goal.returns-clause-honest
+returns-clause-honest g c = flushed-honest _ _ _ c.flush.result _ _ _ c.in_default.ensures.uses c.flush.ensures.puts

@@ -25,7 +25,7 @@ returns-then-is_some g c =
     let old = viewed q.profile q.source q.outlet q.pending q.end in
     let some : is_some q.end ≡ true = sym c.is_some.ensures ∙ c.if-is_some.true in
     record {
-      step = rw (← c.self.view_is) (takes-ask old old c.args.now Ended (ask-step old old c.args.now Ended
+      step = rw (← c.self.view_is) (takes-ask old old c.args.now Ended (ask-step old old c.args.now Ended (λ client p left. tt)
           (λ client before s low st. ask-ended client before (kept old) s c.args.now st some)
           (λ no. refl) (λ is. refl, λ is. refl, λ none. (let no : false ≡ true = ap is_some (sym none) ∙ some in cc)) (0, (sym (append-nil q.pending.requests), λ none. (refl, refl)), λ over. refl) (moves-none old)));
     }
@@ -40,7 +40,7 @@ returns-then-matches g c =
       | in_default w ↦ (let no : false ≡ true = sym w.matches-is ∙ c.if-matches.true in cc)
     ] in
     record {
-      step = rw (← c.self.view_is) (takes-ask old old c.args.now NotYet (ask-step old old c.args.now NotYet
+      step = rw (← c.self.view_is) (takes-ask old old c.args.now NotYet (ask-step old old c.args.now NotYet (λ client p left. tt)
           (λ client before s low st. ask-not_yet client before (kept old) s c.args.now st open_is here)
           (λ no. refl) (none-of q.end open_is, inl here) tt (moves-none old)));
     }
@@ -52,7 +52,7 @@ returns-then-last_holds_next_head g c =
     let open_is : is_some q.end ≡ false = sym c.is_some.ensures ∙ c.if-is_some.false in
     let holds = sym c.last_holds_next_head.ensures ∙ c.if-last_holds_next_head.true in
     record {
-      step = rw (← c.self.view_is) (takes-ask old old c.args.now NotYet (ask-step old old c.args.now NotYet
+      step = rw (← c.self.view_is) (takes-ask old old c.args.now NotYet (ask-step old old c.args.now NotYet (λ client p left. tt)
           (λ client before s low st. ask-waits client before (kept old) s c.args.now st open_is holds)
           (λ no. refl) (none-of q.end open_is, inr holds) tt (moves-none old)));
     }

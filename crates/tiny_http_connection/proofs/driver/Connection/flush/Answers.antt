@@ -1,4 +1,4 @@
-use Rattle.std.proofs.Common.{[], refl, sym, ◌∙◌, subst, true, false}
+use Rattle.std.proofs.Common.{inl, [], refl, sym, ◌∙◌, subst, true, false}
 use Rattle.std.specs.Prelude.{slice_get}
 use Rattle.tiny_http_io.specs.Outlet.{output_of, outlet_ended}
 use Rattle.tiny_http_connection.specs.declared.driver.Step.TheVariants as step
@@ -9,7 +9,7 @@ use Rattle.tiny_http_connection.specs.Connection.{Kept, kept}
 use Rattle.tiny_http_io.proofs.SourceGoesOn.{goes-on_same}
 use Rattle.tiny_http_response.proofs.SendingLemmas.{is-flushed}
 use Rattle.tiny_http_connection.proofs.ConnectionOutput.{sink-ended}
-use Rattle.tiny_http_connection.proofs.ConnectionWriter.{a-flush, no-writer, writable-some, writer-not_yet, writes-own, flush-done, write-done_reply, flush-not_declined, write-honest, write-once}
+use Rattle.tiny_http_connection.proofs.ConnectionWriter.{a-flush, no-writer, writable-some, writer-not_yet, writes-own, flush-done, write-done_reply, flush-not_declined, write-honest, write-tells, write-once}
 use Rattle.tiny_http_connection.proofs.DrivingLemmas.{viewed, takes-flush, moves-none}
 use Rattle.tiny_http_connection.proofs.driver.Connection.flush.Goals as goal
 
@@ -21,7 +21,7 @@ returns-then-not-is_writable g c =
     record {
       step = λ date. rw (← c.self.view_is) (takes-flush false old old date n NoSuch
           (λ client before s low st. no-writer client before (kept old) s date n (Flush n) refl (a-flush n) st (sym c.is_writable.ensures ∙ c.if-not-is_writable.true))
-          (λ no. refl) refl (refl, refl, refl) refl (moves-none old) (λ kind e. cc));
+          (λ no. refl) refl (refl, refl, refl) refl (moves-none old) (λ kind e. cc) (inl refl));
     }
 
 pub returns-then-not-is_in_turn : goal.returns-then-not-is_in_turn
@@ -34,7 +34,7 @@ returns-then-not-is_in_turn g c =
       step = λ date. rw (← c.self.view_is) (takes-flush false old old date n NotYet
           (λ client before s low st.
           writer-not_yet client before (kept old) s date n (Flush n) w.0 refl (a-flush n) (λ r owed. refl) st w.1 w.2 (sym c.is_in_turn.ensures ∙ c.if-not-is_in_turn.true))
-          (λ no. refl) refl (refl, refl, refl) refl (moves-none old) (λ kind e. cc));
+          (λ no. refl) refl (refl, refl, refl) refl (moves-none old) (λ kind e. cc) (inl refl));
     }
 
 pub returns : goal.returns
@@ -63,5 +63,6 @@ returns g c =
             flushed = λ was. done.held;
             sent_on = λ was. done.sent;
           })
-          (λ kind e. write-honest k.sink (output_of new_outlet) c.flush.result [] kind done.puts e)));
+          (λ kind e. write-honest k.sink (output_of new_outlet) c.flush.result [] kind done.puts e)
+          (write-tells k.sink (output_of new_outlet) c.flush.result [] done.puts)));
     }

@@ -1,18 +1,18 @@
 use Rattle.tiny_http_response.specs.Sending.{IsHonest}
 use Rattle.tiny_http_body.specs.declared.body.Remainder.{Remainder}
 use Rattle.tiny_http_open_request.specs.OpenRequest.{final_context}
-use Rattle.std.proofs.Common.{◌&&◌, ◌||◌, rules, ℕ, ◌≡◌, refl, sym, ap, ◌∙◌, subst, Bool, true, false, List, Option, Some, None}
+use Rattle.std.proofs.Common.{◌&&◌, ◌||◌, ◌⊎◌, inl, inr, rules, ℕ, ◌≡◌, refl, sym, ap, ◌∙◌, subst, Bool, true, false, List, ◌∷◌, ◌++◌, Option, Some, None}
 use Rattle.std.specs.Prelude.{is_some, slice_get, slice_set, IsTrue}
 use Rattle.tiny_http_response.specs.Answer.{Answer}
 use Rattle.tiny_http_connection.specs.declared.pending.Unfinished.{Unfinished}
 use Rattle.tiny_http_connection.specs.declared.pending.Unfinished.TheVariants as still
 use Rattle.tiny_http_connection.specs.Steps.{ReplyValue, Handed, Ended, Given, Fault, Done, Refused, Memory, Respond, NotYet, NoSuch}
-use Rattle.tiny_http_connection.specs.Driving.{IsDeclined, RespondEnds, LetsGoAnswered, AnswerLeaves, ends_behind, stated_response}
+use Rattle.tiny_http_connection.specs.Driving.{IsDeclined, RespondEnds, LetsGoAnswered, AnswerLeaves, ends_behind, stated_response, has_left_behind, AnswerIsSentOn, RespondTells}
 use Rattle.tiny_http_connection.specs.Seen.{IsAnswered, is_done}
 use Rattle.tiny_http_connection.specs.declared.driver.Step.TheVariants as step
 use Rattle.tiny_http_response.specs.Answer.{ResponseState}
 use Rattle.tiny_http_io.specs.Device.{Feed}
-use Rattle.tiny_http_turns.specs.Turns.{Mark}
+use Rattle.tiny_http_turns.specs.Turns.{Mark, Held}
 use Rattle.tiny_http_connection.specs.Pending.{waiting_answer_context, is_last_once_finished_at as kept_lacks, refuses_at, kept_body, closing_number, asked_to_close}
 use Rattle.tiny_http_io.specs.Outlet.{output_of, outlet_ended}
 use Rattle.tiny_http_connection.specs.Connection.{Kept, ConnectionState, kept}
@@ -30,8 +30,13 @@ use Rattle.tiny_http_body.specs.declared.body.UnreadBody.{UnreadBody}
 use Rattle.tiny_http_open_request.specs.declared.open_request.OpenRequest.{OpenRequest}
 use Rattle.tiny_http_body.specs.Body.{remainder, is_long, GivesUp}
 use Rattle.tiny_http_body.proofs.BodyReads.{gives-up}
-use Rattle.tiny_http_response.proofs.SendingLemmas.{once-append}
-use Rattle.tiny_http_connection.proofs.DrivingLemmas.{viewed, ends-some, same-view, takes-respond, driving-reads-on, moves-none, honest-more, gives-up-of}
+use Rattle.tiny_http_response.proofs.SendingLemmas.{once-append, or-parts}
+use Rattle.tiny_http_connection.proofs.DrivingLemmas.{viewed, ends-some, same-view, takes-respond, driving-reads-on, moves-none, honest-more, gives-up-of, AnswerTells, answer-tells, answer-sent_on}
+use Rattle.tiny_http_connection.proofs.PendingLemmas.{around-held, left-kind}
+use Rattle.tiny_http_connection.specs.Outcomes.{fault_reply}
+use Rattle.std.specs.declared.io.ErrorKind.{ErrorKind}
+use Rattle.httpdate.specs.declared.date.HttpDate.{HttpDate}
+use Rattle.tiny_http_response.specs.declared.answer_context.AnswerContext.{AnswerContext}
 use Rattle.tiny_http_connection.proofs.driver.Connection.respond.Goals as goal
 
 pub returns-then-not-is_waiting : goal.returns-then-not-is_waiting
@@ -43,7 +48,7 @@ returns-then-not-is_waiting g c =
     record {
       step = rw (← c.self.view_is) (takes-respond g.D.ReadDevice.feed false old old c.args.now n c.args.response NoSuch
           (λ client before s value low is st. no-such client before (kept old) s c.args.now n (Respond n value) refl (respond-not_taken n value) st none)
-          (λ no. refl) refl (λ no. elim no [ ]) refl (moves-none old) (λ kind e. cc));
+          (λ no. refl) refl (λ no. elim no [ ]) refl (moves-none old) (λ kind e. cc) (inl refl));
     }
 
 -- the code of the response
@@ -67,7 +72,7 @@ returns-then-not-hold g c =
           let good = ap (λ a. refuses_at a.status (slice_get k.requests n)) is.0 ∙ answered-code c.args.response.answer.status c.status_code.result.0 (slice_get k.requests n) c.status_code.ensures ∙ sym c.refuses.ensures ∙ c.if-refuses.false in
           let done = respond-not_yet client before k s c.args.now n value w.0 st w.1 good (λ h. let none : true ≡ false = sym (c.hold.ensures.held.1 h) ∙ late in cc) in
           subst (λ m. P m c.hold.new.self.requests) (sym same) (subst (λ r. P k.marks r) (sym c.hold.ensures.requests) done))
-          (λ no. same-view q.profile q.source q.outlet c.hold.new.self q.pending q.end (c.hold.ensures.not_yet (search rules)) c.hold.ensures.requests) refl (λ no. elim no [ ]) refl (driving-reads-on old new refl refl (goes-on_same q.source.feed)) (λ kind e. cc));
+          (λ no. same-view q.profile q.source q.outlet c.hold.new.self q.pending q.end (c.hold.ensures.not_yet (search rules)) c.hold.ensures.requests) refl (λ no. elim no [ ]) refl (driving-reads-on old new refl refl (goes-on_same q.source.feed)) (λ kind e. cc) (inl refl));
     }
 
 -- what an answer is replied is no refusal of the step
@@ -151,6 +156,53 @@ answered-leaves n code old new Refused a l = elim a [ ]
 answered-leaves n code old new (Given bytes) a l = λ z. l
 answered-leaves n code old new (Handed k m f) a l = λ z. l
 
+-- what it tells of a failure of the writer
+answered-tells : {R W : Type 0} (n : ℕ) (r : ResponseState (Option Feed)) (old new : ConnectionState R W) (now : HttpDate) (reply : ReplyValue) (context : AnswerContext) → IsAnswered reply
+    → waiting_answer_context (slice_get (asked_to_close r.answer.closes old.requests) n) ≡ Some context
+    → ((output_of new.outlet).failures ≡ (output_of old.outlet).failures)
+    ⊎ ((kind : ErrorKind) × (reply ≡ fault_reply kind) × IsHonest (output_of old.outlet) (output_of new.outlet) r.answer r.data_reader (printing_in context now) kind)
+    ⊎ ((has_left_behind old.marks n ≡ true) × AnswerIsSentOn old new now n r)
+    → RespondTells old new now n r reply
+answered-tells n r old new now reply context a waits (inl h) = by reply a
+  where
+    by : (y : ReplyValue) → IsAnswered y → RespondTells old new now n r y
+    by Done a = inl h
+    by (Fault kind) a = inl h
+    by NotYet a = elim a [ ]
+    by NoSuch a = elim a [ ]
+    by Memory a = elim a [ ]
+    by Ended a = elim a [ ]
+    by Refused a = elim a [ ]
+    by (Given bytes) a = elim a [ ]
+    by (Handed k m f) a = elim a [ ]
+answered-tells n r old new now reply context a waits (inr (inl h)) = by reply a h.1
+  where
+    by : (y : ReplyValue) → IsAnswered y → y ≡ fault_reply h.0 → RespondTells old new now n r y
+    by Done a e = inr (inl (h.0, e, (context, waits, h.2)))
+    by (Fault kind) a e = inr (inl (h.0, e, (context, waits, h.2)))
+    by NotYet a e = elim a [ ]
+    by NoSuch a e = elim a [ ]
+    by Memory a e = elim a [ ]
+    by Ended a e = elim a [ ]
+    by Refused a e = elim a [ ]
+    by (Given bytes) a e = elim a [ ]
+    by (Handed k m f) a e = elim a [ ]
+answered-tells n r old new now reply context a waits (inr (inr h)) = by reply a
+  where
+    by : (y : ReplyValue) → IsAnswered y → RespondTells old new now n r y
+    by Done a = inr (inr h)
+    by (Fault kind) a = inr (inr h)
+    by NotYet a = elim a [ ]
+    by NoSuch a = elim a [ ]
+    by Memory a = elim a [ ]
+    by Ended a = elim a [ ]
+    by Refused a = elim a [ ]
+    by (Given bytes) a = elim a [ ]
+    by (Handed k m f) a = elim a [ ]
+
+true-false : {b : Bool} → b ≡ true → b ≡ false → ⊥
+true-false {b = b} e f = let no : true ≡ false = sym e ∙ f in cc
+
 -- a request that waits was let go
 let-go : (r : Bool) → (r ≡ false → ⊥) → IsTrue r
 let-go true f = refl
@@ -223,6 +275,18 @@ returns g c =
     let body_is : w0.body ≡ w1.0.body = cc in
     let given_up : GivesUp w0.body q.source source = subst (λ b. GivesUp b q.source source) c.answer-reply.ensures.body c.give_up.ensures.gives_up in
     let given_up_old : GivesUp w1.0.body q.source source = subst (λ b. GivesUp b q.source source) body_is given_up in
+    let feed = g.D.ReadDevice.feed c.args.response.data_reader in
+    let p = printing_in context c.args.now in
+    let H : Remainder → ErrorKind → Type 0 = λ l kind. IsHonest (output_of q.outlet) (output_of mid) c.args.response.answer feed (printing_in (final_context w0 l) c.args.now) kind in
+    let T : AnswerContext → Type 0 = λ x. AnswerTells k.sink (output_of mid) mid.ended reply c.args.response.answer feed (printing_in x c.args.now) in
+    let held_is : IsTrue c.hold.result = search rules in
+    let around = around-held q.pending.turns.marks n (c.hold.ensures.held.0 held_is).0 in
+    let marks_are : c.take.new.self.turns.marks ≡ around.0 ++ (Held ∷ around.1) = ap (λ t. t.marks) c.take.ensures.turns ∙ ap (λ t. t.marks) c.close_last.ensures.turns ∙ c.hold.ensures.marks held_is ∙ around.2 in
+    let last_kind : mid.ended ≡ true → (output_of last.outlet).last_kind ≡ (output_of mid).last_kind = λ e. left-kind around.1 mid.ended (output_of mid) (output_of last.outlet) last.outlet.ended e (c.pass.ensures.sends around.0 around.1 marks_are around.3 (λ open_is. absurd (true-false e open_is))) in
+    let idle : has_left_behind q.pending.turns.marks n ≡ false → last.outlet ≡ mid = λ e. c.pass.ensures.idle around.0 around.1 marks_are around.3 (around.4 ∙ e) in
+    let A : Remainder → Feed → Type 0 = λ l content. Answers k.sink (output_of mid) (outlet_ended mid) reply c.args.response.answer content (printing_in (final_context w0 l) c.args.now) in
+    let own_sent : mid.ended ≡ false → AnswerIsSentOn old new c.args.now n (stated_response g.D.ReadDevice.feed c.args.response) =
+    λ goes. (context, waits, λ content taken stated few can known. answer-sent_on k.sink (output_of mid) (output_of last.outlet) mid.ended reply c.args.response.answer content p taken goes (subst (λ l. A l content) c.remainder-left.ensures (c.answer-reply.ensures.sends content stated few (or-parts q.outlet.ended q.outlet.sink.has_ended can.unended).0 can)) known c.pass.ensures.keeps) in
     let accepted : refuses_at c.args.response.answer.status (slice_get k0.requests n) ≡ false = answered-code c.args.response.answer.status c.status_code.result.0 (slice_get k0.requests n) c.status_code.ensures ∙ sym c.refuses.ensures ∙ c.if-refuses.false in
     let accepted_told : refuses_at c.args.response.answer.status (slice_get k.requests n) ≡ false = at-asked (refuses_at c.args.response.answer.status) (refuses-told c.args.response.answer.status) asked k0.requests n ∙ accepted in
     record {
@@ -255,5 +319,10 @@ returns g c =
             flushed = λ was. c.pass.ensures.flushed c.answer-reply.ensures.flushed;
             sent_on = λ was. c.pass.ensures.sent_on c.answer-reply.ensures.sent_on;
           })
-          (λ kind e. let h = c.answer-reply.ensures.honest kind e in let p = printing_in context c.args.now in let H : Remainder → Type 0 = λ l. IsHonest (output_of q.outlet) (output_of mid) c.args.response.answer (g.D.ReadDevice.feed c.args.response.data_reader) (printing_in (final_context w0 l) c.args.now) kind in (context, waits, honest-more (outlet_ended mid) (outlet_ended last.outlet) k.sink (output_of mid) (output_of last.outlet) c.args.response.answer (g.D.ReadDevice.feed c.args.response.data_reader) p kind h.0 c.pass.ensures.fails_once (subst H c.remainder-left.ensures h.1))));
+          (λ kind e.
+          let h = c.answer-reply.ensures.honest kind e in
+          (context, waits, honest-more (outlet_ended mid) (outlet_ended last.outlet) k.sink (output_of mid) (output_of last.outlet) c.args.response.answer feed p kind h.0 c.pass.ensures.fails_once (last_kind h.0) (subst (λ l. H l kind) c.remainder-left.ensures h.1)))
+          (answered-tells n (stated_response g.D.ReadDevice.feed c.args.response) old new c.args.now reply context c.answer-reply.ensures.done waits
+          (answer-tells k.sink mid last.outlet reply (has_left_behind q.pending.turns.marks n) c.args.response.answer feed p (AnswerIsSentOn old new c.args.now n (stated_response g.D.ReadDevice.feed c.args.response))
+          (subst (λ l. T (final_context w0 l)) c.remainder-left.ensures c.answer-reply.ensures.tells) c.pass.ensures.fails_once last_kind idle own_sent)));
     }

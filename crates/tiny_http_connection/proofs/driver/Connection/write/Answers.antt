@@ -1,4 +1,4 @@
-use Rattle.std.proofs.Common.{◌≡◌, refl, sym, ◌∙◌, subst, true, false}
+use Rattle.std.proofs.Common.{inl, ◌≡◌, refl, sym, ◌∙◌, subst, true, false}
 use Rattle.std.specs.Prelude.{slice_get}
 use Rattle.tiny_http_io.specs.Outlet.{output_of, outlet_ended}
 use Rattle.tiny_http_connection.specs.declared.driver.Step.TheVariants as step
@@ -9,7 +9,7 @@ use Rattle.tiny_http_connection.specs.Connection.{Kept, kept}
 use Rattle.tiny_http_io.proofs.SourceGoesOn.{goes-on_same}
 use Rattle.tiny_http_response.proofs.SendingLemmas.{once-none}
 use Rattle.tiny_http_connection.proofs.ConnectionOutput.{sink-ended}
-use Rattle.tiny_http_connection.proofs.ConnectionWriter.{a-write, no-writer, writable-some, writer-not_yet, writes-own, write-done, write-done_reply, write-not_declined, write-honest, write-once}
+use Rattle.tiny_http_connection.proofs.ConnectionWriter.{a-write, no-writer, writable-some, writer-not_yet, writes-own, write-done, write-done_reply, write-not_declined, write-honest, write-tells, write-once}
 use Rattle.tiny_http_connection.proofs.DrivingLemmas.{viewed, takes-write}
 use Rattle.tiny_http_connection.proofs.driver.Connection.write.Goals as goal
 
@@ -21,7 +21,7 @@ returns-then-not-is_writable g c =
     record {
       step = λ date v same. rw (← c.self.view_is) (takes-write old old date n v c.args.bytes.now NoSuch same
           (λ client before s low st. no-writer client before (kept old) s date n (Write n c.args.bytes.now) refl (a-write n c.args.bytes.now) st (sym c.is_writable.ensures ∙ c.if-not-is_writable.true))
-          (λ no. refl) refl (refl, refl, refl) refl (goes-on_same q.source.feed) (once-none (outlet_ended q.outlet) (output_of q.outlet)) (λ none. refl) (λ kind e. cc));
+          (λ no. refl) refl (refl, refl, refl) refl (goes-on_same q.source.feed) (once-none (outlet_ended q.outlet) (output_of q.outlet)) (λ none. refl) (λ kind e. cc) (inl refl));
     }
 
 pub returns-then-not-is_in_turn : goal.returns-then-not-is_in_turn
@@ -34,7 +34,7 @@ returns-then-not-is_in_turn g c =
       step = λ date v same. rw (← c.self.view_is) (takes-write old old date n v c.args.bytes.now NotYet same
           (λ client before s low st.
           writer-not_yet client before (kept old) s date n (Write n c.args.bytes.now) w.0 refl (a-write n c.args.bytes.now) (λ r owed. refl) st w.1 w.2 (sym c.is_in_turn.ensures ∙ c.if-not-is_in_turn.true))
-          (λ no. refl) refl (refl, refl, refl) refl (goes-on_same q.source.feed) (once-none (outlet_ended q.outlet) (output_of q.outlet)) (λ none. refl) (λ kind e. cc));
+          (λ no. refl) refl (refl, refl, refl) refl (goes-on_same q.source.feed) (once-none (outlet_ended q.outlet) (output_of q.outlet)) (λ none. refl) (λ kind e. cc) (inl refl));
     }
 
 pub returns : goal.returns
@@ -58,5 +58,6 @@ returns g c =
           (λ no. absurd (write-not_declined n v c.write.result no)) refl (refl, refl, refl) refl (goes-on_same q.source.feed)
           (write-once k.sink (output_of new_outlet) k.output_ended (outlet_ended new_outlet) c.write.result c.args.bytes.now (λ z. rw z refl) done.puts done.ended done.stays)
           (λ none. (let no : true ≡ false = sym (write-done_reply c.write.result) ∙ none in cc))
-          (λ kind e. write-honest k.sink (output_of new_outlet) c.write.result c.args.bytes.now kind done.puts e)));
+          (λ kind e. write-honest k.sink (output_of new_outlet) c.write.result c.args.bytes.now kind done.puts e)
+          (write-tells k.sink (output_of new_outlet) c.write.result c.args.bytes.now done.puts)));
     }
