@@ -83,10 +83,13 @@ front-all n f items rest split all = whole (nat_lt (length f.bytes) n) refl
   where
     count : min n (length f.bytes) ≡ length items + length rest
     count = sym (length-take n f.bytes) ∙ ap length split ∙ length-append items rest
+
     none : length rest ≡ 0
     none = omega (arith, count, all)
+
     same : take n f.bytes ≡ items
     same = split ∙ ap (λ (x : List ℕ). items ++ x) (length-zero rest none) ∙ append-nil items
+
     whole : (t : Bool) → nat_lt (length f.bytes) n ≡ t → feed_front n f ≡ whole_feed items
     whole false e = ap (λ (bs : List ℕ). record { bytes = bs; stop = stop_where (nat_lt (length f.bytes) n) f.stop }) same
         ∙ ap (λ (b : Bool). record { bytes = items; stop = stop_where b f.stop }) e
@@ -110,6 +113,7 @@ held-whole held g count bytes h l e = ap whole_feed (split ∙ ap (λ (x : List 
   where
     split : held ≡ bytes ++ g.bytes
     split = ap (λ (x : Feed). x.bytes) e
+
     none : length g.bytes ≡ 0
     none = omega (arith, h, l, ap length split ∙ length-append bytes g.bytes)
 

@@ -58,10 +58,10 @@ client_source c = option_and_then source_here c.next_head
 -- a connection holds an input over this reader, of which nothing was read
 pub record IsFreshSource {R : Type 0} (stated : R → Option Feed) (reader : R) (held : Option (SourceState R)) : Type 0
   where
-  pub source : SourceState R
-  pub holds : held ≡ Some source
-  pub feed : source.feed ≡ stated reader
-  pub standing : source.standing ≡ AtHead
+    pub source : SourceState R
+    pub holds : held ≡ Some source
+    pub feed : source.feed ≡ stated reader
+    pub standing : source.standing ≡ AtHead
 
 -- so many heads are refused one after another, and another head stands behind each
 abbrev pub PassesRefused : {R : Type 0} → Profile → HttpDate → ℕ → SourceState R → SourceState R → Type 0

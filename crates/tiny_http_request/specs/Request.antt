@@ -44,16 +44,17 @@ request_address r = r.remote_addr
 
 -- what is kept of a request, with this in the place of its body
 abbrev pub with_body : {A B : Type 0} → OpenRequest A → B → OpenRequest B
-with_body w body = record
-  { answer_context = w.answer_context;
-    owes_continue = w.owes_continue;
-    holds_next_head = w.holds_next_head;
-    by_standard = w.by_standard;
-    is_connect = w.is_connect;
-    closes = w.closes;
-    upgrades = w.upgrades;
-    dropped = w.dropped;
-    body = body }
+with_body w body = record {
+  answer_context = w.answer_context;
+  owes_continue = w.owes_continue;
+  holds_next_head = w.holds_next_head;
+  by_standard = w.by_standard;
+  is_connect = w.is_connect;
+  closes = w.closes;
+  upgrades = w.upgrades;
+  dropped = w.dropped;
+  body = body;
+}
 
 -- what is kept of it until it is answered, with how far its body was read
 abbrev pub request_open : {R : Type 0} → {W : Type 0} → {Rt : Type 0} → Request R W Rt → OpenRequest UnreadBody

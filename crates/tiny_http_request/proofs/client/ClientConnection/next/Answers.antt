@@ -1,4 +1,4 @@
-use Rattle.std.proofs.Common.{◌≡◌, subst, sym, ap, ◌∙◌, Option, None, Some, Result, Ok}
+use Rattle.std.proofs.Common.{rules, ◌≡◌, subst, sym, ap, ◌∙◌, Option, None, Some, Result, Ok}
 use Rattle.std.specs.Prelude.{IfSome}
 use Rattle.std.specs.Option.{option_and_then}
 use Rattle.std.specs.declared.alloc.AllocError.{AllocError}
@@ -52,6 +52,7 @@ pub returns-in-Ok-clause-reads : goal.returns-in-Ok-clause-reads
 returns-in-Ok-clause-reads g c = λ source held.
     let x = exchange_of (request_head c.in-Ok.request) (request_open c.in-Ok.request) in
     let same : c.next_request.result ≡ Ok (next.Request x) = c.in-Ok-Request.is ∙ ap (λ y. Ok y) c.in-Ok-Request.field-0-is ∙ ap (λ y. Ok (next.Request y)) c.in-Ok.ensures.exchange in
-    let here : source_here c.in-Some.next_head ≡ Some source = ap (option_and_then source_here) (sym c.in-Some.is) ∙ held in
+    let taken : c.take.result ≡ c.args.self.now.next_head = search rules in
+    let here : source_here c.in-Some.next_head ≡ Some source = ap (option_and_then source_here) (sym c.in-Some.is ∙ taken) ∙ held in
     let mine : c.deref_mut-source.result.now ≡ source = c.deref_mut-source.ensures.value ∙ here-is (source_here c.in-Some.next_head) (held_item c.hold-reader.result) source c.hold-reader.ensures here in
     (_, subst (λ s. FindsRequest (client_profile c.args.self.now) c.args.now s x c.next_request.new.source) mine (found-by x same c.next_request.ensures), c.in-Ok.ensures.input)
