@@ -51,7 +51,8 @@ pub record HasDone {R W : Type 0} (p : Profile) (client : Feed) (before : Sink) 
   pub at : State
   pub run : Run (start_state items) steps replies at
   pub stands : Stands client before (kept c) at
-  pub memory : AsksInVain steps replies → (at.reached.asking_ended ≡ true) × (at.reached.rest ≡ [] → BeginsMore p client)
+  pub memory : AsksInVain steps replies
+      → (at.reached.asking_ended ≡ true) × (at.reached.rest ≡ [] → BeginsMore p client)
 
 -- a response with what its data state, in their place
 abbrev pub stated_response : {D : Type 0} → (D → Option Feed) → ResponseState D → ResponseState (Option Feed)

@@ -1,6 +1,6 @@
 -- What a clause says of a request's body, and of a read of it.
-use Rattle.std.specs.Prelude.{◌≡◌, ◌<◌, ◌==◌, ◌&&◌, ℕ, Bool, true, false, List, length, take, Option, Some, None, Result, Ok}
-use Rattle.std.specs.Prelude.{IfOk, IfErr, IfSome}
+use Rattle.std.specs.Prelude.{◌≡◌, ◌<◌, ◌==◌, ◌&&◌, ℕ, Bool, true, false, List, length, take, Option, Some, None}
+use Rattle.std.specs.Prelude.{Result, Ok, IfOk, IfErr, IfSome}
 use Rattle.std.specs.Option.{option_map}
 use Rattle.std.specs.IoError.{error_kind}
 use Rattle.std.specs.declared.io.Error.{Error}

@@ -52,7 +52,7 @@ source_here (Here reader) = Some (held_item reader)
 source_here (Behind reader) = None
 
 -- THE INPUT OF A CONNECTION, if the connection holds it: no request that was handed out does, and there is a next head
-abbrev pub client_source : {R : Type 0} → {W : Type 0} → {Rt : Type 0} → ClientConnection R W Rt → Option (SourceState R)
+abbrev pub client_source : {R W Rt : Type 0} → ClientConnection R W Rt → Option (SourceState R)
 client_source c = option_and_then source_here c.next_head
 
 -- a connection holds an input over this reader, of which nothing was read

@@ -87,7 +87,8 @@ impl<R: ReadDevice + Drop, Rt: Wait + Drop> Model for Body<R, Rt> {
 
     ghost Value = { BodyState };
 
-    ghost view = { λ b. record { unread = b.unread; input = input_of b.reader b.begun; holds_input = is_some b.reader } };
+    ghost view = { λ b. record
+        { unread = b.unread; input = input_of b.reader b.begun; holds_input = is_some b.reader } };
 
     // It holds the input exactly while it is read from there, or the next head waits for the answer. And the input
     // states its feed exactly if it did at first.
