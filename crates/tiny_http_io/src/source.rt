@@ -98,7 +98,8 @@ impl Standing {
 /// A reader with a buffer of 1024 bytes, a number of bytes to skip, and where it stands among heads and bodies. After
 /// its first end or fault the reader isn't called again. It is called only where the buffer is empty and a byte is
 /// wanted: nothing is read ahead but what one call of the reader gives. (The clauses `lazy` say that no end or fault
-/// of the reader was met in a call that gave what was asked for.)
+/// of the reader was met in a call that gave what was asked for; the clauses `asks` that in all calls together the
+/// reader tells one.)
 #[derive(Drop)]
 pub struct Source<R: ReadDevice> {
     input: Input<R>,
