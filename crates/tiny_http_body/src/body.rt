@@ -1,7 +1,7 @@
 //! The body of a request, read from the connection's input.
 ghost use Rattle.std.specs.Prelude.{◌≡◌, ◌<◌, ◌≤◌, ◌+◌, ◌==◌, true, false, length, take, drop, Option, Ok, IfOk};
 ghost use Rattle.std.specs.Option.{option_map};
-ghost use Rattle.tiny_http_io.specs.Device.{AnswersStop, Feed};
+ghost use Rattle.tiny_http_io.specs.Device.{AnswersStop, Feed, Tells};
 ghost use Rattle.tiny_http_io.specs.Source.{GoesOn};
 ghost use Rattle.tiny_http_io.specs.ToCome.{skipped};
 ghost use Rattle.tiny_http_body.specs.Body.{remaining, IsNewChunked, counted_remaining, is_whole, bytes_left};
@@ -93,7 +93,8 @@ impl UnreadBody {
     ) -> Result<usize, io::Error>
         requires counted { self.old ≡ UnreadBody.Counted left by_standard }
         requires room { 0 < length buf.old }
-        ensures { ReadsRemaining self.old self.new source.old source.new result buf.new }
+        ensures reads { ReadsRemaining self.old self.new source.old source.new result buf.new }
+        ensures told { Tells (R.told source.old.reader) (R.told source.new.reader) result }
     {
         if left == 0 {
             *self = UnreadBody::Over(Stop::End);
@@ -130,7 +131,8 @@ impl UnreadBody {
     ) -> Result<usize, io::Error>
         requires chunked { self.old ≡ UnreadBody.Chunked decoding }
         requires room { 0 < length buf.old }
-        ensures { ReadsRemaining self.old self.new source.old source.new result buf.new }
+        ensures reads { ReadsRemaining self.old self.new source.old source.new result buf.new }
+        ensures told { Tells (R.told source.old.reader) (R.told source.new.reader) result }
     {
         let mut decoding = decoding;
         match decoding.read(source, buf) {
@@ -158,7 +160,8 @@ impl UnreadBody {
     ) -> Result<usize, io::Error>
         requires rest { self.old ≡ UnreadBody.Rest }
         requires room { 0 < length buf.old }
-        ensures { ReadsRemaining self.old self.new source.old source.new result buf.new }
+        ensures reads { ReadsRemaining self.old self.new source.old source.new result buf.new }
+        ensures told { Tells (R.told source.old.reader) (R.told source.new.reader) result }
     {
         match source.read_in(buf) {
             Ok(0) => {
@@ -182,7 +185,9 @@ impl UnreadBody {
         source: &mut Source<R>,
         buf: &mut [u8],
     ) -> Result<usize, io::Error>
-        ensures { ReadsBody self.old self.new source.old source.new result buf.new }
+        ensures reads { ReadsBody self.old self.new source.old source.new result buf.new }
+        // The source's reader isn't asked on behind an end or a fault, nor for more than the bytes that came.
+        ensures told { Tells (R.told source.old.reader) (R.told source.new.reader) result }
     {
         if buf.is_empty() {
             return Ok(0);
@@ -241,6 +246,7 @@ impl UnreadBody {
         ensures room { at < length buf.new }
         ensures front { take at buf.new ≡ take at buf.old }
         ensures reads { ReadsBody self.old self.new source.old source.new result (drop at buf.new) }
+        ensures told { Tells (R.told source.old.reader) (R.told source.new.reader) result }
     {
         self.read(source, &mut buf[at..])
     }
@@ -258,6 +264,10 @@ impl UnreadBody {
         ensures goes_on { GoesOn source.old.feed source.new.feed }
         ensures standing { is_streaming self.old ≡ true
             → source.new.standing ≡ body_standing self.new source.old.standing }
+        // The source's reader isn't asked on behind an end or a fault, nor once the buffer is full.
+        ensures told { R.told source.new.reader ≤ R.told source.old.reader + 1 }
+        ensures lazy { IfOk result
+            (λ n. n ≡ length buf.new → R.told source.new.reader ≤ R.told source.old.reader) }
     {
         let mut at = 0;
         while at < buf.len() {

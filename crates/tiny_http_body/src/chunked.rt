@@ -1,15 +1,16 @@
 //! The decoder of chunked bodies (RFC 9112, section 7.1).
-ghost use Rattle.std.specs.Prelude.{◌≡◌, ℕ, ◌<◌, ◌≤◌, List, length, take, Option, None, Some, Ok, Err, IfOk, IfErr};
-ghost use Rattle.std.specs.Prelude.{OnOk, OnErr, IsSome, IfSome};
+ghost use Rattle.std.specs.Prelude.{◌≡◌, ℕ, ◌+◌, ◌<◌, ◌≤◌, List, length, take, Option, None, Some, Ok, Err, IfOk};
+ghost use Rattle.std.specs.Prelude.{IfErr, OnOk, OnErr, IsSome, IfSome};
 ghost use Rattle.std.specs.Option.{option_map};
 ghost use Rattle.std.specs.IoError.{error_kind};
-ghost use Rattle.tiny_http_io.specs.Device.{AnswersStop, prepended, Reads, TakesFront};
+ghost use Rattle.tiny_http_io.specs.Device.{AnswersStop, prepended, Reads, TakesFront, Tells};
 ghost use Rattle.tiny_http_text.specs.Bytes.{crlf};
 ghost use Rattle.tiny_http_body.specs.Chunks.{WholeChunks, CutChunks, WholeChunksBy, CutChunksBy};
 ghost use Rattle.tiny_http_body.specs.ChunkLine.{CutBy};
 ghost use Rattle.tiny_http_body.specs.Decoding.{comes, trails, decoded_from_by, trailers_from, decoding_reads};
 ghost use Rattle.tiny_http_body.specs.Decoding.{TakesNeeded, IsReady, next_stop, decoding_coming, decoding_rules};
 ghost use Rattle.tiny_http_body.specs.Decoding.{decoding_stop, prepended_data, over_at, BreaksBy};
+ghost use Rattle.tiny_http_body.specs.Decoding.{fault_count, next_faults};
 
 mod field;
 mod line;
@@ -65,6 +66,7 @@ fn close_chunk<R: ReadDevice>(reader: &mut R) -> Result<(), ErrorKind>
     ensures takes { OnOk result (R.feed reader.old ≡ prepended crlf (R.feed reader.new)) }
     ensures needed { (rules : ChunkRules)
         → OnErr result (TakesNeeded (decoded_from_by rules (Next.Data 0)) (R.feed reader.old) (R.feed reader.new)) }
+    ensures told { R.told reader.new ≤ R.told reader.old + fault_count result }
 {
     match next_byte(reader) {
         Err(kind) => return Err(kind),
@@ -91,6 +93,7 @@ fn skip_trailers<R: ReadDevice>(reader: &mut R, rules: ChunkRules) -> Next
     ensures comes { comes rules result (R.feed reader.new) ≡ trails rules MOST_TRAILERS (R.feed reader.old) }
     ensures ready { IsReady result }
     ensures needed { TakesNeeded (trailers_from rules MOST_TRAILERS) (R.feed reader.old) (R.feed reader.new) }
+    ensures told { R.told reader.new ≤ R.told reader.old + next_faults result }
 {
     for lines in 0..MOST_TRAILERS {
         match next_line(reader, rules) {
@@ -122,6 +125,7 @@ fn open_chunk<R: ReadDevice>(reader: &mut R, rules: ChunkRules) -> Next
     ensures comes { comes rules result (R.feed reader.new) ≡ comes rules Next.Line (R.feed reader.old) }
     ensures ready { IsReady result }
     ensures needed { TakesNeeded (decoded_from_by rules Next.Line) (R.feed reader.old) (R.feed reader.new) }
+    ensures told { R.told reader.new ≤ R.told reader.old + next_faults result }
 {
     match next_line(reader, rules) {
         Err(kind) => Next::Broken(kind),
@@ -144,6 +148,7 @@ fn go_to_data<R: ReadDevice>(reader: &mut R, rules: ChunkRules, next: Next) -> N
     ensures ready { IsReady result }
     ensures needed { TakesNeeded (decoded_from_by rules next) (R.feed reader.old) (R.feed reader.new) }
     ensures stays { IsSome (next_stop next) → (result ≡ next) × (reader.new ≡ reader.old) }
+    ensures told { R.told reader.new ≤ R.told reader.old + next_faults result }
 {
     match next {
         Next::Line => open_chunk(reader, rules),
@@ -172,6 +177,7 @@ fn read_data<R: ReadDevice>(reader: &mut R, left: u64, buf: &mut [u8]) -> Result
     ensures bytes { IfOk result (λ n. R.feed reader.old ≡ prepended (take n buf.new) (R.feed reader.new)) }
     ensures cut { IfErr result (λ e. CutBy (error_kind e) (R.feed reader.old)) }
     ensures again { OnErr result (R.feed reader.new ≡ R.feed reader.old) }
+    ensures told { R.told reader.new ≤ R.told reader.old + fault_count result }
 {
     match read_front(reader, left as usize, buf) {
         Ok(0) => Err(ErrorKind::UnexpectedEof.into()),
@@ -266,6 +272,8 @@ impl Decoding {
         ensures takes { TakesFront (R.feed reader.old) (R.feed reader.new) }
         // Up to a fault no byte more is taken than shows it.
         ensures needed { OnErr result (TakesNeeded (decoding_reads self.old) (R.feed reader.old) (R.feed reader.new)) }
+        // The reader isn't asked on behind an end or a fault, nor for more than the bytes that came.
+        ensures told { Tells (R.told reader.old) (R.told reader.new) result }
     {
         if buf.is_empty() {
             return Ok(0);
@@ -354,6 +362,7 @@ impl<R: ReadDevice> Decoder<R> {
     /// the end, or the fault.
     pub fn read(&mut self, buf: &mut [u8]) -> Result<usize, io::Error>
         ensures reads { ReadsData R.feed self.old self.new result buf.new }
+        ensures told { Tells (R.told (decoder_inner self.old)) (R.told (decoder_inner self.new)) result }
     {
         self.decoding.read(&mut self.inner, buf)
     }
@@ -367,14 +376,17 @@ impl<R: ReadDevice> Decoder<R> {
 }
 
 impl<R: ReadDevice> ReadDevice for Decoder<R> {
-    ghost use Rattle.tiny_http_body.specs.Decoding.{decoder_feed, ReadsData};
+    ghost use Rattle.tiny_http_body.specs.Decoding.{decoder_feed, decoder_inner, ReadsData};
 
     ghost feed = { decoder_feed R.feed };
+
+    ghost told = { λ d. R.told (decoder_inner d) };
 
     /// Reads some data.
     fn read_in(&mut self, buf: &mut [u8]) -> Result<usize, io::Error>
         ensures device { Reads (decoder_feed R.feed self.old) (decoder_feed R.feed self.new) result buf.new }
         ensures reads { ReadsData R.feed self.old self.new result buf.new }
+        ensures told { Tells (R.told (decoder_inner self.old)) (R.told (decoder_inner self.new)) result }
     {
         self.read(buf)
     }
@@ -384,7 +396,7 @@ impl<R: ReadDevice> Read for Decoder<R> {
     ghost use Rattle.std.specs.Io.{ReadsAtMost};
     ghost use Rattle.std.specs.Io.KnownBytes.{ReadConsumes};
     ghost use Rattle.tiny_http_io.specs.Device.{bytes_of};
-    ghost use Rattle.tiny_http_body.specs.Decoding.{decoder_feed, ReadsData};
+    ghost use Rattle.tiny_http_body.specs.Decoding.{decoder_feed, decoder_inner, ReadsData};
 
     ghost remaining = { λ d. bytes_of (decoder_feed R.feed d) };
 
@@ -394,6 +406,7 @@ impl<R: ReadDevice> Read for Decoder<R> {
         ensures bytes { ReadConsumes (bytes_of (decoder_feed R.feed self.old))
             (bytes_of (decoder_feed R.feed self.new)) result buf.new }
         ensures reads { ReadsData R.feed self.old self.new result buf.new }
+        ensures told { Tells (R.told (decoder_inner self.old)) (R.told (decoder_inner self.new)) result }
     {
         Decoder::read(self, buf)
     }

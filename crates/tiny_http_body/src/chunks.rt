@@ -1,5 +1,5 @@
 //! Data that are sent in chunks (RFC 9112, section 7.1).
-ghost use Rattle.std.specs.Prelude.{◌≡◌, ◌<◌, ◌^◌, ◌++◌, length, codes, IfSome};
+ghost use Rattle.std.specs.Prelude.{◌≡◌, ◌<◌, ◌≤◌, ◌+◌, ◌^◌, ◌++◌, length, codes, IfSome};
 ghost use Rattle.tiny_http_io.specs.Device.{Puts, CountsFaults};
 ghost use Rattle.tiny_http_body.specs.ChunkedPrinting.{printed_chunk, short_chunk};
 ghost use Rattle.tiny_http_body.specs.Text.{Prints, chunked_body};
@@ -47,6 +47,8 @@ pub fn put_chunked<D: ReadDevice, W: WriteDevice>(
         Prints (W.sink writer.old) (W.sink writer.new) result (chunked_body feed)) }
     // Whatever the data and the writer state: a fault of the writer's is one that its count has.
     ensures uses { CountsFaults (W.sink writer.old) (W.sink writer.new) result }
+    // The data aren't asked for on behind their end or fault.
+    ensures told { D.told source.new ≤ D.told source.old + 1 }
 {
     let mut buf = [0u8; CHUNK];
     for _turn in 0..u64::MAX {

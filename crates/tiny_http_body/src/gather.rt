@@ -1,6 +1,6 @@
 //! Data that are read a buffer at a time, or whole.
 ghost use Rattle.std.specs.Prelude.{◌≡◌, ◌<◌, ◌≤◌, ◌+◌, ◌^◌, length, drop, take, IfOk, IfSome};
-ghost use Rattle.tiny_http_io.specs.Device.{Fills, ReadsFrom, Gathers};
+ghost use Rattle.tiny_http_io.specs.Device.{Fills, ReadsFrom, Gathers, Tells};
 
 use std::alloc::Global;
 use std::io;
@@ -16,6 +16,7 @@ fn read_behind<D: ReadDevice>(source: &mut D, buf: &mut [u8], at: usize) -> Resu
     ensures bound { IfOk result (λ n. at + n ≤ length buf.old) }
     ensures front { take at buf.new ≡ take at buf.old }
     ensures bytes { ReadsFrom (D.feed source.old) (D.feed source.new) result (drop at buf.new) }
+    ensures told { Tells (D.told source.old) (D.told source.new) result }
 {
     read_some(source, &mut buf[at..])
 }
@@ -24,6 +25,9 @@ fn read_behind<D: ReadDevice>(source: &mut D, buf: &mut [u8], at: usize) -> Resu
 pub(crate) fn fill<D: ReadDevice>(source: &mut D, buf: &mut [u8]) -> Result<usize, io::Error>
     ensures bound { IfOk result (λ n. n ≤ length buf.old) }
     ensures bytes { Fills (D.feed source.old) (D.feed source.new) result buf.new }
+    // The data aren't asked for on behind their end or fault, nor once the buffer is full.
+    ensures told { D.told source.new ≤ D.told source.old + 1 }
+    ensures lazy { IfOk result (λ n. n ≡ length buf.old → D.told source.new ≤ D.told source.old) }
 {
     let mut at = 0;
     while at < buf.len() {
@@ -38,7 +42,10 @@ pub(crate) fn fill<D: ReadDevice>(source: &mut D, buf: &mut [u8]) -> Result<usiz
 
 /// Reads all the data into memory. Its fault is reported, and lack of memory as OutOfMemory.
 pub fn gather<D: ReadDevice>(alloc: Global, source: &mut D) -> Result<Vec<u8>, io::Error>
-    ensures { IfSome (D.feed source.old) (λ feed. length feed.bytes < 2 ^ 63 → Gathers (λ v. v.items) feed result) }
+    ensures gathers { IfSome (D.feed source.old)
+        (λ feed. length feed.bytes < 2 ^ 63 → Gathers (λ v. v.items) feed result) }
+    // The data aren't asked for on behind their end or fault.
+    ensures told { D.told source.new ≤ D.told source.old + 1 }
 {
     let mut all = Vec::new(alloc);
     let mut buf = [0u8; PIECE];

@@ -1,6 +1,7 @@
 //! A body that is sent as it is, of a known length (RFC 9112, section 6.2).
-ghost use Rattle.std.specs.Prelude.{◌≡◌, ◌<◌, ◌≤◌, length, take, IfOk, IfSome};
-ghost use Rattle.tiny_http_io.specs.Device.{ReadsFrom, CopiesPiece, CountsFaults};
+ghost use Rattle.std.specs.Prelude.{◌≡◌, ◌<◌, ◌≤◌, ◌+◌, length, take, IfOk, IfSome};
+ghost use Rattle.tiny_http_io.specs.Device.{ReadsFrom, CopiesPiece, CountsFaults, Tells};
+ghost use Rattle.tiny_http_body.specs.Decoding.{fault_count};
 ghost use Rattle.tiny_http_body.specs.Text.{Prints, identity_body};
 
 use crate::gather::PIECE;
@@ -17,6 +18,7 @@ fn read_into_front<D: ReadDevice>(
     requires { n ≤ length buf.old }
     ensures bound { IfOk result (λ k. k ≤ n) }
     ensures bytes { ReadsFrom (D.feed source.old) (D.feed source.new) result (take n buf.new) }
+    ensures told { Tells (D.told source.old) (D.told source.new) result }
 {
     read_some(source, &mut buf[..n])
 }
@@ -34,6 +36,7 @@ fn put_piece<D: ReadDevice, W: WriteDevice>(
         result }
     ensures uses { CountsFaults (W.sink writer.old) (W.sink writer.new) result }
     ensures len { length buf.new ≡ length buf.old }
+    ensures told { D.told source.new ≤ D.told source.old + fault_count result }
 {
     let room = left.min(buf.len());
     let count = read_into_front(source, buf, room)?;
@@ -55,6 +58,7 @@ fn put_through<D: ReadDevice, W: WriteDevice>(
     ensures text { IfSome (D.feed source.old)
         (λ feed. Prints (W.sink writer.old) (W.sink writer.new) result (identity_body n feed)) }
     ensures uses { CountsFaults (W.sink writer.old) (W.sink writer.new) result }
+    ensures told { D.told source.new ≤ D.told source.old + fault_count result }
 {
     let mut left = n;
     while left > 0 {
@@ -78,6 +82,8 @@ pub fn put_exactly<D: ReadDevice, W: WriteDevice>(
     ensures text { IfSome (D.feed source.old)
         (λ feed. Prints (W.sink writer.old) (W.sink writer.new) result (identity_body n feed)) }
     ensures uses { CountsFaults (W.sink writer.old) (W.sink writer.new) result }
+    // The data aren't asked for on behind their end or fault, nor for more than the `n` bytes.
+    ensures told { D.told source.new ≤ D.told source.old + fault_count result }
 {
     if n <= SHORT {
         return put_through(source, writer, &mut [0u8; SHORT], n);

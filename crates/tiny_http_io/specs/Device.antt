@@ -68,6 +68,12 @@ pub record Reads (old new : Option Feed) (r : Result ℕ Error) (buf : List ℕ)
   pub fault : IfErr r (λ e. StopsBy (Fault (error_kind e)) old)
   pub again : OnErr r (new ≡ old)
 
+-- HOW OFTEN A READER IS ASKED, by the count of the ends and faults that it told: one read has it tell one at most, and
+-- none where bytes came.
+pub record Tells (old new : ℕ) (r : Result ℕ Error) : Type 0 where
+  pub once : new ≤ old + 1
+  pub lazy : IfOk r (λ n. 0 < n → new ≤ old)
+
 -- One read by cases: it took the bytes that it gave from the front of the feed, none only after its last byte
 -- at its end. A fault comes after the last byte alone, and changes nothing.
 abbrev pub ReadsFrom : Option Feed → Option Feed → Result ℕ Error → List ℕ → Type 0

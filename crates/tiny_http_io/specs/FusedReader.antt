@@ -22,6 +22,10 @@ feed_unless false feed = feed
 abbrev pub fused_feed : {R : Type 0} → (R → Option Feed) → FusedReader R → Option Feed
 fused_feed feed r = feed_unless r.over (feed r.inner)
 
+-- how many ends and faults the reader inside has told
+abbrev pub fused_told : {R : Type 0} → (R → ℕ) → FusedReader R → ℕ
+fused_told told r = told r.inner
+
 -- ONE READ. Of what it still gives it is a read; and whatever the reader inside states: into an empty buffer it changes
 -- nothing; a byte or a fault is no end; and the reader isn't called again after its end.
 pub record ReadsFused {R : Type 0} (feed : R → Option Feed) (old new : FusedReader R) (r : Result ℕ Error)

@@ -14,6 +14,11 @@ abbrev pub behind_held : Option Stop → Option Feed → Option Feed
 behind_held None feed = feed
 behind_held (Some stop) feed = option_map (λ _. stopped stop) feed
 
+-- how many ends and faults the reader may still tell: one, until the input has stopped
+abbrev pub may_tell : Option Stop → ℕ
+may_tell None = 1
+may_tell (Some stop) = 0
+
 -- the feed without its first n bytes; one that is cut short ends
 abbrev pub skipped : ℕ → Feed → Feed
 skipped n feed =

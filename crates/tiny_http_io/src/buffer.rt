@@ -2,7 +2,7 @@
 ghost use Rattle.std.specs.Prelude.{◌≡◌, ℕ, ◌+◌, ◌-◌, ◌≤◌, ◌==◌, min, List, [], ◌∷◌, ◌++◌, length, take, drop, Ok};
 ghost use Rattle.std.specs.Prelude.{IfOk, IfErr, OnOk, OnErr, IfSome, IfNone};
 ghost use Rattle.std.specs.IoError.{error_kind};
-ghost use Rattle.tiny_http_io.specs.Device.{prepended, StopsBy};
+ghost use Rattle.tiny_http_io.specs.Device.{prepended, StopsBy, Tells};
 ghost use Rattle.tiny_http_io.specs.declared.device.Stop.TheVariants.{End, Fault};
 
 use crate::device::ReadDevice;
@@ -118,6 +118,7 @@ impl Buffer {
         ensures end { IfOk result (λ n. n ≡ 0 → StopsBy End (R.feed device.old)) }
         ensures fault { IfErr result (λ e. StopsBy (Fault (error_kind e)) (R.feed device.old)) }
         ensures again { OnErr result ((R.feed device.new ≡ R.feed device.old) × (self.new ≡ [])) }
+        ensures told { Tells (R.told device.old) (R.told device.new) result }
     {
         self.start = 0;
         self.end = 0;

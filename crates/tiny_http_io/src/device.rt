@@ -1,10 +1,10 @@
 //! What is read and what is written: readers that may state what they give, and writers that count their failures.
-ghost use Rattle.std.specs.Prelude.{◌≡◌, ◌<◌, ◌≤◌, min, false, [], length, take, drop, Option, None, Some, Ok, IfOk};
+ghost use Rattle.std.specs.Prelude.{◌≡◌, ◌<◌, ◌≤◌, ℕ, min, false, [], length, take, drop, Option, None, Some, Ok, IfOk};
 ghost use Rattle.std.specs.Prelude.{IfErr, OnOk, OnErr, vec_len, flat_map};
 ghost use Rattle.std.specs.IoError.{error_kind};
 ghost use Rattle.tiny_http_io.specs.Cursor.{cursor_bytes};
 ghost use Rattle.tiny_http_io.specs.Device.{Feed, whole_feed, prepended, StopsBy, stop_of, next_count, Sink};
-ghost use Rattle.tiny_http_io.specs.Device.{BeginsKnown, HoldsNothing, Reads, ReadsFrom, Puts, PutsFront};
+ghost use Rattle.tiny_http_io.specs.Device.{BeginsKnown, HoldsNothing, Reads, ReadsFrom, Tells, Puts, PutsFront};
 
 use std::alloc::Global;
 use std::io;
@@ -25,11 +25,16 @@ pub trait ReadDevice {
     /// The bytes that it still gives and how they stop, if it states them.
     ghost feed: { Self → Option Feed } = { λ _. None };
 
+    /// How many ends and faults it has told, if it counts them. By this count a contract says how often a reader was
+    /// asked: a caller that asks on behind one can't show that no second one was told.
+    ghost told: { Self → ℕ } = { λ _. 0 };
+
     /// Reads some bytes into the front of `buf`, and says how many: 0 at the end, and where `buf`
     /// is empty. After the last byte each call answers the stop. An error gives no byte.
     fn read_in(&mut self, buf: &mut [u8]) -> Result<usize, io::Error>
         ensures reads { Reads (feed self.old) (feed self.new) result buf.new }
-        ensures empty { length buf.new ≡ 0 → (result ≡ Ok 0) × (self.new ≡ self.old) };
+        ensures empty { length buf.new ≡ 0 → (result ≡ Ok 0) × (self.new ≡ self.old) }
+        ensures told { Tells (told self.old) (told self.new) result };
 }
 
 /// A writer that counts its failures, and may state the bytes that it took and how it failed last.
@@ -374,6 +379,7 @@ impl WriteDevice for Budget {
 pub fn read_some<R: ReadDevice>(reader: &mut R, buf: &mut [u8]) -> Result<usize, io::Error>
     ensures bound { IfOk result (λ n. n ≤ length buf.new) }
     ensures bytes { ReadsFrom (R.feed reader.old) (R.feed reader.new) result buf.new }
+    ensures told { Tells (R.told reader.old) (R.told reader.new) result }
 {
     reader.read_in(buf)
 }
@@ -394,6 +400,7 @@ pub fn read_front<R: ReadDevice>(
     ensures again { OnErr result (R.feed reader.new ≡ R.feed reader.old) }
     ensures empty { min most (length buf.old) ≡ 0 → (result ≡ Ok 0) × (reader.new ≡ reader.old) }
     ensures len { length buf.new ≡ length buf.old }
+    ensures told { Tells (R.told reader.old) (R.told reader.new) result }
 {
     let room = most.min(buf.len());
     let front = &mut buf[..room];
@@ -454,12 +461,15 @@ impl<R: ReadDevice> ReadDevice for ByPieces<R> {
 
     ghost feed = { λ p. R.feed (pieces_inner p) };
 
+    ghost told = { λ p. R.told (pieces_inner p) };
+
     /// Reads once from the reader, into the front of `buf`.
     fn read_in(&mut self, buf: &mut [u8]) -> Result<usize, io::Error>
         ensures reads { Reads (R.feed (pieces_inner self.old)) (R.feed (pieces_inner self.new)) result buf.new }
         ensures empty { length buf.new ≡ 0 → (result ≡ Ok 0) × (self.new ≡ self.old) }
         ensures most { IfOk result (λ n. n ≤ pieces_most self.old) }
         ensures stays { pieces_most self.new ≡ pieces_most self.old }
+        ensures told { Tells (R.told (pieces_inner self.old)) (R.told (pieces_inner self.new)) result }
     {
         read_front(&mut self.inner, self.most.max(1), buf)
     }
@@ -527,6 +537,8 @@ impl<S: ReadDevice> ReadDevice for FailsAt<S> {
     ghost use Rattle.std.specs.Prelude.{◌≢◌};
     ghost use Rattle.tiny_http_io.specs.FailsAt.{fails_at_inner, calls_left, IsCounted, FailsNow};
 
+    ghost told = { λ f. S.told (fails_at_inner f) };
+
     /// Reads once from the reader, or fails. It states no feed, since what it gives may go on behind a fault.
     fn read_in(&mut self, buf: &mut [u8]) -> Result<usize, io::Error>
         ensures reads { Reads None None result buf.new }
@@ -536,6 +548,7 @@ impl<S: ReadDevice> ReadDevice for FailsAt<S> {
         // What came is the reader's, if it states what it still gives.
         ensures stream { calls_left self.old ≢ 1
             → ReadsFrom (S.feed (fails_at_inner self.old)) (S.feed (fails_at_inner self.new)) result buf.new }
+        ensures told { Tells (S.told (fails_at_inner self.old)) (S.told (fails_at_inner self.new)) result }
     {
         if buf.is_empty() {
             return Ok(0);
@@ -579,6 +592,8 @@ impl<S: Write> Write for FailsAt<S> {
 
 impl<R: ReadDevice> ReadDevice for &mut R {
     ghost feed = { λ r. R.feed r.now };
+
+    ghost told = { λ r. R.told r.now };
 
     /// Reads from the reader that is lent.
     fn read_in(&mut self, buf: &mut [u8]) -> Result<usize, io::Error> {

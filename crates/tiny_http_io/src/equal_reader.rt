@@ -2,7 +2,7 @@
 ghost use Rattle.std.specs.Prelude.{◌≡◌, ◌<◌, ◌≤◌, ◌+◌, length, take, Ok, IfOk, IfErr, OnErr};
 ghost use Rattle.std.specs.Option.{option_map};
 ghost use Rattle.std.specs.IoError.{error_kind};
-ghost use Rattle.tiny_http_io.specs.Device.{prepended, StopsBy};
+ghost use Rattle.tiny_http_io.specs.Device.{prepended, StopsBy, Tells};
 ghost use Rattle.tiny_http_io.specs.FeedParts.{feed_behind};
 
 use crate::device::{ReadDevice, Stop, read_front};
@@ -22,7 +22,8 @@ pub struct EqualReader<R: ReadDevice + Drop> {
 
 // Reads so many bytes away. It stops at an end or a fault.
 fn read_away<R: ReadDevice>(inner: &mut R, size: usize)
-    ensures { R.feed inner.new ≡ option_map (feed_behind size) (R.feed inner.old) }
+    ensures feed { R.feed inner.new ≡ option_map (feed_behind size) (R.feed inner.old) }
+    ensures told { R.told inner.new ≤ R.told inner.old + 1 }
 {
     let mut left = size;
     let mut buf = [0u8; PIECE];
@@ -52,7 +53,9 @@ impl<R: ReadDevice + Drop> EqualReader<R> {
     /// Reads the rest of the bytes away, and hands the reader back: it stands after them, or has stopped before.
     /// Faults met here are not reported.
     pub fn finish(self) -> R
-        ensures { R.feed result ≡ option_map (feed_behind (equal_left self)) (R.feed (equal_inner self)) }
+        ensures feed { R.feed result ≡ option_map (feed_behind (equal_left self)) (R.feed (equal_inner self)) }
+        // It isn't asked on behind an end or a fault.
+        ensures told { R.told result ≤ R.told (equal_inner self) + 1 }
     {
         let EqualReader { mut inner, left } = self;
         read_away(&mut inner, left);
@@ -74,6 +77,7 @@ impl<R: ReadDevice + Drop> EqualReader<R> {
         // What is read away, now or later, stays the same.
         ensures behind { option_map (feed_behind (equal_left self.new)) (R.feed (equal_inner self.new))
             ≡ option_map (feed_behind (equal_left self.old)) (R.feed (equal_inner self.old)) }
+        ensures told { Tells (R.told (equal_inner self.old)) (R.told (equal_inner self.new)) result }
     {
         if self.left == 0 {
             return Ok(0);
@@ -89,13 +93,16 @@ impl<R: ReadDevice + Drop> EqualReader<R> {
 }
 
 impl<R: ReadDevice + Drop> ReadDevice for EqualReader<R> {
-    ghost use Rattle.tiny_http_io.specs.EqualReader.{equal_feed, ReadsPart};
+    ghost use Rattle.tiny_http_io.specs.EqualReader.{equal_feed, equal_inner, ReadsPart};
 
     ghost feed = { equal_feed R.feed };
+
+    ghost told = { λ r. R.told (equal_inner r) };
 
     /// Reads some of the bytes that are left, straight into `buf`.
     fn read_in(&mut self, buf: &mut [u8]) -> Result<usize, io::Error>
         ensures reads { ReadsPart R.feed self.old self.new result buf.new }
+        ensures told { Tells (R.told (equal_inner self.old)) (R.told (equal_inner self.new)) result }
     {
         self.read_part(buf)
     }
@@ -111,7 +118,7 @@ impl<R: ReadDevice + Drop> Drop for EqualReader<R> {
 impl<R: ReadDevice + Drop> Read for EqualReader<R> {
     ghost use Rattle.std.specs.Io.{ReadsAtMost};
     ghost use Rattle.std.specs.Io.KnownBytes.{ReadConsumes};
-    ghost use Rattle.tiny_http_io.specs.EqualReader.{equal_feed, ReadsPart};
+    ghost use Rattle.tiny_http_io.specs.EqualReader.{equal_feed, equal_inner, ReadsPart};
     ghost use Rattle.tiny_http_io.specs.Device.{bytes_of};
 
     ghost remaining = { λ r. bytes_of (equal_feed R.feed r) };
@@ -122,6 +129,7 @@ impl<R: ReadDevice + Drop> Read for EqualReader<R> {
         ensures bytes { ReadConsumes (bytes_of (equal_feed R.feed self.old)) (bytes_of (equal_feed R.feed self.new))
             result buf.new }
         ensures reads { ReadsPart R.feed self.old self.new result buf.new }
+        ensures told { Tells (R.told (equal_inner self.old)) (R.told (equal_inner self.new)) result }
     {
         self.read_in(buf)
     }

@@ -1,7 +1,7 @@
 //! A reader that stays at its end.
 ghost use Rattle.std.specs.Prelude.{◌≡◌, ◌<◌, ◌≤◌, length, take, Some, None, Ok, IfOk, IfErr, OnErr, IsSome};
 ghost use Rattle.std.specs.IoError.{error_kind};
-ghost use Rattle.tiny_http_io.specs.Device.{prepended, StopsBy};
+ghost use Rattle.tiny_http_io.specs.Device.{prepended, StopsBy, Tells};
 
 use crate::device::{ReadDevice, Stop};
 use std::io;
@@ -40,13 +40,16 @@ impl<R: ReadDevice + Drop> FusedReader<R> {
 }
 
 impl<R: ReadDevice> ReadDevice for FusedReader<R> {
-    ghost use Rattle.tiny_http_io.specs.FusedReader.{fused_feed, ReadsFused};
+    ghost use Rattle.tiny_http_io.specs.FusedReader.{fused_feed, fused_told, ReadsFused};
 
     ghost feed = { fused_feed R.feed };
+
+    ghost told = { fused_told R.told };
 
     /// Reads some bytes. A read into an empty buffer is no end.
     fn read_in(&mut self, buf: &mut [u8]) -> Result<usize, io::Error>
         ensures reads { ReadsFused R.feed self.old self.new result buf.new }
+        ensures told { Tells (fused_told R.told self.old) (fused_told R.told self.new) result }
     {
         if self.over || buf.is_empty() {
             return Ok(0);
@@ -66,7 +69,7 @@ impl<R: ReadDevice> ReadDevice for FusedReader<R> {
 impl<R: ReadDevice> Read for FusedReader<R> {
     ghost use Rattle.std.specs.Io.{ReadsAtMost};
     ghost use Rattle.std.specs.Io.KnownBytes.{ReadConsumes};
-    ghost use Rattle.tiny_http_io.specs.FusedReader.{fused_feed, ReadsFused};
+    ghost use Rattle.tiny_http_io.specs.FusedReader.{fused_feed, fused_told, ReadsFused};
     ghost use Rattle.tiny_http_io.specs.Device.{bytes_of};
 
     ghost remaining = { λ r. bytes_of (fused_feed R.feed r) };
@@ -77,6 +80,7 @@ impl<R: ReadDevice> Read for FusedReader<R> {
         ensures bytes { ReadConsumes (bytes_of (fused_feed R.feed self.old)) (bytes_of (fused_feed R.feed self.new))
             result buf.new }
         ensures reads { ReadsFused R.feed self.old self.new result buf.new }
+        ensures told { Tells (fused_told R.told self.old) (fused_told R.told self.new) result }
     {
         self.read_in(buf)
     }

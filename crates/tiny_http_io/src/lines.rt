@@ -1,10 +1,12 @@
-//! Where a line ends, and how many bytes it may have. A limit is a number of bytes, or none.
-ghost use Rattle.std.specs.Prelude.{◌≡◌, ◌+◌, ◌-◌, ◌^◌, ◌<◌, ◌≤◌, false, length, IsSome, IfSome, IfNone, IsTrue};
+//! Where a line ends, how many bytes it may have, and how its bytes are kept. A limit is a number of bytes, or none.
+ghost use Rattle.std.specs.Prelude.{◌≡◌, ◌≢◌, ◌+◌, ◌-◌, ◌*◌, ◌^◌, ◌<◌, ◌≤◌, ◌++◌, ◌∷◌, [], false, true, length};
+ghost use Rattle.std.specs.Prelude.{vec_len, IsSome, IfSome, IfNone, IfErr, OnOk, IsTrue};
 ghost use Rattle.std.specs.Option.{option_map};
 ghost use Rattle.tiny_http_text.specs.Lines.{has_crlf};
-ghost use Rattle.tiny_http_io.specs.LineEnds.{EndsLine};
+ghost use Rattle.tiny_http_io.specs.LineEnds.{held_return, BeginsNoLineEnd, EndsLine};
 ghost use Rattle.tiny_http_io.specs.Source.{IsWithin};
 
+use crate::source::LineFault;
 use memchr::memchr;
 
 /// Where the first CR LF begins.
@@ -53,5 +55,44 @@ pub(crate) fn one_less(room: Option<usize>) -> Option<usize>
     match room {
         Some(n) => Some(n - 1),
         None => None,
+    }
+}
+
+// Takes a byte that doesn't end the line. A carriage return is kept once the byte after it is known.
+pub(crate) fn go_on(text: &mut Vec<u8>, after_return: &mut bool, b: u8) -> Result<(), LineFault>
+    requires not_end { after_return.old ≡ true → b ≢ 10 }
+    requires passed { BeginsNoLineEnd text.old.items (held_return after_return.old) }
+    ensures passed { OnOk result (BeginsNoLineEnd text.new.items (held_return after_return.new)) }
+    ensures bytes { OnOk result
+        (text.new.items ++ held_return after_return.new ≡ (text.old.items ++ held_return after_return.old) ++ b ∷ []) }
+    ensures more { OnOk result
+        (2 * vec_len text.old + length (held_return after_return.old) < 2 * vec_len text.new + length
+        (held_return after_return.new)) }
+    ensures fault { IfErr result (λ fault. fault ≡ LineFault.Memory) }
+{
+    match (*after_return, b) {
+        (true, b'\r') => keep(text, b'\r'),
+        (false, b'\r') => {
+            *after_return = true;
+            Ok(())
+        }
+        (false, _) => keep(text, b),
+        (true, _) => {
+            *after_return = false;
+            keep(text, b'\r')?;
+            keep(text, b)
+        }
+    }
+}
+
+// One byte more of a line.
+fn keep(text: &mut Vec<u8>, b: u8) -> Result<(), LineFault>
+    ensures ok { OnOk result (text.new.items ≡ text.old.items ++ b ∷ []) }
+    ensures len { OnOk result (vec_len text.new ≡ vec_len text.old + 1) }
+    ensures fault { IfErr result (λ fault. fault ≡ LineFault.Memory) }
+{
+    match text.push(b) {
+        Ok(()) => Ok(()),
+        Err(_) => Err(LineFault::Memory),
     }
 }

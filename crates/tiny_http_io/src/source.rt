@@ -1,18 +1,18 @@
 //! A connection's input, seen as what is still to come of it: lines and bytes through a buffer.
-ghost use Rattle.std.specs.Prelude.{◌≡◌, ◌≢◌, ℕ, true, false, vec_len, ◌*◌, ◌+◌, ◌-◌, ◌^◌, ◌<◌, ◌≤◌, ◌⊎◌, min, List};
+ghost use Rattle.std.specs.Prelude.{◌≡◌, ◌≢◌, ℕ, true, false, ◌+◌, ◌-◌, ◌^◌, ◌<◌, ◌≤◌, ◌⊎◌, min, List};
 ghost use Rattle.std.specs.Prelude.{[], ◌∷◌, ◌++◌, length, take, drop, Option, None, Some, Ok, Err, IfOk, IfErr};
 ghost use Rattle.std.specs.Prelude.{OnOk, OnErr, IsSome, IfSome, IfNone, IsTrue};
 ghost use Rattle.std.specs.Option.{option_map};
 ghost use Rattle.std.specs.IoError.{error_kind};
-ghost use Rattle.tiny_http_io.specs.Device.{AnswersStop, prepended, StopsBy};
+ghost use Rattle.tiny_http_io.specs.Device.{AnswersStop, prepended, StopsBy, Tells};
 ghost use Rattle.tiny_http_text.specs.Lines.{IsUnfinished, has_crlf};
-ghost use Rattle.tiny_http_io.specs.LineEnds.{held_return, BeginsNoLineEnd, EndsLine, StopsWithin};
+ghost use Rattle.tiny_http_io.specs.LineEnds.{BeginsNoLineEnd, EndsLine, StopsWithin};
 ghost use Rattle.tiny_http_io.specs.Source.{IsWithin, seen_within};
 ghost use Rattle.tiny_http_io.specs.ToCome.{skipped, stopped, HasByte, HasNoByte};
 
 use crate::buffer::{Buffer, CAPACITY};
 use crate::device::{ReadDevice, Stop};
-use crate::lines::{is_reached, is_within, line_end, one_less};
+use crate::lines::{go_on, is_reached, is_within, line_end, one_less};
 use std::alloc::{AllocError, Global};
 use std::io;
 use std::io::{ErrorKind, Read};
@@ -98,7 +98,8 @@ impl Standing {
 /// A reader with a buffer of 1024 bytes, a number of bytes to skip, and where it stands among heads and bodies. After
 /// its first end or fault the reader isn't called again. It is called only where the buffer is empty and a byte is
 /// wanted: nothing is read ahead but what one call of the reader gives. (The clauses `lazy` say that no end or fault
-/// of the reader was met in a call that gave what was asked for.)
+/// of the reader was met in a call that gave what was asked for; the clauses `asks` that in all calls together the
+/// reader tells one.)
 #[derive(Drop)]
 pub struct Source<R: ReadDevice> {
     input: Input<R>,
@@ -125,7 +126,7 @@ impl<R: ReadDevice> Model for Source<R> {
 }
 
 impl<R: ReadDevice> Source<R> {
-    ghost use Rattle.tiny_http_io.specs.Source.{ReadsLine, ReadsSource, LooksForByte, SkipsBytes, EndsHere};
+    ghost use Rattle.tiny_http_io.specs.Source.{AsksReader, ReadsLine, ReadsSource, LooksForByte, SkipsBytes, EndsHere};
     ghost use Rattle.tiny_http_io.specs.Source.{ReadsOneLine, FindsOneLine, PassesLine, TakesHeld, TakesBytes};
 
     /// A source over this reader. A head comes first.
@@ -166,7 +167,8 @@ impl<R: ReadDevice> Source<R> {
 
     /// Whether a byte is still to come. It waits for one, or for the end or a fault.
     pub fn has_byte(&mut self) -> bool
-        ensures { LooksForByte self.old self.new result }
+        ensures looks { LooksForByte self.old self.new result }
+        ensures asks { AsksReader R.told self.old self.new }
     {
         self.input.has_byte()
     }
@@ -181,7 +183,8 @@ impl<R: ReadDevice> Source<R> {
     /// Skips n bytes more, before the next line or read. Where fewer are left the input ends. The reader isn't
     /// called, but where 2^64 bytes and more are to be skipped together.
     pub fn skip(&mut self, n: usize)
-        ensures { SkipsBytes n self.old self.new }
+        ensures skips { SkipsBytes n self.old self.new }
+        ensures asks { AsksReader R.told self.old self.new }
     {
         self.input.skip(n)
     }
@@ -197,6 +200,7 @@ impl<R: ReadDevice> Source<R> {
     pub fn read_line(&mut self, alloc: Global) -> Result<AsciiString, LineFault>
         ensures line { ReadsLine self.old.feed self.new.feed result }
         ensures reads { ReadsOneLine None self.old self.new result }
+        ensures asks { AsksReader R.told self.old self.new }
     {
         self.input.read_line(alloc, None)
     }
@@ -204,7 +208,8 @@ impl<R: ReadDevice> Source<R> {
     /// Reads the first line, if it has ended within `left` bytes, its CR LF included. Else it is `TooLong` as soon as
     /// so many bytes came, and the source ends. It holds no more of them. The other faults are those of `read_line`.
     pub fn read_line_within(&mut self, alloc: Global, left: usize) -> Result<AsciiString, LineFault>
-        ensures { ReadsOneLine (Some left) self.old self.new result }
+        ensures reads { ReadsOneLine (Some left) self.old self.new result }
+        ensures asks { AsksReader R.told self.old self.new }
     {
         self.input.read_line(alloc, Some(left))
     }
@@ -213,7 +218,8 @@ impl<R: ReadDevice> Source<R> {
     /// line that lies whole in the buffer stays there, to be parsed in its place, and takes no memory. Any other line
     /// is taken off. The faults are those of `read_line_within`, but `NotAscii`.
     pub fn find_line(&mut self, alloc: Global, left: Option<usize>) -> Result<FirstLine, LineFault>
-        ensures { FindsOneLine left self.old self.new result }
+        ensures finds { FindsOneLine left self.old self.new result }
+        ensures asks { AsksReader R.told self.old self.new }
     {
         self.input.find_line(alloc, left)
     }
@@ -248,6 +254,8 @@ impl<R: ReadDevice> Source<R> {
     /// a read into 1024 bytes or more goes straight to the reader.
     pub fn read(&mut self, buf: &mut [u8]) -> Result<usize, io::Error>
         ensures reads { ReadsSource self.old self.new result buf.new }
+        ensures told { Tells (R.told self.old.reader) (R.told self.new.reader) result }
+        ensures asks { AsksReader R.told self.old self.new }
     {
         self.input.read(buf)
     }
@@ -255,20 +263,26 @@ impl<R: ReadDevice> Source<R> {
     /// Takes n bytes; or answers `None` where fewer are left, all of which are taken, and then the source is over. An
     /// error where there is no memory for them; then nothing has changed.
     pub fn take_exactly(&mut self, alloc: Global, n: usize) -> Result<Option<Vec<u8>>, AllocError>
-        ensures { TakesBytes n self.old self.new result }
+        ensures takes { TakesBytes n self.old self.new result }
+        ensures asks { AsksReader R.told self.old self.new }
     {
         self.input.take_exactly(alloc, n)
     }
 }
 
 impl<R: ReadDevice> ReadDevice for Source<R> {
-    ghost use Rattle.tiny_http_io.specs.Source.{ReadsSource};
+    ghost use Rattle.tiny_http_io.specs.Source.{AsksReader, ReadsSource};
 
     ghost feed = { λ s. s.feed };
+
+    // Its reader's.
+    ghost told = { λ s. R.told s.reader };
 
     /// Reads some bytes, as `Source::read`.
     fn read_in(&mut self, buf: &mut [u8]) -> Result<usize, io::Error>
         ensures reads { ReadsSource self.old self.new result buf.new }
+        ensures told { Tells (R.told self.old.reader) (R.told self.new.reader) result }
+        ensures asks { AsksReader R.told self.old self.new }
     {
         self.input.read(buf)
     }
@@ -278,7 +292,7 @@ impl<R: ReadDevice> Read for Source<R> {
     ghost use Rattle.std.specs.Io.{ReadsAtMost};
     ghost use Rattle.std.specs.Io.KnownBytes.{ReadConsumes};
     ghost use Rattle.tiny_http_io.specs.Device.{bytes_of};
-    ghost use Rattle.tiny_http_io.specs.Source.{ReadsSource};
+    ghost use Rattle.tiny_http_io.specs.Source.{AsksReader, ReadsSource};
 
     ghost remaining = { λ s. bytes_of s.feed };
 
@@ -287,6 +301,8 @@ impl<R: ReadDevice> Read for Source<R> {
         ensures bound { ReadsAtMost result buf.new }
         ensures bytes { ReadConsumes (bytes_of self.old.feed) (bytes_of self.new.feed) result buf.new }
         ensures reads { ReadsSource self.old self.new result buf.new }
+        ensures told { Tells (R.told self.old.reader) (R.told self.new.reader) result }
+        ensures asks { AsksReader R.told self.old self.new }
     {
         self.read_in(buf)
     }
@@ -303,7 +319,7 @@ struct Input<R> {
 
 impl<R: ReadDevice> Input<R> {
     ghost use Rattle.tiny_http_io.specs.Input.{input_feed, input_stop, input_reader, input_held, input_skip};
-    ghost use Rattle.tiny_http_io.specs.Input.{IsInputOver, SkipsHeld};
+    ghost use Rattle.tiny_http_io.specs.Input.{input_told, IsInputOver, SkipsHeld};
     ghost use Rattle.tiny_http_io.specs.Source.{line_fault_of, ReadsWithin, TakesLine, FindsLine, TakesExactly, GoesOn};
 
     pub fn new(inner: R) -> Input<R>
@@ -349,6 +365,7 @@ impl<R: ReadDevice> Input<R> {
         ensures holds { IsTrue result → input_skip self.new < length (input_held self.new) }
         ensures skipped { IsTrue result → input_skip self.new ≡ 0 }
         ensures stays { IsInputOver self.old → (result ≡ false) × (self.new ≡ self.old) }
+        ensures asks { input_told R.told self.new ≤ input_told R.told self.old }
     {
         self.fill();
         !self.held.is_empty()
@@ -359,6 +376,7 @@ impl<R: ReadDevice> Input<R> {
         ensures feed { input_feed R.feed self.new ≡ input_feed R.feed self.old }
         ensures fields { let n = min self.old.skip (length self.old.held) in
             self.new ≡ record self.old { held = drop n self.old.held; skip = self.old.skip - n } }
+        ensures asks { input_told R.told self.new ≤ input_told R.told self.old }
     {
         let n = self.skip.min(self.held.len());
         self.held.consume(n);
@@ -373,6 +391,7 @@ impl<R: ReadDevice> Input<R> {
         ensures skip { self.new.skip ≡ self.old.skip }
         ensures some { self.new.stop ≡ None → 0 < length self.new.held }
         ensures none { IsSome self.new.stop → self.new.held ≡ [] }
+        ensures asks { input_told R.told self.new ≤ input_told R.told self.old }
     {
         match self.held.read_from(&mut self.inner) {
             Ok(0) => self.stop = Some(Stop::End),
@@ -392,6 +411,7 @@ impl<R: ReadDevice> Input<R> {
         ensures stays { IsInputOver self.old → self.new ≡ self.old }
         ensures lazy { 0 < length self.new.held → input_stop self.new ≡ input_stop self.old }
         ensures held { input_skip self.old < length (input_held self.old) → SkipsHeld self.old self.new }
+        ensures asks { input_told R.told self.new ≤ input_told R.told self.old }
     {
         if self.skip == 0 && !self.held.is_empty() {
             return;
@@ -444,6 +464,7 @@ impl<R: ReadDevice> Input<R> {
         ensures full { IfSome left (λ n. input_skip self.old + n ≤ length (input_held self.old)
             → input_reader self.new ≡ input_reader self.old) }
         ensures lazy { OnOk result (input_stop self.new ≡ input_stop self.old) }
+        ensures asks { input_told R.told self.new ≤ input_told R.told self.old }
     {
         if is_reached(left, 0) {
             self.end();
@@ -504,6 +525,7 @@ impl<R: ReadDevice> Input<R> {
         ensures rest { OnOk result (self.new ≡ record self.old { held = drop (n + 2) self.old.held }) }
         ensures err { IfErr result (λ fault. (fault ≡ LineFault.Memory) × (self.new ≡ self.old)) }
         ensures reader { input_reader self.new ≡ input_reader self.old }
+        ensures asks { input_told R.told self.new ≤ input_told R.told self.old }
     {
         let Ok(text) = self.held.as_slice()[..n].to_vec(alloc) else {
             return Err(LineFault::Memory);
@@ -535,6 +557,7 @@ impl<R: ReadDevice> Input<R> {
             → left ≢ Some 0
             → (self.new ≡ self.old) × IfSome (input_stop self.old) (λ stop. result ≡ Err (line_fault_of stop)) }
         ensures lazy { OnOk result (input_stop self.new ≡ input_stop self.old) }
+        ensures asks { input_told R.told self.new ≤ input_told R.told self.old }
     {
         let mut text = Vec::new(alloc);
         let mut after_return = false;
@@ -562,6 +585,7 @@ impl<R: ReadDevice> Input<R> {
         ensures over { IsInputOver self.new }
         ensures stop { input_stop self.new ≡ Some Stop.End }
         ensures reader { input_reader self.new ≡ input_reader self.old }
+        ensures asks { input_told R.told self.new ≤ input_told R.told self.old }
     {
         self.held.clear();
         self.skip = 0;
@@ -596,6 +620,7 @@ impl<R: ReadDevice> Input<R> {
             → input_reader self.new ≡ input_reader self.old }
         ensures full { IfSome left (λ n. input_skip self.old + n ≤ length (input_held self.old)
             → input_reader self.new ≡ input_reader self.old) }
+        ensures asks { input_told R.told self.new ≤ input_told R.told self.old }
     {
         let text = match self.find_line(alloc, left)? {
             FirstLine::Taken(text) => text,
@@ -626,6 +651,7 @@ impl<R: ReadDevice> Input<R> {
         ensures held { input_skip self.old + n ≤ length (input_held self.old)
             → input_reader self.new ≡ input_reader self.old }
         ensures goes_on { GoesOn (input_feed R.feed self.old) (input_feed R.feed self.new) }
+        ensures asks { input_told R.told self.new ≤ input_told R.told self.old }
     {
         let mut body = Vec::with_capacity(alloc, n)?;
         while body.len() < n {
@@ -659,6 +685,7 @@ impl<R: ReadDevice> Input<R> {
         // After an end or a fault the reader isn't called again.
         ensures once { IsSome (input_stop self.old)
             → IsSome (input_stop self.new) × (input_reader self.new ≡ input_reader self.old) }
+        ensures asks { input_told R.told self.new ≤ input_told R.told self.old }
     {
         match self.skip.checked_add(n) {
             Some(sum) => self.skip = sum,
@@ -684,6 +711,7 @@ impl<R: ReadDevice> Input<R> {
         ensures held { input_skip self.old < length (input_held self.old)
             → (input_reader self.new ≡ input_reader self.old) × (input_skip self.new ≡ 0)
             × (length (input_held self.new) + input_skip self.old + 1 ≡ length (input_held self.old)) }
+        ensures asks { input_told R.told self.new ≤ input_told R.told self.old }
     {
         self.fill();
         self.held.pop()
@@ -704,6 +732,7 @@ impl<R: ReadDevice> Input<R> {
         ensures none { IfOk result (λ n. n ≡ 0 → IsInputOver self.new × (input_stop self.new ≡ Some Stop.End)) }
         ensures kind { IfErr result (λ e. input_stop self.new ≡ Some (Stop.Fault (error_kind e))) }
         ensures lazy { IfOk result (λ n. 0 < n → input_stop self.new ≡ None) }
+        ensures asks { input_told R.told self.new ≤ input_told R.told self.old }
     {
         match self.inner.read_in(buf) {
             Ok(0) => {
@@ -742,6 +771,8 @@ impl<R: ReadDevice> Input<R> {
         ensures lazy { IfOk result (λ n. 0 < n → input_stop self.new ≡ input_stop self.old) }
         ensures held { input_skip self.old < length (input_held self.old)
             → input_reader self.new ≡ input_reader self.old }
+        ensures told { Tells (R.told (input_reader self.old)) (R.told (input_reader self.new)) result }
+        ensures asks { input_told R.told self.new ≤ input_told R.told self.old }
     {
         if buf.is_empty() {
             return Ok(0);
@@ -757,44 +788,5 @@ impl<R: ReadDevice> Input<R> {
             return Err(kind.into());
         }
         Ok(self.held.give(buf))
-    }
-}
-
-// Takes a byte that doesn't end the line. A carriage return is kept once the byte after it is known.
-fn go_on(text: &mut Vec<u8>, after_return: &mut bool, b: u8) -> Result<(), LineFault>
-    requires not_end { after_return.old ≡ true → b ≢ 10 }
-    requires passed { BeginsNoLineEnd text.old.items (held_return after_return.old) }
-    ensures passed { OnOk result (BeginsNoLineEnd text.new.items (held_return after_return.new)) }
-    ensures bytes { OnOk result
-        (text.new.items ++ held_return after_return.new ≡ (text.old.items ++ held_return after_return.old) ++ b ∷ []) }
-    ensures more { OnOk result
-        (2 * vec_len text.old + length (held_return after_return.old) < 2 * vec_len text.new + length
-        (held_return after_return.new)) }
-    ensures fault { IfErr result (λ fault. fault ≡ LineFault.Memory) }
-{
-    match (*after_return, b) {
-        (true, b'\r') => keep(text, b'\r'),
-        (false, b'\r') => {
-            *after_return = true;
-            Ok(())
-        }
-        (false, _) => keep(text, b),
-        (true, _) => {
-            *after_return = false;
-            keep(text, b'\r')?;
-            keep(text, b)
-        }
-    }
-}
-
-// One byte more of a line.
-fn keep(text: &mut Vec<u8>, b: u8) -> Result<(), LineFault>
-    ensures ok { OnOk result (text.new.items ≡ text.old.items ++ b ∷ []) }
-    ensures len { OnOk result (vec_len text.new ≡ vec_len text.old + 1) }
-    ensures fault { IfErr result (λ fault. fault ≡ LineFault.Memory) }
-{
-    match text.push(b) {
-        Ok(()) => Ok(()),
-        Err(_) => Err(LineFault::Memory),
     }
 }

@@ -1,4 +1,4 @@
-use Rattle.std.proofs.Common.{arith}
+use Rattle.std.proofs.Common.{rules, arith}
 use Rattle.std.proofs.lemmas.Result.{err_from_is_err_and}
 use Rattle.tiny_http_body.proofs.DeviceGathers.{FilledTo-more, Fills-broken}
 use Rattle.tiny_http_body.proofs.gather.fill.Goals as goal
@@ -13,5 +13,6 @@ loop-at-preserved g c =
     let h = c.in_ok-n.ensures in
     record {
       within = omega (arith, h.bound);
+      told = search rules;
       filled = FilledTo-more _ _ _ c.loop-at.at c.in_ok-n.n c.loop-at.buf c.read_behind.new.buf (omega arith) (omega arith) h.bound h.front c.loop-at.invariant.filled h.bytes;
     }

@@ -1,4 +1,4 @@
-use Rattle.std.proofs.Common.{Err, ◌≡◌, ◌+◌, ◌-◌, arith}
+use Rattle.std.proofs.Common.{rules, Err, ◌≡◌, ◌+◌, ◌-◌, arith}
 use Rattle.std.proofs.lemmas.Result.{err_from_is_err_and}
 use Rattle.tiny_http_body.proofs.DeviceFaults.{SameFaults-append, Uses-behind}
 use Rattle.tiny_http_body.proofs.DeviceCopies.{Prints-broken, Copied-more}
@@ -15,6 +15,7 @@ loop-left-preserved g c =
     let sum : (c.args.n - c.loop-left.left) + c.in_ok-left.field-0 ≡ c.args.n - (c.loop-left.left - c.in_ok-left.field-0) = omega (arith, h.0, h.1) in
     record {
       within = omega arith;
+      told = search rules;
       copied = rw (← sum) (Copied-more _ _ _ _ _ _ _ _ c.loop-left.invariant.copied h.2);
       same = SameFaults-append _ _ _ c.loop-left.invariant.same c.in_ok-left.ensures.uses;
     }

@@ -9,10 +9,10 @@ use Rattle.tiny_http_response.proofs.response.print_gathered.Goals as goal
 pub returns-in_err-bytes-clause-text : goal.returns-in_err-bytes-clause-text
 returns-in_err-bytes-clause-text g c =
     let p = err_from_is_err_and c.from_residual.result c.from_residual.ensures.1 in
-    rw (p.1, p.2) (Gathered-fault _ _ c.in_err-bytes.field-0.0 (λ f. top_text c.args.top.now None (ContentLength (length f.bytes))) c.args.withheld c.in_err-bytes.ensures)
+    rw (p.1, p.2) (Gathered-fault _ _ c.in_err-bytes.field-0.0 (λ f. top_text c.args.top.now None (ContentLength (length f.bytes))) c.args.withheld c.in_err-bytes.ensures.gathers)
 
 pub returns-clause-text : goal.returns-clause-text
-returns-clause-text g c = Gathered-printed _ _ _ _ _ _ (λ n. top_text c.args.top.now None (ContentLength n)) c.args.withheld (λ k. top-some c.args.top.now None (ContentLength k)) c.as_slice.ensures.value c.in_ok-bytes.ensures c.print_bytes.ensures
+returns-clause-text g c = Gathered-printed _ _ _ _ _ _ (λ n. top_text c.args.top.now None (ContentLength n)) c.args.withheld (λ k. top-some c.args.top.now None (ContentLength k)) c.as_slice.ensures.value c.in_ok-bytes.ensures.gathers c.print_bytes.ensures
 
 pub returns-in_err-bytes-clause-uses : goal.returns-in_err-bytes-clause-uses
 returns-in_err-bytes-clause-uses g c =

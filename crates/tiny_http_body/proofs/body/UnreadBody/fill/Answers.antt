@@ -1,4 +1,4 @@
-use Rattle.std.proofs.Common.{◌≡◌, refl, sym, ◌∙◌, subst, ◌+◌, ◌<◌, ℕ, Bool, true, false, Option, length, take, drop, length-drop, arith}
+use Rattle.std.proofs.Common.{rules, ◌≡◌, refl, sym, ◌∙◌, subst, ◌+◌, ◌<◌, ℕ, Bool, true, false, Option, length, take, drop, length-drop, arith}
 use Rattle.std.proofs.lemmas.Bool.{ne_eqb, lt-ltb}
 use Rattle.std.specs.Prelude.{◌==◌}
 use Rattle.tiny_http_io.specs.declared.device.Stop.TheVariants.{End}
@@ -22,6 +22,7 @@ loop-at-preserved g c =
       given = read-more _ _ _ c.loop-at.buf c.read_behind.new.buf c.loop-at.at n inv.given h.bytes c.in-Ok.ensures.front c.in-Ok.ensures.bound;
       start = λ e. absurd (c.in-Ok.n-test.1 (omega (arith, e)));
       moves = λ some. moves-more _ _ _ c.loop-at.at n false inv.start inv.moves moves;
+      told = search rules;
       settled = λ e. (b.settled (inv.settled e).1 ∙ (inv.settled e).0, stays-settled _ _ n false moves (inv.settled e).1);
       goes_on = goes-on_more _ _ _ inv.goes_on h.goes_on;
       standing = λ e. standing-more c.loop-at.self c.read_behind.new.self n false c.args.source.now.standing c.loop-at.source c.read_behind.new.source moves b.settled b.standing (inv.standing e);

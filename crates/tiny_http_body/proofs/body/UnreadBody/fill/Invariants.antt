@@ -9,6 +9,7 @@ invariant-loop-at g l = record {
   given : remaining l.initial.self l.initial.source.feed ≡ prepended_body (take l.at l.buf) (remaining l.self l.source.feed);
   start : l.at ≡ 0 → l.self ≡ l.initial.self;
   moves : 0 < l.at → ReadsOn l.initial.self l.at false l.self;
+  told : g.R.ReadDevice.told l.source.reader ≤ g.R.ReadDevice.told l.initial.source.reader;
   settled : is_streaming l.initial.self ≡ false → (l.source ≡ l.initial.source) × (is_streaming l.self ≡ false);
   goes_on : GoesOn l.initial.source.feed l.source.feed;
   standing : is_streaming l.initial.self ≡ true → l.source.standing ≡ body_standing l.self l.initial.source.standing;

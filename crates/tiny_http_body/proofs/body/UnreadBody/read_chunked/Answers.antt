@@ -3,8 +3,8 @@ use Rattle.tiny_http_io.proofs.SourceGoesOn.{goes-on_given, goes-on_more}
 use Rattle.tiny_http_body.proofs.BodyReads.{goes-on_end}
 use Rattle.tiny_http_body.proofs.body.UnreadBody.read_chunked.Goals as goal
 
-pub returns-in-Ok-eq0 : goal.returns-in-Ok-eq0
-returns-in-Ok-eq0 g c =
+pub returns-in-Ok-eq0-clause-reads : goal.returns-in-Ok-eq0-clause-reads
+returns-in-Ok-eq0-clause-reads g c =
     let t = c.read.ensures.takes in
     record {
       bound = search rules;
@@ -18,8 +18,8 @@ returns-in-Ok-eq0 g c =
       goes_on = goes-on_given _ _ t.0 t.1;
     }
 
-pub returns-in-Ok : goal.returns-in-Ok
-returns-in-Ok g c =
+pub returns-in-Ok-clause-reads : goal.returns-in-Ok-clause-reads
+returns-in-Ok-clause-reads g c =
     let t = c.read.ensures.takes in
     record {
       bound = search rules;
@@ -33,8 +33,8 @@ returns-in-Ok g c =
       goes_on = goes-on_given _ _ t.0 t.1;
     }
 
-pub returns-in-Err : goal.returns-in-Err
-returns-in-Err g c =
+pub returns-in-Err-clause-reads : goal.returns-in-Err-clause-reads
+returns-in-Err-clause-reads g c =
     let t = c.read.ensures.takes in
     record {
       bound = search rules;

@@ -10,8 +10,8 @@ use Rattle.tiny_http_io.proofs.FeedPartsLemmas.{nothing-given}
 use Rattle.tiny_http_body.proofs.BodyReads.{counted-bytes, counted-none, body-cut-is, cut-fault, cut-stops, taken-stops, read-nothing}
 use Rattle.tiny_http_body.proofs.body.UnreadBody.read_counted.Goals as goal
 
-pub returns-then-left-eq0 : goal.returns-then-left-eq0
-returns-then-left-eq0 g c =
+pub returns-then-left-eq0-clause-reads : goal.returns-then-left-eq0-clause-reads
+returns-then-left-eq0-clause-reads g c =
     let o = c.args.source.now.feed in
     let is = ap (λ b. remaining b o) c.requires.counted ∙ ap (λ n. option_map (counted_remaining c.args.by_standard n) o) c.if-left-eq0.true ∙ counted-none c.args.by_standard o in
     record {
@@ -26,8 +26,8 @@ returns-then-left-eq0 g c =
       goes_on = search rules;
     }
 
-pub returns-else-by_standard : goal.returns-else-by_standard
-returns-else-by_standard g c =
+pub returns-else-by_standard-clause-reads : goal.returns-else-by_standard-clause-reads
+returns-else-by_standard-clause-reads g c =
     let o = c.args.source.now.feed in
     let standard = c.args.by_standard in
     let e = c.in-Ok-eq0.ensures in
@@ -49,8 +49,8 @@ returns-else-by_standard g c =
       goes_on = search rules;
     }
 
-pub returns-then-by_standard : goal.returns-then-by_standard
-returns-then-by_standard g c =
+pub returns-then-by_standard-clause-reads : goal.returns-then-by_standard-clause-reads
+returns-then-by_standard-clause-reads g c =
     let o = c.args.source.now.feed in
     let standard = c.args.by_standard in
     let e = c.in-Ok-eq0.ensures in
@@ -72,8 +72,8 @@ returns-then-by_standard g c =
       goes_on = search rules;
     }
 
-pub returns-in-Ok : goal.returns-in-Ok
-returns-in-Ok g c =
+pub returns-in-Ok-clause-reads : goal.returns-in-Ok-clause-reads
+returns-in-Ok-clause-reads g c =
     let o = c.args.source.now.feed in
     let n = c.in-Ok.n in
     let e = c.in-Ok.ensures in
@@ -91,8 +91,8 @@ returns-in-Ok g c =
       goes_on = search rules;
     }
 
-pub returns-in-Err : goal.returns-in-Err
-returns-in-Err g c =
+pub returns-in-Err-clause-reads : goal.returns-in-Err-clause-reads
+returns-in-Err-clause-reads g c =
     let o = c.args.source.now.feed in
     let some : 0 < c.args.left = omega (arith, c.if-left-eq0.false) in
     let stop = Fault (error_kind c.in-Err.e) in

@@ -1,8 +1,8 @@
-use Rattle.std.proofs.Common.{◌≡◌, ◌+◌, ◌-◌, ◌*◌, ◌^◌, ◌++◌, length, vec_len}
+use Rattle.std.proofs.Common.{◌≡◌, ◌+◌, ◌-◌, ◌*◌, ◌^◌, ◌≤◌, ◌++◌, length, vec_len}
 use Rattle.std.specs.Prelude.{IsSome}
 use Rattle.tiny_http_io.specs.Device.{prepended}
 use Rattle.tiny_http_io.specs.LineEnds.{BeginsNoLineEnd, held_return, IsRoom}
-use Rattle.tiny_http_io.specs.Input.{input_feed, input_stop, input_reader, IsInputOver}
+use Rattle.tiny_http_io.specs.Input.{input_feed, input_told, input_stop, input_reader, IsInputOver}
 use Rattle.tiny_http_io.proofs.source.Input.read_slowly.Given as goal
 
 abbrev pub invariant-loop-room : goal.invariant-loop-room
@@ -14,6 +14,7 @@ invariant-loop-room g l = record {
   stays : IsInputOver l.fn.self → l.self ≡ l.fn.self;
   fresh : IsInputOver l.fn.self → l.room ≡ l.fn.left;
   lazy : input_stop l.self ≡ input_stop l.fn.self;
+  asks : input_told g.R.ReadDevice.told l.self ≤ input_told g.R.ReadDevice.told l.fn.self;
 }
 
 abbrev pub decreases-loop-room : goal.decreases-loop-room

@@ -3,8 +3,8 @@ use Rattle.tiny_http_io.proofs.SourceGoesOn.{finds-goes_on}
 use Rattle.tiny_http_io.proofs.SourceOver.{source-stays}
 use Rattle.tiny_http_io.proofs.source.Source.find_line.Goals as goal
 
-pub returns : goal.returns
-returns g c =
+pub returns-clause-finds : goal.returns-clause-finds
+returns-clause-finds g c =
     record {
       line = search rules;
       goes_on = rw (← c.self.view_is) (finds-goes_on c.args.left _ _ _ _ c.find_line.result c.find_line.ensures.line);

@@ -3,8 +3,8 @@ use Rattle.tiny_http_io.proofs.SourceGoesOn.{within-goes_on}
 use Rattle.tiny_http_io.proofs.SourceOver.{source-stays}
 use Rattle.tiny_http_io.proofs.source.Source.read_line_within.Goals as goal
 
-pub returns : goal.returns
-returns g c =
+pub returns-clause-reads : goal.returns-clause-reads
+returns-clause-reads g c =
     record {
       line = search rules;
       goes_on = rw (← c.self.view_is) (within-goes_on (Some c.args.left) _ _ c.read_line.result c.read_line.ensures.line);

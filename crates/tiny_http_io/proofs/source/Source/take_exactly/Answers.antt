@@ -1,8 +1,8 @@
 use Rattle.std.proofs.Common.{rules}
 use Rattle.tiny_http_io.proofs.source.Source.take_exactly.Goals as goal
 
-pub returns : goal.returns
-returns g c =
+pub returns-clause-takes : goal.returns-clause-takes
+returns-clause-takes g c =
     record {
       takes = search rules;
       over = search rules;

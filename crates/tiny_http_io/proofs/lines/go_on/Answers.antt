@@ -1,7 +1,7 @@
 use Rattle.std.proofs.Common.{rules, ◌≢◌}
 use Rattle.std.proofs.lemmas.Result.{on_ok_weaker}
 use Rattle.tiny_http_io.proofs.LineEndsLemmas.{return_flagged, two_returns_flagged, plain_flagged, lone_return_flagged}
-use Rattle.tiny_http_io.proofs.source.go_on.Goals as goal
+use Rattle.tiny_http_io.proofs.lines.go_on.Goals as goal
 
 pub returns-in-true-eq13-clause-passed : goal.returns-in-true-eq13-clause-passed
 returns-in-true-eq13-clause-passed c =
