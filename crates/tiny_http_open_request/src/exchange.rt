@@ -12,7 +12,7 @@ ghost use Rattle.tiny_http_open_request.specs.HeadReads.{IsRequest, IsFramedRequ
 ghost use Rattle.tiny_http_open_request.specs.HeadReads.{cut_end, end_at, standing_of, message_of, head_message};
 ghost use Rattle.tiny_http_open_request.specs.HeadReads.{head_framing};
 ghost use Rattle.tiny_http_open_request.specs.OpenRequest.{KeepsHead};
-ghost use Rattle.tiny_http_io.specs.Device.{Feed};
+ghost use Rattle.tiny_http_io.specs.Device.{Feed, Tells};
 ghost use Rattle.tiny_http_io.specs.Outlet.{outlet_held, SentOn};
 ghost use Rattle.tiny_http_response.specs.Sending.{FailsOnce, SendsQuietlyOn, SendsAnswer};
 ghost use Rattle.tiny_http_open_request.specs.OwnAnswer.{own_text_by};
@@ -156,6 +156,8 @@ impl Exchange {
         ensures reads { ReadsBody (exchange_body self.old) (exchange_body self.new) source.old source.new result
             buf.new }
         ensures kept { KeepsButBody self.old self.new }
+        // The source's reader isn't asked on behind an end or a fault, nor for more than the bytes that came.
+        ensures told { Tells (R.told source.old.reader) (R.told source.new.reader) result }
     {
         self.open_request.read(source, buf)
     }

@@ -5,7 +5,7 @@ ghost use Rattle.std.specs.Prelude.{◌≡◌, ℕ, List, true, false, IfOk};
 ghost use Rattle.tiny_http_standard_head.specs.Judging.{names_protocol};
 ghost use Rattle.std.specs.List.{list_all};
 ghost use Rattle.tiny_http_text.specs.Bytes.{is_ascii};
-ghost use Rattle.tiny_http_io.specs.Device.{Feed, Puts};
+ghost use Rattle.tiny_http_io.specs.Device.{Feed, Puts, Tells};
 ghost use Rattle.tiny_http_response.specs.Streaming.{streamed_form, streamed_head};
 ghost use Rattle.tiny_http_io.specs.Outlet.{output_of};
 ghost use Rattle.tiny_http_response.specs.ResponseValue.{printing_in, upgrade_text};
@@ -316,6 +316,8 @@ impl OpenRequest<UnreadBody> {
     ) -> Result<usize, io::Error>
         ensures reads { ReadsBody self.old.body self.new.body source.old source.new result buf.new }
         ensures kept { self.new ≡ record self.old { body = self.new.body } }
+        // The source's reader isn't asked on behind an end or a fault, nor for more than the bytes that came.
+        ensures told { Tells (R.told source.old.reader) (R.told source.new.reader) result }
     {
         self.body.read(source, buf)
     }

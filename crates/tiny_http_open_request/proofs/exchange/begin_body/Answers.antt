@@ -28,18 +28,18 @@ pub returns-in-Ok-Some-clause-begins : goal.returns-in-Ok-Some-clause-begins
 returns-in-Ok-Some-clause-begins g c =
     let taken = rw c.in-Ok-Some.field-0-is at c.in-Ok-Some.ensures in
     begins-held c.args.framing c.args.source.now.feed c.take_exactly.new.self.feed c.new.result c.in-Ok-Some.bytes c.unwrap_or-length.result (search rules) (search rules)
-    (ap (λ n. drop n (cursor_inner c.new.result).items) c.new.ensures.position ∙ ap (λ (v : Vec ℕ). v.items) c.new.ensures.inner) taken.takes
+    (ap (λ n. drop n (cursor_inner c.new.result).items) c.new.ensures.position ∙ ap (λ (v : Vec ℕ). v.items) c.new.ensures.inner) taken.takes.takes
 
 pub returns-in-Ok-None-clause-begins : goal.returns-in-Ok-None-clause-begins
 returns-in-Ok-None-clause-begins g c =
     let taken = rw c.in-Ok-None.field-0-is at c.in-Ok-None.ensures in
-    begins-cut c.args.framing c.args.source.now.feed c.take_exactly.new.self.feed c.unwrap_or-length.result (search rules) (search rules) taken.takes
+    begins-cut c.args.framing c.args.source.now.feed c.take_exactly.new.self.feed c.unwrap_or-length.result (search rules) (search rules) taken.takes.takes
 
 pub returns-in-Ok-None-clause-cut : goal.returns-in-Ok-None-clause-cut
 returns-in-Ok-None-clause-cut g c none =
     let taken = rw c.in-Ok-None.field-0-is at c.in-Ok-None.ensures in
     let items : Vec ℕ → List ℕ = λ v. v.items in
     record {
-      over = taken.over refl;
-      remains = λ f e. let P : Option Feed → Type 0 = λ o. TakesExactly items c.unwrap_or-length.result o c.take_exactly.new.self.feed None in (subst P e taken.takes).1;
+      over = taken.takes.over refl;
+      remains = λ f e. let P : Option Feed → Type 0 = λ o. TakesExactly items c.unwrap_or-length.result o c.take_exactly.new.self.feed None in (subst P e taken.takes.takes).1;
     }
