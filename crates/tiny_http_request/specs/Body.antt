@@ -10,7 +10,7 @@ use Rattle.tiny_http_io.specs.declared.device.Stop.TheVariants.{End, Fault}
 use Rattle.tiny_http_io.specs.Source.{SourceState}
 use Rattle.tiny_http_io.specs.ToCome.{stopped}
 use Rattle.tiny_http_body.specs.declared.body.UnreadBody.{UnreadBody}
-use Rattle.tiny_http_threads.specs.declared.sequential.HeldReader.{HeldReader}
+use Rattle.tiny_http_threads.specs.declared.turn.HeldReader.{HeldReader}
 use Rattle.tiny_http_threads.specs.Turn.{held_item}
 use Rattle.tiny_http_request.specs.declared.body.GivesOn.{GivesOn}
 use Rattle.tiny_http_request.specs.declared.body.GivesOn.TheVariants.{AfterBody, AfterAnswer, Never}
@@ -24,13 +24,13 @@ outlasts_body AfterAnswer = true
 outlasts_body Never = false
 
 -- What is seen of a body: how far it was read; what the connection's input still gives, or once that was given on,
--- what it gave as the body was made; and whether the body holds the input.
+-- what it gave as the body was made, or an ended feed, if the body never held it; and whether the body holds it now.
 pub record BodyState : Type 0 where
   pub unread : UnreadBody
   pub input : Option Feed
   pub holds_input : Bool
 
--- what the input gave as a body was made; no byte, where the body held none
+-- what the input gave as a body was made; an ended feed, where the body held no input
 abbrev pub begun_feed : {R : Type 0} → Option (Snapshot (SourceState R)) → Option Feed
 begun_feed (Some source) = source.value.feed
 begun_feed None = Some (stopped End)
@@ -45,11 +45,11 @@ input_of None begun = begun_feed begun
 abbrev pub body_part : Remaining → Feed
 body_part r = r.body
 
--- WHAT IS LEFT OF A BODY, if the connection's reader states its feed
+-- WHAT IS LEFT OF A BODY, if the connection's reader states its feed, or the body never held the input
 abbrev pub body_left : BodyState → Option Feed
 body_left b = option_map body_part (remaining b.unread b.input)
 
--- as much is left of it as before
+-- the same is left of it
 pub record KeepsLeft (old new : BodyState) : Type 0 where
   pub unread : new.unread ≡ old.unread
   pub left : body_left new ≡ body_left old
@@ -58,9 +58,9 @@ pub record KeepsLeft (old new : BodyState) : Type 0 where
 abbrev pub upgraded_body : Bool → BodyState → BodyState
 upgraded_body by_standard b = record b { unread = stream_body (by_standard && b.holds_input) b.unread }
 
--- ONE READ OF A BODY, beside the bytes of what is left of it: how far it was read after it. The bytes of one that was
--- read with its head are the next of it also where the connection's reader states no feed, and none comes only at its
--- end. After the end or a fault each read answers the same. A read into no room changes nothing.
+-- ONE READ OF A BODY: how far the body was read, and what holds where the connection's reader states no feed; the
+-- bytes of what is left stand in `Reads`. A body that came with its head gives its next bytes, and none only at its
+-- end. A body that is over answers its end or fault again. A read into no room changes nothing.
 pub record ReadsUnread (old new : BodyState) (r : Result ℕ Error) (buf : List ℕ) : Type 0 where
   pub held : is_streaming old.unread ≡ false → (feed : Option Feed)
       → IfOk r (λ n. remaining old.unread feed ≡ prepended_body (take n buf) (remaining new.unread feed))

@@ -1,9 +1,10 @@
 -- What clauses read of a connection.
-use Rattle.std.specs.Prelude.{◌≡◌, ℕ, zero, suc, Bool, true, false, Option, Some, None, Ok, MatchBool}
+use Rattle.std.specs.Prelude.{◌≡◌, ◌||◌, ℕ, zero, suc, Bool, true, false, [], Option, Some, None, Ok, MatchBool}
 use Rattle.std.specs.Global.{Vec}
 use Rattle.std.specs.Option.{option_and_then}
 use Rattle.std.specs.declared.net.socket_addr.SocketAddr.{SocketAddr}
 use Rattle.tiny_http_body.specs.declared.framing.Profile.{Profile}
+use Rattle.tiny_http_body.specs.Body.{is_streaming}
 use Rattle.httpdate.specs.declared.date.HttpDate.{HttpDate}
 use Rattle.tiny_http_io.specs.Device.{Feed}
 use Rattle.tiny_http_io.specs.Source.{SourceState}
@@ -38,11 +39,13 @@ client_address c = c.remote_addr
 abbrev pub client_profile : {R : Type 0} → {W : Type 0} → {Rt : Type 0} → ClientConnection R W Rt → Profile
 client_profile c = c.profile
 
--- The next request of a connection, which was handed out on this date. After the last one none is handed out.
+-- A request that was handed out on this date, and whether another may follow. It holds the input while its body is
+-- read from there, and if the next head waits for its answer.
 pub record HandsOut {R W Rt : Type 0} (old new : ClientConnection R W Rt) (date : HttpDate)
     (r : Request R W Rt) : Type 0 where
   pub framed : IsFramed r (client_profile old) date
   pub client : (request_secure r ≡ client_secure old) × (request_address r ≡ client_address old)
+  pub holds : (request_body r).holds_input ≡ is_streaming (request_open r).body || (request_open r).holds_next_head
   pub last : (request_head r).is_last ≡ true → IsOver new
   pub goes_on : (request_head r).is_last ≡ false → IsOver new → ⊥
 
@@ -51,7 +54,7 @@ abbrev pub source_here : {R : Type 0} → {Rt : Type 0} → NextHead R Rt → Op
 source_here (Here reader) = Some (held_item reader)
 source_here (Behind reader) = None
 
--- THE INPUT OF A CONNECTION, if the connection holds it: no request that was handed out does, and there is a next head
+-- THE INPUT OF A CONNECTION, if the connection holds it: the last request didn't take it, and there is a next head
 abbrev pub client_source : {R W Rt : Type 0} → ClientConnection R W Rt → Option (SourceState R)
 client_source c = option_and_then source_here c.next_head
 
@@ -61,6 +64,9 @@ pub record IsFreshSource {R : Type 0} (stated : R → Option Feed) (reader : R) 
     pub source : SourceState R
     pub holds : held ≡ Some source
     pub feed : source.feed ≡ stated reader
+    pub reader : source.reader ≡ reader
+    pub stop : source.stop ≡ None
+    pub held : source.held ≡ []
     pub standing : source.standing ≡ AtHead
 
 -- so many heads are refused one after another, and another head stands behind each
@@ -81,8 +87,7 @@ pub record FindsRequest {R : Type 0} (p : Profile) (date : HttpDate) (here : Sou
   pub passes : PassesRefused p date passed here at
   pub reads : TakesHead p date at there (Ok (read.Request x))
 
--- who holds the input once a request was handed out: its body reads on in it, or else the connection holds it for the
--- next head, if there is one
+-- who holds the input once a request was handed out: its body, or else the connection, if there is a next head
 abbrev pub GivesInput : {R W Rt : Type 0} → SourceState R → ClientConnection R W Rt → Request R W Rt → Type 0
 GivesInput source new r =
     MatchBool (request_body r).holds_input ((request_body r).input ≡ source.feed)

@@ -121,6 +121,7 @@ FailsBy e version headers feed =
 abbrev pub asks_for : Head → List ℕ → Bool
 asks_for h protocol = is_upgrade h && has_element (codes "Upgrade") protocol h.headers.items
 
--- the reader of an upgrade's stream gives what is left of the request's body; by the standard all that comes
+-- the reader of an upgrade's stream gives what is left of the request's body; by the standard all that comes, if the
+-- body holds the input
 abbrev pub ReadsStream : {R : Type 0} → {W : Type 0} → {Rt : Type 0} → Request R W Rt → BodyState → Type 0
 ReadsStream r body = KeepsLeft (upgraded_body (request_open r).by_standard (request_body r)) body

@@ -1,9 +1,11 @@
 //! A connection whose requests threads may hold.
-ghost use Rattle.std.specs.Prelude.{◌≡◌, ◌↔◌, ⊤, true, false, Ok, None, Some, IfOk, OnErr, IsSome, IfSome, IfNone};
+ghost use Rattle.std.specs.Prelude.{◌≡◌, ◌↔◌, ◌||◌, ⊤, true, false, Ok, None, Some, IfOk, OnErr, IsSome, IfSome, IfNone};
 ghost use Rattle.tiny_http_open_request.specs.Exchange.{exchange_of};
 ghost use Rattle.tiny_http_socket.specs.Stream.{MayHavePeer};
 ghost use Rattle.tiny_http_threads.specs.Turn.{held_item};
 ghost use Rattle.tiny_http_request.specs.Request.{request_head, request_secure, request_address, request_open};
+ghost use Rattle.tiny_http_request.specs.Request.{request_body};
+ghost use Rattle.tiny_http_body.specs.Body.{is_streaming};
 
 use crate::request::Request;
 use httpdate::HttpDate;
@@ -49,7 +51,7 @@ pub struct ClientConnection<R: ReadDevice + Drop, W: WriteDevice + Drop, Rt: Wai
 enum NextHead<R: ReadDevice + Drop, Rt: Wait + Drop> {
     // On the input, which the connection holds.
     Here(HeldReader<Source<R>, Rt>),
-    // Behind the request before, which holds the input.
+    // Behind the request before, which took the input.
     Behind(SequentialReader<Source<R>, Rt>),
 }
 
@@ -81,6 +83,7 @@ impl<Rt: Wait + Copy> ClientConnection<RefinedTcpStream, RefinedTcpStream, Rt> {
     ghost use Rattle.std.specs.Prelude.{◌≡◌, false, IfOk};
     ghost use Rattle.tiny_http_socket.specs.Stream.{MayHavePeer};
     ghost use Rattle.tiny_http_request.specs.Client.{IsOver, client_secure, client_address, client_profile};
+    ghost use Rattle.tiny_http_request.specs.Client.{client_source, IsFreshSource};
 
     /// A connection over the two halves of a client's socket, on which nothing was read yet, under `Lenient`. Its
     /// requests say the client's address; none of a Unix socket, or where the system no longer knows it. An error
@@ -95,6 +98,7 @@ impl<Rt: Wait + Copy> ClientConnection<RefinedTcpStream, RefinedTcpStream, Rt> {
         ensures address { IfOk result (λ c. MayHavePeer read_socket (client_address c)) }
         ensures open { IfOk result (λ c. IsOver c → ⊥) }
         ensures profile { IfOk result (λ c. client_profile c ≡ Profile.Lenient) }
+        ensures source { IfOk result (λ c. IsFreshSource RefinedTcpStream.feed read_socket (client_source c)) }
     {
         ClientConnection::new_with(rt, alloc, Profile::Lenient, write_socket, read_socket)
     }
@@ -111,6 +115,7 @@ impl<Rt: Wait + Copy> ClientConnection<RefinedTcpStream, RefinedTcpStream, Rt> {
         ensures address { IfOk result (λ c. MayHavePeer read_socket (client_address c)) }
         ensures open { IfOk result (λ c. IsOver c → ⊥) }
         ensures profile { IfOk result (λ c. client_profile c ≡ profile) }
+        ensures source { IfOk result (λ c. IsFreshSource RefinedTcpStream.feed read_socket (client_source c)) }
     {
         let addr = peer_if_known(&read_socket);
         let secure = read_socket.secure();
@@ -186,6 +191,7 @@ impl<R: ReadDevice + Drop, W: WriteDevice + Drop, Rt: Wait + Copy> ClientConnect
     /// after each `next`, and by `send` at the end.
     pub fn set_flush_policy(&mut self, flush_policy: Arc<FlushPolicy>)
         ensures over { IsOver self.new ↔ IsOver self.old }
+        ensures input { client_source self.new ≡ client_source self.old }
         ensures same { (client_secure self.new ≡ client_secure self.old)
             × (client_address self.new ≡ client_address self.old)
             × (client_profile self.new ≡ client_profile self.old) }
@@ -199,6 +205,7 @@ impl<R: ReadDevice + Drop, W: WriteDevice + Drop, Rt: Wait + Copy> ClientConnect
     /// limits. An error where no handle is left.
     pub fn set_pace(&mut self, pace: Arc<Pace>) -> Result<(), AllocError>
         ensures over { IsOver self.new ↔ IsOver self.old }
+        ensures input { client_source self.new ≡ client_source self.old }
         ensures same { (client_secure self.new ≡ client_secure self.old)
             × (client_address self.new ≡ client_address self.old)
             × (client_profile self.new ≡ client_profile self.old) }
@@ -270,7 +277,8 @@ impl<R: ReadDevice + Drop, W: WriteDevice + Drop, Rt: Wait + Copy> ClientConnect
     /// stream was, and the refused heads were answered. Nobody reads or writes the connection then, if no further
     /// request is asked for. An error where memory was refused.
     pub fn wait_for_answers(&mut self) -> Result<(), AllocError>
-        ensures over { IsOver self.old → IsOver self.new }
+        ensures over { IsOver self.new ↔ IsOver self.old }
+        ensures input { client_source self.new ≡ client_source self.old }
         ensures same { (client_secure self.new ≡ client_secure self.old)
             × (client_address self.new ≡ client_address self.old)
             × (client_profile self.new ≡ client_profile self.old) }
@@ -292,6 +300,8 @@ impl<R: ReadDevice + Drop, W: WriteDevice + Drop, Rt: Wait + Copy> ClientConnect
         ensures exchange { IfOk result
             (λ request. exchange ≡ exchange_of (request_head request) (request_open request)) }
         ensures input { IfOk result (GivesInput (held_item reader) self.new) }
+        ensures holds { IfOk result (λ request. (request_body request).holds_input
+            ≡ is_streaming (request_open request).body || (request_open request).holds_next_head) }
         ensures err { OnErr result (IsOver self.new) }
         ensures last { IfOk result (λ request. (request_head request).is_last ≡ true → IsOver self.new) }
         ensures open { IfOk result (λ request. (request_head request).is_last ≡ false → IsOver self.new → ⊥) }

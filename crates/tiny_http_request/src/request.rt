@@ -730,6 +730,10 @@ pub fn new_request<R: ReadDevice + Drop, W: WriteDevice + Drop, Rt: Wait + Copy>
     ensures framed { IfOk result (λ r. IsFramed r Profile.Lenient now) }
     ensures body { IfOk result
         (λ r. BeginsWith (head_framing (request_head r)) (R.feed source_data) (request_open r).body) }
+    // A body that is read later is read where it begins.
+    ensures input { IfOk result
+        (λ r. (request_body r).holds_input ≡ true → Begins (head_framing (request_head r)) (R.feed source_data)
+        (request_body r).input (Some (request_open r).body)) }
     ensures refused { framing HeadRules.Lenient version headers.items ≡ Err FramingFault.Expectation
         → result ≡ Err RequestCreationError.ExpectationFailed }
     ensures fails { IfErr result (λ e. FailsBy e version headers.items (R.feed source_data)) }

@@ -33,7 +33,7 @@ abbrev pub waker : {W : Type 0} → List (ℕ × W) → ℕ → Option W
 waker waiting n = lookup (is_at (nat_cmp n)) waiting
 
 -- Each number that was issued is counted. One that waits was issued, and its turn hasn't come.
-pub record IsSound {T W C : Type 0} (line : LineState T W C) : Type 0 where
+pub record IsSoundLine {T W C : Type 0} (line : LineState T W C) : Type 0 where
   pub count : line.issued ≡ length line.turns.marks
   pub issued : (n : ℕ) → IsSome (waker line.waiting n) → n < length line.turns.marks
   pub waits : (n : ℕ) → IsSome (waker line.waiting n) → IsItsTurn line.turns.marks n → ⊥
@@ -56,10 +56,10 @@ module _ {W : Type 0} where
   OthersStay number old new = (n : ℕ) → n ≢ number → waker new n ≡ waker old n
 
   -- where the item rests the next number is to be woken, if it waited, and waits no more
-  abbrev pub Wakes : {U : Type 0} → Finishing U → ℕ → List (ℕ × W) → Option W → List (ℕ × W) → Type 0
-  Wakes Passed next old woken new = (woken ≡ waker old next) × (waker new next ≡ None) × OthersStay next old new
-  Wakes (Go item text) next old woken new = (woken ≡ None) × (new ≡ old)
-  Wakes (Strange item) next old woken new = (woken ≡ None) × (new ≡ old)
+  abbrev pub WakesNext : {U : Type 0} → Finishing U → ℕ → List (ℕ × W) → Option W → List (ℕ × W) → Type 0
+  WakesNext Passed next old woken new = (woken ≡ waker old next) × (waker new next ≡ None) × OthersStay next old new
+  WakesNext (Go item text) next old woken new = (woken ≡ None) × (new ≡ old)
+  WakesNext (Strange item) next old woken new = (woken ≡ None) × (new ≡ old)
 
 -- the item, if it was taken
 abbrev pub taken_item : {T : Type 0} → Taking T → Option (Box T)
@@ -67,10 +67,11 @@ taken_item (Held item) = Some item
 taken_item (IsWaiting woken) = None
 taken_item Refused = None
 
--- a number that is to wait is listed with what wakes it, if it isn't yet
-abbrev pub Waits : {T : Type 0} → Taking T → ℕ → List (ℕ × Arc Condvar Global) → List (ℕ × Arc Condvar Global)
+-- A number that is to wait is listed, if it isn't yet. That its thread waits on the condition that is listed no clause
+-- can say: the standard library's contracts tell no two conditions apart.
+abbrev pub ListsWaiter : {T : Type 0} → Taking T → ℕ → List (ℕ × Arc Condvar Global) → List (ℕ × Arc Condvar Global)
     → Type 0
-Waits (Held item) number old new = new ≡ old
-Waits (IsWaiting woken) number old new = (option_map arc_value (waker new number) ≡ Some (arc_value woken))
+ListsWaiter (Held item) number old new = new ≡ old
+ListsWaiter (IsWaiting woken) number old new = (option_map arc_value (waker new number) ≡ Some (arc_value woken))
     × (IsSome (waker old number) → new ≡ old) × OthersStay number old new
-Waits Refused number old new = new ≡ old
+ListsWaiter Refused number old new = new ≡ old

@@ -49,7 +49,7 @@ impl<T> Model for Queue<T> {
     ghost use Rattle.std.specs.declared.sync.Arc.{Arc};
     ghost use Rattle.std.specs.declared.sync.Condvar.{Condvar};
     ghost use Rattle.std.specs.declared.sync.atomic.AtomicU64.{AtomicU64};
-    ghost use Rattle.tiny_http_threads.specs.Line.{LineState, IsSound};
+    ghost use Rattle.tiny_http_threads.specs.Line.{LineState, IsSoundLine};
 
     ghost Value = { LineState (Box T) (Arc Condvar Global) (Arc AtomicU64 Global) };
 
@@ -62,7 +62,7 @@ impl<T> Model for Queue<T> {
       wants_room = q.wants_room;
     } };
 
-    ghost invariant = { λ q. IsSound (record {
+    ghost invariant = { λ q. IsSoundLine (record {
       turns = q.turns;
       waiting = q.waiters.entries;
       last = q.last;
@@ -103,7 +103,7 @@ fn take_waiter(waiters: &mut BTreeMap<u64, Arc<Condvar>>, number: u64) -> Option
 }
 
 impl<T: Drop> Queue<T> {
-    ghost use Rattle.tiny_http_threads.specs.Line.{IsSound, new_line, Waits, Wakes, taken_item};
+    ghost use Rattle.tiny_http_threads.specs.Line.{IsSoundLine, new_line, ListsWaiter, WakesNext, taken_item};
 
     // No number is issued. An error where memory was refused.
     fn new(alloc: Global, item: T) -> Result<Queue<T>, AllocError>
@@ -211,7 +211,7 @@ impl<T: Drop> Queue<T> {
         ensures marks { self.new.turns.marks ≡ marks_after_step (Take number) self.old.turns.marks }
         ensures item { TakesTurn (turn_answer (Take number) self.old.turns.marks) self.old.turns.resting
             (taken_item result) self.new.turns.resting }
-        ensures waits { Waits result number self.old.waiting self.new.waiting }
+        ensures waits { ListsWaiter result number self.old.waiting self.new.waiting }
         ensures same { self.new ≡ record self.old { turns = self.new.turns; waiting = self.new.waiting } }
     {
         if let Some(item) = self.turns.take(number) {
@@ -243,7 +243,7 @@ impl<T: Drop> Queue<T> {
         ensures marks { self.new.turns.marks ≡ marks_after_step (Finish number) self.old.turns.marks }
         ensures item { Finishes (turn_answer (Finish number) self.old.turns.marks) item self.old.turns.resting
             result.0 self.new.turns.resting }
-        ensures woken { Wakes result.0 (first_unfinished self.new.turns.marks) self.old.waiting result.1
+        ensures woken { WakesNext result.0 (first_unfinished self.new.turns.marks) self.old.waiting result.1
             self.new.waiting }
         ensures same { self.new ≡ record self.old { turns = self.new.turns; waiting = self.new.waiting } }
     {

@@ -3,6 +3,7 @@ ghost use Rattle.std.specs.Prelude.{◌≡◌, ⊤, [], length, Ok, None, IfOk, 
 ghost use Rattle.tiny_http_io.specs.Device.{Reads, Puts, PutsFront, HoldsNothing, next_count};
 
 use crate::line::{Held, Line, Turn};
+use crate::turn::HeldReader;
 use std::alloc::{AllocError, Global};
 use std::io;
 use std::io::{ErrorKind, Read, Write};
@@ -87,22 +88,6 @@ impl<I: Read + Drop, R: Wait + Drop> Drop for SequentialReader<I, R> {
     }
 }
 
-/// A reader whose turn has come, with what it reads from. Dropping it finishes its turn: that waits for nobody's turn.
-pub struct HeldReader<I: Drop, R: Wait + Drop> {
-    /// Its turn, and what it reads from.
-    pub turn: Held<I, R>,
-}
-
-impl<I: Drop, R: Wait + Drop> Drop for HeldReader<I, R> {
-    fn drop(self) {
-        let Self { turn } = self;
-        let mut reading = Reading { held: Some(turn) };
-        if let Some(text) = reading.finish(&mut ()) {
-            pass_on(&mut reading, &mut (), &mut (), text);
-        }
-    }
-}
-
 /// Gives out writers, each of which writes once those before it are dropped.
 #[derive(Drop)]
 pub struct SequentialWriterBuilder<W, R: Wait> {
@@ -161,8 +146,8 @@ fn finish_held<T: Drop, R: Wait + Drop>(held: &mut Option<Held<T, R>>) -> Option
 
 // A number of a reader that is held. Nothing is written in its turn.
 #[derive(Drop)]
-struct Reading<I, R: Wait> {
-    held: Option<Held<I, R>>,
+pub(crate) struct Reading<I, R: Wait> {
+    pub(crate) held: Option<Held<I, R>>,
 }
 
 impl<I: Drop, R: Wait + Drop> HeldTurn<(), ()> for Reading<I, R> {

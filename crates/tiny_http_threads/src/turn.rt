@@ -4,15 +4,31 @@ ghost use Rattle.std.specs.Prelude.{◌≡◌, IfOk};
 ghost use Rattle.tiny_http_threads.specs.Turn.{held_item};
 
 pub use crate::line::Held;
-pub use crate::sequential::HeldReader;
 use crate::sequential::{
-    SequentialReader, SequentialReaderBuilder, SequentialWriter, SequentialWriterBuilder,
+    Reading, SequentialReader, SequentialReaderBuilder, SequentialWriter, SequentialWriterBuilder,
 };
 use std::alloc::{AllocError, Global};
 use std::io::{Read, Write};
 use std::sync::atomic::AtomicU64;
 use std::sync::{Arc, Wait};
 use tiny_http_io::device::WriteDevice;
+use tiny_http_turns::passing::{HeldTurn, pass_on};
+
+/// A reader whose turn has come, with what it reads from. Dropping it finishes its turn: that waits for nobody's turn.
+pub struct HeldReader<I: Drop, R: Wait + Drop> {
+    /// Its turn, and what it reads from.
+    pub turn: Held<I, R>,
+}
+
+impl<I: Drop, R: Wait + Drop> Drop for HeldReader<I, R> {
+    fn drop(self) {
+        let Self { turn } = self;
+        let mut reading = Reading { held: Some(turn) };
+        if let Some(text) = reading.finish(&mut ()) {
+            pass_on(&mut reading, &mut (), &mut (), text);
+        }
+    }
+}
 
 /// Gives out readers of this one, the first of which has its turn. An error where memory was refused.
 pub fn begin_readers<I: Read + Drop, R: Wait + Copy>(

@@ -32,6 +32,7 @@ returns-in-Ok-clause-handed g c =
     record {
       framed = framed-by x same c.next_request.ensures;
       client = c.in-Ok.ensures.client;
+      holds = c.in-Ok.ensures.holds;
       last = c.in-Ok.ensures.last;
       goes_on = c.in-Ok.ensures.open;
     }
