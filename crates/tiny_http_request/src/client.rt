@@ -81,7 +81,7 @@ fn peer_if_known(socket: &RefinedTcpStream) -> Option<SocketAddr>
 }
 
 impl<Rt: Wait + Copy> ClientConnection<RefinedTcpStream, RefinedTcpStream, Rt> {
-    ghost use Rattle.std.specs.Prelude.{◌≡◌, false, IfOk};
+    ghost use Rattle.std.specs.Prelude.{◌≡◌, false, None, IfOk};
     ghost use Rattle.tiny_http_socket.specs.Stream.{MayHavePeer};
     ghost use Rattle.tiny_http_request.specs.Client.{IsOver, client_secure, client_address, client_profile};
     ghost use Rattle.tiny_http_request.specs.Client.{client_source, IsFreshSource};
@@ -99,7 +99,7 @@ impl<Rt: Wait + Copy> ClientConnection<RefinedTcpStream, RefinedTcpStream, Rt> {
         ensures address { IfOk result (λ c. MayHavePeer read_socket (client_address c)) }
         ensures open { IfOk result (λ c. IsOver c → ⊥) }
         ensures profile { IfOk result (λ c. client_profile c ≡ Profile.Lenient) }
-        ensures source { IfOk result (λ c. IsFreshSource RefinedTcpStream.feed read_socket (client_source c)) }
+        ensures source { IfOk result (λ c. IsFreshSource (λ _. None) read_socket (client_source c)) }
     {
         ClientConnection::new_with(rt, alloc, Profile::Lenient, write_socket, read_socket)
     }
@@ -116,7 +116,7 @@ impl<Rt: Wait + Copy> ClientConnection<RefinedTcpStream, RefinedTcpStream, Rt> {
         ensures address { IfOk result (λ c. MayHavePeer read_socket (client_address c)) }
         ensures open { IfOk result (λ c. IsOver c → ⊥) }
         ensures profile { IfOk result (λ c. client_profile c ≡ profile) }
-        ensures source { IfOk result (λ c. IsFreshSource RefinedTcpStream.feed read_socket (client_source c)) }
+        ensures source { IfOk result (λ c. IsFreshSource (λ _. None) read_socket (client_source c)) }
     {
         let addr = peer_if_known(&read_socket);
         let secure = read_socket.secure();
