@@ -64,7 +64,7 @@ pub record IsFreshSource {R : Type 0} (stated : R → Option Feed) (reader : R) 
     pub source : SourceState R
     pub holds : held ≡ Some source
     pub feed : source.feed ≡ stated reader
-    pub reader : source.reader ≡ reader
+    pub within : source.reader ≡ reader
     pub stop : source.stop ≡ None
     pub held : source.held ≡ []
     pub standing : source.standing ≡ AtHead
