@@ -66,7 +66,7 @@ pub record IsFreshSource {R : Type 0} (stated : R → Option Feed) (reader : R) 
     pub feed : source.feed ≡ stated reader
     pub within : source.reader ≡ reader
     pub stop : source.stop ≡ None
-    pub held : source.held ≡ []
+    pub nothing_held : source.held ≡ []
     pub standing : source.standing ≡ AtHead
 
 -- so many heads are refused one after another, and another head stands behind each

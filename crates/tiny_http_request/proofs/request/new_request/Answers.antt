@@ -44,6 +44,7 @@ input-is None source h e = cc
 input-is (Some held) source h e = ap (λ s. s.feed) h
 
 pub returns-clause-input : goal.returns-clause-input
+unfolding returns-clause-body
 returns-clause-input g c = λ holds.
     let body = c.from_parts.ensures.body in
     let some : is_some c.in_ok-reader.reader ≡ true = sym (ap (λ (b : BodyState). b.holds_input) body) ∙ holds in
