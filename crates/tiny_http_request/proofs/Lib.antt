@@ -1,3 +1,1 @@
 pub mod WholeBodyLemmas
-pub mod BodyLemmas
-pub mod ClientLemmas

@@ -6,8 +6,7 @@ ghost use Rattle.tiny_http_io.specs.Device.{Feed};
 ghost use Rattle.tiny_http_io.specs.declared.device.Stop.TheVariants.{Fault};
 ghost use Rattle.tiny_http_body.specs.Body.{is_streaming, bytes_left, body_stop, IsBodyOver, remaining, prepended_body};
 ghost use Rattle.tiny_http_body.specs.declared.body.UnreadBody.{UnreadBody};
-ghost use Rattle.tiny_http_request.specs.Body.{body_left};
-ghost use Rattle.tiny_http_request.specs.WholeBody.{fault_error, FailsReading, FailsWhole, IsWholeOf};
+ghost use Rattle.tiny_http_request.specs.WholeBody.{fault_error, FailsReading, FailsWhole};
 
 use crate::body::Body;
 use std::alloc::{AllocError, Global};
@@ -102,14 +101,12 @@ fn read_exactly<R: ReadDevice + Drop, Rt: Wait + Drop>(
     body: &mut Body<R, Rt>,
     count: usize,
 ) -> Result<Vec<u8>, BodyError>
-    requires { bytes_left body.old.unread ≡ Some count }
+    requires { bytes_left body.old ≡ Some count }
     ensures count { IfOk result (λ bytes. length bytes.items ≡ count) }
-    ensures whole { IfOk result (λ bytes. IsWholeOf bytes.items (body_left body.old)) }
-    ensures held { is_streaming body.old.unread ≡ false → (feed : Option Feed)
-        → IfOk result
-        (λ bytes. remaining body.old.unread feed ≡ prepended_body bytes.items (remaining body.new.unread feed)) }
-    ensures over { OnOk result (is_streaming body.old.unread ≡ true → (count ≡ 0) ⊎ IsBodyOver body.new.unread) }
-    ensures fails { IfErr result (FailsReading body.old.unread body.new.unread) }
+    ensures held { is_streaming body.old ≡ false → (feed : Option Feed)
+        → IfOk result (λ bytes. remaining body.old feed ≡ prepended_body bytes.items (remaining body.new feed)) }
+    ensures over { OnOk result (is_streaming body.old ≡ true → (count ≡ 0) ⊎ IsBodyOver body.new) }
+    ensures fails { IfErr result (FailsReading body.old body.new) }
 {
     let mut bytes = Vec::new(alloc);
     let mut piece = [0; PIECE];
@@ -130,15 +127,13 @@ fn read_to_end<R: ReadDevice + Drop, Rt: Wait + Drop>(
     body: &mut Body<R, Rt>,
     most: usize,
 ) -> Result<Vec<u8>, BodyError>
-    requires { bytes_left body.old.unread ≡ None }
+    requires { bytes_left body.old ≡ None }
     ensures bound { IfOk result (λ bytes. length bytes.items ≤ most) }
-    ensures whole { IfOk result (λ bytes. IsWholeOf bytes.items (body_left body.old)) }
-    ensures held { is_streaming body.old.unread ≡ false → (feed : Option Feed)
-        → IfOk result
-        (λ bytes. remaining body.old.unread feed ≡ prepended_body bytes.items (remaining body.new.unread feed)) }
-    ensures again { (kind : ErrorKind) → body_stop body.old.unread ≡ Some (Fault kind) → OnOk result ⊥ }
-    ensures over { OnOk result (IsBodyOver body.new.unread) }
-    ensures fails { IfErr result (FailsReading body.old.unread body.new.unread) }
+    ensures held { is_streaming body.old ≡ false → (feed : Option Feed)
+        → IfOk result (λ bytes. remaining body.old feed ≡ prepended_body bytes.items (remaining body.new feed)) }
+    ensures again { (kind : ErrorKind) → body_stop body.old ≡ Some (Fault kind) → OnOk result ⊥ }
+    ensures over { OnOk result (IsBodyOver body.new) }
+    ensures fails { IfErr result (FailsReading body.old body.new) }
 {
     let mut bytes = Vec::new(alloc);
     let mut piece = [0; PIECE];
@@ -162,17 +157,14 @@ pub(crate) fn read_left<R: ReadDevice + Drop, Rt: Wait + Drop>(
     form: Form,
     most: usize,
 ) -> Result<Vec<u8>, BodyError>
-    requires { (n : ℕ) → bytes_left body.old.unread ≡ Some n → n ≤ most }
+    requires { (n : ℕ) → bytes_left body.old ≡ Some n → n ≤ most }
     ensures bound { IfOk result (λ bytes. length bytes.items ≤ most) }
-    ensures sized { (n : ℕ) → bytes_left body.old.unread ≡ Some n → IfOk result (λ bytes. length bytes.items ≡ n) }
-    ensures whole { IfOk result (λ bytes. IsWholeOf bytes.items (body_left body.old)) }
-    ensures held { is_streaming body.old.unread ≡ false → (feed : Option Feed)
-        → IfOk result
-        (λ bytes. remaining body.old.unread feed ≡ prepended_body bytes.items (remaining body.new.unread feed)) }
-    ensures again { (kind : ErrorKind) → body_stop body.old.unread ≡ Some (Fault kind) → OnOk result ⊥ }
-    ensures over { OnOk result (is_streaming body.old.unread ≡ true
-        → (bytes_left body.old.unread ≡ Some 0) ⊎ IsBodyOver body.new.unread) }
-    ensures fails { IfErr result (λ e. FailsWhole form most body.old.unread body.new.unread e) }
+    ensures sized { (n : ℕ) → bytes_left body.old ≡ Some n → IfOk result (λ bytes. length bytes.items ≡ n) }
+    ensures held { is_streaming body.old ≡ false → (feed : Option Feed)
+        → IfOk result (λ bytes. remaining body.old feed ≡ prepended_body bytes.items (remaining body.new feed)) }
+    ensures again { (kind : ErrorKind) → body_stop body.old ≡ Some (Fault kind) → OnOk result ⊥ }
+    ensures over { OnOk result (is_streaming body.old ≡ true → (bytes_left body.old ≡ Some 0) ⊎ IsBodyOver body.new) }
+    ensures fails { IfErr result (λ e. FailsWhole form most body.old body.new e) }
 {
     let read = match body.left() {
         Some(left) => read_exactly(alloc, body, left),

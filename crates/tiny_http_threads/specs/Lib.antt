@@ -2,5 +2,3 @@ pub mod Queue
 pub mod Pool
 pub mod Roster
 pub mod Sequential
-pub mod Turn
-pub mod Line
