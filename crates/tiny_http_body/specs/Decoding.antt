@@ -80,17 +80,12 @@ IsReady (Data left) = 0 < left
 IsReady Over = ⊤
 IsReady (Broken kind) = ⊤
 
--- how many faults a call reports
-abbrev pub fault_count : {T E : Type 0} → Result T E → ℕ
-fault_count (Ok x) = 0
-fault_count (Err e) = 1
-
 -- how many faults stand in the place of what comes next
-abbrev pub next_faults : Next → ℕ
-next_faults Line = 0
-next_faults (Data left) = 0
-next_faults Over = 0
-next_faults (Broken kind) = 1
+abbrev pub broken_count : Next → ℕ
+broken_count Line = 0
+broken_count (Data left) = 0
+broken_count Over = 0
+broken_count (Broken kind) = 1
 
 -- the end or the fault that is reported from now on
 abbrev pub next_stop : Next → Option Stop

@@ -186,7 +186,7 @@ impl UnreadBody {
         buf: &mut [u8],
     ) -> Result<usize, io::Error>
         ensures reads { ReadsBody self.old self.new source.old source.new result buf.new }
-        // The source's reader isn't asked on behind an end or a fault, nor for more than the bytes that came.
+        // The source's reader is asked for no second end or fault, nor for more than the bytes that came.
         ensures told { Tells (R.told source.old.reader) (R.told source.new.reader) result }
     {
         if buf.is_empty() {
@@ -264,7 +264,7 @@ impl UnreadBody {
         ensures goes_on { GoesOn source.old.feed source.new.feed }
         ensures standing { is_streaming self.old ≡ true
             → source.new.standing ≡ body_standing self.new source.old.standing }
-        // The source's reader isn't asked on behind an end or a fault, nor once the buffer is full.
+        // The source's reader is asked for no second end or fault, nor once the buffer is full.
         ensures told { R.told source.new.reader ≤ R.told source.old.reader + 1 }
         ensures lazy { IfOk result
             (λ n. n ≡ length buf.new → R.told source.new.reader ≤ R.told source.old.reader) }

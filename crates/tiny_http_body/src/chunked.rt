@@ -3,14 +3,14 @@ ghost use Rattle.std.specs.Prelude.{◌≡◌, ℕ, ◌+◌, ◌<◌, ◌≤◌,
 ghost use Rattle.std.specs.Prelude.{IfErr, OnOk, OnErr, IsSome, IfSome};
 ghost use Rattle.std.specs.Option.{option_map};
 ghost use Rattle.std.specs.IoError.{error_kind};
-ghost use Rattle.tiny_http_io.specs.Device.{AnswersStop, prepended, Reads, TakesFront, Tells};
+ghost use Rattle.tiny_http_io.specs.Device.{AnswersStop, fault_count, prepended, Reads, TakesFront, Tells};
 ghost use Rattle.tiny_http_text.specs.Bytes.{crlf};
 ghost use Rattle.tiny_http_body.specs.Chunks.{WholeChunks, CutChunks, WholeChunksBy, CutChunksBy};
 ghost use Rattle.tiny_http_body.specs.ChunkLine.{CutBy};
 ghost use Rattle.tiny_http_body.specs.Decoding.{comes, trails, decoded_from_by, trailers_from, decoding_reads};
 ghost use Rattle.tiny_http_body.specs.Decoding.{TakesNeeded, IsReady, next_stop, decoding_coming, decoding_rules};
 ghost use Rattle.tiny_http_body.specs.Decoding.{decoding_stop, prepended_data, over_at, BreaksBy};
-ghost use Rattle.tiny_http_body.specs.Decoding.{fault_count, next_faults};
+ghost use Rattle.tiny_http_body.specs.Decoding.{broken_count};
 
 mod field;
 mod line;
@@ -93,7 +93,7 @@ fn skip_trailers<R: ReadDevice>(reader: &mut R, rules: ChunkRules) -> Next
     ensures comes { comes rules result (R.feed reader.new) ≡ trails rules MOST_TRAILERS (R.feed reader.old) }
     ensures ready { IsReady result }
     ensures needed { TakesNeeded (trailers_from rules MOST_TRAILERS) (R.feed reader.old) (R.feed reader.new) }
-    ensures told { R.told reader.new ≤ R.told reader.old + next_faults result }
+    ensures told { R.told reader.new ≤ R.told reader.old + broken_count result }
 {
     for lines in 0..MOST_TRAILERS {
         match next_line(reader, rules) {
@@ -125,7 +125,7 @@ fn open_chunk<R: ReadDevice>(reader: &mut R, rules: ChunkRules) -> Next
     ensures comes { comes rules result (R.feed reader.new) ≡ comes rules Next.Line (R.feed reader.old) }
     ensures ready { IsReady result }
     ensures needed { TakesNeeded (decoded_from_by rules Next.Line) (R.feed reader.old) (R.feed reader.new) }
-    ensures told { R.told reader.new ≤ R.told reader.old + next_faults result }
+    ensures told { R.told reader.new ≤ R.told reader.old + broken_count result }
 {
     match next_line(reader, rules) {
         Err(kind) => Next::Broken(kind),
@@ -148,7 +148,7 @@ fn go_to_data<R: ReadDevice>(reader: &mut R, rules: ChunkRules, next: Next) -> N
     ensures ready { IsReady result }
     ensures needed { TakesNeeded (decoded_from_by rules next) (R.feed reader.old) (R.feed reader.new) }
     ensures stays { IsSome (next_stop next) → (result ≡ next) × (reader.new ≡ reader.old) }
-    ensures told { R.told reader.new ≤ R.told reader.old + next_faults result }
+    ensures told { R.told reader.new ≤ R.told reader.old + broken_count result }
 {
     match next {
         Next::Line => open_chunk(reader, rules),
@@ -272,7 +272,7 @@ impl Decoding {
         ensures takes { TakesFront (R.feed reader.old) (R.feed reader.new) }
         // Up to a fault no byte more is taken than shows it.
         ensures needed { OnErr result (TakesNeeded (decoding_reads self.old) (R.feed reader.old) (R.feed reader.new)) }
-        // The reader isn't asked on behind an end or a fault, nor for more than the bytes that came.
+        // The reader is asked for no second end or fault, nor for more than the bytes that came.
         ensures told { Tells (R.told reader.old) (R.told reader.new) result }
     {
         if buf.is_empty() {

@@ -1,7 +1,6 @@
 //! A body that is sent as it is, of a known length (RFC 9112, section 6.2).
 ghost use Rattle.std.specs.Prelude.{◌≡◌, ◌<◌, ◌≤◌, ◌+◌, length, take, IfOk, IfSome};
-ghost use Rattle.tiny_http_io.specs.Device.{ReadsFrom, CopiesPiece, CountsFaults, Tells};
-ghost use Rattle.tiny_http_body.specs.Decoding.{fault_count};
+ghost use Rattle.tiny_http_io.specs.Device.{ReadsFrom, CopiesPiece, CountsFaults, Tells, fault_count};
 ghost use Rattle.tiny_http_body.specs.Text.{Prints, identity_body};
 
 use crate::gather::PIECE;

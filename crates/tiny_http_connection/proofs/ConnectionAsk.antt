@@ -48,7 +48,7 @@ use Rattle.tiny_http_connection.proofs.ConversationWriting.{unreported, flushed-
 use Rattle.tiny_http_response.specs.Sending.{IsFlushed, SendsUnlessEnded}
 use Rattle.tiny_http_turns.specs.Turns.{Mark, Open, Left, Finished, AreInShape, first_unfinished}
 use Rattle.tiny_http_connection.specs.Pending.{LeavesText, last_holds_next_head, last_body, is_streaming_body}
-use Rattle.tiny_http_connection.specs.Connection.{Kept, dropped, IsWaiting, AreKept, OutputAt, behind_body, GivesRest, InputEnded, is_past_last, is_in_body, BeginsMore, BeginsBehindAt, PlaceOf, NextHead, InputStands, Stands, HandedOut, FollowsLast}
+use Rattle.tiny_http_connection.specs.Connection.{Kept, dropped, IsWaiting, AreKept, OutputAt, behind_body, GivesRest, InputEnded, is_past_last, is_in_body, BeginsMore, BeginsBehindAt, PlaceIn, NextHead, InputStands, Stands, HandedOut, FollowsLast}
 use Rattle.tiny_http_io.proofs.SourceGoesOn.{goes-on_more}
 use Rattle.tiny_http_open_request.proofs.PipelineLemmas.{pipeline-first, pipeline-none, heads-rest_last, empty-pipeline}
 use Rattle.tiny_http_connection.proofs.ConnectionReader.{LastKept, last-kept, last-awaits, last-awaits-none, last-snoc, body-snoc, settled-snoc, and-false, held-by, behind-settled, gives-settled}
@@ -144,8 +144,8 @@ going client before k s h e o quiet open_input =
     let next = h.reader.next e in
     let kept : last_was_abandoned (last_slot s.reached.slots) ≡ false = by next (last_was_abandoned (last_slot s.reached.slots)) refl in
     let here : behind_body (last_body k.requests) k.feed ≡ Some f.0 = ap (behind_body (last_body k.requests)) f.1 ∙ behind-settled (last_slot s.reached.slots) (last_body k.requests) f.0 (last-of client before k s h) quiet.0 in
-    let P : Bool → Type 0 = λ x. PlaceOf client k.profile x (behind_body (last_body k.requests) k.feed) s.reached.rest in
-    let Q : Option Feed → Type 0 = λ x. PlaceOf client k.profile false x s.reached.rest in
+    let P : Bool → Type 0 = λ x. PlaceIn client k.profile x (behind_body (last_body k.requests) k.feed) s.reached.rest in
+    let Q : Option Feed → Type 0 = λ x. PlaceIn client k.profile false x s.reached.rest in
     let place = subst Q here (subst P o (next.place kept)) in
     record { feed = f.0; stated = f.1; unheld = unheld client before k s h quiet; kept = kept; pipeline = place.0; begins = place.1 refl }
   where
@@ -222,7 +222,7 @@ handed-place profile false stop None more items = let P : List Item → Type 0 =
 handed-place profile false stop (Some bytes) more items = items
 
 -- the same, of the client's pipeline
-pub handed-of : (client : Feed) (profile : Profile) (last : Bool) (stop : Stop) (next : Place) (more : List Item) → Pipeline profile (place_after last next) stop more → (BeginsBehind profile (place_after last next) stop more → BeginsMore profile client) → PlaceOf client profile last (Some (place_feed stop next)) more
+pub handed-of : (client : Feed) (profile : Profile) (last : Bool) (stop : Stop) (next : Place) (more : List Item) → Pipeline profile (place_after last next) stop more → (BeginsBehind profile (place_after last next) stop more → BeginsMore profile client) → PlaceIn client profile last (Some (place_feed stop next)) more
 handed-of client profile true stop next more items begins = (handed-place profile true stop next more items, λ no. cc)
 handed-of client profile false stop None more items begins = (handed-place profile false stop None more items, λ open_is b. absurd (none more items b))
   where
@@ -268,9 +268,9 @@ handed-reader client k slots rest more date r w p stop over at close next old qu
     let B : Option Remaining → Option Feed = λ o. option_map (λ (y : Remaining). y.body) o in
     let P : Option Slot → Option UnreadBody → Type 0 = λ o b. GivesRest b o p in
     let here : P (Some x) (Some w.body) = ap B left in
-    let Q : Bool → Option UnreadBody → Type 0 = λ y b. PlaceOf client k.profile y (behind_body b p) more in
+    let Q : Bool → Option UnreadBody → Type 0 = λ y b. PlaceIn client k.profile y (behind_body b p) more in
     let W : Option Slot → Option UnreadBody → Bool = λ o b. not (is_last_slot o) && is_streaming_body b in
-    let F : Option Feed → Type 0 = λ o. PlaceOf client k.profile r.framing.is_last o more in
+    let F : Option Feed → Type 0 = λ o. PlaceIn client k.profile r.framing.is_last o more in
     let behind : behind_body (Some w.body) p ≡ Some (place_feed close next) = ap (λ (o : Option Remaining). option_map (λ (y : Remaining). y.behind) o) left in
     let L : Option Slot → Option UnreadBody → Type 0 = λ o b. FollowsLast b o p in
     let k2 : Kept = after_handed k w p stop over at in

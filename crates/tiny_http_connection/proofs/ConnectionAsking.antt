@@ -24,7 +24,7 @@ use Rattle.tiny_http_connection.specs.Steps.{Ask, ReplyValue, Handed, Ended, Giv
 use Rattle.tiny_http_connection.specs.Outcomes.{WriterUse, Unused, Unreported, Outcome, Reached, use_in_turn, ask, asks_from}
 use Rattle.tiny_http_connection.specs.Conversation.{Failure, State, IsPassedOver, BeginsBehind, Fares, Well, FailsWithin, FailsAfter, MayFare, WriterPart, reply_in, failure_in, has_output_ended, flushed_after, answers_to, HasOutcome, StepsTo}
 use Rattle.tiny_http_connection.specs.Pending.{LeavesText, last_body, is_streaming_body}
-use Rattle.tiny_http_connection.specs.Connection.{Kept, OutputAt, behind_body, GivesRest, InputEnded, is_past_last, is_in_body, BeginsMore, PlaceOf, InputStands, Stands, FollowsLast}
+use Rattle.tiny_http_connection.specs.Connection.{Kept, OutputAt, behind_body, GivesRest, InputEnded, is_past_last, is_in_body, BeginsMore, PlaceIn, InputStands, Stands, FollowsLast}
 use Rattle.tiny_http_connection.proofs.SlotsLemmas.{joined-waits}
 use Rattle.tiny_http_connection.proofs.ConversationWriting.{unreported, flushed-is}
 use Rattle.tiny_http_connection.proofs.ConnectionAsk.{AskIsAnswered, FoundHead, IsQuiet, going, ask-goes, handed-of, begins-from, turn-next, refused-whole, refused-text, refuses}
@@ -301,8 +301,8 @@ passed-reader client k slots rest more n p stop over at marks sink ended close n
     let last : last_slot (slots ++ (n ∷ [])) ≡ Some n = last-snoc None slots n in
     let content : last_body (k.requests ++ (None ∷ [])) ≡ None = body-snoc k.requests None in
     let B : Option UnreadBody → Type 0 = λ b. GivesRest b (last_slot (slots ++ (n ∷ []))) p in
-    let Q : Option UnreadBody → Type 0 = λ b. PlaceOf client k.profile (is_past_last at) (behind_body b p) more in
-    let F : Bool → Option Feed → Type 0 = λ y o. PlaceOf client k.profile y o more in
+    let Q : Option UnreadBody → Type 0 = λ b. PlaceIn client k.profile (is_past_last at) (behind_body b p) more in
+    let F : Bool → Option Feed → Type 0 = λ y o. PlaceIn client k.profile y o more in
     record {
       settled = settled-snoc k.requests None old.settled quiet;
       gives = subst B (sym content) tt;

@@ -22,7 +22,7 @@ use Rattle.tiny_http_body.specs.Body.{body_finished}
 use Rattle.tiny_http_connection.specs.Outcomes.{finished_as}
 use Rattle.tiny_http_body.specs.Body.{Remaining, remaining, is_streaming, body_standing, Fits, GivesUp}
 use Rattle.tiny_http_connection.specs.Pending.{last_holds_next_head, kept_body, last_body, is_streaming_body, holds_next_head_at}
-use Rattle.tiny_http_connection.specs.Connection.{Kept, open_slot, IsOpen, IsSettled, AreSettled, behind_body, slot_rest, GivesRest, is_past_last, is_in_body, PlaceOf, NextHead, InputStands, FollowsLast, behind_item}
+use Rattle.tiny_http_connection.specs.Connection.{Kept, open_slot, IsOpen, IsSettled, AreSettled, behind_body, slot_rest, GivesRest, is_past_last, is_in_body, PlaceIn, NextHead, InputStands, FollowsLast, behind_item}
 use Rattle.tiny_http_io.proofs.SourceGoesOn.{goes-on_more}
 use Rattle.tiny_http_connection.proofs.ConnectionAsk.{stated-feed}
 use Rattle.tiny_http_body.proofs.BodyReads.{gives-up}
@@ -50,16 +50,16 @@ lost-chunked {R = R} (body.Over stop) old new f r given end_reported fits h e lo
 
 -- where the next head is read after a body that was given up
 given-place : {R : Type 0} (client : Feed) (profile : Profile) (b : UnreadBody) (old new : SourceState R) (f : Feed) (r : Request) (given : ℕ) (end_reported over : Bool) (rest : List Item) → Fits r.framing.by_standard b r.framing.form (body_length_or_0 r.framing) given end_reported → GivesUp b old new → old.feed ≡ Some f
-    → (is_streaming b ≡ false → (g : Feed) → behind_body (Some b) (Some g) ≡ Some g) → (is_chunked r.framing.form && not end_reported) ≡ false → (r.framing.form ≡ Rest → over ≡ true) → PlaceOf client profile over (behind_body (Some b) old.feed) rest → PlaceOf client profile over new.feed rest
+    → (is_streaming b ≡ false → (g : Feed) → behind_body (Some b) (Some g) ≡ Some g) → (is_chunked r.framing.form && not end_reported) ≡ false → (r.framing.form ≡ Rest → over ≡ true) → PlaceIn client profile over (behind_body (Some b) old.feed) rest → PlaceIn client profile over new.feed rest
 given-place client profile b old new f r given end_reported true rest fits h e quiet kept ends place = (place.0, λ no. cc)
 given-place {R = R} client profile (body.Over stop) old new f r given end_reported false rest fits h e quiet kept ends place =
-    let P : Option Feed → Type 0 = λ o. PlaceOf client profile false o rest in
+    let P : Option Feed → Type 0 = λ o. PlaceIn client profile false o rest in
     subst P (ap (behind_body (Some (body.Over stop))) e ∙ quiet refl f ∙ sym e ∙ ap (λ (x : SourceState R). x.feed) (sym h)) place
 given-place {R = R} client profile (body.WithHead bytes) old new f r given end_reported false rest fits h e quiet kept ends place =
-    let P : Option Feed → Type 0 = λ o. PlaceOf client profile false o rest in
+    let P : Option Feed → Type 0 = λ o. PlaceIn client profile false o rest in
     subst P (ap (behind_body (Some (body.WithHead bytes))) e ∙ quiet refl f ∙ sym e ∙ ap (λ (x : SourceState R). x.feed) (sym h)) place
 given-place {R = R} client profile (body.Counted left by_standard) old new f r given end_reported false rest fits h e quiet kept ends place =
-    let P : Option Feed → Type 0 = λ o. PlaceOf client profile false o rest in
+    let P : Option Feed → Type 0 = λ o. PlaceIn client profile false o rest in
     let skips : behind_body (Some (body.Counted left by_standard)) old.feed ≡ option_map (skipped left) old.feed = rw e refl in
     subst P (skips ∙ sym h.0) place
 given-place {R = R} client profile (body.Chunked d) old new f r given end_reported false rest fits h e quiet kept ends place =
@@ -163,14 +163,14 @@ given-same body.Rest old new h e = cc
 -- where the last number and its body are the same, the next head is read at the same place
 pub next-same : (client : Feed) (k q : Kept) (o u : Option Slot) (rest : List Item) → q.profile ≡ k.profile → q.standing ≡ k.standing → is_last_slot u ≡ is_last_slot o → last_was_abandoned u ≡ last_was_abandoned o → last_body q.requests ≡ last_body k.requests → q.feed ≡ k.feed → q.stop ≡ k.stop → q.is_over ≡ k.is_over → NextHead client k o rest → NextHead client q u rest
 next-same client k q o u rest profile standing last abandoned content feed stop ends n =
-    let P : Bool → Option UnreadBody → Option Feed → Type 0 = λ x y z. PlaceOf client q.profile x (behind_body y z) rest in
+    let P : Bool → Option UnreadBody → Option Feed → Type 0 = λ x y z. PlaceIn client q.profile x (behind_body y z) rest in
     let over : is_past_last q.standing ≡ is_past_last k.standing = ap is_past_last standing in
     let W : Bool → Option UnreadBody → Bool = λ x y. not x && is_streaming_body y in
     record {
       is_last = over ∙ n.is_last ∙ sym last;
       within = ap is_in_body standing ∙ n.within ∙ ap (λ y. W (is_last_slot o) y) (sym content) ∙ ap (λ x. W x (last_body q.requests)) (sym last);
       lost = λ l. (let m = n.lost (sym abandoned ∙ l) in ((ends ∙ m.0.0, stop ∙ m.0.1), feed ∙ m.1));
-      place = λ l. subst (λ x. P x (last_body q.requests) q.feed) (sym over) (subst (λ y. P (is_past_last k.standing) y q.feed) (sym content) (subst (λ z. P (is_past_last k.standing) (last_body k.requests) z) (sym feed) (subst (λ w. PlaceOf client w (is_past_last k.standing) (behind_body (last_body k.requests) k.feed) rest) (sym profile) (n.place (sym abandoned ∙ l)))));
+      place = λ l. subst (λ x. P x (last_body q.requests) q.feed) (sym over) (subst (λ y. P (is_past_last k.standing) y q.feed) (sym content) (subst (λ z. P (is_past_last k.standing) (last_body k.requests) z) (sym feed) (subst (λ w. PlaceIn client w (is_past_last k.standing) (behind_body (last_body k.requests) k.feed) rest) (sym profile) (n.place (sym abandoned ∙ l)))));
     }
 
 -- the connection's input is this source
@@ -208,7 +208,7 @@ pub record LastWaits {R : Type 0} (client : Feed) (k : Kept) (source : SourceSta
   pub gives : option_map (λ (x : Remaining). x.body) (remaining b source.feed) ≡ Some (slot_rest s)
   pub is_last : k.asking_ended ≡ false → is_past_last source.standing ≡ is_last_item s.item
   pub within : k.asking_ended ≡ false → is_in_body source.standing ≡ (not (is_last_item s.item) && is_streaming b)
-  pub place : k.asking_ended ≡ false → PlaceOf client k.profile (is_past_last source.standing) (behind_body (Some b) source.feed) rest
+  pub place : k.asking_ended ≡ false → PlaceIn client k.profile (is_past_last source.standing) (behind_body (Some b) source.feed) rest
   pub follows : last_holds_next_head k.requests ≡ true → behind_body (Some b) source.feed ≡ Some (behind_item s.item)
 
 pub last-waits : {R : Type 0} (client : Feed) (k : Kept) (source : SourceState R) (bs : List Slot) (us : List (Option Unfinished)) (rest : List Item) (s : Slot) (u : Option Unfinished) (b : UnreadBody) → IsOpen s b → kept_body u ≡ Some b → IsInput k source → InputStands client k (bs ++ (s ∷ [])) rest → k.requests ≡ us ++ (u ∷ [])
@@ -218,7 +218,7 @@ last-waits client k source bs us rest s u b h has from reader is =
     let last : last_slot (bs ++ (s ∷ [])) ≡ Some s = last-snoc None bs s in
     let content : last_body k.requests ≡ Some b = ap last_body is ∙ body-snoc us u ∙ has in
     let G : Option UnreadBody → Option Slot → Option Feed → Type 0 = λ b o z. GivesRest b o z in
-    let P : Bool → Option UnreadBody → Option Feed → Type 0 = λ x y z. PlaceOf client k.profile x (behind_body y z) rest in
+    let P : Bool → Option UnreadBody → Option Feed → Type 0 = λ x y z. PlaceIn client k.profile x (behind_body y z) rest in
     let over : is_past_last k.standing ≡ is_past_last source.standing = ap is_past_last from.standing in
     let W : Option Slot → Option UnreadBody → Bool = λ x y. not (is_last_slot x) && is_streaming_body y in
     let L : Option UnreadBody → Option Slot → Option Feed → Type 0 = λ b o f. FollowsLast b o f in
@@ -245,7 +245,7 @@ reader-last closes client k old new bs us rest s u x b stage h has none from rea
     let l = last-waits client k old bs us rest s u b h has from reader is in
     let A : List (Option Unfinished) → Type 0 = λ x. AreSettled x in
     let G : Option UnreadBody → Type 0 = λ b. GivesRest b (last_slot (bs ++ (t ∷ []))) new.feed in
-    let P : Bool → Option UnreadBody → Type 0 = λ x b. PlaceOf client k.profile x (behind_body b new.feed) rest in
+    let P : Bool → Option UnreadBody → Type 0 = λ x b. PlaceIn client k.profile x (behind_body b new.feed) rest in
     let W : Option UnreadBody → Bool = λ y. not (is_last_slot (last_slot (bs ++ (t ∷ [])))) && is_streaming_body y in
     let past : is_past_last new.standing ≡ is_past_last old.standing = given-past b old new gives in
     let S : Option Feed → Type 0 = λ f. GoesOn f new.feed in

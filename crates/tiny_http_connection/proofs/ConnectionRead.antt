@@ -29,7 +29,7 @@ use Rattle.tiny_http_turns.specs.Turns.{Mark, Open}
 use Rattle.tiny_http_connection.specs.declared.pending.Unfinished.{Unfinished}
 use Rattle.tiny_http_connection.specs.declared.pending.Unfinished.TheVariants as still
 use Rattle.tiny_http_connection.specs.Pending.{last_holds_next_head, kept_body, with_body, is_readable, last_body, is_streaming_body, holds_next_head_at}
-use Rattle.tiny_http_connection.specs.Connection.{Kept, open_slot, IsWaiting, IsOpen, IsUpgraded, IsUnfinished, AreSentInTurn, AreKept, AreSettled, behind_body, slot_rest, GivesRest, is_past_last, PlaceOf, InputStands, Stands, FollowsLast, behind_item}
+use Rattle.tiny_http_connection.specs.Connection.{Kept, open_slot, IsWaiting, IsOpen, IsUpgraded, IsUnfinished, AreSentInTurn, AreKept, AreSettled, behind_body, slot_rest, GivesRest, is_past_last, PlaceIn, InputStands, Stands, FollowsLast, behind_item}
 use Rattle.tiny_http_io.proofs.SourceGoesOn.{goes-on_more}
 use Rattle.tiny_http_connection.proofs.ConnectionAsk.{StepIsAnswered, step-unchanged, settled-any, stated-feed}
 use Rattle.tiny_http_body.proofs.BodyReads.{stays-settled}
@@ -357,8 +357,8 @@ read-last {R = R} client k old new bs us rest s u b c n reply q from reader is o
     let l = last-waits client k old bs us rest s (Some u) b h q.has from reader is in
     let A : List (Option Unfinished) → Type 0 = λ x. AreSettled x in
     let G : Option UnreadBody → Option Slot → Type 0 = λ b o. GivesRest b o new.feed in
-    let P : Bool → Option UnreadBody → Type 0 = λ x b. PlaceOf client k.profile x (behind_body b new.feed) rest in
-    let Q : Option Feed → Type 0 = λ f. PlaceOf client k.profile (is_past_last old.standing) f rest in
+    let P : Bool → Option UnreadBody → Type 0 = λ x b. PlaceIn client k.profile x (behind_body b new.feed) rest in
+    let Q : Option Feed → Type 0 = λ f. PlaceIn client k.profile (is_past_last old.standing) f rest in
     let W : Option Slot → Option UnreadBody → Bool = λ x y. not (is_last_slot x) && is_streaming_body y in
     let same : (e : k.asking_ended ≡ false) → StandsOn c old.standing new.standing (is_last_item s.item) =
     λ e. stands-on b c old.standing new.standing (is_last_item s.item) stands (λ quiet. ap (λ (x : SourceState R). x.standing) (leaves quiet)) on.stays (l.within e) in

@@ -26,7 +26,7 @@ use Rattle.tiny_http_connection.specs.Segments.{Slot, Stage, Unanswered, Answere
 use Rattle.tiny_http_connection.specs.Slots.{is_output_broken, joined, turn_has_come, body_was_abandoned}
 use Rattle.tiny_http_connection.specs.Steps.{StepValue, IntoWriter, Write, Flush, Finish, ReplyValue, Done, Fault, NotYet, NoSuch}
 use Rattle.tiny_http_connection.specs.Outcomes.{WriterUse, Unused, Reported, Outcome, Reached, unchanged, changes, ends_asking, is_last_with_stream, finished_as, written_to, stage_closed, accepts_step, needs_turn, effect, at_item, at_slot, at_number, outcome}
-use Rattle.tiny_http_connection.specs.Seen.{write_reply, is_done, IsOfWriter, TellsOfWriter}
+use Rattle.tiny_http_connection.specs.Seen.{write_reply, is_done, IsOfWriter, ReportsOfWriter}
 use Rattle.tiny_http_connection.specs.Driving.{IsDeclined}
 use Rattle.tiny_http_connection.specs.declared.driver.Step.TheVariants as step
 use Rattle.std.specs.Global.{Vec}
@@ -516,7 +516,7 @@ write-honest {T = T} old new (Err x) own kind puts e =
     kind-of a b e = cc
 
 -- a failure of the writer is reported
-pub write-tells : {T : Type 0} (old new : Sink) (r : Result T Error) (own : List ℕ) → Puts old new r own → TellsOfWriter old new (write_reply r)
+pub write-tells : {T : Type 0} (old new : Sink) (r : Result T Error) (own : List ℕ) → Puts old new r own → ReportsOfWriter old new (write_reply r)
 write-tells {T = T} old new (Ok x) own puts = inl puts.failures
 write-tells {T = T} old new (Err x) own puts = inr (error_kind x, refl, (puts.failures, puts.last_kind))
 

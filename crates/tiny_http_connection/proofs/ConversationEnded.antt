@@ -12,7 +12,7 @@ use Rattle.tiny_http_connection.specs.Segments.{Slot}
 use Rattle.tiny_http_connection.specs.Slots.{turn_has_come, refuses_response, refuses_upgrade, is_last_once_finished}
 use Rattle.tiny_http_connection.specs.Steps.{StepValue, Ask, AsReader, Read, Respond, IntoWriter, Write, Flush, Upgrade, Finish, Drop, ReplyValue, Ended, TimedValue}
 use Rattle.tiny_http_connection.specs.Outcomes.{Reached, Outcome, unchanged, asked_to_close, is_last_with_stream, answers_slot, effect, at_item, at_slot, accepts_step, needs_turn, ask, outcome}
-use Rattle.tiny_http_connection.specs.Conversation.{State, StepsTo, Run, AsksInVain, IsAskInVain, BeginsBehind}
+use Rattle.tiny_http_connection.specs.Conversation.{State, StepsTo, Run, HasAskOutOfMemory, IsAskOutOfMemory, BeginsBehind}
 use Rattle.tiny_http_connection.specs.Connection.{BeginsMore}
 
 -- what isn't reached stays so, and no head is read any more
@@ -91,7 +91,7 @@ steps-stay s date (Finish k) reply new e (inr h) = elim h [ ]
 steps-stay s date (Drop k) reply new e (inr h) = elim h [ ]
 
 -- one step more
-pub vain-snoc : (old end : State) (steps : List TimedValue) (replies : List ReplyValue) (x : TimedValue) (r : ReplyValue) → Run old steps replies end → AsksInVain (steps ++ x ∷ []) (replies ++ r ∷ []) → AsksInVain steps replies ⊎ IsAskInVain x.1 r
+pub vain-snoc : (old end : State) (steps : List TimedValue) (replies : List ReplyValue) (x : TimedValue) (r : ReplyValue) → Run old steps replies end → HasAskOutOfMemory (steps ++ x ∷ []) (replies ++ r ∷ []) → HasAskOutOfMemory steps replies ⊎ IsAskOutOfMemory x.1 r
 vain-snoc old end [] [] x r run (inl v) = inr v
 vain-snoc old end [] [] x r run (inr v) = elim v [ ]
 vain-snoc old end [] (y ∷ replies) x r run v = absurd run
@@ -99,7 +99,7 @@ vain-snoc old end (s ∷ steps) [] x r run v = absurd run
 vain-snoc old end (s ∷ steps) (y ∷ replies) x r run (inl v) = inl (inl v)
 vain-snoc old end (s ∷ steps) (y ∷ replies) x r run (inr v) = by (vain-snoc run.0 end steps replies x r run.2 v)
   where
-    by : AsksInVain steps replies ⊎ IsAskInVain x.1 r → AsksInVain (s ∷ steps) (y ∷ replies) ⊎ IsAskInVain x.1 r
+    by : HasAskOutOfMemory steps replies ⊎ IsAskOutOfMemory x.1 r → HasAskOutOfMemory (s ∷ steps) (y ∷ replies) ⊎ IsAskOutOfMemory x.1 r
     by (inl h) = inl (inr h)
     by (inr h) = inr h
 

@@ -19,8 +19,8 @@ use Rattle.tiny_http_io.specs.declared.device.Stop.{Stop}
 use Rattle.tiny_http_connection.specs.Segments.{Slot, is_last_item}
 use Rattle.tiny_http_connection.specs.Slots.{joined, last_slot, last_is_open, last_was_abandoned, is_last_slot}
 use Rattle.tiny_http_connection.specs.Steps.{ReplyValue, TimedValue}
-use Rattle.tiny_http_connection.specs.Conversation.{State, Failure, StepsTo, Run, start_state, IsFresh, AsksInVain, PlaceAt, WithinBody, WithinLast, InputAt, IsOutput, IsConversation}
-use Rattle.tiny_http_connection.specs.Connection.{Kept, OutputAt, IsOpen, behind_body, slot_rest, GivesRest, BeginsMore, PlaceOf, Stands}
+use Rattle.tiny_http_connection.specs.Conversation.{State, Failure, StepsTo, Run, start_state, IsFresh, HasAskOutOfMemory, PlaceAt, WithinBody, WithinLast, InputAt, IsOutput, IsConversation}
+use Rattle.tiny_http_connection.specs.Connection.{Kept, OutputAt, IsOpen, behind_body, slot_rest, GivesRest, BeginsMore, PlaceIn, Stands}
 use Rattle.tiny_http_connection.proofs.ConversationEnded.{begins-behind_items}
 use Rattle.tiny_http_io.specs.ToCome.{stopped}
 use Rattle.tiny_http_body.specs.Body.{Remaining, remaining, is_streaming}
@@ -34,7 +34,7 @@ use Rattle.std.specs.declared.io.ErrorKind.{ErrorKind}
 use Rattle.tiny_http_connection.specs.declared.driver.Step.{Step}
 use Rattle.tiny_http_connection.specs.declared.driver.Step.TheVariants as step
 use Rattle.httpdate.specs.declared.date.HttpDate.{HttpDate}
-use Rattle.tiny_http_connection.specs.Seen.{seen, ReportsHonestly, ReportHonestly, WriteTells, TellsOfWriter, MayFail, all_sent_after, all_sent}
+use Rattle.tiny_http_connection.specs.Seen.{seen, ReportsHonestly, ReportHonestly, WriteTells, ReportsOfWriter, MayFail, all_sent_after, all_sent}
 use Rattle.tiny_http_connection.specs.Driving.{stated_step}
 use Rattle.tiny_http_response.specs.Sending.{SinkFailsOnce, FailsOnceUnlessEnded, FailsAtMostOnce}
 use Rattle.tiny_http_io.proofs.DeviceLemmas.{grown-nil}
@@ -82,7 +82,7 @@ begun profile feed is_over sink = record { profile = profile; marks = []; reques
 pub stands-begun : (profile : Profile) (client : Feed) (feed : Option Feed) (is_over : Bool) (sink : Sink) (items : List Item) → feed ≡ Some client → IsFresh sink → Pipeline profile (Some client.bytes) client.stop items → Stands client sink (begun profile feed is_over sink) (start_state items)
 stands-begun profile client feed is_over sink items e fresh h =
     let G : Option Feed → Type 0 = λ x. GoesOn (Some client) x in
-    let P : Option Feed → Type 0 = λ x. PlaceOf client profile false x items in
+    let P : Option Feed → Type 0 = λ x. PlaceIn client profile false x items in
     record {
       numbers = tt;
       shape = tt;
@@ -189,7 +189,7 @@ output-end before sink held ended slots flushed (Some f) empty begins h =
 
 -- a run to where the connection stands is a conversation, with what is then held and left
 pub conversation : (profile : Profile) (client : Feed) (before sink : Sink) (held : List ℕ) (k : Kept) (ended : Bool) (items : List Item) (end : State) (replies : List ReplyValue) (dated : List TimedValue) → k.profile ≡ profile → k.sink ≡ holding sink held ended → k.output_ended ≡ ended → (ended ≡ true → held ≡ []) → BeginsKnown sink.sent sink.taken
-    → Pipeline profile (Some client.bytes) client.stop items → Run (start_state items) dated replies end → Stands client before k end → (AsksInVain dated replies → (end.reached.asking_ended ≡ true) × (end.reached.rest ≡ [] → BeginsMore profile client)) → IsConversation profile client before dated replies sink held ended k.feed
+    → Pipeline profile (Some client.bytes) client.stop items → Run (start_state items) dated replies end → Stands client before k end → (HasAskOutOfMemory dated replies → (end.reached.asking_ended ≡ true) × (end.reached.rest ≡ [] → BeginsMore profile client)) → IsConversation profile client before dated replies sink held ended k.feed
 conversation profile client before sink held k ended items end replies dated profile_is same same_end empty begins pipeline run st memory =
     let P : Sink → Bool → Type 0 = λ x y. OutputAt before x y end.reached.slots end.flushed end.failure in
     let out : P (holding sink held ended) ended = subst (λ y. P (holding sink held ended) y) same_end (subst (λ x. P x k.output_ended) same st.output) in
@@ -222,7 +222,7 @@ fail-along feed a b c date (step.Respond n r) kind e (p, inl h) = let L : ℕ �
 fail-along feed a b c date (step.Respond n r) kind e (p, inr h) = (p, inr h)
 
 -- what is told of a failure, along such sinks
-tells-of : (a b c : Sink) (reply : ReplyValue) → b.failures ≡ a.failures → TellsOfWriter b c reply → TellsOfWriter a c reply
+tells-of : (a b c : Sink) (reply : ReplyValue) → b.failures ≡ a.failures → ReportsOfWriter b c reply → ReportsOfWriter a c reply
 tells-of a b c reply e (inl h) = inl (h ∙ e)
 tells-of a b c reply e (inr h) = inr (h.0, h.1, (h.2.0 ∙ ap next_count e, h.2.1))
 

@@ -25,9 +25,9 @@ use Rattle.tiny_http_io.specs.Outlet.{OutletState, output_of, SentOn}
 use Rattle.tiny_http_response.specs.ResponseValue.{ResponseValue}
 use Rattle.tiny_http_connection.specs.Steps.{StepValue, Ask, AsReader, Read, Respond, IntoWriter, Write, Flush, Upgrade, Finish, Drop, ReplyValue, Handed, Ended, Given, NotYet, Done, Refused, NoSuch, Memory, Fault, TimedValue}
 use Rattle.tiny_http_connection.specs.Outcomes.{Reached, changes, ends_asking, use_in_turn, outcome}
-use Rattle.tiny_http_connection.specs.Conversation.{State, IsFresh, StepsTo, IsAskInVain, start_state}
+use Rattle.tiny_http_connection.specs.Conversation.{State, IsFresh, StepsTo, IsAskOutOfMemory, start_state}
 use Rattle.tiny_http_response.specs.Sending.{FailsOnceUnlessEnded, IsHonest, FailsOnce, Sends}
-use Rattle.tiny_http_connection.specs.Seen.{seen, IsResponse, IsStep, IsTimedStep, MayFail, ReportsHonestly, WriteTells, TellsOfWriter, Answers, IsAnswered, IsOfWriter, is_done, all_sent_after}
+use Rattle.tiny_http_connection.specs.Seen.{seen, IsResponse, IsStep, IsTimedStep, MayFail, ReportsHonestly, WriteTells, ReportsOfWriter, Answers, IsAnswered, IsOfWriter, is_done, all_sent_after}
 use Rattle.tiny_http_body.specs.declared.body.UnreadBody.{UnreadBody}
 use Rattle.tiny_http_open_request.specs.declared.open_request.OpenRequest.{OpenRequest}
 use Rattle.tiny_http_open_request.specs.OpenRequest.{refuses_code, request_check}
@@ -37,7 +37,7 @@ use Rattle.tiny_http_connection.specs.Connection.{Kept, ConnectionState, kept, S
 use Rattle.tiny_http_connection.specs.Slots.{turn_has_come, is_last_once_finished}
 use Rattle.tiny_http_connection.proofs.ConnectionDrop.{IsKeptOf, at-drop, at-unanswerable, at-refused}
 use Rattle.std.specs.Prelude.{String, string_bytes, slice_get}
-use Rattle.tiny_http_connection.specs.Driving.{HasDone, TakesStep, AskEnds, StepEnds, EndsBehind, UpgradeEnds, ends_behind, IsDeclined, stated_response, stated_step, StepLeaves, AskLeaves, LetsGo, StandsAfter, ReportsFault, AnswerLeaves, UpgradeLeaves, IsDropping, RefusesHeads, RespondEnds, StepTells, RespondTells}
+use Rattle.tiny_http_connection.specs.Driving.{HasDone, TakesStep, AskEnds, StepEnds, EndsBehind, UpgradeEnds, ends_behind, IsDeclined, stated_response, stated_step, StepLeaves, AskLeaves, LetsGo, StandsAfter, ReportsFault, AnswerLeaves, UpgradeLeaves, IsDropping, RefusesHeads, RespondEnds, StepReports, RespondReports}
 use Rattle.tiny_http_connection.proofs.ConnectionAsk.{StepIsAnswered, AskIsAnswered, FoundHead}
 use Rattle.tiny_http_connection.proofs.ConversationEnded.{steps-stay, vain-snoc}
 use Rattle.tiny_http_connection.proofs.ConnectionReader.{holds-snoc}
@@ -198,7 +198,7 @@ IsAskStep step.Ask = Unit {0}
 IsAskStep _ = ⊥
 
 -- only an Ask asks in vain
-vain-asks : (x : Step (Option Feed)) (asked : StepValue) (reply : ReplyValue) → IsStep (λ f. f) x asked → IsAskInVain asked reply → IsAskStep x
+vain-asks : (x : Step (Option Feed)) (asked : StepValue) (reply : ReplyValue) → IsStep (λ f. f) x asked → IsAskOutOfMemory asked reply → IsAskStep x
 vain-asks step.Ask Ask reply is v = tt
 vain-asks (step.AsReader k) Ask reply is v = elim is [ ]
 vain-asks (step.Read k n) Ask reply is v = elim is [ ]
@@ -222,11 +222,11 @@ vain-asks x (Drop k) reply is v = elim v [ ]
 -- where a step has led, and what is known where it asked in vain
 abbrev Leads : Feed → Sink → Kept → State → HttpDate → StepValue → ReplyValue → Type 0
 Leads client before k s now asked reply =
-    (new : State) × Stands client before k new × StepsTo s now asked reply new × (IsAskInVain asked reply → (new.reached.asking_ended ≡ true) × (new.reached.rest ≡ [] → BeginsMore k.profile client))
+    (new : State) × Stands client before k new × StepsTo s now asked reply new × (IsAskOutOfMemory asked reply → (new.reached.asking_ended ≡ true) × (new.reached.rest ≡ [] → BeginsMore k.profile client))
 
 takes-found : {R W : Type 0} (old new : ConnectionState R W) (now : HttpDate) (x : Step (Option Feed)) (reply : ReplyValue)
     → ((client : Feed) (before : Sink) (s : State) (asked : StepValue) → before.failures < 2 ^ 64 - 1 → IsStep (λ f. f) x asked → Stands client before (kept old) s → Leads client before (kept new) s now asked reply)
-    → (IsDeclined x reply → new ≡ old) → StepEnds x old new reply → StepLeaves x old new reply → MovesBy x reply old new → ((kind : ErrorKind) → reply ≡ Fault kind → ReportsFault old new now x kind) → StepTells old new now x reply → TakesStep old new now x reply
+    → (IsDeclined x reply → new ≡ old) → StepEnds x old new reply → StepLeaves x old new reply → MovesBy x reply old new → ((kind : ErrorKind) → reply ≡ Fault kind → ReportsFault old new now x kind) → StepReports old new now x reply → TakesStep old new now x reply
 takes-found old new now x reply answers declined ends leaves moves honest tells =
     record {
       does = λ p client before steps replies asked is done.
@@ -260,7 +260,7 @@ takes-found old new now x reply answers declined ends leaves moves honest tells 
 
 pub takes : {R W : Type 0} (old new : ConnectionState R W) (now : HttpDate) (x : Step (Option Feed)) (reply : ReplyValue)
     → ((client : Feed) (before : Sink) (s : State) (asked : StepValue) → before.failures < 2 ^ 64 - 1 → IsStep (λ f. f) x asked → Stands client before (kept old) s → StepIsAnswered client before (kept new) s now asked reply)
-    → (IsDeclined x reply → new ≡ old) → StepEnds x old new reply → StepLeaves x old new reply → MovesBy x reply old new → ((kind : ErrorKind) → reply ≡ Fault kind → ReportsFault old new now x kind) → StepTells old new now x reply → (IsAskStep x → ⊥) → TakesStep old new now x reply
+    → (IsDeclined x reply → new ≡ old) → StepEnds x old new reply → StepLeaves x old new reply → MovesBy x reply old new → ((kind : ErrorKind) → reply ≡ Fault kind → ReportsFault old new now x kind) → StepReports old new now x reply → (IsAskStep x → ⊥) → TakesStep old new now x reply
 takes old new now x reply answers declined ends leaves moves honest tells other =
     takes-found old new now x reply
     (λ client before s asked low is st. (let a = answers client before s asked low is st in (a.0, a.1, a.2, λ v. absurd (other (vain-asks x asked reply is v)))))
@@ -332,7 +332,7 @@ ask-step old new now reply found answers declined ends leaves moves =
     ask-found old new now reply (λ client before s low st. (let a = answers client before s low st in (a.0, a.1, a.2, found client new.profile a.0))) declined ends leaves moves
 
 -- where no memory was found the asking has ended
-vain-ended : {R W : Type 0} (old new : ConnectionState R W) (client : Feed) (reply : ReplyValue) (left : State) → AskEnds old new reply → left.reached.asking_ended ≡ is_some new.end → FoundHead client new.profile reply left → IsAskInVain Ask reply → (left.reached.asking_ended ≡ true) × (left.reached.rest ≡ [] → BeginsMore new.profile client)
+vain-ended : {R W : Type 0} (old new : ConnectionState R W) (client : Feed) (reply : ReplyValue) (left : State) → AskEnds old new reply → left.reached.asking_ended ≡ is_some new.end → FoundHead client new.profile reply left → IsAskOutOfMemory Ask reply → (left.reached.asking_ended ≡ true) × (left.reached.rest ≡ [] → BeginsMore new.profile client)
 vain-ended old new client Memory left ends same found v = (same ∙ ap is_some ends.1, found)
 vain-ended old new client (Handed k m f) left ends same found v = elim v [ ]
 vain-ended old new client Ended left ends same found v = elim v [ ]
@@ -481,7 +481,7 @@ takes-read old new now n m reply answers declined ends leaves moves =
 pub takes-respond : {R W D : Type 0} (feed : D → Option Feed) (all : Bool) (old new : ConnectionState R W) (now : HttpDate) (n : ℕ) (r : ResponseState D) (reply : ReplyValue)
     → ((client : Feed) (before : Sink) (s : State) (value : ResponseValue) → before.failures < 2 ^ 64 - 1 → IsResponse feed r value → Stands client before (kept old) s → StepIsAnswered client before (kept new) s now (Respond n value) reply)
     → (IsDeclined (step.Respond n (stated_response feed r)) reply → new ≡ old) → RespondEnds n r.answer.closes old new reply → AnswerLeaves n r.answer old new reply → is_done reply ≡ all → Moves all old new → ((kind : ErrorKind) → reply ≡ Fault kind → ReportsFault old new now (step.Respond n (stated_response feed r)) kind)
-    → RespondTells old new now n (stated_response feed r) reply → TakesStep old new now (step.Respond n (stated_response feed r)) reply
+    → RespondReports old new now n (stated_response feed r) reply → TakesStep old new now (step.Respond n (stated_response feed r)) reply
 takes-respond feed all old new now n r reply answers declined ends leaves done moves honest tells =
     takes old new now (step.Respond n (stated_response feed r)) reply
     (λ client before s asked low is st. step-respond {D = Option Feed} (λ f. f) client before (kept new) s now (now, asked) (step.Respond n (stated_response feed r)) n (stated_response feed r) reply refl refl is (λ v h. answers client before s v low h st))
@@ -506,7 +506,7 @@ takes-finish old new now n reply answers declined ends leaves moves none =
 pub takes-flush : {R W : Type 0} (all : Bool) (old new : ConnectionState R W) (now : HttpDate) (n : ℕ) (reply : ReplyValue)
     → ((client : Feed) (before : Sink) (s : State) → before.failures < 2 ^ 64 - 1 → Stands client before (kept old) s → StepIsAnswered client before (kept new) s now (Flush n) reply)
     → (IsDeclined (step.Flush n) reply → new ≡ old) → new.end ≡ old.end → StepLeaves (step.Flush n) old new reply → is_done reply ≡ all → Moves all old new → ((kind : ErrorKind) → reply ≡ Fault kind → IsOfWriter (output_of old.outlet) (output_of new.outlet) kind)
-    → TellsOfWriter (output_of old.outlet) (output_of new.outlet) reply → TakesStep old new now (step.Flush n) reply
+    → ReportsOfWriter (output_of old.outlet) (output_of new.outlet) reply → TakesStep old new now (step.Flush n) reply
 takes-flush all old new now n reply answers declined ends leaves done moves honest tells =
     takes old new now (step.Flush n) reply
     (λ client before s asked low is st. step-flush {D = Option Feed} (λ f. f) client before (kept new) s (now, asked) (step.Flush n) n reply refl is (answers client before s low st))
@@ -517,7 +517,7 @@ pub takes-write : {R W : Type 0} (old new : ConnectionState R W) (now : HttpDate
     → v.items ≡ bytes → ((client : Feed) (before : Sink) (s : State) → before.failures < 2 ^ 64 - 1 → Stands client before (kept old) s → StepIsAnswered client before (kept new) s now (Write n bytes) reply)
     → (IsDeclined (step.Write n v) reply → new ≡ old) → new.end ≡ old.end → StepLeaves (step.Write n v) old new reply → new.profile ≡ old.profile → GoesOn old.source.feed new.source.feed
     → FailsOnce old.outlet new.outlet → (is_done reply ≡ false → new.outlet ≡ old.outlet) → ((kind : ErrorKind) → reply ≡ Fault kind → IsOfWriter (output_of old.outlet) (output_of new.outlet) kind)
-    → TellsOfWriter (output_of old.outlet) (output_of new.outlet) reply → TakesStep old new now (step.Write n v) reply
+    → ReportsOfWriter (output_of old.outlet) (output_of new.outlet) reply → TakesStep old new now (step.Write n v) reply
 takes-write {W = W} old new now n v bytes reply same answers declined ends leaves profile_is goes once still honest tells =
     takes old new now (step.Write n v) reply
     (λ client before s asked low is st.
@@ -691,7 +691,7 @@ may-fail feed old new now (step.Drop k) kind h = h
 pub reports-step : {R W D : Type 0} (feed : D → Option Feed) (old new : ConnectionState R W) (t : Timed D) (reply : Reply) → ((kind : ErrorKind) → seen reply ≡ Fault kind → ReportsFault old new t.now (stated_step feed t.step) kind) → ReportsHonestly feed (output_of old.outlet) (output_of new.outlet) t reply
 reports-step feed old new t reply h kind e = may-fail feed old new t.now t.step kind (h kind e)
 
-pub tells-step : {R W D : Type 0} (feed : D → Option Feed) (old new : ConnectionState R W) (now : HttpDate) (x : Step D) (reply : ReplyValue) → StepTells old new now (stated_step feed x) reply → WriteTells (output_of old.outlet) (output_of new.outlet) x reply
+pub tells-step : {R W D : Type 0} (feed : D → Option Feed) (old new : ConnectionState R W) (now : HttpDate) (x : Step D) (reply : ReplyValue) → StepReports old new now (stated_step feed x) reply → WriteTells (output_of old.outlet) (output_of new.outlet) x reply
 tells-step feed old new now step.Ask reply h = tt
 tells-step feed old new now (step.AsReader k) reply h = tt
 tells-step feed old new now (step.Read k n) reply h = tt

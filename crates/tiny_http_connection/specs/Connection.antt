@@ -275,8 +275,8 @@ BeginsBehindAt p (Some f) rest = BeginsBehind p (Some f.bytes) f.stop rest
 
 -- The bytes still ask this of the client's pipeline; while a head may follow, what begins behind it begins behind the
 -- whole.
-abbrev pub PlaceOf : Feed → Profile → Bool → Option Feed → List Item → Type 0
-PlaceOf client p past feed rest =
+abbrev pub PlaceIn : Feed → Profile → Bool → Option Feed → List Item → Type 0
+PlaceIn client p past feed rest =
     PlaceAt p past feed rest × (past ≡ false → BeginsBehindAt p feed rest → BeginsMore p client)
 
 -- Where the next head is read, while the asking hasn't ended: after the last body; and nowhere after the last head, or
@@ -286,7 +286,7 @@ pub record NextHead (client : Feed) (k : Kept) (last : Option Slot) (rest : List
   pub within : is_in_body k.standing ≡ (not (is_last_slot last) && is_streaming_body (last_body k.requests))
   pub lost : last_was_abandoned last ≡ true → InputEnded k × (k.feed ≡ Some (stopped End))
   pub place : last_was_abandoned last ≡ false
-      → PlaceOf client k.profile (is_past_last k.standing) (behind_body (last_body k.requests) k.feed) rest
+      → PlaceIn client k.profile (is_past_last k.standing) (behind_body (last_body k.requests) k.feed) rest
 
 -- how the input stands to the bodies and to the rest of the pipeline, after this much of the client's feed
 pub record InputStands (client : Feed) (k : Kept) (slots : List Slot) (rest : List Item) : Type 0 where

@@ -248,14 +248,14 @@ BeginsBehind p (Some bytes) stop (item ∷ items) =
     (next : Place) × OneHead p bytes stop (Some item) next × BeginsBehind p next stop items
 
 -- this is an Ask for which no memory was found
-abbrev pub IsAskInVain : StepValue → ReplyValue → Type 0
-IsAskInVain Ask Memory = Unit {0}
-IsAskInVain _ _ = ⊥
+abbrev pub IsAskOutOfMemory : StepValue → ReplyValue → Type 0
+IsAskOutOfMemory Ask Memory = Unit {0}
+IsAskOutOfMemory _ _ = ⊥
 
 -- one of the steps is
-abbrev pub AsksInVain : List TimedValue → List ReplyValue → Type 0
-AsksInVain (s ∷ steps) (r ∷ replies) = IsAskInVain s.1 r ⊎ AsksInVain steps replies
-AsksInVain _ _ = ⊥
+abbrev pub HasAskOutOfMemory : List TimedValue → List ReplyValue → Type 0
+HasAskOutOfMemory (s ∷ steps) (r ∷ replies) = IsAskOutOfMemory s.1 r ⊎ HasAskOutOfMemory steps replies
+HasAskOutOfMemory _ _ = ⊥
 
 -- THE CONNECTION THEOREM: replies and output are those of a run over the pipeline that stands in the feed under this
 -- profile; and this of the feed is left. No memory is asked for where no head comes: if an Ask found none, an item of
@@ -268,7 +268,7 @@ pub record IsConversation (p : Profile) (feed : Feed) (before : Sink) (steps : L
   pub run : Run (start_state items) steps replies end
   pub output : IsOutput end.reached.slots end.flushed end.failure before after held ended
   pub input : InputAt p end.reached unread
-  pub memory : AsksInVain steps replies → end.reached.rest ≡ [] → BeginsBehind p (Some feed.bytes) feed.stop items
+  pub memory : HasAskOutOfMemory steps replies → end.reached.rest ≡ [] → BeginsBehind p (Some feed.bytes) feed.stop items
 
 -- the writer as a run takes it: it states that it took no bytes, it has not ended, and its count can rise
 pub record IsFresh (sink : Sink) : Type 0 where

@@ -23,7 +23,7 @@ use Rattle.tiny_http_open_request.specs.Pipeline.{Item, Manner, Refuses, Refusal
 use Rattle.tiny_http_open_request.specs.Pipeline.{Place, place_feed}
 use Rattle.tiny_http_connection.specs.Steps.{StepValue, ReplyValue, Handed, Ended, NotYet, Done, Refused, NoSuch}
 use Rattle.tiny_http_connection.specs.Steps.{Memory, Fault, TimedValue}
-use Rattle.tiny_http_connection.specs.Conversation.{State, Run, start_state, IsFresh, IsPassedOver, AsksInVain}
+use Rattle.tiny_http_connection.specs.Conversation.{State, Run, start_state, IsFresh, IsPassedOver, HasAskOutOfMemory}
 use Rattle.tiny_http_response.specs.declared.answer_context.AnswerContext.{AnswerContext}
 use Rattle.tiny_http_response.specs.ResponseValue.{printing_in}
 use Rattle.tiny_http_response.specs.Sending.{CanSend, IsHonest, FailsOnce}
@@ -35,7 +35,7 @@ use Rattle.tiny_http_open_request.specs.declared.open_request.OpenRequest.{OpenR
 use Rattle.tiny_http_connection.specs.declared.pending.Unfinished.{Unfinished}
 use Rattle.tiny_http_connection.specs.declared.pending.Unfinished.TheVariants as still
 use Rattle.tiny_http_body.specs.Body.{is_streaming, stream_body, body_standing}
-use Rattle.tiny_http_connection.specs.Seen.{IsStep, IsAnswered, IsOfWriter, TellsOfWriter, all_sent_after}
+use Rattle.tiny_http_connection.specs.Seen.{IsStep, IsAnswered, IsOfWriter, ReportsOfWriter, all_sent_after}
 use Rattle.tiny_http_connection.specs.Outcomes.{fault_reply}
 use Rattle.tiny_http_turns.specs.Turns.{Mark}
 use Rattle.tiny_http_connection.specs.Connection.{ConnectionState, kept, Stands, BeginsMore}
@@ -51,7 +51,7 @@ pub record HasDone {R W : Type 0} (p : Profile) (client : Feed) (before : Sink) 
   pub at : State
   pub run : Run (start_state items) steps replies at
   pub stands : Stands client before (kept c) at
-  pub memory : AsksInVain steps replies
+  pub memory : HasAskOutOfMemory steps replies
       → (at.reached.asking_ended ≡ true) × (at.reached.rest ≡ [] → BeginsMore p client)
 
 -- a response with what its data state, in their place
@@ -336,22 +336,22 @@ AnswerIsSentOn old new now k r =
 -- An answer tells a failure of the writer by its kind: as `Done` where that says that the client has closed the
 -- connection. It doesn't tell one that was met in a text behind its own, which had been sent on before. Where the
 -- answer is refused the request is dropped, of which no failure is told.
-abbrev pub RespondTells : {R W : Type 0} → ConnectionState R W → ConnectionState R W → HttpDate → ℕ
+abbrev pub RespondReports : {R W : Type 0} → ConnectionState R W → ConnectionState R W → HttpDate → ℕ
     → ResponseState (Option Feed) → ReplyValue → Type 0
-RespondTells old new now k r Refused = Unit {0}
-RespondTells old new now k r reply =
+RespondReports old new now k r Refused = Unit {0}
+RespondReports old new now k r reply =
     ((output_of new.outlet).failures ≡ (output_of old.outlet).failures)
     ⊎ ((kind : ErrorKind) × (reply ≡ fault_reply kind) × ReportsFault old new now (step.Respond k r) kind)
     ⊎ ((has_left_behind old.marks k ≡ true) × AnswerIsSentOn old new now k r)
 
 -- WHERE THE WRITER FAILED in a step, and its count rose, the reply tells it: of a Write, of a Flush, and of an answer.
 -- The other steps report no fault of the writer.
-abbrev pub StepTells : {R W : Type 0} → ConnectionState R W → ConnectionState R W → HttpDate → Step (Option Feed)
+abbrev pub StepReports : {R W : Type 0} → ConnectionState R W → ConnectionState R W → HttpDate → Step (Option Feed)
     → ReplyValue → Type 0
-StepTells old new now (step.Write k bytes) reply = TellsOfWriter (output_of old.outlet) (output_of new.outlet) reply
-StepTells old new now (step.Flush k) reply = TellsOfWriter (output_of old.outlet) (output_of new.outlet) reply
-StepTells old new now (step.Respond k r) reply = RespondTells old new now k r reply
-StepTells old new now _ reply = Unit {0}
+StepReports old new now (step.Write k bytes) reply = ReportsOfWriter (output_of old.outlet) (output_of new.outlet) reply
+StepReports old new now (step.Flush k) reply = ReportsOfWriter (output_of old.outlet) (output_of new.outlet) reply
+StepReports old new now (step.Respond k r) reply = RespondReports old new now k r reply
+StepReports old new now _ reply = Unit {0}
 
 -- One step on a date: what was done is done with this step and its reply after it, and the profile is kept. And
 -- whatever reader, writer and data state: a step that was not done changes nothing, why the requests end is kept, the
@@ -375,7 +375,7 @@ pub record TakesStep {R W : Type 0} (old new : ConnectionState R W) (now : HttpD
   pub sent_on : (sent : Bool) → (sent ≡ true → SentOn old.outlet) → all_sent_after step reply sent ≡ true
       → SentOn new.outlet
   pub honest : (kind : ErrorKind) → reply ≡ Fault kind → ReportsFault old new now step kind
-  pub tells : StepTells old new now step reply
+  pub tells : StepReports old new now step reply
 
 -- a step that drops the request of this number, and its reply: a Drop, an answer that is refused, or an Upgrade that is
 abbrev pub IsDropping : List (Option Unfinished) → ℕ → Step (Option Feed) → ReplyValue → Type 0

@@ -84,14 +84,14 @@ ReportsHonestly feed old new t reply =
     (kind : ErrorKind) → seen reply ≡ Fault kind → MayFail feed old new t.now t.step kind
 
 -- the writer's count stays, or the reply is its fault
-abbrev pub TellsOfWriter : Sink → Sink → ReplyValue → Type 0
-TellsOfWriter old new reply =
+abbrev pub ReportsOfWriter : Sink → Sink → ReplyValue → Type 0
+ReportsOfWriter old new reply =
     (new.failures ≡ old.failures) ⊎ ((kind : ErrorKind) × (reply ≡ Fault kind) × IsOfWriter old new kind)
 
 -- a Write and a Flush tell a failure of the writer that they meet
 abbrev pub WriteTells : {D : Type 0} → Sink → Sink → Step D → ReplyValue → Type 0
-WriteTells old new (step.Write k v) reply = TellsOfWriter old new reply
-WriteTells old new (step.Flush k) reply = TellsOfWriter old new reply
+WriteTells old new (step.Write k v) reply = ReportsOfWriter old new reply
+WriteTells old new (step.Flush k) reply = ReportsOfWriter old new reply
 WriteTells old new _ reply = Unit {0}
 
 -- Steps that report their faults so, while the writer's count goes from one number to another: a step raises it at

@@ -68,8 +68,13 @@ pub record Reads (old new : Option Feed) (r : Result ℕ Error) (buf : List ℕ)
   pub fault : IfErr r (λ e. StopsBy (Fault (error_kind e)) old)
   pub again : OnErr r (new ≡ old)
 
--- HOW OFTEN A READER IS ASKED, by the count of the ends and faults that it told: one read has it tell one at most, and
--- none where bytes came.
+-- how many faults a call reports
+abbrev pub fault_count : {T E : Type 0} → Result T E → ℕ
+fault_count (Ok x) = 0
+fault_count (Err e) = 1
+
+-- HOW MANY ENDS AND FAULTS A READ MEETS, by the reader's own count of those that it told: one at most, and none where
+-- bytes came.
 pub record Tells (old new : ℕ) (r : Result ℕ Error) : Type 0 where
   pub once : new ≤ old + 1
   pub lazy : IfOk r (λ n. 0 < n → new ≤ old)

@@ -2,7 +2,7 @@
 use Rattle.std.specs.Prelude.{◌≡◌, ◌&&◌, ◌==◌, ◌+◌, ℕ, Bool, is_some, List, length, drop, [], Option, IsSome}
 use Rattle.tiny_http_io.specs.Device.{Feed}
 use Rattle.tiny_http_io.specs.declared.device.Stop.{Stop}
-use Rattle.tiny_http_io.specs.ToCome.{behind_held, to_come, may_tell}
+use Rattle.tiny_http_io.specs.ToCome.{behind_held, to_come, stops_to_come}
 use Rattle.tiny_http_io.specs.declared.source.Input.{Input}
 
 -- the feed that is still to come, where the reader states its own
@@ -19,7 +19,7 @@ input_reader s = s.inner
 
 -- what the reader has told of ends and faults, and one that it may still tell until it has stopped
 abbrev pub input_told : {R : Type 0} → (R → ℕ) → Input R → ℕ
-input_told told s = told s.inner + may_tell s.stop
+input_told told s = told s.inner + stops_to_come s.stop
 
 -- the bytes that are held
 abbrev pub input_held : {R : Type 0} → Input R → List ℕ

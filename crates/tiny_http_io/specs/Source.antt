@@ -13,7 +13,7 @@ use Rattle.tiny_http_io.specs.Device.{Feed, prepended, Reads, AnswersStop}
 use Rattle.tiny_http_io.specs.declared.device.Stop.{Stop}
 use Rattle.tiny_http_io.specs.declared.device.Stop.TheVariants.{End, Fault}
 use Rattle.tiny_http_text.specs.Lines.{Line, IsUnfinished, has_crlf}
-use Rattle.tiny_http_io.specs.ToCome.{skipped, stopped, may_tell, HasByte, HasNoByte}
+use Rattle.tiny_http_io.specs.ToCome.{skipped, stopped, stops_to_come, HasByte, HasNoByte}
 use Rattle.tiny_http_io.specs.LineEnds.{EndsLine}
 use Rattle.tiny_http_io.specs.declared.source.FirstLine.{FirstLine}
 use Rattle.tiny_http_io.specs.declared.source.FirstLine.TheVariants.{Held, Taken}
@@ -34,10 +34,10 @@ pub record SourceState (R : Type 0) : Type 0 where
   pub skip : ℕ
   pub standing : Standing
 
--- HOW OFTEN A SOURCE ASKS, by the count of the ends and faults that its reader told. After a call that count, and how
--- many may still be told, are together no more than before it: in all calls of a source its reader tells one.
-abbrev pub AsksReader : {R : Type 0} → (R → ℕ) → SourceState R → SourceState R → Type 0
-AsksReader told old new = told new.reader + may_tell new.stop ≤ told old.reader + may_tell old.stop
+-- HOW MANY ENDS AND FAULTS A SOURCE MEETS, by the count of those that its reader told. A call never raises the sum of
+-- that count and of the stops that are still to come: one at most in all calls of a source together.
+abbrev pub CallsReader : {R : Type 0} → (R → ℕ) → SourceState R → SourceState R → Type 0
+CallsReader told old new = told new.reader + stops_to_come new.stop ≤ told old.reader + stops_to_come old.stop
 
 -- a whole line lies in the held bytes
 abbrev pub HoldsLine : {R : Type 0} → SourceState R → Type 0

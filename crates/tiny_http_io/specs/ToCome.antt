@@ -15,9 +15,9 @@ behind_held None feed = feed
 behind_held (Some stop) feed = option_map (λ _. stopped stop) feed
 
 -- how many ends and faults the reader may still tell: one, until the input has stopped
-abbrev pub may_tell : Option Stop → ℕ
-may_tell None = 1
-may_tell (Some stop) = 0
+abbrev pub stops_to_come : Option Stop → ℕ
+stops_to_come None = 1
+stops_to_come (Some stop) = 0
 
 -- the feed without its first n bytes; one that is cut short ends
 abbrev pub skipped : ℕ → Feed → Feed

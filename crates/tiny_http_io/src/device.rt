@@ -25,8 +25,8 @@ pub trait ReadDevice {
     /// The bytes that it still gives and how they stop, if it states them.
     ghost feed: { Self → Option Feed } = { λ _. None };
 
-    /// How many ends and faults it has told, if it counts them. By this count a contract says how often a reader was
-    /// asked: a caller that asks on behind one can't show that no second one was told.
+    /// How many ends and faults it has told, if it counts them. A wrapper states the count of its inner reader. By
+    /// this count a contract says that no second end or fault was asked for behind the first.
     ghost told: { Self → ℕ } = { λ _. 0 };
 
     /// Reads some bytes into the front of `buf`, and says how many: 0 at the end, and where `buf`

@@ -54,7 +54,7 @@ impl<R: ReadDevice + Drop> EqualReader<R> {
     /// Faults met here are not reported.
     pub fn finish(self) -> R
         ensures feed { R.feed result ≡ option_map (feed_behind (equal_left self)) (R.feed (equal_inner self)) }
-        // It isn't asked on behind an end or a fault.
+        // It is asked for no second end or fault.
         ensures told { R.told result ≤ R.told (equal_inner self) + 1 }
     {
         let EqualReader { mut inner, left } = self;

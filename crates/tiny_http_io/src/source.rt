@@ -98,8 +98,8 @@ impl Standing {
 /// A reader with a buffer of 1024 bytes, a number of bytes to skip, and where it stands among heads and bodies. After
 /// its first end or fault the reader isn't called again. It is called only where the buffer is empty and a byte is
 /// wanted: nothing is read ahead but what one call of the reader gives. (The clauses `lazy` say that no end or fault
-/// of the reader was met in a call that gave what was asked for; the clauses `asks` that in all calls together the
-/// reader tells one.)
+/// of the reader was met in a call that gave what was asked for; the clauses `calls` that the reader tells one at most
+/// in all calls together.)
 #[derive(Drop)]
 pub struct Source<R: ReadDevice> {
     input: Input<R>,
@@ -126,7 +126,7 @@ impl<R: ReadDevice> Model for Source<R> {
 }
 
 impl<R: ReadDevice> Source<R> {
-    ghost use Rattle.tiny_http_io.specs.Source.{AsksReader, ReadsLine, ReadsSource, LooksForByte, SkipsBytes, EndsHere};
+    ghost use Rattle.tiny_http_io.specs.Source.{CallsReader, ReadsLine, ReadsSource, LooksForByte, SkipsBytes, EndsHere};
     ghost use Rattle.tiny_http_io.specs.Source.{ReadsOneLine, FindsOneLine, PassesLine, TakesHeld, TakesBytes};
 
     /// A source over this reader. A head comes first.
@@ -168,7 +168,7 @@ impl<R: ReadDevice> Source<R> {
     /// Whether a byte is still to come. It waits for one, or for the end or a fault.
     pub fn has_byte(&mut self) -> bool
         ensures looks { LooksForByte self.old self.new result }
-        ensures asks { AsksReader R.told self.old self.new }
+        ensures calls { CallsReader R.told self.old self.new }
     {
         self.input.has_byte()
     }
@@ -184,7 +184,7 @@ impl<R: ReadDevice> Source<R> {
     /// called, but where 2^64 bytes and more are to be skipped together.
     pub fn skip(&mut self, n: usize)
         ensures skips { SkipsBytes n self.old self.new }
-        ensures asks { AsksReader R.told self.old self.new }
+        ensures calls { CallsReader R.told self.old self.new }
     {
         self.input.skip(n)
     }
@@ -200,7 +200,7 @@ impl<R: ReadDevice> Source<R> {
     pub fn read_line(&mut self, alloc: Global) -> Result<AsciiString, LineFault>
         ensures line { ReadsLine self.old.feed self.new.feed result }
         ensures reads { ReadsOneLine None self.old self.new result }
-        ensures asks { AsksReader R.told self.old self.new }
+        ensures calls { CallsReader R.told self.old self.new }
     {
         self.input.read_line(alloc, None)
     }
@@ -209,7 +209,7 @@ impl<R: ReadDevice> Source<R> {
     /// so many bytes came, and the source ends. It holds no more of them. The other faults are those of `read_line`.
     pub fn read_line_within(&mut self, alloc: Global, left: usize) -> Result<AsciiString, LineFault>
         ensures reads { ReadsOneLine (Some left) self.old self.new result }
-        ensures asks { AsksReader R.told self.old self.new }
+        ensures calls { CallsReader R.told self.old self.new }
     {
         self.input.read_line(alloc, Some(left))
     }
@@ -219,7 +219,7 @@ impl<R: ReadDevice> Source<R> {
     /// is taken off. The faults are those of `read_line_within`, but `NotAscii`.
     pub fn find_line(&mut self, alloc: Global, left: Option<usize>) -> Result<FirstLine, LineFault>
         ensures finds { FindsOneLine left self.old self.new result }
-        ensures asks { AsksReader R.told self.old self.new }
+        ensures calls { CallsReader R.told self.old self.new }
     {
         self.input.find_line(alloc, left)
     }
@@ -255,7 +255,7 @@ impl<R: ReadDevice> Source<R> {
     pub fn read(&mut self, buf: &mut [u8]) -> Result<usize, io::Error>
         ensures reads { ReadsSource self.old self.new result buf.new }
         ensures told { Tells (R.told self.old.reader) (R.told self.new.reader) result }
-        ensures asks { AsksReader R.told self.old self.new }
+        ensures calls { CallsReader R.told self.old self.new }
     {
         self.input.read(buf)
     }
@@ -264,14 +264,14 @@ impl<R: ReadDevice> Source<R> {
     /// error where there is no memory for them; then nothing has changed.
     pub fn take_exactly(&mut self, alloc: Global, n: usize) -> Result<Option<Vec<u8>>, AllocError>
         ensures takes { TakesBytes n self.old self.new result }
-        ensures asks { AsksReader R.told self.old self.new }
+        ensures calls { CallsReader R.told self.old self.new }
     {
         self.input.take_exactly(alloc, n)
     }
 }
 
 impl<R: ReadDevice> ReadDevice for Source<R> {
-    ghost use Rattle.tiny_http_io.specs.Source.{AsksReader, ReadsSource};
+    ghost use Rattle.tiny_http_io.specs.Source.{CallsReader, ReadsSource};
 
     ghost feed = { λ s. s.feed };
 
@@ -282,7 +282,7 @@ impl<R: ReadDevice> ReadDevice for Source<R> {
     fn read_in(&mut self, buf: &mut [u8]) -> Result<usize, io::Error>
         ensures reads { ReadsSource self.old self.new result buf.new }
         ensures told { Tells (R.told self.old.reader) (R.told self.new.reader) result }
-        ensures asks { AsksReader R.told self.old self.new }
+        ensures calls { CallsReader R.told self.old self.new }
     {
         self.input.read(buf)
     }
@@ -292,7 +292,7 @@ impl<R: ReadDevice> Read for Source<R> {
     ghost use Rattle.std.specs.Io.{ReadsAtMost};
     ghost use Rattle.std.specs.Io.KnownBytes.{ReadConsumes};
     ghost use Rattle.tiny_http_io.specs.Device.{bytes_of};
-    ghost use Rattle.tiny_http_io.specs.Source.{AsksReader, ReadsSource};
+    ghost use Rattle.tiny_http_io.specs.Source.{CallsReader, ReadsSource};
 
     ghost remaining = { λ s. bytes_of s.feed };
 
@@ -302,7 +302,7 @@ impl<R: ReadDevice> Read for Source<R> {
         ensures bytes { ReadConsumes (bytes_of self.old.feed) (bytes_of self.new.feed) result buf.new }
         ensures reads { ReadsSource self.old self.new result buf.new }
         ensures told { Tells (R.told self.old.reader) (R.told self.new.reader) result }
-        ensures asks { AsksReader R.told self.old self.new }
+        ensures calls { CallsReader R.told self.old self.new }
     {
         self.read_in(buf)
     }
@@ -365,7 +365,7 @@ impl<R: ReadDevice> Input<R> {
         ensures holds { IsTrue result → input_skip self.new < length (input_held self.new) }
         ensures skipped { IsTrue result → input_skip self.new ≡ 0 }
         ensures stays { IsInputOver self.old → (result ≡ false) × (self.new ≡ self.old) }
-        ensures asks { input_told R.told self.new ≤ input_told R.told self.old }
+        ensures calls { input_told R.told self.new ≤ input_told R.told self.old }
     {
         self.fill();
         !self.held.is_empty()
@@ -376,7 +376,7 @@ impl<R: ReadDevice> Input<R> {
         ensures feed { input_feed R.feed self.new ≡ input_feed R.feed self.old }
         ensures fields { let n = min self.old.skip (length self.old.held) in
             self.new ≡ record self.old { held = drop n self.old.held; skip = self.old.skip - n } }
-        ensures asks { input_told R.told self.new ≤ input_told R.told self.old }
+        ensures calls { input_told R.told self.new ≤ input_told R.told self.old }
     {
         let n = self.skip.min(self.held.len());
         self.held.consume(n);
@@ -391,7 +391,7 @@ impl<R: ReadDevice> Input<R> {
         ensures skip { self.new.skip ≡ self.old.skip }
         ensures some { self.new.stop ≡ None → 0 < length self.new.held }
         ensures none { IsSome self.new.stop → self.new.held ≡ [] }
-        ensures asks { input_told R.told self.new ≤ input_told R.told self.old }
+        ensures calls { input_told R.told self.new ≤ input_told R.told self.old }
     {
         match self.held.read_from(&mut self.inner) {
             Ok(0) => self.stop = Some(Stop::End),
@@ -411,7 +411,7 @@ impl<R: ReadDevice> Input<R> {
         ensures stays { IsInputOver self.old → self.new ≡ self.old }
         ensures lazy { 0 < length self.new.held → input_stop self.new ≡ input_stop self.old }
         ensures held { input_skip self.old < length (input_held self.old) → SkipsHeld self.old self.new }
-        ensures asks { input_told R.told self.new ≤ input_told R.told self.old }
+        ensures calls { input_told R.told self.new ≤ input_told R.told self.old }
     {
         if self.skip == 0 && !self.held.is_empty() {
             return;
@@ -464,7 +464,7 @@ impl<R: ReadDevice> Input<R> {
         ensures full { IfSome left (λ n. input_skip self.old + n ≤ length (input_held self.old)
             → input_reader self.new ≡ input_reader self.old) }
         ensures lazy { OnOk result (input_stop self.new ≡ input_stop self.old) }
-        ensures asks { input_told R.told self.new ≤ input_told R.told self.old }
+        ensures calls { input_told R.told self.new ≤ input_told R.told self.old }
     {
         if is_reached(left, 0) {
             self.end();
@@ -525,7 +525,7 @@ impl<R: ReadDevice> Input<R> {
         ensures rest { OnOk result (self.new ≡ record self.old { held = drop (n + 2) self.old.held }) }
         ensures err { IfErr result (λ fault. (fault ≡ LineFault.Memory) × (self.new ≡ self.old)) }
         ensures reader { input_reader self.new ≡ input_reader self.old }
-        ensures asks { input_told R.told self.new ≤ input_told R.told self.old }
+        ensures calls { input_told R.told self.new ≤ input_told R.told self.old }
     {
         let Ok(text) = self.held.as_slice()[..n].to_vec(alloc) else {
             return Err(LineFault::Memory);
@@ -557,7 +557,7 @@ impl<R: ReadDevice> Input<R> {
             → left ≢ Some 0
             → (self.new ≡ self.old) × IfSome (input_stop self.old) (λ stop. result ≡ Err (line_fault_of stop)) }
         ensures lazy { OnOk result (input_stop self.new ≡ input_stop self.old) }
-        ensures asks { input_told R.told self.new ≤ input_told R.told self.old }
+        ensures calls { input_told R.told self.new ≤ input_told R.told self.old }
     {
         let mut text = Vec::new(alloc);
         let mut after_return = false;
@@ -585,7 +585,7 @@ impl<R: ReadDevice> Input<R> {
         ensures over { IsInputOver self.new }
         ensures stop { input_stop self.new ≡ Some Stop.End }
         ensures reader { input_reader self.new ≡ input_reader self.old }
-        ensures asks { input_told R.told self.new ≤ input_told R.told self.old }
+        ensures calls { input_told R.told self.new ≤ input_told R.told self.old }
     {
         self.held.clear();
         self.skip = 0;
@@ -620,7 +620,7 @@ impl<R: ReadDevice> Input<R> {
             → input_reader self.new ≡ input_reader self.old }
         ensures full { IfSome left (λ n. input_skip self.old + n ≤ length (input_held self.old)
             → input_reader self.new ≡ input_reader self.old) }
-        ensures asks { input_told R.told self.new ≤ input_told R.told self.old }
+        ensures calls { input_told R.told self.new ≤ input_told R.told self.old }
     {
         let text = match self.find_line(alloc, left)? {
             FirstLine::Taken(text) => text,
@@ -651,7 +651,7 @@ impl<R: ReadDevice> Input<R> {
         ensures held { input_skip self.old + n ≤ length (input_held self.old)
             → input_reader self.new ≡ input_reader self.old }
         ensures goes_on { GoesOn (input_feed R.feed self.old) (input_feed R.feed self.new) }
-        ensures asks { input_told R.told self.new ≤ input_told R.told self.old }
+        ensures calls { input_told R.told self.new ≤ input_told R.told self.old }
     {
         let mut body = Vec::with_capacity(alloc, n)?;
         while body.len() < n {
@@ -685,7 +685,7 @@ impl<R: ReadDevice> Input<R> {
         // After an end or a fault the reader isn't called again.
         ensures once { IsSome (input_stop self.old)
             → IsSome (input_stop self.new) × (input_reader self.new ≡ input_reader self.old) }
-        ensures asks { input_told R.told self.new ≤ input_told R.told self.old }
+        ensures calls { input_told R.told self.new ≤ input_told R.told self.old }
     {
         match self.skip.checked_add(n) {
             Some(sum) => self.skip = sum,
@@ -711,7 +711,7 @@ impl<R: ReadDevice> Input<R> {
         ensures held { input_skip self.old < length (input_held self.old)
             → (input_reader self.new ≡ input_reader self.old) × (input_skip self.new ≡ 0)
             × (length (input_held self.new) + input_skip self.old + 1 ≡ length (input_held self.old)) }
-        ensures asks { input_told R.told self.new ≤ input_told R.told self.old }
+        ensures calls { input_told R.told self.new ≤ input_told R.told self.old }
     {
         self.fill();
         self.held.pop()
@@ -732,7 +732,7 @@ impl<R: ReadDevice> Input<R> {
         ensures none { IfOk result (λ n. n ≡ 0 → IsInputOver self.new × (input_stop self.new ≡ Some Stop.End)) }
         ensures kind { IfErr result (λ e. input_stop self.new ≡ Some (Stop.Fault (error_kind e))) }
         ensures lazy { IfOk result (λ n. 0 < n → input_stop self.new ≡ None) }
-        ensures asks { input_told R.told self.new ≤ input_told R.told self.old }
+        ensures calls { input_told R.told self.new ≤ input_told R.told self.old }
     {
         match self.inner.read_in(buf) {
             Ok(0) => {
@@ -772,7 +772,7 @@ impl<R: ReadDevice> Input<R> {
         ensures held { input_skip self.old < length (input_held self.old)
             → input_reader self.new ≡ input_reader self.old }
         ensures told { Tells (R.told (input_reader self.old)) (R.told (input_reader self.new)) result }
-        ensures asks { input_told R.told self.new ≤ input_told R.told self.old }
+        ensures calls { input_told R.told self.new ≤ input_told R.told self.old }
     {
         if buf.is_empty() {
             return Ok(0);

@@ -156,7 +156,7 @@ impl Exchange {
         ensures reads { ReadsBody (exchange_body self.old) (exchange_body self.new) source.old source.new result
             buf.new }
         ensures kept { KeepsButBody self.old self.new }
-        // The source's reader isn't asked on behind an end or a fault, nor for more than the bytes that came.
+        // The source's reader is asked for no second end or fault, nor for more than the bytes that came.
         ensures told { Tells (R.told source.old.reader) (R.told source.new.reader) result }
     {
         self.open_request.read(source, buf)

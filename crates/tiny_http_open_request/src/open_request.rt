@@ -316,7 +316,7 @@ impl OpenRequest<UnreadBody> {
     ) -> Result<usize, io::Error>
         ensures reads { ReadsBody self.old.body self.new.body source.old source.new result buf.new }
         ensures kept { self.new ≡ record self.old { body = self.new.body } }
-        // The source's reader isn't asked on behind an end or a fault, nor for more than the bytes that came.
+        // The source's reader is asked for no second end or fault, nor for more than the bytes that came.
         ensures told { Tells (R.told source.old.reader) (R.told source.new.reader) result }
     {
         self.body.read(source, buf)

@@ -1,1 +1,3 @@
 pub mod WholeBodyLemmas
+pub mod BodyLemmas
+pub mod ClientLemmas

@@ -1,14 +1,21 @@
--- What a clause says of a read of a request's body.
-use Rattle.std.specs.Prelude.{◌≡◌, ◌<◌, ◌==◌, ℕ, Bool, true, false, List, length, take, Option, Some, Result, Ok}
-use Rattle.std.specs.Prelude.{IfOk, IfErr, IfSome}
+-- What a clause says of a request's body, and of a read of it.
+use Rattle.std.specs.Prelude.{◌≡◌, ◌<◌, ◌==◌, ◌&&◌, ℕ, Bool, true, false, List, length, take, Option, Some, None}
+use Rattle.std.specs.Prelude.{Result, Ok, IfOk, IfErr, IfSome}
+use Rattle.std.specs.Option.{option_map}
 use Rattle.std.specs.IoError.{error_kind}
 use Rattle.std.specs.declared.io.Error.{Error}
+use Rattle.std.specs.declared.snapshot.Snapshot.{Snapshot}
 use Rattle.tiny_http_io.specs.Device.{AnswersStop, Feed}
 use Rattle.tiny_http_io.specs.declared.device.Stop.TheVariants.{End, Fault}
+use Rattle.tiny_http_io.specs.Source.{SourceState}
+use Rattle.tiny_http_io.specs.ToCome.{stopped}
 use Rattle.tiny_http_body.specs.declared.body.UnreadBody.{UnreadBody}
+use Rattle.tiny_http_threads.specs.declared.turn.HeldReader.{HeldReader}
+use Rattle.tiny_http_threads.specs.Turn.{held_item}
 use Rattle.tiny_http_request.specs.declared.body.GivesOn.{GivesOn}
 use Rattle.tiny_http_request.specs.declared.body.GivesOn.TheVariants.{AfterBody, AfterAnswer, Never}
-use Rattle.tiny_http_body.specs.Body.{is_streaming, body_stop, BodyStops, ReadsOn, remaining, prepended_body}
+use Rattle.tiny_http_body.specs.Body.{Remaining, is_streaming, body_stop, BodyStops, ReadsOn, remaining, prepended_body}
+use Rattle.tiny_http_body.specs.Body.{stream_body}
 
 -- the input isn't given on as the body ends
 abbrev pub outlasts_body : GivesOn → Bool
@@ -16,15 +23,51 @@ outlasts_body AfterBody = false
 outlasts_body AfterAnswer = true
 outlasts_body Never = false
 
--- ONE READ OF A BODY. The bytes of one that was read with its head are the next of it, whatever the input still
--- gives, and none comes only at its end; of bytes that come from the input, behind a lock, nothing is stated. After
--- the end or a fault each read answers the same. A read into no room changes nothing.
-pub record ReadsUnread (old new : UnreadBody) (r : Result ℕ Error) (buf : List ℕ) : Type 0 where
-  pub held : is_streaming old ≡ false → (feed : Option Feed)
-      → IfOk r (λ n. remaining old feed ≡ prepended_body (take n buf) (remaining new feed))
-  pub end : is_streaming old ≡ false → (feed : Option Feed)
-      → IfOk r (λ n. n ≡ 0 → 0 < length buf → BodyStops End (remaining old feed))
-  pub moves : IfOk r (λ n. 0 < length buf → ReadsOn old n (n == 0) new)
-  pub broken : IfErr r (λ e. body_stop new ≡ Some (Fault (error_kind e)))
-  pub reports_stop : IfSome (body_stop old) (λ stop. 0 < length buf → AnswersStop stop r × (body_stop new ≡ Some stop))
+-- What is seen of a body: how far it was read; what the connection's input still gives, or once that was given on,
+-- what it gave as the body was made, or an ended feed, if the body never held it; and whether the body holds it now.
+pub record BodyState : Type 0 where
+  pub unread : UnreadBody
+  pub input : Option Feed
+  pub holds_input : Bool
+
+-- what the input gave as a body was made; an ended feed, where the body held no input
+abbrev pub begun_feed : {R : Type 0} → Option (Snapshot (SourceState R)) → Option Feed
+begun_feed (Some source) = source.value.feed
+begun_feed None = Some (stopped End)
+
+-- what the input gives that is held; or what it gave at first
+abbrev pub input_of : {R Rt : Type 0} → Option (HeldReader (SourceState R) Rt) → Option (Snapshot (SourceState R))
+    → Option Feed
+input_of (Some reader) begun = (held_item reader).feed
+input_of None begun = begun_feed begun
+
+-- the bytes of a body, and how they stop
+abbrev pub body_part : Remaining → Feed
+body_part r = r.body
+
+-- WHAT IS LEFT OF A BODY, if the connection's reader states its feed, or the body never held the input
+abbrev pub body_left : BodyState → Option Feed
+body_left b = option_map body_part (remaining b.unread b.input)
+
+-- the same is left of it
+pub record KeepsLeft (old new : BodyState) : Type 0 where
+  pub unread : new.unread ≡ old.unread
+  pub left : body_left new ≡ body_left old
+
+-- the body that a connection reads once it is upgraded: by the standard all that comes, if the body holds the input
+abbrev pub upgraded_body : Bool → BodyState → BodyState
+upgraded_body by_standard b = record b { unread = stream_body (by_standard && b.holds_input) b.unread }
+
+-- ONE READ OF A BODY: how far the body was read, and what holds where the connection's reader states no feed; the
+-- bytes of what is left stand in `Reads`. A body that came with its head gives its next bytes, and none only at its
+-- end. A body that is over answers its end or fault again. A read into no room changes nothing.
+pub record ReadsUnread (old new : BodyState) (r : Result ℕ Error) (buf : List ℕ) : Type 0 where
+  pub held : is_streaming old.unread ≡ false → (feed : Option Feed)
+      → IfOk r (λ n. remaining old.unread feed ≡ prepended_body (take n buf) (remaining new.unread feed))
+  pub end : is_streaming old.unread ≡ false → (feed : Option Feed)
+      → IfOk r (λ n. n ≡ 0 → 0 < length buf → BodyStops End (remaining old.unread feed))
+  pub moves : IfOk r (λ n. 0 < length buf → ReadsOn old.unread n (n == 0) new.unread)
+  pub broken : IfErr r (λ e. body_stop new.unread ≡ Some (Fault (error_kind e)))
+  pub reports_stop : IfSome (body_stop old.unread)
+      (λ stop. 0 < length buf → AnswersStop stop r × (body_stop new.unread ≡ Some stop))
   pub empty : length buf ≡ 0 → (r ≡ Ok 0) × (new ≡ old)

@@ -1,11 +1,27 @@
 -- What clauses read of a connection.
-use Rattle.std.specs.Prelude.{◌≡◌, Bool, true, false, Option, None}
+use Rattle.std.specs.Prelude.{◌≡◌, ◌||◌, ℕ, zero, suc, Bool, true, false, [], Option, Some, None, Ok, MatchBool}
+use Rattle.std.specs.Global.{Vec}
+use Rattle.std.specs.Option.{option_and_then}
 use Rattle.std.specs.declared.net.socket_addr.SocketAddr.{SocketAddr}
 use Rattle.tiny_http_body.specs.declared.framing.Profile.{Profile}
+use Rattle.tiny_http_body.specs.Body.{is_streaming}
 use Rattle.httpdate.specs.declared.date.HttpDate.{HttpDate}
+use Rattle.tiny_http_io.specs.Device.{Feed}
+use Rattle.tiny_http_io.specs.Source.{SourceState}
+use Rattle.tiny_http_io.specs.declared.source.Standing.TheVariants.{Head as AtHead}
+use Rattle.tiny_http_head.specs.declared.common.StatusCode.{StatusCode}
+use Rattle.tiny_http_open_request.specs.declared.exchange.Exchange.{Exchange}
+use Rattle.tiny_http_open_request.specs.declared.exchange.HeadRead.TheVariants as read
+use Rattle.tiny_http_open_request.specs.Exchange.{exchange_of}
+use Rattle.tiny_http_open_request.specs.HeadReads.{TakesHead}
+use Rattle.tiny_http_threads.specs.Turn.{held_item}
 use Rattle.tiny_http_request.specs.declared.client.ClientConnection.{ClientConnection}
+use Rattle.tiny_http_request.specs.declared.client.NextHead.{NextHead}
+use Rattle.tiny_http_request.specs.declared.client.NextHead.TheVariants.{Here, Behind}
 use Rattle.tiny_http_request.specs.declared.request.Request.{Request}
-use Rattle.tiny_http_request.specs.Request.{request_head, request_secure, request_address, IsFramed}
+use Rattle.tiny_http_request.specs.Body.{BodyState}
+use Rattle.tiny_http_request.specs.Request.{request_head, request_secure, request_address, request_open, request_body}
+use Rattle.tiny_http_request.specs.Request.{IsFramed}
 
 -- no further request is handed out
 abbrev pub IsOver : {R : Type 0} → {W : Type 0} → {Rt : Type 0} → ClientConnection R W Rt → Type 0
@@ -23,10 +39,65 @@ client_address c = c.remote_addr
 abbrev pub client_profile : {R : Type 0} → {W : Type 0} → {Rt : Type 0} → ClientConnection R W Rt → Profile
 client_profile c = c.profile
 
--- The next request of a connection, which was handed out on this date. After the last one none is handed out.
+-- A request that was handed out on this date, and whether another may follow. It holds the input while its body is
+-- read from there, and if the next head waits for its answer.
 pub record HandsOut {R W Rt : Type 0} (old new : ClientConnection R W Rt) (date : HttpDate)
     (r : Request R W Rt) : Type 0 where
   pub framed : IsFramed r (client_profile old) date
   pub client : (request_secure r ≡ client_secure old) × (request_address r ≡ client_address old)
+  pub holds : (request_body r).holds_input ≡ is_streaming (request_open r).body || (request_open r).holds_next_head
   pub last : (request_head r).is_last ≡ true → IsOver new
   pub goes_on : (request_head r).is_last ≡ false → IsOver new → ⊥
+
+-- the input, if the next head is read on it at once
+abbrev pub source_here : {R : Type 0} → {Rt : Type 0} → NextHead R Rt → Option (SourceState R)
+source_here (Here reader) = Some (held_item reader)
+source_here (Behind reader) = None
+
+-- THE INPUT OF A CONNECTION, if the connection holds it: the last request didn't take it, and there is a next head
+abbrev pub client_source : {R W Rt : Type 0} → ClientConnection R W Rt → Option (SourceState R)
+client_source c = option_and_then source_here c.next_head
+
+-- a connection holds an input over this reader, of which nothing was read
+pub record IsFreshSource {R : Type 0} (stated : R → Option Feed) (reader : R) (held : Option (SourceState R)) : Type 0
+  where
+    pub source : SourceState R
+    pub holds : held ≡ Some source
+    pub feed : source.feed ≡ stated reader
+    pub within : source.reader ≡ reader
+    pub stop : source.stop ≡ None
+    pub nothing_held : source.held ≡ []
+    pub standing : source.standing ≡ AtHead
+
+-- so many heads are refused one after another, and another head stands behind each
+abbrev pub PassesRefused : {R : Type 0} → Profile → HttpDate → ℕ → SourceState R → SourceState R → Type 0
+PassesRefused p date zero here there = there ≡ here
+PassesRefused {R = R} p date (suc n) here there =
+    (mid : SourceState R)
+    × (status : StatusCode)
+    × (text : Vec ℕ)
+    × PassesRefused p date n here mid
+    × TakesHead p date mid there (Ok (read.Refused status text false))
+
+-- THE NEXT REQUEST of an input, behind the heads that are refused before it, and what the input gives after its head
+pub record FindsRequest {R : Type 0} (p : Profile) (date : HttpDate) (here : SourceState R) (x : Exchange)
+    (there : SourceState R) : Type 0 where
+  pub passed : ℕ
+  pub at : SourceState R
+  pub passes : PassesRefused p date passed here at
+  pub reads : TakesHead p date at there (Ok (read.Request x))
+
+-- who holds the input once a request was handed out: its body, or else the connection, if there is a next head
+abbrev pub GivesInput : {R W Rt : Type 0} → SourceState R → ClientConnection R W Rt → Request R W Rt → Type 0
+GivesInput source new r =
+    MatchBool (request_body r).holds_input ((request_body r).input ≡ source.feed)
+    ((request_head r).is_last ≡ false → client_source new ≡ Some source)
+
+-- Where the connection holds the input, a request that is handed out on this date is the next that stands there.
+abbrev pub HandsOutNext : {R W Rt : Type 0} → ClientConnection R W Rt → ClientConnection R W Rt → HttpDate
+    → Request R W Rt → Type 0
+HandsOutNext {R = R} old new date r = (source : SourceState R)
+    → client_source old ≡ Some source
+    → (behind : SourceState R)
+    × FindsRequest (client_profile old) date source (exchange_of (request_head r) (request_open r)) behind
+    × GivesInput behind new r

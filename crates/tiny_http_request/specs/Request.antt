@@ -24,6 +24,7 @@ use Rattle.tiny_http_body.specs.FramingReading.{framing}
 use Rattle.tiny_http_open_request.specs.HeadReads.{Begins, IsFramedBy}
 use Rattle.tiny_http_open_request.specs.Pipeline.{IsCutWithHead, body_length_or_0}
 use Rattle.tiny_http_open_request.specs.declared.open_request.OpenRequest.{OpenRequest}
+use Rattle.tiny_http_request.specs.Body.{BodyState, KeepsLeft, upgraded_body}
 use Rattle.tiny_http_request.specs.declared.request.Request.{Request}
 use Rattle.tiny_http_request.specs.declared.request.RequestCreationError.{RequestCreationError}
 use Rattle.tiny_http_request.specs.declared.request.RequestCreationError.TheVariants.{ExpectationFailed}
@@ -41,9 +42,27 @@ request_secure r = r.secure
 abbrev pub request_address : {R : Type 0} → {W : Type 0} → {Rt : Type 0} → Request R W Rt → Option SocketAddr
 request_address r = r.remote_addr
 
--- what is kept of it until it is answered
+-- what is kept of a request, with this in the place of its body
+abbrev pub with_body : {A B : Type 0} → OpenRequest A → B → OpenRequest B
+with_body w body = record {
+  answer_context = w.answer_context;
+  owes_continue = w.owes_continue;
+  holds_next_head = w.holds_next_head;
+  by_standard = w.by_standard;
+  is_connect = w.is_connect;
+  closes = w.closes;
+  upgrades = w.upgrades;
+  dropped = w.dropped;
+  body = body;
+}
+
+-- what is kept of it until it is answered, with how far its body was read
 abbrev pub request_open : {R : Type 0} → {W : Type 0} → {Rt : Type 0} → Request R W Rt → OpenRequest UnreadBody
-request_open r = r.open_request
+request_open r = with_body r.open_request r.open_request.body.unread
+
+-- its body
+abbrev pub request_body : {R : Type 0} → {W : Type 0} → {Rt : Type 0} → Request R W Rt → BodyState
+request_body r = r.open_request.body
 
 -- an answer is refused
 abbrev pub IsInvalidInput : {T : Type 0} → Result T Error → Type 0
@@ -101,3 +120,8 @@ FailsBy e version headers feed =
 -- the head asks for an upgrade to this protocol
 abbrev pub asks_for : Head → List ℕ → Bool
 asks_for h protocol = is_upgrade h && has_element (codes "Upgrade") protocol h.headers.items
+
+-- the reader of an upgrade's stream gives what is left of the request's body; by the standard all that comes, if the
+-- body holds the input
+abbrev pub ReadsStream : {R : Type 0} → {W : Type 0} → {Rt : Type 0} → Request R W Rt → BodyState → Type 0
+ReadsStream r body = KeepsLeft (upgraded_body (request_open r).by_standard (request_body r)) body

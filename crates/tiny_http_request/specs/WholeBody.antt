@@ -1,9 +1,10 @@
 -- What a clause says of a body that is read whole.
-use Rattle.std.specs.Prelude.{◌≡◌, ◌⊎◌, ◌<◌, ⊤, ℕ, true, Some, None}
+use Rattle.std.specs.Prelude.{◌≡◌, ◌⊎◌, ◌<◌, ⊤, ℕ, true, List, Option, Some, None}
 use Rattle.std.specs.IoError.{error_kind}
 use Rattle.std.specs.declared.io.Error.{Error}
 use Rattle.std.specs.declared.io.ErrorKind.{ErrorKind}
 use Rattle.std.specs.declared.io.ErrorKind.TheVariants.{InvalidData, InvalidInput, OutOfMemory, UnexpectedEof}
+use Rattle.tiny_http_io.specs.Device.{Feed, whole_feed}
 use Rattle.tiny_http_io.specs.declared.device.Stop.TheVariants.{Fault}
 use Rattle.tiny_http_body.specs.declared.body.UnreadBody.{UnreadBody}
 use Rattle.tiny_http_body.specs.declared.framing.Form.{Form}
@@ -11,6 +12,11 @@ use Rattle.tiny_http_body.specs.declared.framing.Form.TheVariants.{Counted, Chun
 use Rattle.tiny_http_body.specs.Body.{is_streaming, bytes_left, body_stop, IsBodyOver}
 use Rattle.tiny_http_request.specs.declared.whole_body.BodyError.{BodyError}
 use Rattle.tiny_http_request.specs.declared.whole_body.BodyError.TheVariants.{TooLong, Cut, Broken, Io, Memory}
+
+-- what is left of a body, if that is stated, is these bytes, and then its end
+abbrev pub IsWholeOf : List ℕ → Option Feed → Type 0
+IsWholeOf bytes None = ⊤
+IsWholeOf bytes (Some left) = left ≡ whole_feed bytes
 
 -- what is reported of a fault of this kind of a body of this form
 abbrev pub error_by : Form → ErrorKind → Error → BodyError

@@ -1,8 +1,12 @@
 //! A connection whose requests threads may hold.
-ghost use Rattle.std.specs.Prelude.{◌≡◌, ◌↔◌, ⊤, true, false, Ok, None, Some, IfOk, OnErr, IfSome, IfNone};
+ghost use Rattle.std.specs.Prelude.{◌≡◌, ◌↔◌, ◌||◌, ⊤, true, false, Ok, None, Some, IfOk, OnErr};
+ghost use Rattle.std.specs.Prelude.{IsSome, IfSome, IfNone};
 ghost use Rattle.tiny_http_open_request.specs.Exchange.{exchange_of};
 ghost use Rattle.tiny_http_socket.specs.Stream.{MayHavePeer};
+ghost use Rattle.tiny_http_threads.specs.Turn.{held_item};
 ghost use Rattle.tiny_http_request.specs.Request.{request_head, request_secure, request_address, request_open};
+ghost use Rattle.tiny_http_request.specs.Request.{request_body};
+ghost use Rattle.tiny_http_body.specs.Body.{is_streaming};
 
 use crate::request::Request;
 use httpdate::HttpDate;
@@ -22,8 +26,8 @@ use tiny_http_threads::sequential::{
     SequentialReader, SequentialReaderBuilder, SequentialWriter, SequentialWriterBuilder,
 };
 use tiny_http_threads::turn::{
-    count_open_writers, hold_reader, hold_writer, is_closed, is_next_writer, leave_writer,
-    next_writer, wait_for_room,
+    HeldReader, begin_readers, count_open_writers, hold_reader, hold_writer, is_closed,
+    is_next_writer, leave_writer, next_writer, wait_for_room,
 };
 
 /// A connection, whose requests are handed out one after another. Any thread may hold one, also while the next is read.
@@ -40,7 +44,30 @@ pub struct ClientConnection<R: ReadDevice + Drop, W: WriteDevice + Drop, Rt: Wai
     source: SequentialReaderBuilder<Source<R>, Rt>,
     sink: SequentialWriterBuilder<Outlet<W>, Rt>,
     // None once the connection has no further request.
-    next_head: Option<SequentialReader<Source<R>, Rt>>,
+    next_head: Option<NextHead<R, Rt>>,
+}
+
+// Where the next head is read.
+#[derive(Drop)]
+enum NextHead<R: ReadDevice + Drop, Rt: Wait + Drop> {
+    // On the input, which the connection holds.
+    Here(HeldReader<Source<R>, Rt>),
+    // Behind the request before, which took the input.
+    Behind(SequentialReader<Source<R>, Rt>),
+}
+
+impl<R: ReadDevice + Drop, Rt: Wait + Drop> NextHead<R, Rt> {
+    ghost use Rattle.tiny_http_request.specs.Client.{source_here};
+
+    // Waits until the request before gives the input on.
+    fn hold(self) -> HeldReader<Source<R>, Rt>
+        ensures { IfSome (source_here self) (λ source. held_item result ≡ source) }
+    {
+        match self {
+            NextHead::Here(reader) => reader,
+            NextHead::Behind(reader) => hold_reader(reader),
+        }
+    }
 }
 
 // The client's address, where there is one and the system knows it.
@@ -54,9 +81,10 @@ fn peer_if_known(socket: &RefinedTcpStream) -> Option<SocketAddr>
 }
 
 impl<Rt: Wait + Copy> ClientConnection<RefinedTcpStream, RefinedTcpStream, Rt> {
-    ghost use Rattle.std.specs.Prelude.{◌≡◌, false, IfOk};
+    ghost use Rattle.std.specs.Prelude.{◌≡◌, false, None, IfOk};
     ghost use Rattle.tiny_http_socket.specs.Stream.{MayHavePeer};
     ghost use Rattle.tiny_http_request.specs.Client.{IsOver, client_secure, client_address, client_profile};
+    ghost use Rattle.tiny_http_request.specs.Client.{client_source, IsFreshSource};
 
     /// A connection over the two halves of a client's socket, on which nothing was read yet, under `Lenient`. Its
     /// requests say the client's address; none of a Unix socket, or where the system no longer knows it. An error
@@ -71,6 +99,7 @@ impl<Rt: Wait + Copy> ClientConnection<RefinedTcpStream, RefinedTcpStream, Rt> {
         ensures address { IfOk result (λ c. MayHavePeer read_socket (client_address c)) }
         ensures open { IfOk result (λ c. IsOver c → ⊥) }
         ensures profile { IfOk result (λ c. client_profile c ≡ Profile.Lenient) }
+        ensures source { IfOk result (λ c. IsFreshSource (λ _. None) read_socket (client_source c)) }
     {
         ClientConnection::new_with(rt, alloc, Profile::Lenient, write_socket, read_socket)
     }
@@ -87,6 +116,7 @@ impl<Rt: Wait + Copy> ClientConnection<RefinedTcpStream, RefinedTcpStream, Rt> {
         ensures address { IfOk result (λ c. MayHavePeer read_socket (client_address c)) }
         ensures open { IfOk result (λ c. IsOver c → ⊥) }
         ensures profile { IfOk result (λ c. client_profile c ≡ profile) }
+        ensures source { IfOk result (λ c. IsFreshSource (λ _. None) read_socket (client_source c)) }
     {
         let addr = peer_if_known(&read_socket);
         let secure = read_socket.secure();
@@ -96,6 +126,7 @@ impl<Rt: Wait + Copy> ClientConnection<RefinedTcpStream, RefinedTcpStream, Rt> {
 
 impl<R: ReadDevice + Drop, W: WriteDevice + Drop, Rt: Wait + Copy> ClientConnection<R, W, Rt> {
     ghost use Rattle.tiny_http_request.specs.Client.{IsOver, HandsOut, client_secure, client_address, client_profile};
+    ghost use Rattle.tiny_http_request.specs.Client.{client_source, IsFreshSource, HandsOutNext, GivesInput};
 
     /// A connection over a writer and a reader, on which nothing was read yet, under `Lenient`. `remote_addr` and
     /// `secure` are what its requests say. An error where memory was refused.
@@ -110,6 +141,7 @@ impl<R: ReadDevice + Drop, W: WriteDevice + Drop, Rt: Wait + Copy> ClientConnect
         ensures client { IfOk result (λ c. (client_secure c ≡ secure) × (client_address c ≡ remote_addr)) }
         ensures open { IfOk result (λ c. IsOver c → ⊥) }
         ensures profile { IfOk result (λ c. client_profile c ≡ Profile.Lenient) }
+        ensures source { IfOk result (λ c. IsFreshSource R.feed reader (client_source c)) }
     {
         let profile = Profile::Lenient;
         ClientConnection::over_with(rt, alloc, profile, writer, reader, remote_addr, secure)
@@ -128,10 +160,11 @@ impl<R: ReadDevice + Drop, W: WriteDevice + Drop, Rt: Wait + Copy> ClientConnect
         ensures client { IfOk result (λ c. (client_secure c ≡ secure) × (client_address c ≡ remote_addr)) }
         ensures open { IfOk result (λ c. IsOver c → ⊥) }
         ensures profile { IfOk result (λ c. client_profile c ≡ profile) }
+        ensures source { IfOk result (λ c. IsFreshSource R.feed reader (client_source c)) }
     {
-        let mut source = SequentialReaderBuilder::new(rt, alloc, Source::new(reader))?;
+        let (source, first) = begin_readers(rt, alloc, Source::new(reader))?;
         let sink = SequentialWriterBuilder::new(rt, alloc, Outlet::new(writer))?;
-        let next_head = Some(source.next()?);
+        let next_head = Some(NextHead::Here(first));
         Ok(ClientConnection {
             alloc,
             profile,
@@ -159,6 +192,7 @@ impl<R: ReadDevice + Drop, W: WriteDevice + Drop, Rt: Wait + Copy> ClientConnect
     /// after each `next`, and by `send` at the end.
     pub fn set_flush_policy(&mut self, flush_policy: Arc<FlushPolicy>)
         ensures over { IsOver self.new ↔ IsOver self.old }
+        ensures input { client_source self.new ≡ client_source self.old }
         ensures same { (client_secure self.new ≡ client_secure self.old)
             × (client_address self.new ≡ client_address self.old)
             × (client_profile self.new ≡ client_profile self.old) }
@@ -172,6 +206,7 @@ impl<R: ReadDevice + Drop, W: WriteDevice + Drop, Rt: Wait + Copy> ClientConnect
     /// limits. An error where no handle is left.
     pub fn set_pace(&mut self, pace: Arc<Pace>) -> Result<(), AllocError>
         ensures over { IsOver self.new ↔ IsOver self.old }
+        ensures input { client_source self.new ≡ client_source self.old }
         ensures same { (client_secure self.new ≡ client_secure self.old)
             × (client_address self.new ≡ client_address self.old)
             × (client_profile self.new ≡ client_profile self.old) }
@@ -199,11 +234,13 @@ impl<R: ReadDevice + Drop, W: WriteDevice + Drop, Rt: Wait + Copy> ClientConnect
         ensures none { IfOk result (λ r. IfNone r (IsOver self.new)) }
         ensures err { OnErr result (IsOver self.new) }
         ensures handed { IfOk result (λ r. IfSome r (HandsOut self.old self.new now)) }
+        // Where the connection holds the input, it is the next request that stands in what the input gives.
+        ensures reads { IfOk result (λ r. IfSome r (HandsOutNext self.old self.new now)) }
         ensures same { (client_secure self.new ≡ client_secure self.old)
             × (client_address self.new ≡ client_address self.old)
             × (client_profile self.new ≡ client_profile self.old) }
     {
-        let Some(mut reader) = self.next_head.take() else {
+        let Some(next_head) = self.next_head.take() else {
             return Ok(None);
         };
         if is_closed(&self.sink) {
@@ -211,7 +248,8 @@ impl<R: ReadDevice + Drop, W: WriteDevice + Drop, Rt: Wait + Copy> ClientConnect
         }
         wait_if_full(&self.sink, &self.pace);
         let (alloc, profile) = (self.alloc, self.profile);
-        let source = hold_reader(&mut reader);
+        let mut reader = next_head.hold();
+        let source = &mut *reader.turn.item;
         if is_closed(&self.sink) || !begins_head(&self.pace, source) {
             return Ok(None);
         }
@@ -240,7 +278,8 @@ impl<R: ReadDevice + Drop, W: WriteDevice + Drop, Rt: Wait + Copy> ClientConnect
     /// stream was, and the refused heads were answered. Nobody reads or writes the connection then, if no further
     /// request is asked for. An error where memory was refused.
     pub fn wait_for_answers(&mut self) -> Result<(), AllocError>
-        ensures over { IsOver self.old → IsOver self.new }
+        ensures over { IsOver self.new ↔ IsOver self.old }
+        ensures input { client_source self.new ≡ client_source self.old }
         ensures same { (client_secure self.new ≡ client_secure self.old)
             × (client_address self.new ≡ client_address self.old)
             × (client_profile self.new ≡ client_profile self.old) }
@@ -254,13 +293,16 @@ impl<R: ReadDevice + Drop, W: WriteDevice + Drop, Rt: Wait + Copy> ClientConnect
     // is read from it, and with a request before whose answer the next head isn't read.
     fn hand_out(
         &mut self,
-        reader: SequentialReader<Source<R>, Rt>,
+        reader: HeldReader<Source<R>, Rt>,
         writer: SequentialWriter<Outlet<W>, Rt>,
         exchange: Exchange,
     ) -> Result<Request<R, W, Rt>, AllocError>
         requires { IsOver self.old }
         ensures exchange { IfOk result
             (λ request. exchange ≡ exchange_of (request_head request) (request_open request)) }
+        ensures input { IfOk result (GivesInput (held_item reader) self.new) }
+        ensures holds { IfOk result (λ request. (request_body request).holds_input
+            ≡ is_streaming (request_open request).body || (request_open request).holds_next_head) }
         ensures err { OnErr result (IsOver self.new) }
         ensures last { IfOk result (λ request. (request_head request).is_last ≡ true → IsOver self.new) }
         ensures open { IfOk result (λ request. (request_head request).is_last ≡ false → IsOver self.new → ⊥) }
@@ -276,17 +318,12 @@ impl<R: ReadDevice + Drop, W: WriteDevice + Drop, Rt: Wait + Copy> ClientConnect
         let flush_policy = set_policy(&self.flush_policy, may_leave)?;
         let pace = begin_body(&self.pace, holds_reader)?;
         let client = (self.secure, self.remote_addr);
-        let (reader, next_head) = if holds_reader {
+        let (reader, held) = if holds_reader {
             (Some(reader), None)
         } else {
             (None, Some(reader))
         };
-        if !head.is_last {
-            self.next_head = match next_head {
-                Some(reader) => Some(reader),
-                None => Some(self.source.next()?),
-            };
-        }
+        self.next_head = next_head(&mut self.source, head.is_last, held)?;
         Ok(Request::from_parts(
             self.alloc,
             client,
@@ -296,6 +333,25 @@ impl<R: ReadDevice + Drop, W: WriteDevice + Drop, Rt: Wait + Copy> ClientConnect
             writer,
             (flush_policy, pace),
         ))
+    }
+}
+
+// Where the head after a request is read, if one is: on the input that is held, or behind the request that took it.
+fn next_head<R: ReadDevice + Drop, Rt: Wait + Copy>(
+    source: &mut SequentialReaderBuilder<Source<R>, Rt>,
+    is_last: bool,
+    held: Option<HeldReader<Source<R>, Rt>>,
+) -> Result<Option<NextHead<R, Rt>>, AllocError>
+    ensures last { is_last ≡ true → result ≡ Ok None }
+    ensures some { is_last ≡ false → IfOk result IsSome }
+    ensures here { is_last ≡ false → IfSome held (λ reader. result ≡ Ok (Some (NextHead.Here reader))) }
+{
+    if is_last {
+        return Ok(None);
+    }
+    match held {
+        Some(reader) => Ok(Some(NextHead::Here(reader))),
+        None => Ok(Some(NextHead::Behind(source.next()?))),
     }
 }
 

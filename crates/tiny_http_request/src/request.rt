@@ -21,7 +21,11 @@ ghost use Rattle.tiny_http_open_request.specs.HeadReads.{head_framing, Begins};
 ghost use Rattle.tiny_http_request.specs.Request.{IsInvalidInput, asks_for, request_head, request_secure};
 ghost use Rattle.tiny_http_request.specs.Request.{request_address, request_open, is_expectation_failed, IfCreationIo};
 ghost use Rattle.tiny_http_request.specs.Request.{cut_kind, IsCutShort, BeginsWith, Says, IsFramed, FailsBy};
-ghost use Rattle.tiny_http_request.specs.WholeBody.{FailsWhole};
+ghost use Rattle.tiny_http_request.specs.Request.{request_body, ReadsStream};
+ghost use Rattle.tiny_http_io.specs.CustomStream.{custom_reader};
+ghost use Rattle.tiny_http_request.specs.Body.{body_left, input_of, KeepsLeft, upgraded_body};
+ghost use Rattle.tiny_http_request.specs.WholeBody.{FailsWhole, IsWholeOf};
+ghost use Rattle.tiny_http_threads.specs.Turn.{held_item};
 
 pub use crate::body::Body;
 use crate::body::GivesOn;
@@ -51,11 +55,10 @@ use tiny_http_response::sending::reported;
 use tiny_http_socket::cork::FlushPolicy;
 use tiny_http_socket::pace::Pace;
 use tiny_http_text::ascii::AsciiString;
-use tiny_http_threads::sequential::{
-    SequentialReader, SequentialReaderBuilder, SequentialWriter, SequentialWriterBuilder,
-};
+use tiny_http_threads::sequential::{SequentialWriter, SequentialWriterBuilder};
 use tiny_http_threads::turn::{
-    end_behind_writer, hold_reader, hold_writer, is_last_writer, leave_writer, pass_writer,
+    HeldReader, begin_readers, end_behind_writer, hold_writer, is_last_writer, leave_writer,
+    pass_writer,
 };
 
 /// Why no request is made of its parts.
@@ -131,13 +134,15 @@ impl<R: ReadDevice + Drop, W: WriteDevice + Drop, Rt: Wait + Drop> Request<R, W,
         client: (bool, Option<SocketAddr>),
         head: Head,
         open_request: OpenRequest<UnreadBody>,
-        reader: Option<SequentialReader<Source<R>, Rt>>,
+        reader: Option<HeldReader<Source<R>, Rt>>,
         writer: SequentialWriter<Outlet<W>, Rt>,
         told: (Option<Arc<FlushPolicy>>, Option<Arc<Pace>>),
     ) -> Request<R, W, Rt>
         requires { is_some reader ≡ (is_streaming open_request.body || open_request.holds_next_head) }
         ensures head { request_head result ≡ head }
         ensures open { request_open result ≡ open_request }
+        ensures body { request_body result
+            ≡ record { unread = open_request.body; input = input_of reader None; holds_input = is_some reader } }
         ensures client { (request_secure result ≡ client.0) × (request_address result ≡ client.1) }
     {
         let (secure, remote_addr) = client;
@@ -182,7 +187,9 @@ impl<R: ReadDevice + Drop, W: WriteDevice + Drop, Rt: Wait + Drop> Request<R, W,
     }
 
     // What is left of it as it is finished: what it owes, and its turn.
-    fn into_parts(self) -> (OpenRequest<Body<R, Rt>>, SequentialWriter<Outlet<W>, Rt>) {
+    fn into_parts(self) -> (OpenRequest<Body<R, Rt>>, SequentialWriter<Outlet<W>, Rt>)
+        ensures { result.0 ≡ self.open_request }
+    {
         let Self {
             alloc: _,
             secure: _,
@@ -303,6 +310,7 @@ impl<R: ReadDevice + Drop, W: WriteDevice + Drop, Rt: Wait + Drop> Request<R, W,
     // Sends the 100 that is owed, if one is, in the turn of the request. None is owed any more.
     fn send_continue(&mut self, now: HttpDate)
         ensures open { request_open self.new ≡ record (request_open self.old) { owes_continue = false } }
+        ensures body { request_body self.new ≡ request_body self.old }
         ensures head { request_head self.new ≡ request_head self.old }
         ensures client { (request_secure self.new ≡ request_secure self.old)
             × (request_address self.new ≡ request_address self.old) }
@@ -317,7 +325,7 @@ impl<R: ReadDevice + Drop, W: WriteDevice + Drop, Rt: Wait + Drop> Request<R, W,
     /// The body. If a 100 is owed it is sent first, dated `now`, in the turn of the request: that waits until the
     /// requests before are finished. A fault of the writer isn't reported there.
     pub fn as_reader(&mut self, now: HttpDate) -> &mut Body<R, Rt>
-        ensures { result.now ≡ (request_open self.old).body }
+        ensures { result.now ≡ request_body self.old }
     {
         self.send_continue(now);
         &mut self.open_request.body
@@ -327,7 +335,7 @@ impl<R: ReadDevice + Drop, W: WriteDevice + Drop, Rt: Wait + Drop> Request<R, W,
     /// sent first, as by `as_reader`.
     pub fn parts(&mut self, now: HttpDate) -> (&Head, &mut Body<R, Rt>)
         ensures head { result.0.now ≡ request_head self.old }
-        ensures body { result.1.now ≡ (request_open self.old).body }
+        ensures body { result.1.now ≡ request_body self.old }
     {
         self.send_continue(now);
         let Self {
@@ -369,7 +377,9 @@ impl<R: ReadDevice + Drop, W: WriteDevice + Drop, Rt: Wait + Drop> Request<R, W,
         ensures sized { (n : ℕ)
             → bytes_left (request_open self.old).body ≡ Some n
             → IfOk result (λ bytes. length bytes.items ≡ n) }
-        // Of a body that isn't read from the connection the bytes are known.
+        // The bytes are what is left of the body, if the connection's reader states its feed.
+        ensures whole { IfOk result (λ bytes. IsWholeOf bytes.items (body_left (request_body self.old))) }
+        // Of a body that isn't read from the connection the bytes are known, whatever the reader states.
         ensures held { is_streaming (request_open self.old).body ≡ false → (feed : Option Feed)
             → IfOk result
             (λ bytes. remaining (request_open self.old).body feed
@@ -508,6 +518,7 @@ impl<R: ReadDevice + Drop, W: WriteDevice + Drop, Rt: Wait + Drop> Request<R, W,
         ensures refused { IfErr result
             (λ e. request_check (request_open self) protocol.now response.answer.status
             (is_whole (request_open self).body) ≡ Err e) }
+        ensures stream { IfOk result (λ s. ReadsStream self (custom_reader s)) }
     {
         let status = response.status_code();
         let is_whole = self.open_request.body.is_whole();
@@ -531,6 +542,7 @@ impl<R: ReadDevice + Drop, W: WriteDevice + Drop, Rt: Wait + Drop> Request<R, W,
             ((request_check (request_open self) protocol.now response.answer.status
             (is_whole (request_open self).body) ≡ Ok tt)
             × (asks_for (request_head self) protocol.now ≡ true)) }
+        ensures stream { IfOk result (λ s. ReadsStream self (custom_reader s)) }
         ensures handed_back { IfErr result (λ e. e.request ≡ self) }
         ensures refused { IfErr result
             (λ e.
@@ -565,6 +577,7 @@ impl<R: ReadDevice + Drop, W: WriteDevice + Drop, Rt: Wait + Drop> Request<R, W,
         now: HttpDate,
     ) -> CustomStream<Body<R, Rt>, SequentialWriter<Outlet<W>, Rt>>
         requires { list_all is_ascii protocol.now ≡ true }
+        ensures stream { ReadsStream self (custom_reader result) }
     {
         self.send_at_flush();
         if let Some(pace) = &self.pace
@@ -575,12 +588,7 @@ impl<R: ReadDevice + Drop, W: WriteDevice + Drop, Rt: Wait + Drop> Request<R, W,
         }
         let alloc = self.alloc;
         let (mut open_request, mut writer) = self.into_parts();
-        let by_standard = open_request.by_standard;
-        let left = open_request.body.remainder();
-        open_request.body.become_stream(by_standard);
-        if open_request.is_last_with_stream(left) {
-            open_request.body.end_requests();
-        }
+        read_stream(&mut open_request);
         open_request.upgrade(alloc, hold_writer(&mut writer), protocol, response, now);
         CustomStream::new(open_request.body, writer)
     }
@@ -618,6 +626,17 @@ impl<R: ReadDevice + Drop, W: WriteDevice + Drop, Rt: Wait + Drop> fmt::Debug
         let path = self.head.path.as_str();
         let address = self.remote_addr;
         write!(f, "Request({method} {path} from {address:?})")
+    }
+}
+
+// Has the body read on as the stream of an upgrade. No head follows where that gets the connection.
+fn read_stream<R: ReadDevice + Drop, Rt: Wait + Drop>(open_request: &mut OpenRequest<Body<R, Rt>>)
+    ensures { KeepsLeft (upgraded_body open_request.old.by_standard open_request.old.body) open_request.new.body }
+{
+    let left = open_request.body.remainder();
+    open_request.body.become_stream(open_request.by_standard);
+    if open_request.is_last_with_stream(left) {
+        open_request.body.end_requests();
     }
 }
 
@@ -678,14 +697,14 @@ fn alone<R: ReadDevice + Drop, Rt: Wait + Copy>(
     alloc: Global,
     source: Source<R>,
     body: &UnreadBody,
-) -> Result<Option<SequentialReader<Source<R>, Rt>>, AllocError>
-    ensures { IfOk result (λ reader. is_some reader ≡ is_streaming body.now) }
+) -> Result<Option<HeldReader<Source<R>, Rt>>, AllocError>
+    ensures { IfOk result (λ reader. (is_some reader ≡ is_streaming body.now)
+        × IfSome reader (λ held. held_item held ≡ source)) }
 {
     if !body.holds_reader() {
         return Ok(None);
     }
-    let mut reader = SequentialReaderBuilder::new(rt, alloc, source)?.next()?;
-    let _ = hold_reader(&mut reader);
+    let (_, reader) = begin_readers(rt, alloc, source)?;
     Ok(Some(reader))
 }
 
@@ -711,6 +730,10 @@ pub fn new_request<R: ReadDevice + Drop, W: WriteDevice + Drop, Rt: Wait + Copy>
     ensures framed { IfOk result (λ r. IsFramed r Profile.Lenient now) }
     ensures body { IfOk result
         (λ r. BeginsWith (head_framing (request_head r)) (R.feed source_data) (request_open r).body) }
+    // A body that is read later is read where it begins.
+    ensures input { IfOk result
+        (λ r. (request_body r).holds_input ≡ true → Begins (head_framing (request_head r)) (R.feed source_data)
+        (request_body r).input (Some (request_open r).body)) }
     ensures refused { framing HeadRules.Lenient version headers.items ≡ Err FramingFault.Expectation
         → result ≡ Err RequestCreationError.ExpectationFailed }
     ensures fails { IfErr result (λ e. FailsBy e version headers.items (R.feed source_data)) }

@@ -6,7 +6,8 @@ ghost use Rattle.tiny_http_io.specs.Device.{Feed};
 ghost use Rattle.tiny_http_io.specs.declared.device.Stop.TheVariants.{Fault};
 ghost use Rattle.tiny_http_body.specs.Body.{is_streaming, bytes_left, body_stop, IsBodyOver, remaining, prepended_body};
 ghost use Rattle.tiny_http_body.specs.declared.body.UnreadBody.{UnreadBody};
-ghost use Rattle.tiny_http_request.specs.WholeBody.{fault_error, FailsReading, FailsWhole};
+ghost use Rattle.tiny_http_request.specs.Body.{body_left};
+ghost use Rattle.tiny_http_request.specs.WholeBody.{fault_error, FailsReading, FailsWhole, IsWholeOf};
 
 use crate::body::Body;
 use std::alloc::{AllocError, Global};
@@ -101,12 +102,14 @@ fn read_exactly<R: ReadDevice + Drop, Rt: Wait + Drop>(
     body: &mut Body<R, Rt>,
     count: usize,
 ) -> Result<Vec<u8>, BodyError>
-    requires { bytes_left body.old ≡ Some count }
+    requires { bytes_left body.old.unread ≡ Some count }
     ensures count { IfOk result (λ bytes. length bytes.items ≡ count) }
-    ensures held { is_streaming body.old ≡ false → (feed : Option Feed)
-        → IfOk result (λ bytes. remaining body.old feed ≡ prepended_body bytes.items (remaining body.new feed)) }
-    ensures over { OnOk result (is_streaming body.old ≡ true → (count ≡ 0) ⊎ IsBodyOver body.new) }
-    ensures fails { IfErr result (FailsReading body.old body.new) }
+    ensures whole { IfOk result (λ bytes. IsWholeOf bytes.items (body_left body.old)) }
+    ensures held { is_streaming body.old.unread ≡ false → (feed : Option Feed)
+        → IfOk result
+        (λ bytes. remaining body.old.unread feed ≡ prepended_body bytes.items (remaining body.new.unread feed)) }
+    ensures over { OnOk result (is_streaming body.old.unread ≡ true → (count ≡ 0) ⊎ IsBodyOver body.new.unread) }
+    ensures fails { IfErr result (FailsReading body.old.unread body.new.unread) }
 {
     let mut bytes = Vec::new(alloc);
     let mut piece = [0; PIECE];
@@ -127,13 +130,15 @@ fn read_to_end<R: ReadDevice + Drop, Rt: Wait + Drop>(
     body: &mut Body<R, Rt>,
     most: usize,
 ) -> Result<Vec<u8>, BodyError>
-    requires { bytes_left body.old ≡ None }
+    requires { bytes_left body.old.unread ≡ None }
     ensures bound { IfOk result (λ bytes. length bytes.items ≤ most) }
-    ensures held { is_streaming body.old ≡ false → (feed : Option Feed)
-        → IfOk result (λ bytes. remaining body.old feed ≡ prepended_body bytes.items (remaining body.new feed)) }
-    ensures again { (kind : ErrorKind) → body_stop body.old ≡ Some (Fault kind) → OnOk result ⊥ }
-    ensures over { OnOk result (IsBodyOver body.new) }
-    ensures fails { IfErr result (FailsReading body.old body.new) }
+    ensures whole { IfOk result (λ bytes. IsWholeOf bytes.items (body_left body.old)) }
+    ensures held { is_streaming body.old.unread ≡ false → (feed : Option Feed)
+        → IfOk result
+        (λ bytes. remaining body.old.unread feed ≡ prepended_body bytes.items (remaining body.new.unread feed)) }
+    ensures again { (kind : ErrorKind) → body_stop body.old.unread ≡ Some (Fault kind) → OnOk result ⊥ }
+    ensures over { OnOk result (IsBodyOver body.new.unread) }
+    ensures fails { IfErr result (FailsReading body.old.unread body.new.unread) }
 {
     let mut bytes = Vec::new(alloc);
     let mut piece = [0; PIECE];
@@ -157,14 +162,17 @@ pub(crate) fn read_left<R: ReadDevice + Drop, Rt: Wait + Drop>(
     form: Form,
     most: usize,
 ) -> Result<Vec<u8>, BodyError>
-    requires { (n : ℕ) → bytes_left body.old ≡ Some n → n ≤ most }
+    requires { (n : ℕ) → bytes_left body.old.unread ≡ Some n → n ≤ most }
     ensures bound { IfOk result (λ bytes. length bytes.items ≤ most) }
-    ensures sized { (n : ℕ) → bytes_left body.old ≡ Some n → IfOk result (λ bytes. length bytes.items ≡ n) }
-    ensures held { is_streaming body.old ≡ false → (feed : Option Feed)
-        → IfOk result (λ bytes. remaining body.old feed ≡ prepended_body bytes.items (remaining body.new feed)) }
-    ensures again { (kind : ErrorKind) → body_stop body.old ≡ Some (Fault kind) → OnOk result ⊥ }
-    ensures over { OnOk result (is_streaming body.old ≡ true → (bytes_left body.old ≡ Some 0) ⊎ IsBodyOver body.new) }
-    ensures fails { IfErr result (λ e. FailsWhole form most body.old body.new e) }
+    ensures sized { (n : ℕ) → bytes_left body.old.unread ≡ Some n → IfOk result (λ bytes. length bytes.items ≡ n) }
+    ensures whole { IfOk result (λ bytes. IsWholeOf bytes.items (body_left body.old)) }
+    ensures held { is_streaming body.old.unread ≡ false → (feed : Option Feed)
+        → IfOk result
+        (λ bytes. remaining body.old.unread feed ≡ prepended_body bytes.items (remaining body.new.unread feed)) }
+    ensures again { (kind : ErrorKind) → body_stop body.old.unread ≡ Some (Fault kind) → OnOk result ⊥ }
+    ensures over { OnOk result (is_streaming body.old.unread ≡ true
+        → (bytes_left body.old.unread ≡ Some 0) ⊎ IsBodyOver body.new.unread) }
+    ensures fails { IfErr result (λ e. FailsWhole form most body.old.unread body.new.unread e) }
 {
     let read = match body.left() {
         Some(left) => read_exactly(alloc, body, left),

@@ -134,8 +134,8 @@ abbrev pub IsHonest : Sink → Sink → Answer → Option Feed → Printing → 
 IsHonest old new a feed p kind = FailedBy old new kind ⊎ MayBreakOff a feed p kind
 
 -- where no fault is reported the writer did not fail
-abbrev pub TellsFailure : {T : Type 0} → Sink → Sink → Result T Error → Type 0
-TellsFailure old new r = OnOk r (new.failures ≡ old.failures)
+abbrev pub ReportsFailure : {T : Type 0} → Sink → Sink → Result T Error → Type 0
+ReportsFailure old new r = OnOk r (new.failures ≡ old.failures)
 
 -- ONE ANSWER, sent on an outlet and flushed. One that had ended is left alone, and no fault is reported. On another
 -- the text of the answer is sent, if the data state a feed of fewer than 2^63 bytes, the writer takes bytes, and its
@@ -152,7 +152,7 @@ pub record SendsAnswer {W D : Type 0}
   -- or that of data that state fewer than 2^63 bytes; of other data nothing is said. After a fault the outlet has
   -- ended. Nothing is held, and a writer that goes on has sent all on.
   pub fails_once : FailsOnce old new
-  pub told : TellsFailure (output_of old) (output_of new) r
+  pub told : ReportsFailure (output_of old) (output_of new) r
   pub honest : IfErr r
       (λ e. IsHonest (output_of old) (output_of new) response.answer (stated response.data_reader) p (error_kind e))
   pub ended : OnErr r (new.ended ≡ true)

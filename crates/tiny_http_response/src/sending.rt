@@ -8,7 +8,7 @@ ghost use Rattle.tiny_http_response.specs.ResponseValue.{printing_in, printing_w
 ghost use Rattle.tiny_http_io.specs.Outlet.{output_of, outlet_ended, outlet_held, SentOn};
 ghost use Rattle.tiny_http_response.specs.Sending.{Sends, SendsText, EndsQuietly, DropsHeld, CanSend, SinkFailsOnce};
 ghost use Rattle.tiny_http_response.specs.Sending.{IsHonest, is_closed_client, reported, FailsOnce, SendsQuietlyOn};
-ghost use Rattle.tiny_http_response.specs.Sending.{SendsAnswer, TellsFailure, KeepsSent};
+ghost use Rattle.tiny_http_response.specs.Sending.{SendsAnswer, ReportsFailure, KeepsSent};
 
 use crate::answer_context::AnswerContext;
 use crate::response::Response;
@@ -50,7 +50,7 @@ fn send_printed<W: WriteDevice, D: ReadDevice + Drop>(
         → Sends (output_of outlet.old) (output_of outlet.new) (outlet_ended outlet.new) result response.answer
         content (printing_with answer_context (option_copied upgrade.entry) now) }
     ensures fails_once { SinkFailsOnce (output_of outlet.old) (output_of outlet.new) (outlet_ended outlet.new) }
-    ensures told { TellsFailure (output_of outlet.old) (output_of outlet.new) result }
+    ensures told { ReportsFailure (output_of outlet.old) (output_of outlet.new) result }
     ensures honest { IfErr result (λ e.
         IsHonest (output_of outlet.old) (output_of outlet.new) response.answer (D.feed response.data_reader)
         (printing_with answer_context (option_copied upgrade.entry) now) (error_kind e)) }
@@ -81,7 +81,7 @@ pub fn send<W: WriteDevice, D: ReadDevice + Drop>(
         → Sends (output_of outlet.old) (output_of outlet.new) (outlet_ended outlet.new) result response.answer
         content (printing_in answer_context now) }
     ensures fails_once { SinkFailsOnce (output_of outlet.old) (output_of outlet.new) (outlet_ended outlet.new) }
-    ensures told { TellsFailure (output_of outlet.old) (output_of outlet.new) result }
+    ensures told { ReportsFailure (output_of outlet.old) (output_of outlet.new) result }
     ensures honest { IfErr result (λ e.
         IsHonest (output_of outlet.old) (output_of outlet.new) response.answer (D.feed response.data_reader)
         (printing_in answer_context now) (error_kind e)) }

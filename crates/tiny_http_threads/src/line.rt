@@ -1,22 +1,34 @@
 //! An item that numbers have in turn, under a lock, and the threads that wait for their turns.
-ghost use Rattle.std.specs.Prelude.{◌≡◌, ◌+◌, ◌^◌, ◌<◌, length, IfSome, IfNone};
-ghost use Rattle.tiny_http_turns.specs.Turns.{Finish, marks_after_step, turn_answer};
-ghost use Rattle.tiny_http_turns.specs.TurnsCalls.{Finishes};
+ghost use Rattle.std.specs.Arc.{arc_value};
+ghost use Rattle.std.specs.BTreeMap.{get};
+ghost use Rattle.std.specs.Ordering.{nat_cmp};
+ghost use Rattle.std.specs.Prelude.{◌≡◌, ◌≢◌, ℕ, ◌+◌, ◌-◌, ◌<◌, ◌↔◌, max, true, false, Some, None, IfOk, OnOk, OnErr};
+ghost use Rattle.std.specs.Prelude.{IsSome, IsTrue, IfSome, box_value, option_map};
+ghost use Rattle.tiny_http_turns.specs.Turns.{Issue, Take, Finish, Leave, Issued, marks_after_step, turn_answer};
+ghost use Rattle.tiny_http_turns.specs.Turns.{first_unfinished};
+ghost use Rattle.tiny_http_turns.specs.TurnsCalls.{TakesTurn, Finishes, LeavesTurn, GivesBack};
 
 use std::alloc::{AllocError, Global};
+use std::collections::BTreeMap;
+use std::marker::Model;
 use std::sync::atomic::{AtomicBool, AtomicU64, Ordering};
 use std::sync::{Arc, Condvar, Mutex, Wait};
 use std::thread;
 use tiny_http_turns::turns::{Finishing, Leaving, Turns};
 
-// A number whose thread waits, and what wakes that thread.
+// What became of a number whose turn a thread wants.
 #[derive(Drop)]
-struct Waiter {
-    number: u64,
-    woken: Arc<Condvar>,
+enum Taking<T> {
+    // The turn has come, and the number is held.
+    Held(Box<T>),
+    // The number waits. Its thread is to wait on this.
+    Waits(Arc<Condvar>),
+    // Memory for the wait was refused, or the number was never issued. Nothing has changed.
+    Refused,
 }
 
-// The turns, and the threads that wait for theirs.
+// The turns, and the numbers whose threads wait for theirs: each of them was issued, and its turn hasn't come. A
+// contract sees a `LineState`.
 #[derive(Drop)]
 struct Queue<T> {
     turns: Turns<Box<T>>,
@@ -26,34 +38,97 @@ struct Queue<T> {
     issued: u64,
     // Where those are counted that aren't finished, if somebody wants to know.
     open: Option<Arc<AtomicU64>>,
-    waiters: Vec<Waiter>,
+    // What wakes the thread of each number that waits.
+    waiters: BTreeMap<u64, Arc<Condvar>>,
     // A thread waits until a number is finished.
     wants_room: bool,
 }
 
-// The condition on which the thread of this number waits, if it is kept.
-fn find_waiter(waiters: &[Waiter], number: u64) -> Option<&Waiter> {
-    for waiter in waiters {
-        if waiter.number == number {
-            return Some(waiter);
-        }
-    }
-    None
+impl<T> Model for Queue<T> {
+    ghost use Rattle.std.specs.Global.{Box, Global};
+    ghost use Rattle.std.specs.declared.sync.Arc.{Arc};
+    ghost use Rattle.std.specs.declared.sync.Condvar.{Condvar};
+    ghost use Rattle.std.specs.declared.sync.atomic.AtomicU64.{AtomicU64};
+    ghost use Rattle.tiny_http_threads.specs.Line.{LineState, IsSoundLine};
+
+    ghost Value = { LineState (Box T) (Arc Condvar Global) (Arc AtomicU64 Global) };
+
+    ghost view = { λ q. record {
+      turns = q.turns;
+      waiting = q.waiters.entries;
+      last = q.last;
+      issued = q.issued;
+      counter = q.open;
+      wants_room = q.wants_room;
+    } };
+
+    ghost invariant = { λ q. IsSoundLine (record {
+      turns = q.turns;
+      waiting = q.waiters.entries;
+      last = q.last;
+      issued = q.issued;
+      counter = q.open;
+      wants_room = q.wants_room;
+    }) };
 }
 
-// Takes out what wakes the thread of this number, if it waits: it is listed no more. That it is that of this number,
-// tests show.
-fn take_waiter(waiters: &mut Vec<Waiter>, number: u64) -> Option<Arc<Condvar>>
-    ensures taken { IfSome result (λ _. length waiters.new.items + 1 ≡ length waiters.old.items) }
-    ensures none { IfNone result (waiters.new ≡ waiters.old) }
+// What wakes the thread of this number, which waits from now on. An error, and nothing has changed, where memory was
+// refused.
+fn list_waiter(
+    waiters: &mut BTreeMap<u64, Arc<Condvar>>,
+    alloc: Global,
+    number: u64,
+) -> Result<Arc<Condvar>, AllocError>
+    ensures woken { IfOk result (λ w. option_map arc_value (get nat_cmp waiters.new number) ≡ Some (arc_value w)) }
+    ensures others { (n : ℕ) → n ≢ number → get nat_cmp waiters.new n ≡ get nat_cmp waiters.old n }
+    ensures again { IsSome (get nat_cmp waiters.old number) → waiters.new.entries ≡ waiters.old.entries }
+    ensures err { OnErr result (waiters.new.entries ≡ waiters.old.entries) }
 {
-    let at = waiters.iter().position(|waiter| waiter.number == number)?;
-    Some(waiters.swap_remove(at).woken)
+    if let Some(woken) = waiters.get(&number) {
+        return Ok(Arc::try_clone(woken)?);
+    }
+    let woken = Arc::new(alloc, Condvar::new())?;
+    let theirs = Arc::try_clone(&woken)?;
+    waiters.insert(number, woken)?;
+    Ok(theirs)
+}
+
+// Takes out what wakes the thread of this number, if it waits: it waits no more.
+fn take_waiter(waiters: &mut BTreeMap<u64, Arc<Condvar>>, number: u64) -> Option<Arc<Condvar>>
+    ensures woken { result ≡ get nat_cmp waiters.old number }
+    ensures gone { get nat_cmp waiters.new number ≡ None }
+    ensures others { (n : ℕ) → n ≢ number → get nat_cmp waiters.new n ≡ get nat_cmp waiters.old n }
+{
+    waiters.remove(&number)
 }
 
 impl<T: Drop> Queue<T> {
-    // The next number. An error where memory was refused, or no number is left.
-    fn issue(&mut self) -> Result<u64, AllocError> {
+    ghost use Rattle.tiny_http_threads.specs.Line.{IsSoundLine, new_line, ListsWaiter, WakesNext, taken_item};
+
+    // No number is issued. An error where memory was refused.
+    fn new(alloc: Global, item: T) -> Result<Queue<T>, AllocError>
+        ensures item { IfOk result (λ q. option_map box_value q.turns.resting ≡ Some item) }
+        ensures rest { IfOk result (λ q. q ≡ new_line q.turns.resting) }
+    {
+        Ok(Queue {
+            turns: Turns::new(alloc, Box::new(alloc, item)?),
+            last: None,
+            issued: 0,
+            open: None,
+            waiters: BTreeMap::new(alloc),
+            wants_room: false,
+        })
+    }
+
+    // The next number. An error where memory was refused, or no number is left; then nothing has changed.
+    fn issue(&mut self) -> Result<u64, AllocError>
+        ensures number { IfOk result (λ n. turn_answer Issue self.old.turns.marks ≡ Issued n) }
+        ensures ok { IfOk result (λ n. self.new ≡ record self.old {
+          turns = record self.old.turns { marks = marks_after_step Issue self.old.turns.marks };
+          issued = n + 1;
+        }) }
+        ensures err { OnErr result (self.new ≡ self.old) }
+    {
         match self.turns.issue() {
             Ok(number) => {
                 self.issued = number.saturating_add(1);
@@ -64,13 +139,24 @@ impl<T: Drop> Queue<T> {
         }
     }
 
+    // Whether this is the first number that isn't finished.
+    fn is_first(&self, number: u64) -> bool
+        ensures { IsTrue result ↔ (number ≡ first_unfinished self.now.turns.marks) }
+    {
+        self.turns.first_unfinished() == number
+    }
+
     // How many numbers were issued and aren't finished.
-    fn open(&self) -> u64 {
+    fn open(&self) -> u64
+        ensures { result ≡ self.now.issued - first_unfinished self.now.turns.marks }
+    {
         self.issued.saturating_sub(self.turns.first_unfinished())
     }
 
     // Whether fewer numbers than `most`, or none where that is 0, were issued and aren't finished.
-    fn has_room(&self, most: usize) -> bool {
+    fn has_room(&self, most: usize) -> bool
+        ensures { IsTrue result ↔ (self.now.issued - first_unfinished self.now.turns.marks < max most 1) }
+    {
         self.open() < most.max(1) as u64
     }
 
@@ -81,39 +167,105 @@ impl<T: Drop> Queue<T> {
         }
     }
 
+    // Has those counted here from now on.
+    fn set_open(&mut self, counter: Arc<AtomicU64>)
+        ensures { self.new ≡ record self.old { counter = Some counter } }
+    {
+        self.open = Some(counter);
+        self.count_open();
+    }
+
+    // The last number that was issued unless the line was closed.
+    fn last(&self) -> Option<u64>
+        ensures { result ≡ self.now.last }
+    {
+        self.last
+    }
+
+    // This one is the last that was issued unless the line was closed.
+    fn set_last(&mut self, number: u64)
+        ensures { self.new ≡ record self.old { last = Some number } }
+    {
+        self.last = Some(number);
+    }
+
+    // A thread waits until a number is finished.
+    fn want_room(&mut self)
+        ensures { self.new ≡ record self.old { wants_room = true } }
+    {
+        self.wants_room = true;
+    }
+
     // Whether a thread is to be woken since a number is finished.
-    fn gives_room(&mut self) -> bool {
+    fn gives_room(&mut self) -> bool
+        ensures wanted { result ≡ self.old.wants_room }
+        ensures room { self.new ≡ record self.old { wants_room = false } }
+    {
         let wants_room = self.wants_room;
         self.wants_room = false;
         wants_room
     }
 
-    // The condition on which the thread of this number is to wait. An error where memory was refused.
-    fn waiter(&mut self, alloc: Global, number: u64) -> Result<Arc<Condvar>, AllocError> {
-        if let Some(waiter) = find_waiter(self.waiters.as_slice(), number) {
-            return Ok(Arc::try_clone(&waiter.woken)?);
+    // Holds the number, if its turn has come, as `Turns` does. Else it waits.
+    fn take(&mut self, alloc: Global, number: u64) -> Taking<T>
+        ensures marks { self.new.turns.marks ≡ marks_after_step (Take number) self.old.turns.marks }
+        ensures item { TakesTurn (turn_answer (Take number) self.old.turns.marks) self.old.turns.resting
+            (taken_item result) self.new.turns.resting }
+        ensures waits { ListsWaiter result number self.old.waiting self.new.waiting }
+        ensures same { self.new ≡ record self.old { turns = self.new.turns; waiting = self.new.waiting } }
+    {
+        if let Some(item) = self.turns.take(number) {
+            return Taking::Held(item);
         }
-        let woken = Arc::new(alloc, Condvar::new())?;
-        let theirs = Arc::try_clone(&woken)?;
-        self.waiters.push(Waiter { number, woken })?;
-        Ok(theirs)
+        if number >= self.issued {
+            return Taking::Refused;
+        }
+        match list_waiter(&mut self.waiters, alloc, number) {
+            Ok(woken) => Taking::Waits(woken),
+            Err(_) => Taking::Refused,
+        }
+    }
+
+    // Leaves an open number with a text, or holds it where its turn has come, as `Turns` does.
+    fn leave(&mut self, number: u64, text: Vec<u8>) -> Leaving<Box<T>>
+        ensures marks { self.new.turns.marks ≡ marks_after_step (Leave number text.items) self.old.turns.marks }
+        ensures item { LeavesTurn (turn_answer (Leave number text.items) self.old.turns.marks) self.old.turns.resting
+            result self.new.turns.resting }
+        ensures back { GivesBack result text }
+        ensures same { self.new ≡ record self.old { turns = self.new.turns } }
+    {
+        self.turns.leave(number, text)
     }
 
     // Finishes a held number, as `Turns` does. Where the item then rests, the thread that waits for the next turn is
-    // to be woken.
+    // to be woken; its number waits no more.
     fn finish(&mut self, number: u64, item: Box<T>) -> (Finishing<Box<T>>, Option<Arc<Condvar>>)
         ensures marks { self.new.turns.marks ≡ marks_after_step (Finish number) self.old.turns.marks }
         ensures item { Finishes (turn_answer (Finish number) self.old.turns.marks) item self.old.turns.resting
             result.0 self.new.turns.resting }
+        ensures woken { WakesNext result.0 (first_unfinished self.new.turns.marks) self.old.waiting result.1
+            self.new.waiting }
+        ensures same { self.new ≡ record self.old { turns = self.new.turns; waiting = self.new.waiting } }
     {
         let finishing = self.turns.finish(number, item);
-        if matches!(finishing, Finishing::Passed) {
-            let next = self.turns.first_unfinished();
-            let woken = take_waiter(&mut self.waiters, next);
-            return (finishing, woken);
-        }
-        (finishing, None)
+        let woken = if matches!(finishing, Finishing::Passed) {
+            take_waiter(&mut self.waiters, self.turns.first_unfinished())
+        } else {
+            None
+        };
+        self.count_open();
+        (finishing, woken)
     }
+}
+
+// The line of these turns, on which no thread waits.
+fn share<T: Drop>(alloc: Global, queue: Queue<T>) -> Result<Arc<Line<T>>, AllocError> {
+    let line = Line {
+        queue: Mutex::new(queue),
+        finished: Condvar::new(),
+        is_closed: AtomicBool::new(false),
+    };
+    Ok(Arc::new(alloc, line)?)
 }
 
 /// The item and its numbers, which threads share. A number's text and its item are handed out, so nothing is read or
@@ -130,27 +282,14 @@ pub(crate) struct Line<T> {
 impl<T: Drop> Line<T> {
     /// No number is issued. An error where memory was refused.
     pub fn new(alloc: Global, item: T) -> Result<Arc<Line<T>>, AllocError> {
-        let queue = Queue {
-            turns: Turns::new(alloc, Box::new(alloc, item)?),
-            last: None,
-            issued: 0,
-            open: None,
-            waiters: Vec::new(alloc),
-            wants_room: false,
-        };
-        let line = Line {
-            queue: Mutex::new(queue),
-            finished: Condvar::new(),
-            is_closed: AtomicBool::new(false),
-        };
-        Ok(Arc::new(alloc, line)?)
+        share(alloc, Queue::new(alloc, item)?)
     }
 
     /// The next number, and whether its turn has come. An error where memory was refused, or no number is left.
     pub fn issue<R: Wait>(&self, rt: &R) -> Result<(u64, bool), AllocError> {
         let mut queue = self.queue.lock(rt);
         let number = queue.issue()?;
-        Ok((number, queue.turns.first_unfinished() == number))
+        Ok((number, queue.is_first(number)))
     }
 
     /// The next number, and whether its turn has come; none once the line was closed. An error where memory was
@@ -161,15 +300,13 @@ impl<T: Drop> Line<T> {
             return Ok(None);
         }
         let number = queue.issue()?;
-        queue.last = Some(number);
-        Ok(Some((number, queue.turns.first_unfinished() == number)))
+        queue.set_last(number);
+        Ok(Some((number, queue.is_first(number))))
     }
 
     /// Has the numbers counted here from now on that were issued and aren't finished.
     pub fn set_open<R: Wait>(&self, rt: &R, open: Arc<AtomicU64>) {
-        let mut queue = self.queue.lock(rt);
-        queue.open = Some(open);
-        queue.count_open();
+        self.queue.lock(rt).set_open(open);
     }
 
     /// Waits until fewer numbers than `most`, or none where that is 0, were issued and aren't finished.
@@ -179,7 +316,7 @@ impl<T: Drop> Line<T> {
             if queue.has_room(most) {
                 return;
             }
-            queue.wants_room = true;
+            queue.want_room();
             queue = self.finished.wait(rt, queue);
         }
     }
@@ -198,7 +335,7 @@ impl<T: Drop> Line<T> {
 
     /// Whether the line was closed, and this number is the last that `issue_unless_closed` issued.
     pub fn is_last<R: Wait>(&self, rt: &R, number: u64) -> bool {
-        self.is_closed() && self.queue.lock(rt).last == Some(number)
+        self.is_closed() && self.queue.lock(rt).last() == Some(number)
     }
 
     /// Waits until the number's turn has come, and holds it. Where memory for the wait was refused it tries again and
@@ -206,12 +343,10 @@ impl<T: Drop> Line<T> {
     pub fn take<R: Wait>(&self, rt: &R, alloc: Global, number: u64) -> Box<T> {
         let mut queue = self.queue.lock(rt);
         for _ in rt.forever() {
-            if let Some(item) = queue.turns.take(number) {
-                return item;
-            }
-            match queue.waiter(alloc, number) {
-                Ok(woken) => queue = woken.wait(rt, queue),
-                Err(_) => {
+            match queue.take(alloc, number) {
+                Taking::Held(item) => return item,
+                Taking::Waits(woken) => queue = woken.wait(rt, queue),
+                Taking::Refused => {
                     drop(queue);
                     thread::yield_now();
                     queue = self.queue.lock(rt);
@@ -223,20 +358,23 @@ impl<T: Drop> Line<T> {
 
     /// Leaves a number with a text, which is written in its turn; or holds it, and gives the item and the text, where
     /// its turn has come. It waits for no turn.
-    pub fn leave<R: Wait>(&self, rt: &R, number: u64, text: Vec<u8>) -> Option<(Box<T>, Vec<u8>)> {
-        let left = self.queue.lock(rt).turns.leave(number, text);
+    pub fn leave<R: Wait>(&self, rt: &R, number: u64, text: Vec<u8>) -> Option<(Box<T>, Vec<u8>)>
+        ensures { IfSome result (λ held. held.1 ≡ text) }
+    {
+        let left = self.queue.lock(rt).leave(number, text);
         match left {
             Leaving::Go(item, text) => Some((item, text)),
             Leaving::Left | Leaving::Strange(_) => None,
         }
     }
 
-    /// Finishes a held number. If the next one was left, that one is held: the item, and its text. Else the thread
-    /// that waits for the next turn is woken, if one does.
-    pub fn finish<R: Wait>(&self, rt: &R, number: u64, item: Box<T>) -> Option<(Box<T>, Vec<u8>)> {
+    /// Finishes a held number. If the next one was left, that one is held: the same item, and its text. Else the
+    /// thread that waits for the next turn is woken, if one does.
+    pub fn finish<R: Wait>(&self, rt: &R, number: u64, item: Box<T>) -> Option<(Box<T>, Vec<u8>)>
+        ensures { IfSome result (λ next. next.0 ≡ item) }
+    {
         let mut queue = self.queue.lock(rt);
         let (finishing, woken) = queue.finish(number, item);
-        queue.count_open();
         let gives_room = queue.gives_room();
         drop(queue);
         if let Some(woken) = woken {
@@ -332,16 +470,33 @@ impl<T: Drop, R: Wait + Drop> Turn<T, R> {
         }
     }
 
-    /// The item, if the number is held.
-    pub fn held(&mut self) -> Option<&mut T> {
-        match &mut self.item {
-            Some(item) => Some(item),
-            None => None,
+    /// Waits for the turn unless it is held, and holds it.
+    pub fn into_held(self) -> Held<T, R> {
+        let Turn {
+            rt,
+            alloc,
+            line,
+            number,
+            is_next: _,
+            item,
+        } = self;
+        let item = match item {
+            Some(item) => item,
+            None => line.take(&rt, alloc, number),
+        };
+        Held {
+            item,
+            rt,
+            line,
+            number,
         }
     }
 
-    /// Holds the number if its turn has come, and else leaves it with this text. It waits for no turn.
-    pub fn leave(self, text: Vec<u8>) -> Option<(Held<T, R>, Vec<u8>)> {
+    /// Holds the number if its turn has come, and the text comes back; else leaves it with this text. It waits for no
+    /// turn.
+    pub fn leave(self, text: Vec<u8>) -> Option<(Held<T, R>, Vec<u8>)>
+        ensures { IfSome result (λ held. held.1 ≡ text) }
+    {
         let Turn {
             rt,
             alloc: _,
@@ -355,28 +510,47 @@ impl<T: Drop, R: Wait + Drop> Turn<T, R> {
             None => line.leave(&rt, number, text)?,
         };
         let held = Held {
+            item,
             rt,
             line,
             number,
-            item,
         };
         Some((held, text))
     }
 }
 
-/// A number that is held.
+/// A number that is held, and the item.
 #[derive(Drop)]
-pub(crate) struct Held<T, R: Wait> {
+pub struct Held<T, R: Wait> {
+    /// The item.
+    pub item: Box<T>,
     rt: R,
     line: Arc<Line<T>>,
     number: u64,
-    item: Box<T>,
 }
 
 impl<T: Drop, R: Wait + Drop> Held<T, R> {
-    /// The item.
-    pub fn item(&mut self) -> &mut T {
-        &mut self.item
+    /// The first number of a new line of this item. An error where memory was refused.
+    pub(crate) fn first(rt: R, alloc: Global, item: T) -> Result<Held<T, R>, AllocError>
+        ensures { IfOk result (λ held. held.item.value ≡ item) }
+    {
+        let mut queue = Queue::new(alloc, item)?;
+        let number = queue.issue()?;
+        let Taking::Held(item) = queue.take(alloc, number) else {
+            unreachable!()
+        };
+        let line = share(alloc, queue)?;
+        Ok(Held {
+            item,
+            rt,
+            line,
+            number,
+        })
+    }
+
+    /// Another handle of its line. An error where none is left.
+    pub(crate) fn line(&self) -> Result<Arc<Line<T>>, AllocError> {
+        Ok(Arc::try_clone(&self.line)?)
     }
 
     /// Whether the line was closed, and this number is the last that `issue_unless_closed` issued.
@@ -384,21 +558,24 @@ impl<T: Drop, R: Wait + Drop> Held<T, R> {
         self.line.is_last(&self.rt, self.number)
     }
 
-    /// Finishes the number. If the next one was left, that one is held, with the text that it was left with.
-    pub fn finish(self) -> Option<(Held<T, R>, Vec<u8>)> {
+    /// Finishes the number. If the next one was left, that one is held, with the same item and the text that it was
+    /// left with.
+    pub fn finish(self) -> Option<(Held<T, R>, Vec<u8>)>
+        ensures { IfSome result (λ next. next.0.item ≡ self.item) }
+    {
         let Held {
+            item,
             rt,
             line,
             number,
-            item,
         } = self;
         let (item, text) = line.finish(&rt, number, item)?;
         let number = number.checked_add(1)?;
         let next = Held {
+            item,
             rt,
             line,
             number,
-            item,
         };
         Some((next, text))
     }

@@ -1,8 +1,9 @@
 //! A reader or a writer that its holders use one after another, in the order in which they were made.
-ghost use Rattle.std.specs.Prelude.{◌≡◌, ⊤, [], length, Ok, None, OnOk, false};
+ghost use Rattle.std.specs.Prelude.{◌≡◌, ⊤, [], length, Ok, None, IfOk, OnOk, false};
 ghost use Rattle.tiny_http_io.specs.Device.{Reads, Puts, PutsFront, HoldsNothing, next_count};
 
 use crate::line::{Held, Line, Turn};
+use crate::turn::HeldReader;
 use std::alloc::{AllocError, Global};
 use std::io;
 use std::io::{ErrorKind, Read, Write};
@@ -31,6 +32,22 @@ impl<I: Read + Drop, R: Wait + Copy> SequentialReaderBuilder<I, R> {
         Ok(SequentialReaderBuilder { rt, alloc, line })
     }
 
+    /// Gives out readers of this one, the first of which has its turn. An error where memory was refused.
+    pub(crate) fn begin(
+        rt: R,
+        alloc: Global,
+        reader: I,
+    ) -> Result<(SequentialReaderBuilder<I, R>, HeldReader<I, R>), AllocError>
+        ensures { IfOk result (λ made. made.1.turn.item.value ≡ reader) }
+    {
+        let turn = Held::first(rt, alloc, reader)?;
+        let line = turn.line()?;
+        Ok((
+            SequentialReaderBuilder { rt, alloc, line },
+            HeldReader { turn },
+        ))
+    }
+
     /// The next reader. An error where memory was refused, or 2^64 - 1 readers were given out.
     pub fn next(&mut self) -> Result<SequentialReader<I, R>, AllocError> {
         let turn = Turn::new(self.rt, self.alloc, &self.line)?;
@@ -45,14 +62,12 @@ pub struct SequentialReader<I: Read + Drop, R: Wait + Drop> {
 }
 
 impl<I: Read + Drop, R: Wait + Drop> SequentialReader<I, R> {
-    /// Waits for its turn, and lends the reader.
-    pub(crate) fn hold(&mut self) -> &mut I {
-        self.turn.hold()
-    }
-
-    /// The reader, if its turn has come and it was used.
-    pub(crate) fn held(&mut self) -> Option<&mut I> {
-        self.turn.held()
+    /// Waits for its turn.
+    pub(crate) fn into_held(self) -> HeldReader<I, R> {
+        let Self { turn } = self;
+        HeldReader {
+            turn: turn.into_held(),
+        }
     }
 }
 
@@ -68,7 +83,7 @@ impl<I: Read + Drop, R: Wait + Drop> Drop for SequentialReader<I, R> {
         let Self { turn } = self;
         let none = Vec::new(turn.alloc());
         if let Some((held, text)) = turn.leave(none) {
-            pass_on(&mut HeldReader { held: Some(held) }, &mut (), &mut (), text);
+            pass_on(&mut Reading { held: Some(held) }, &mut (), &mut (), text);
         }
     }
 }
@@ -131,11 +146,11 @@ fn finish_held<T: Drop, R: Wait + Drop>(held: &mut Option<Held<T, R>>) -> Option
 
 // A number of a reader that is held. Nothing is written in its turn.
 #[derive(Drop)]
-struct HeldReader<I, R: Wait> {
-    held: Option<Held<I, R>>,
+pub(crate) struct Reading<I, R: Wait> {
+    pub(crate) held: Option<Held<I, R>>,
 }
 
-impl<I: Read + Drop, R: Wait + Drop> HeldTurn<(), ()> for HeldReader<I, R> {
+impl<I: Drop, R: Wait + Drop> HeldTurn<(), ()> for Reading<I, R> {
     ghost writes = { λ _ _ _ _ _. ⊤ };
 
     ghost finishes = { λ _ _ _ _ _. ⊤ };
@@ -162,8 +177,8 @@ impl<W: Write + Drop, R: Wait + Drop> HeldTurn<(), ()> for Writing<W, R> {
 
     fn write_text(&mut self, _output: &mut (), text: &[u8]) {
         if let Some(held) = &mut self.held {
-            let _ = held.item().write_all(text);
-            let _ = held.item().flush();
+            let _ = held.item.write_all(text);
+            let _ = held.item.flush();
         }
     }
 
@@ -187,8 +202,8 @@ impl<W: Write + WriteDevice + Drop, R: Wait + Drop> HeldTurn<(), ()> for EndingW
 
     fn write_text(&mut self, _output: &mut (), text: &[u8]) {
         if let Some(held) = &mut self.held {
-            let _ = held.item().write_all(text);
-            let _ = held.item().flush();
+            let _ = held.item.write_all(text);
+            let _ = held.item.flush();
             end_if_last(held);
         }
     }
@@ -201,7 +216,7 @@ impl<W: Write + WriteDevice + Drop, R: Wait + Drop> HeldTurn<(), ()> for EndingW
 // Says that no byte follows, where the line was closed and this number is its last.
 fn end_if_last<W: WriteDevice + Drop, R: Wait + Drop>(held: &mut Held<W, R>) {
     if held.is_last() {
-        held.item().end_out();
+        held.item.end_out();
     }
 }
 

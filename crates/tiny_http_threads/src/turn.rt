@@ -1,22 +1,51 @@
 //! The turn of a sequential reader or writer, for a request that sees to its own: `tiny_http` doesn't name this
 //! module again.
-use crate::sequential::{SequentialReader, SequentialWriter, SequentialWriterBuilder};
-use std::alloc::AllocError;
+ghost use Rattle.std.specs.Prelude.{◌≡◌, IfOk};
+ghost use Rattle.tiny_http_threads.specs.Turn.{held_item};
+
+pub use crate::line::Held;
+use crate::sequential::{
+    Reading, SequentialReader, SequentialReaderBuilder, SequentialWriter, SequentialWriterBuilder,
+};
+use std::alloc::{AllocError, Global};
 use std::io::{Read, Write};
 use std::sync::atomic::AtomicU64;
 use std::sync::{Arc, Wait};
 use tiny_http_io::device::WriteDevice;
+use tiny_http_turns::passing::{HeldTurn, pass_on};
 
-/// Waits for the turn of this reader, and lends what it reads from.
-pub fn hold_reader<I: Read + Drop, R: Wait + Drop>(reader: &mut SequentialReader<I, R>) -> &mut I {
-    reader.hold()
+/// A reader whose turn has come, with what it reads from. Dropping it finishes its turn: that waits for nobody's turn.
+pub struct HeldReader<I: Drop, R: Wait + Drop> {
+    /// Its turn, and what it reads from.
+    pub turn: Held<I, R>,
 }
 
-/// What this reader reads from, if its turn has come and it was used.
-pub fn held_reader<I: Read + Drop, R: Wait + Drop>(
-    reader: &mut SequentialReader<I, R>,
-) -> Option<&mut I> {
-    reader.held()
+impl<I: Drop, R: Wait + Drop> Drop for HeldReader<I, R> {
+    fn drop(self) {
+        let Self { turn } = self;
+        let mut reading = Reading { held: Some(turn) };
+        if let Some(text) = reading.finish(&mut ()) {
+            pass_on(&mut reading, &mut (), &mut (), text);
+        }
+    }
+}
+
+/// Gives out readers of this one, the first of which has its turn. An error where memory was refused.
+pub fn begin_readers<I: Read + Drop, R: Wait + Copy>(
+    rt: R,
+    alloc: Global,
+    reader: I,
+) -> Result<(SequentialReaderBuilder<I, R>, HeldReader<I, R>), AllocError>
+    ensures { IfOk result (λ made. held_item made.1 ≡ reader) }
+{
+    SequentialReaderBuilder::begin(rt, alloc, reader)
+}
+
+/// Waits for the turn of this reader.
+pub fn hold_reader<I: Read + Drop, R: Wait + Drop>(
+    reader: SequentialReader<I, R>,
+) -> HeldReader<I, R> {
+    reader.into_held()
 }
 
 /// The next writer; none once `end_behind_writer` was called for one of them. An error where memory was refused, or

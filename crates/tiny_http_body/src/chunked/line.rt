@@ -1,10 +1,9 @@
 //! A size line or a trailer line, taken from a reader byte by byte (RFC 9112, section 7.1).
 ghost use Rattle.std.specs.Prelude.{◌≡◌, ◌≤◌, ◌+◌, [], ◌∷◌, IfOk, IfErr, OnErr};
-ghost use Rattle.tiny_http_io.specs.Device.{prepended};
+ghost use Rattle.tiny_http_io.specs.Device.{prepended, fault_count};
 ghost use Rattle.tiny_http_body.specs.ChunkSize.{SizeFits};
 ghost use Rattle.tiny_http_body.specs.ChunkLine.{said_step, is_trailer_said, scan_step, breaks_line, OneLine, NoLine};
 ghost use Rattle.tiny_http_body.specs.ChunkLine.{CutBy};
-ghost use Rattle.tiny_http_body.specs.Decoding.{fault_count};
 
 use crate::chunked::field::Field;
 use crate::chunked::size::Size;
@@ -99,7 +98,7 @@ pub(crate) fn next_byte<R: ReadDevice>(reader: &mut R) -> Result<u8, ErrorKind>
     ensures byte { IfOk result (λ b. R.feed reader.old ≡ prepended (b ∷ []) (R.feed reader.new)) }
     ensures cut { IfErr result (λ kind. CutBy kind (R.feed reader.old)) }
     ensures again { OnErr result (R.feed reader.new ≡ R.feed reader.old) }
-    // The reader isn't asked on behind an end or a fault.
+    // The reader is asked for no second end or fault.
     ensures told { R.told reader.new ≤ R.told reader.old + fault_count result }
 {
     let mut buf = [0u8];

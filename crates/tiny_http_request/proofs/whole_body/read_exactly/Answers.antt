@@ -4,7 +4,8 @@ use Rattle.tiny_http_io.specs.declared.device.Stop.TheVariants.{End, Fault}
 use Rattle.tiny_http_body.specs.declared.body.UnreadBody.{UnreadBody}
 use Rattle.tiny_http_body.specs.declared.body.UnreadBody.TheVariants.{Over, WithHead, Counted, Chunked, Rest}
 use Rattle.tiny_http_body.specs.Body.{Remaining, is_streaming, bytes_left, remaining, prepended_body, BodyStops, ReadsOn, IsBodyOver, IsWithHead}
-use Rattle.tiny_http_request.proofs.WholeBodyLemmas.{stands-end}
+use Rattle.tiny_http_request.proofs.WholeBodyLemmas.{stands-end, count-whole}
+use Rattle.tiny_http_request.specs.Body.{body_left}
 use Rattle.tiny_http_request.proofs.whole_body.read_exactly.Goals as goal
 
 abbrev bytes-of : Option Remaining → List ℕ
@@ -76,11 +77,16 @@ returns-then-n-eq0-clause-fails g c =
     let zero : c.in_ok-n.n ≡ 0 = c.if-n-eq0.true in
     let some : 0 < length c.read_in.new.buf = search rules in
     let less : length c.loop-piece.bytes.items < c.args.count = search rules in
-    let end : is_streaming c.loop-piece.body ≡ false → BodyStops End (remaining c.loop-piece.body nothing) = λ s. h.end s nothing zero some in
-    let streams = must-stream c.args.body.now c.loop-piece.body c.loop-piece.bytes.items c.args.count c.requires inv.held inv.settled end less in
-    (streams, over c.loop-piece.body c.read_in.new.self c.in_ok-n.n zero (inv.streams streams) (h.moves some))
+    let end : is_streaming c.loop-piece.body.unread ≡ false → BodyStops End (remaining c.loop-piece.body.unread nothing) = λ s. h.end s nothing zero some in
+    let streams = must-stream c.args.body.now.unread c.loop-piece.body.unread c.loop-piece.bytes.items c.args.count c.requires inv.held inv.settled end less in
+    (streams, over c.loop-piece.body.unread c.read_in.new.self.unread c.in_ok-n.n zero (inv.streams streams) (h.moves some))
 
 pub returns-clause-over : goal.returns-clause-over
 returns-clause-over g c = λ streams.
     let inv = c.loop-piece.invariant in
-    stands-end c.loop-piece.body (c.args.count - length c.loop-piece.bytes.items) (length c.loop-piece.bytes.items) c.args.count (search rules) (search rules) (inv.stands streams)
+    stands-end c.loop-piece.body.unread (c.args.count - length c.loop-piece.bytes.items) (length c.loop-piece.bytes.items) c.args.count (search rules) (search rules) (inv.stands streams)
+
+pub returns-clause-whole : goal.returns-clause-whole
+returns-clause-whole g c =
+    let inv = c.loop-piece.invariant in
+    count-whole c.args.body.now.unread c.args.body.now.input (body_left c.loop-piece.body) c.args.count c.loop-piece.bytes.items c.requires (search rules) inv.read

@@ -7,7 +7,7 @@ use Rattle.tiny_http_response.specs.Answer.{Answer}
 use Rattle.tiny_http_connection.specs.declared.pending.Unfinished.{Unfinished}
 use Rattle.tiny_http_connection.specs.declared.pending.Unfinished.TheVariants as still
 use Rattle.tiny_http_connection.specs.Steps.{ReplyValue, Handed, Ended, Given, Fault, Done, Refused, Memory, Respond, NotYet, NoSuch}
-use Rattle.tiny_http_connection.specs.Driving.{IsDeclined, RespondEnds, LetsGoAnswered, AnswerLeaves, ends_behind, stated_response, has_left_behind, AnswerIsSentOn, RespondTells}
+use Rattle.tiny_http_connection.specs.Driving.{IsDeclined, RespondEnds, LetsGoAnswered, AnswerLeaves, ends_behind, stated_response, has_left_behind, AnswerIsSentOn, RespondReports}
 use Rattle.tiny_http_connection.specs.Seen.{IsAnswered, is_done}
 use Rattle.tiny_http_connection.specs.declared.driver.Step.TheVariants as step
 use Rattle.tiny_http_response.specs.Answer.{ResponseState}
@@ -162,10 +162,10 @@ answered-tells : {R W : Type 0} (n : ℕ) (r : ResponseState (Option Feed)) (old
     → ((output_of new.outlet).failures ≡ (output_of old.outlet).failures)
     ⊎ ((kind : ErrorKind) × (reply ≡ fault_reply kind) × IsHonest (output_of old.outlet) (output_of new.outlet) r.answer r.data_reader (printing_in context now) kind)
     ⊎ ((has_left_behind old.marks n ≡ true) × AnswerIsSentOn old new now n r)
-    → RespondTells old new now n r reply
+    → RespondReports old new now n r reply
 answered-tells n r old new now reply context a waits (inl h) = by reply a
   where
-    by : (y : ReplyValue) → IsAnswered y → RespondTells old new now n r y
+    by : (y : ReplyValue) → IsAnswered y → RespondReports old new now n r y
     by Done a = inl h
     by (Fault kind) a = inl h
     by NotYet a = elim a [ ]
@@ -177,7 +177,7 @@ answered-tells n r old new now reply context a waits (inl h) = by reply a
     by (Handed k m f) a = elim a [ ]
 answered-tells n r old new now reply context a waits (inr (inl h)) = by reply a h.1
   where
-    by : (y : ReplyValue) → IsAnswered y → y ≡ fault_reply h.0 → RespondTells old new now n r y
+    by : (y : ReplyValue) → IsAnswered y → y ≡ fault_reply h.0 → RespondReports old new now n r y
     by Done a e = inr (inl (h.0, e, (context, waits, h.2)))
     by (Fault kind) a e = inr (inl (h.0, e, (context, waits, h.2)))
     by NotYet a e = elim a [ ]
@@ -189,7 +189,7 @@ answered-tells n r old new now reply context a waits (inr (inl h)) = by reply a 
     by (Handed k m f) a e = elim a [ ]
 answered-tells n r old new now reply context a waits (inr (inr h)) = by reply a
   where
-    by : (y : ReplyValue) → IsAnswered y → RespondTells old new now n r y
+    by : (y : ReplyValue) → IsAnswered y → RespondReports old new now n r y
     by Done a = inr (inr h)
     by (Fault kind) a = inr (inr h)
     by NotYet a = elim a [ ]

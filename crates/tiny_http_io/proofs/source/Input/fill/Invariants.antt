@@ -21,7 +21,7 @@ invariant-loop-self g l = record {
   none_more : l.fn.self.held ≡ [] → IsSome l.fn.self.stop → l.self.held ≡ [];
   none_skipped : l.fn.self.skip ≡ 0 → l.self.skip ≡ 0;
   lazy : 0 < length l.self.held → l.self.stop ≡ l.fn.self.stop;
-  asks : input_told g.R.ReadDevice.told l.self ≤ input_told g.R.ReadDevice.told l.fn.self;
+  calls : input_told g.R.ReadDevice.told l.self ≤ input_told g.R.ReadDevice.told l.fn.self;
   held : l.fn.self.skip < length l.fn.self.held → SkipsHeld l.fn.self l.self;
 }
 

@@ -24,7 +24,7 @@ loop-room-preserved g c =
       stays = search rules;
       fresh = search rules;
       lazy = search rules;
-      asks = search rules;
+      calls = search rules;
     }
 
 pub returns-in_default-clause-none : goal.returns-in_default-clause-none

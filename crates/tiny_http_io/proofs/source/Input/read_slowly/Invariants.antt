@@ -14,7 +14,7 @@ invariant-loop-room g l = record {
   stays : IsInputOver l.fn.self → l.self ≡ l.fn.self;
   fresh : IsInputOver l.fn.self → l.room ≡ l.fn.left;
   lazy : input_stop l.self ≡ input_stop l.fn.self;
-  asks : input_told g.R.ReadDevice.told l.self ≤ input_told g.R.ReadDevice.told l.fn.self;
+  calls : input_told g.R.ReadDevice.told l.self ≤ input_told g.R.ReadDevice.told l.fn.self;
 }
 
 abbrev pub decreases-loop-room : goal.decreases-loop-room

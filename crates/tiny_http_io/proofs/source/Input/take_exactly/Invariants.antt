@@ -11,7 +11,7 @@ invariant-loop-self g l = record {
   feed : input_feed g.R.ReadDevice.feed l.fn.self ≡ prepended l.body.items (input_feed g.R.ReadDevice.feed l.self);
   once : IsSome (input_stop l.fn.self) → IsSome (input_stop l.self) × (input_reader l.self ≡ input_reader l.fn.self);
   lazy : input_stop l.self ≡ input_stop l.fn.self;
-  asks : input_told g.R.ReadDevice.told l.self ≤ input_told g.R.ReadDevice.told l.fn.self;
+  calls : input_told g.R.ReadDevice.told l.self ≤ input_told g.R.ReadDevice.told l.fn.self;
   held : input_skip l.fn.self + l.n ≤ length (input_held l.fn.self) → (input_reader l.self ≡ input_reader l.fn.self) × (input_skip l.self + (l.n - vec_len l.body) ≤ length (input_held l.self));
 }
 

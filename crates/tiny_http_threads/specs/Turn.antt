@@ -1,0 +1,6 @@
+-- What clauses read of a reader whose turn has come.
+use Rattle.tiny_http_threads.specs.declared.turn.HeldReader.{HeldReader}
+
+-- what it reads from
+abbrev pub held_item : {I : Type 0} → {R : Type 0} → HeldReader I R → I
+held_item r = r.turn.item.value
