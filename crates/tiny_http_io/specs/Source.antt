@@ -223,6 +223,7 @@ pub record FindsOneLine {R : Type 0} (left : Option ℕ) (old new : SourceState 
   pub held : HoldsLine old → new.reader ≡ old.reader
   pub full : IfSome left (λ n. old.skip + n ≤ length old.held → new.reader ≡ old.reader)
   pub stays : old.is_over ≡ true → left ≢ Some 0 → (new ≡ old) × IfSome old.stop (λ stop. r ≡ Err (line_fault_of stop))
+  pub memory : r ≡ Err Memory → has_crlf (drop old.skip old.held) ≡ false
   pub lazy : OnOk r (new.stop ≡ old.stop)
   pub standing : new.standing ≡ old.standing
 

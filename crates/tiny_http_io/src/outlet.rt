@@ -1,5 +1,5 @@
 //! The output of a connection, through a buffer.
-ghost use Rattle.std.specs.Prelude.{◌≡◌, ◌≤◌, true, false, [], length, Ok, OnOk, OnErr};
+ghost use Rattle.std.specs.Prelude.{◌≡◌, ◌<◌, ◌≤◌, true, false, [], length, Ok, OnOk, OnErr};
 ghost use Rattle.tiny_http_io.specs.Device.{BeginsKnown, HoldsNothing, Puts, PutsFront};
 
 use crate::buffer::{Buffer, CAPACITY};
@@ -95,6 +95,8 @@ impl<W: WriteDevice> Outlet<W> {
         requires open { self.old.ended ≡ false }
         requires none { self.old.held ≡ [] }
         ensures puts { PutsFront (output_of self.old) (output_of self.new) result buf.now }
+        ensures small { length buf.now < CAPACITY
+            → (outlet_writer self.new ≡ outlet_writer self.old) × (result ≡ Ok (length buf.now)) }
         ensures ended { OnErr result (self.new.ended ≡ true) }
         ensures open { OnOk result (self.new.ended ≡ false) }
     {
@@ -107,6 +109,10 @@ impl<W: WriteDevice> Outlet<W> {
     // Takes some bytes, at least one if there is one.
     fn take_some(&mut self, buf: &[u8]) -> Result<usize, io::Error>
         ensures puts { PutsFront (output_of self.old) (output_of self.new) result buf.now }
+        // Fewer bytes than the buffer has room for stay in it, where none are held.
+        ensures small { outlet_held self.old ≡ []
+            → length buf.now < CAPACITY
+            → (outlet_writer self.new ≡ outlet_writer self.old) × (result ≡ Ok (length buf.now)) }
         ensures ended { OnErr result (self.new.ended ≡ true) }
         ensures stays { OnOk result (self.new.ended ≡ self.old.ended) }
         ensures past { self.old.ended ≡ true → (result ≡ Ok (length buf.now)) × (self.new ≡ self.old) }
@@ -131,6 +137,10 @@ impl<W: WriteDevice> Outlet<W> {
     /// answers `Ok`.
     pub fn write(&mut self, bytes: &[u8]) -> Result<(), io::Error>
         ensures puts { Puts (output_of self.old) (output_of self.new) result bytes.now }
+        // Fewer bytes than the buffer has room for stay in it, where none are held.
+        ensures small { outlet_held self.old ≡ []
+            → length bytes.now < CAPACITY
+            → (outlet_writer self.new ≡ outlet_writer self.old) × (result ≡ Ok tt) }
         // A fault ends the outlet; nothing else does.
         ensures ended { OnErr result (outlet_ended self.new ≡ true) }
         ensures stays { OnOk result (outlet_ended self.new ≡ outlet_ended self.old) }

@@ -463,6 +463,9 @@ impl<R: ReadDevice> Input<R> {
             → input_reader self.new ≡ input_reader self.old }
         ensures full { IfSome left (λ n. input_skip self.old + n ≤ length (input_held self.old)
             → input_reader self.new ≡ input_reader self.old) }
+        // Memory is taken for a line alone that isn't held whole.
+        ensures memory { result ≡ Err LineFault.Memory
+            → has_crlf (drop (input_skip self.old) (input_held self.old)) ≡ false }
         ensures lazy { OnOk result (input_stop self.new ≡ input_stop self.old) }
         ensures calls { input_told R.told self.new ≤ input_told R.told self.old }
     {

@@ -16,6 +16,7 @@ returns-clause-finds g c =
       held = search rules;
       full = search rules;
       stays = rw (← c.self.view_is) (source-stays g.R.ReadDevice.feed c.self.inside.standing c.self.inside.input c.find_line.new.self c.args.left _ c.find_line.ensures.stays);
+      memory = search rules;
       lazy = search rules;
       standing = search rules;
     }
