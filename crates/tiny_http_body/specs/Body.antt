@@ -227,9 +227,9 @@ body_standing (Chunked decoding) standing = standing
 body_standing Rest standing = standing
 
 -- WHAT A READ GIVES of a body, and what it leaves: the bytes that came are the next of the body, no more than the
--- buffer has room for; no byte into a buffer with room is the end of the body, and a fault is its own. A counted body
--- is over with its last byte, another one that is read from the input once its end or fault was reported. After the
--- first fault the source has ended. The input goes on, or stays.
+-- buffer has room for; no byte into a buffer with room is the end of the body, which has then come whole, and a fault
+-- is its own. A counted body is over with its last byte, another one that is read from the input once its end or fault
+-- was reported. After the first fault the source has ended. The input goes on, or stays.
 pub record ReadsRemaining {R : Type 0} (old new : UnreadBody) (from to : SourceState R) (r : Result ℕ Error)
     (buf : List ℕ) : Type 0 where
   pub bound : IfOk r (λ n. n ≤ length buf)
@@ -238,6 +238,7 @@ pub record ReadsRemaining {R : Type 0} (old new : UnreadBody) (from to : SourceS
   pub fault : IfErr r (λ e. BodyStops (Fault (error_kind e)) (remaining old from.feed))
   pub again : OnErr r (remaining new to.feed ≡ remaining old from.feed)
   pub moves : IfOk r (λ n. 0 < length buf → ReadsOn old n (n == 0) new)
+  pub ended : IfOk r (λ n. n ≡ 0 → 0 < length buf → is_whole new ≡ true)
   pub over : IfErr r (λ e. new ≡ Over (Fault (error_kind e)))
   pub at_end : OnErr r (body_stop old ≡ None → IsAtEnd to)
   pub goes_on : GoesOn from.feed to.feed
@@ -261,6 +262,7 @@ pub record ReadsHeld (old new : UnreadBody) (r : Result ℕ Error) (buf : List �
   pub end : (feed : Option Feed) → IfOk r (λ n. n ≡ 0 → 0 < length buf → BodyStops End (remaining old feed))
   pub fault : (feed : Option Feed) → IfErr r (λ e. BodyStops (Fault (error_kind e)) (remaining old feed))
   pub moves : IfOk r (λ n. ReadsOn old n (n == 0) new)
+  pub ended : IfOk r (λ n. n ≡ 0 → is_whole new ≡ true)
   pub broken : IfErr r (λ e. (new ≡ old) × (new ≡ Over (Fault (error_kind e))))
   pub reports_stop : IfSome (body_stop old) (λ stop. AnswersStop stop r × (new ≡ old))
   pub stays_held : is_streaming new ≡ false
