@@ -1,6 +1,6 @@
 -- What the calls that read a head make of the input.
 use Rattle.std.specs.Prelude.{◌≡◌, ◌≢◌, ℕ, ◌+◌, ◌-◌, ⊤, ◌⊎◌, List, [], length, nat_lt, Option, Some, None, Result, Ok}
-use Rattle.std.specs.Prelude.{Err, unwrap_or, Bool, true, false, MatchBool, IfSome, IfOk, IsErr, if◌then◌else◌}
+use Rattle.std.specs.Prelude.{Err, unwrap_or, Bool, true, false, MatchBool, IfSome, IfOk, IsErr, IsSome, if◌then◌else◌}
 use Rattle.std.specs.declared.alloc.AllocError.{AllocError}
 use Rattle.httpdate.specs.declared.date.HttpDate.{HttpDate}
 use Rattle.tiny_http_head.specs.declared.common.Method.{Method}
@@ -87,7 +87,7 @@ StartIn text (Err fault.NotAscii) = AreAscii text → ⊥
 StartIn text (Err fault.Malformed) = AreAscii text × (reading.request_line text ≡ None)
 StartIn text (Err fault.Cut) = ⊥
 StartIn text (Err fault.TooLarge) = ⊥
-StartIn text (Err fault.Memory) = ⊤
+StartIn text (Err fault.Memory) = AreAscii text × IsSome (reading.request_line text)
 
 -- what a text is read as: a header line, or the empty line
 abbrev pub FieldIn : List ℕ → Result (Option Header) HeadFault → Type 0
@@ -97,7 +97,7 @@ FieldIn text (Err fault.NotAscii) = AreAscii text → ⊥
 FieldIn text (Err fault.Malformed) = AreAscii text × (text ≢ []) × (reading.header_line text ≡ None)
 FieldIn text (Err fault.Cut) = ⊥
 FieldIn text (Err fault.TooLarge) = ⊥
-FieldIn text (Err fault.Memory) = ⊤
+FieldIn text (Err fault.Memory) = AreAscii text × IsSome (reading.header_line text)
 
 -- why there is no next line within this limit
 abbrev pub HasNoLine : Option ℕ → Option Feed → HeadFault → Type 0
