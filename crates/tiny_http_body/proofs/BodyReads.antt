@@ -1,6 +1,6 @@
 -- Reading a body: what was still to come of it is what was read and what is still to come.
 use Rattle.std.proofs.Common.{◌≡◌, refl, sym, ap, ◌∙◌, subst, ℕ, zero, suc, ◌+◌, ◌-◌, ◌<◌, ◌≤◌, Bool, true, false, List, [], ◌∷◌, ◌++◌, length, take, drop, Option, Some, None, ◌⊎◌, inl, inr, ◌||◌, arith, eq-eqb, append_assoc, append-nil}
-use Rattle.std.specs.Prelude.{MatchBool, ◌==◌}
+use Rattle.std.specs.Prelude.{MatchBool, ◌==◌, if◌then◌else◌}
 use Rattle.std.specs.Option.{option_map}
 use Rattle.std.proofs.Math.Seq.{take-nil}
 use Rattle.std.proofs.lemmas.Bool.{lt-ltb, le-ltb, ne_eqb, eqb-true, cases_lt}
@@ -14,7 +14,7 @@ use Rattle.tiny_http_body.specs.declared.body.UnreadBody.TheVariants.{Over, With
 use Rattle.tiny_http_io.specs.ToCome.{skipped, stopped}
 use Rattle.tiny_http_io.specs.FeedParts.{feed_front}
 use Rattle.tiny_http_body.specs.declared.chunked.ChunkRules.{ChunkRules}
-use Rattle.tiny_http_body.specs.Body.{Remaining, remaining, cut_stop, cut_feed, counted_remaining, taken_remaining, prepend_body, prepended_body, BodyStops, NoneRemains, is_streaming, body_standing, IsBodyOver, IsChunkedBy, ReadsOn, GivesUp}
+use Rattle.tiny_http_body.specs.Body.{Remaining, remaining, cut_stop, cut_feed, counted_remaining, taken_remaining, prepend_body, prepended_body, BodyStops, NoneRemains, is_streaming, body_standing, IsBodyOver, IsChunkedBy, ReadsOn, GivesUp, over_count, ends_met}
 use Rattle.tiny_http_io.specs.declared.source.Standing.{Standing}
 use Rattle.tiny_http_io.specs.Source.{SourceState, GoesOn, IsRestOf}
 use Rattle.tiny_http_io.proofs.SourceGoesOn.{goes-on_same}
@@ -230,6 +230,44 @@ moves-more a b c zero n end_reported same moves h =
     let Q : ℕ → Type 0 = λ k. ReadsOn a k end_reported c in
     subst Q (omega arith) (subst P (same refl) h)
 moves-more a b c (suc at) n end_reported same moves h = reads-on a b c (suc at) n end_reported (moves (omega arith)) h
+
+-- an end that is met behind some bytes may be met by the call that gave them
+ends-behind : (a b c : UnreadBody) (m : ℕ) → ReadsOn a m false b → ends_met b 0 c ≤ ends_met a m c
+ends-behind (Over stop) b c m h = let P : UnreadBody → Type 0 = λ x. ends_met x 0 c ≤ 0 in subst P (sym h.0) (omega arith)
+ends-behind (WithHead bytes) (WithHead more) c m h = omega arith
+ends-behind (WithHead bytes) (Over stop) c m h = absurd h
+ends-behind (WithHead bytes) (Counted left standard) c m h = absurd h
+ends-behind (WithHead bytes) (Chunked d) c m h = absurd h
+ends-behind (WithHead bytes) Rest c m h = absurd h
+ends-behind Rest b c m h = let P : UnreadBody → Type 0 = λ x. ends_met x 0 c ≤ over_count c in subst P (sym h) (omega arith)
+ends-behind (Chunked d) (Chunked more) c m h = omega arith
+ends-behind (Chunked d) (Over stop) c m h = absurd h
+ends-behind (Chunked d) (Counted left standard) c m h = absurd h
+ends-behind (Chunked d) (WithHead bytes) c m h = absurd h
+ends-behind (Chunked d) Rest c m h = absurd h
+ends-behind (Counted left standard) b c m h = by (m == left) refl h
+  where
+    to : (t : Bool) → (if t then 0 else over_count c) ≤ over_count c
+    to true = omega arith
+    to false = omega arith
+
+    over : (b : UnreadBody) (k : ℕ) → IsBodyOver b → ends_met b 0 c ≤ k
+    over (Over stop) k h = omega arith
+    over (WithHead bytes) k h = absurd h
+    over (Counted l standard) k h = absurd h
+    over (Chunked d) k h = absurd h
+    over Rest k h = absurd h
+
+    by : (t : Bool) → (m == left) ≡ t → MatchBool t (IsBodyOver b) ((b ≡ Counted (left - m) standard) × (m < left)) → ends_met b 0 c ≤ ends_met (Counted left standard) m c
+    by true e h = over b _ h
+    by false e h =
+        let P : UnreadBody → Type 0 = λ x. ends_met x 0 c ≤ ends_met (Counted left standard) m c in
+        let Q : Bool → Type 0 = λ t. ends_met (Counted (left - m) standard) 0 c ≤ (if t then 0 else over_count c) in
+        subst P (sym h.0) (subst Q (sym e) (to (0 == (left - m))))
+
+pub ends-more : (a b c : UnreadBody) (at : ℕ) → (at ≡ 0 → b ≡ a) → (0 < at → ReadsOn a at false b) → ends_met b 0 c ≤ ends_met a at c
+ends-more a b c zero same moves = let P : UnreadBody → Type 0 = λ x. ends_met x 0 c ≤ ends_met a 0 c in subst P (sym (same refl)) (omega arith)
+ends-more a b c (suc at) same moves = ends-behind a b c (suc at) (moves (omega arith))
 
 -- at an end that was made
 pub goes-on_end : (old new : Option Feed) → new ≡ option_map (λ _. stopped End) old → GoesOn old new

@@ -1,13 +1,14 @@
 -- From a reader to a writer.
-use Rattle.std.proofs.Common.{◌≡◌, ℕ, ◌+◌, ◌-◌, ◌<◌, ◌≤◌, true, false, List, [], ◌++◌, length, take, drop, Option, Some, None, Result, Ok, Err, IfSome, refl, sym, ap, ◌∙◌, subst, arith, inl, inr, length-take, length-drop, length-append, leb, le-leb}
+use Rattle.std.proofs.Common.{◌≡◌, ℕ, ◌+◌, ◌-◌, ◌<◌, ◌≤◌, true, false, List, [], ◌++◌, length, take, drop, Option, Some, None, Result, Ok, Err, IfSome, OnErr, refl, sym, ap, ◌∙◌, subst, arith, inl, inr, length-take, length-drop, length-append, leb, le-leb}
 use Rattle.std.proofs.lemmas.Bool.{lt-leb}
 use Rattle.std.specs.IoError.{error_kind}
 use Rattle.std.specs.declared.io.Error.{Error}
 use Rattle.std.specs.declared.io.ErrorKind.{ErrorKind}
 use Rattle.std.specs.declared.io.ErrorKind.TheVariants.{UnexpectedEof}
 use Rattle.std.proofs.Math.Seq.{take-add}
+use Rattle.tiny_http_io.specs.declared.device.Stop.{Stop}
 use Rattle.tiny_http_io.specs.Device.{Puts}
-use Rattle.tiny_http_body.specs.Text.{whole, Text, prepend_text, Prints, identity_body, Broken}
+use Rattle.tiny_http_body.specs.Text.{whole, Text, prepend_text, Prints, identity_body, Broken, data_behind, TakesUpTo}
 use Rattle.std.proofs.lemmas.List.{append-nil, drop-drop, take_at, drop_at, take_all}
 use Rattle.tiny_http_io.specs.Device.{Feed, fault_of, Sink, Took, Failed, ReadsFrom, Copied, CopiedKnown, CopyBreaks}
 use Rattle.tiny_http_io.proofs.DeviceLemmas.{Took-nil, Took-append, Failed-append, Failed-front}
@@ -93,6 +94,43 @@ Prints-broken (Some f) (Some g) a b c n left e l m h (inr k) =
     let P : List ℕ → Type 0 = λ x. Failed b c (take left x) (error_kind e) in
     let Q : List ℕ → Type 0 = λ x. Failed a c x (error_kind e) in
     inr (subst Q (sym (take-add (n - left) left f.bytes) ∙ ap (λ (i : ℕ). take i f.bytes) sum) (Failed-append a b c _ _ (error_kind e) h.taken (subst P h.rest k)))
+
+-- what stands behind n bytes, by its parts
+same-feed : (n : ℕ) (f g : Feed) → g.bytes ≡ drop n f.bytes → g.stop ≡ f.stop → Some g ≡ Some (data_behind n f)
+same-feed n f g bytes stop =
+    let F : List ℕ → Option Feed = λ x. Some (record { bytes = x; stop = g.stop }) in
+    let G : Stop → Option Feed = λ x. Some (record { bytes = drop n f.bytes; stop = x }) in
+    ap F bytes ∙ ap G stop
+
+-- no byte of the data was taken, or those that were read
+pub Takes-none : {T : Type 0} (o p : Option Feed) (r : Result T Error) (e f : Error) (buf : List ℕ) (left : ℕ) → r ≡ Err f → ReadsFrom o p (Err e) buf → IfSome o (λ f. OnErr r (TakesUpTo left f p r))
+Takes-none None p r e x buf left is h = tt
+Takes-none (Some f) None r e x buf left is h = absurd h
+Takes-none {T = T} (Some f) (Some g) r e x buf left is h =
+    let P : Result T Error → Type 0 = λ r. OnErr r (TakesUpTo left f (Some g) r) in
+    subst P (sym is) (0, omega arith, ap Some h.2, tt)
+
+pub Takes-read : {T : Type 0} (o p : Option Feed) (n : ℕ) (r : Result T Error) (e : Error) (buf : List ℕ) (left : ℕ) → r ≡ Err e → n ≤ length buf → n ≤ left → ReadsFrom o p (Ok n) buf → IfSome o (λ f. OnErr r (TakesUpTo left f p r))
+Takes-read None p n r e buf left is h l k = tt
+Takes-read (Some f) None n r e buf left is h l k = absurd k
+Takes-read {T = T} (Some f) (Some g) n r e buf left is h l k =
+    let b = front_was_read f.bytes g.bytes buf n h k.0 in
+    let P : Result T Error → Type 0 = λ r. OnErr r (TakesUpTo left f (Some g) r) in
+    subst P (sym is) (n, l, same-feed n f g b.1 k.1, tt)
+
+-- all of them were taken, or some behind others
+pub Takes-all : {T : Type 0} (o p : Option Feed) (a b : Sink) (n : ℕ) (x : T) → CopiedKnown o p a b n → IfSome o (λ f. TakesUpTo n f p (Ok x))
+Takes-all None p a b n x h = tt
+Takes-all (Some f) None a b n x h = absurd h
+Takes-all (Some f) (Some g) a b n x h = (n, omega arith, same-feed n f g h.rest h.stop, refl)
+
+pub Takes-more : {T : Type 0} (o p q : Option Feed) (a b : Sink) (n left : ℕ) (m : Result ℕ Error) (r : Result T Error) (e : Error) → r ≡ Err e → left ≤ n → CopiedKnown o p a b (n - left) → IfSome p (λ f. TakesUpTo left f q m) → IfSome o (λ f. TakesUpTo n f q r)
+Takes-more None p q a b n left m r e is l h k = tt
+Takes-more (Some f) None q a b n left m r e is l h k = absurd h
+Takes-more {T = T} (Some f) (Some g) q a b n left m r e is l h k =
+    let bytes : drop k.0 g.bytes ≡ drop ((n - left) + k.0) f.bytes = ap (λ (x : List ℕ). drop k.0 x) h.rest ∙ drop-drop k.0 (n - left) f.bytes in
+    let P : Result T Error → Type 0 = λ r. TakesUpTo n f q r in
+    subst P (sym is) ((n - left) + k.0, omega (arith, k.1), k.2 ∙ same-feed ((n - left) + k.0) f (data_behind k.0 g) bytes h.stop, tt)
 
 -- the head failed
 pub Prints-head_failed : (o : Option Feed) (a b : Sink) (front : List ℕ) (e : Error) (body : Feed → Text) → Failed a b front (error_kind e) → IfSome o (λ f. Prints {T = Unit {0}} a b (Err e) (prepend_text front (body f)))

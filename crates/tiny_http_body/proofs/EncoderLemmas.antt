@@ -70,3 +70,10 @@ Encoded-ended start a b given held h t =
     let P : List ℕ → Type 0 = λ y. Took start b y in
     let Q : List ℕ → Type 0 = λ y. Took a b (short_chunk y ++ codes "0\r\n\r\n") in
     subst P (sym (append_assoc (full_chunks given) (short_chunk (left_over given)) (codes "0\r\n\r\n"))) (Took-append start a b _ _ h.written (subst Q h.rest t))
+
+-- the writer failed within the rest of the body
+pub Encoded-end_failed : (start a b : Sink) (given held : List ℕ) (kind : ErrorKind) → Encoded start a given held → Failed a b (short_chunk held ++ codes "0\r\n\r\n") kind → Failed start b (chunked given) kind
+Encoded-end_failed start a b given held kind h t =
+    let P : List ℕ → Type 0 = λ y. Failed start b y kind in
+    let Q : List ℕ → Type 0 = λ y. Failed a b (short_chunk y ++ codes "0\r\n\r\n") kind in
+    subst P (sym (append_assoc (full_chunks given) (short_chunk (left_over given)) (codes "0\r\n\r\n"))) (Failed-append start a b _ _ kind h.written (subst Q h.rest t))

@@ -189,6 +189,29 @@ ReadsOn (Chunked decoding) n end_reported new =
     MatchBool end_reported (IsBodyOver new) (IsChunkedBy (decoding_rules decoding) new)
 ReadsOn Rest n end_reported new = MatchBool end_reported (IsBodyOver new) (new ≡ Rest)
 
+-- how many bytes a call gave
+abbrev pub bytes_given : {E : Type 0} → Result ℕ E → ℕ
+bytes_given (Ok n) = n
+bytes_given (Err e) = 0
+
+-- one, where a body is over; where a fault ended it
+abbrev pub over_count : UnreadBody → ℕ
+over_count (Over stop) = 1
+over_count _ = 0
+
+abbrev pub fault_stops : UnreadBody → ℕ
+fault_stops (Over (Fault kind)) = 1
+fault_stops _ = 0
+
+-- HOW MANY ENDS AND FAULTS OF THE INPUT A CALL MEETS that gave n bytes of a body and left this of it. A counted body
+-- meets one only where it is cut, and one in chunks only where a fault ends it: its own end is a line.
+abbrev pub ends_met : UnreadBody → ℕ → UnreadBody → ℕ
+ends_met (Over stop) n new = 0
+ends_met (WithHead bytes) n new = 0
+ends_met (Counted left by_standard) n new = if n == left then 0 else over_count new
+ends_met (Chunked decoding) n new = fault_stops new
+ends_met Rest n new = over_count new
+
 -- the body is finished: it is nothing or held, or all its bytes were given out, or its end or fault was reported
 abbrev pub body_finished : Form → ℕ → ℕ → Bool → Bool
 body_finished form.Nothing n given end_reported = true

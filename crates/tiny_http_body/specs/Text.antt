@@ -1,5 +1,6 @@
 -- A text to send and how it ends, and the bodies that data become (RFC 9112, sections 6 and 7).
-use Rattle.std.specs.Prelude.{◌≡◌, ℕ, List, [], ◌++◌, length, take, Result, Ok, Err, nat_le, if◌then◌else◌, ◌⊎◌}
+use Rattle.std.specs.Prelude.{◌≡◌, ℕ, ◌≤◌, List, [], ◌++◌, length, take, drop, Option, Some, Result, Ok, Err, OnOk}
+use Rattle.std.specs.Prelude.{nat_le, if◌then◌else◌, ◌⊎◌}
 use Rattle.std.specs.IoError.{error_kind}
 use Rattle.std.specs.declared.io.Error.{Error}
 use Rattle.std.specs.declared.io.ErrorKind.{ErrorKind}
@@ -36,6 +37,14 @@ identity_body n feed =
       bytes = take n feed.bytes;
       ending = if nat_le n (length feed.bytes) then Whole else Broken (fault_of feed.stop);
     }
+
+-- what stands behind the first n bytes of the data
+abbrev pub data_behind : ℕ → Feed → Feed
+data_behind n feed = record { bytes = drop n feed.bytes; stop = feed.stop }
+
+-- A call took no more than the first n bytes of the data, and just these where it answers Ok.
+abbrev pub TakesUpTo : {T : Type 0} → ℕ → Feed → Option Feed → Result T Error → Type 0
+TakesUpTo n old new r = (k : ℕ) × (k ≤ n) × (new ≡ Some (data_behind k old)) × OnOk r (k ≡ n)
 
 -- a body that is sent in chunks, up to its last full one where its data fails
 abbrev pub chunked_until : Stop → List ℕ → Text

@@ -7,6 +7,7 @@ ghost use Rattle.tiny_http_io.specs.ToCome.{skipped};
 ghost use Rattle.tiny_http_body.specs.Body.{remaining, IsNewChunked, counted_remaining, is_whole, bytes_left};
 ghost use Rattle.tiny_http_body.specs.Body.{remainder, stream_body, is_streaming, body_standing, ReadsOn};
 ghost use Rattle.tiny_http_body.specs.Body.{ReadsRemaining, ReadsBody, ReadsHeld, FillsFromBody, GivesUp};
+ghost use Rattle.tiny_http_body.specs.Body.{bytes_given, ends_met};
 
 use crate::chunked::{ChunkRules, Decoding};
 use std::io;
@@ -95,6 +96,8 @@ impl UnreadBody {
         requires room { 0 < length buf.old }
         ensures reads { ReadsRemaining self.old self.new source.old source.new result buf.new }
         ensures told { Tells (R.told source.old.reader) (R.told source.new.reader) result }
+        ensures whole { R.told source.new.reader
+            ≤ R.told source.old.reader + ends_met self.old (bytes_given result) self.new }
     {
         if left == 0 {
             *self = UnreadBody::Over(Stop::End);
@@ -133,10 +136,13 @@ impl UnreadBody {
         requires room { 0 < length buf.old }
         ensures reads { ReadsRemaining self.old self.new source.old source.new result buf.new }
         ensures told { Tells (R.told source.old.reader) (R.told source.new.reader) result }
+        ensures whole { R.told source.new.reader
+            ≤ R.told source.old.reader + ends_met self.old (bytes_given result) self.new }
     {
         let mut decoding = decoding;
         match decoding.read(source, buf) {
             Ok(0) => {
+                // The last chunk was read: nothing behind it is asked for.
                 *self = UnreadBody::Over(Stop::End);
                 Ok(0)
             }
@@ -162,6 +168,8 @@ impl UnreadBody {
         requires room { 0 < length buf.old }
         ensures reads { ReadsRemaining self.old self.new source.old source.new result buf.new }
         ensures told { Tells (R.told source.old.reader) (R.told source.new.reader) result }
+        ensures whole { R.told source.new.reader
+            ≤ R.told source.old.reader + ends_met self.old (bytes_given result) self.new }
     {
         match source.read_in(buf) {
             Ok(0) => {
@@ -188,6 +196,9 @@ impl UnreadBody {
         ensures reads { ReadsBody self.old self.new source.old source.new result buf.new }
         // The source's reader is asked for no second end or fault, nor for more than the bytes that came.
         ensures told { Tells (R.told source.old.reader) (R.told source.new.reader) result }
+        // It is asked for none where the body has its own end.
+        ensures whole { R.told source.new.reader
+            ≤ R.told source.old.reader + ends_met self.old (bytes_given result) self.new }
     {
         if buf.is_empty() {
             return Ok(0);
@@ -247,6 +258,8 @@ impl UnreadBody {
         ensures front { take at buf.new ≡ take at buf.old }
         ensures reads { ReadsBody self.old self.new source.old source.new result (drop at buf.new) }
         ensures told { Tells (R.told source.old.reader) (R.told source.new.reader) result }
+        ensures whole { R.told source.new.reader
+            ≤ R.told source.old.reader + ends_met self.old (bytes_given result) self.new }
     {
         self.read(source, &mut buf[at..])
     }
@@ -268,6 +281,9 @@ impl UnreadBody {
         ensures told { R.told source.new.reader ≤ R.told source.old.reader + 1 }
         ensures lazy { IfOk result
             (λ n. n ≡ length buf.new → R.told source.new.reader ≤ R.told source.old.reader) }
+        // Nor is it asked for one where the body has its own end.
+        ensures whole { R.told source.new.reader
+            ≤ R.told source.old.reader + ends_met self.old (bytes_given result) self.new }
     {
         let mut at = 0;
         while at < buf.len() {

@@ -274,6 +274,8 @@ impl Decoding {
         ensures needed { OnErr result (TakesNeeded (decoding_reads self.old) (R.feed reader.old) (R.feed reader.new)) }
         // The reader is asked for no second end or fault, nor for more than the bytes that came.
         ensures told { Tells (R.told reader.old) (R.told reader.new) result }
+        // It is asked for none where the body has its own end, which is a line.
+        ensures whole { R.told reader.new ≤ R.told reader.old + fault_count result }
     {
         if buf.is_empty() {
             return Ok(0);
@@ -363,6 +365,7 @@ impl<R: ReadDevice> Decoder<R> {
     pub fn read(&mut self, buf: &mut [u8]) -> Result<usize, io::Error>
         ensures reads { ReadsData R.feed self.old self.new result buf.new }
         ensures told { Tells (R.told (decoder_inner self.old)) (R.told (decoder_inner self.new)) result }
+        ensures whole { R.told (decoder_inner self.new) ≤ R.told (decoder_inner self.old) + fault_count result }
     {
         self.decoding.read(&mut self.inner, buf)
     }
@@ -387,6 +390,7 @@ impl<R: ReadDevice> ReadDevice for Decoder<R> {
         ensures device { Reads (decoder_feed R.feed self.old) (decoder_feed R.feed self.new) result buf.new }
         ensures reads { ReadsData R.feed self.old self.new result buf.new }
         ensures told { Tells (R.told (decoder_inner self.old)) (R.told (decoder_inner self.new)) result }
+        ensures whole { R.told (decoder_inner self.new) ≤ R.told (decoder_inner self.old) + fault_count result }
     {
         self.read(buf)
     }
@@ -407,6 +411,7 @@ impl<R: ReadDevice> Read for Decoder<R> {
             (bytes_of (decoder_feed R.feed self.new)) result buf.new }
         ensures reads { ReadsData R.feed self.old self.new result buf.new }
         ensures told { Tells (R.told (decoder_inner self.old)) (R.told (decoder_inner self.new)) result }
+        ensures whole { R.told (decoder_inner self.new) ≤ R.told (decoder_inner self.old) + fault_count result }
     {
         Decoder::read(self, buf)
     }

@@ -99,6 +99,10 @@ impl<W: WriteDevice> Encoder<W> {
         ensures body { IfOk result (λ w. (start : Sink) (given : List ℕ)
             → HasEncoded start given self
             → Took start (W.sink w) (chunked given)) }
+        // The fault is the one by which the writer, as it was left, failed within the rest of the body.
+        ensures fault { IfErr result (λ e. encoder_failed self ≡ false → (w : W) × ((start : Sink) (given : List ℕ)
+            → HasEncoded start given self
+            → Failed start (W.sink w) (chunked given) (error_kind e))) }
         ensures open { OnOk result (encoder_failed self ≡ false) }
         ensures after { encoder_failed self ≡ true → IsBroken result }
     {

@@ -1,7 +1,7 @@
 //! A body that is sent as it is, of a known length (RFC 9112, section 6.2).
-ghost use Rattle.std.specs.Prelude.{◌≡◌, ◌<◌, ◌≤◌, ◌+◌, length, take, IfOk, IfSome};
+ghost use Rattle.std.specs.Prelude.{◌≡◌, ◌<◌, ◌≤◌, ◌+◌, length, take, IfOk, OnErr, IfSome};
 ghost use Rattle.tiny_http_io.specs.Device.{ReadsFrom, CopiesPiece, CountsFaults, Tells, fault_count};
-ghost use Rattle.tiny_http_body.specs.Text.{Prints, identity_body};
+ghost use Rattle.tiny_http_body.specs.Text.{Prints, identity_body, TakesUpTo};
 
 use crate::gather::PIECE;
 use std::io;
@@ -33,6 +33,8 @@ fn put_piece<D: ReadDevice, W: WriteDevice>(
     requires room { 0 < length buf.old }
     ensures copies { CopiesPiece (D.feed source.old) (D.feed source.new) (W.sink writer.old) (W.sink writer.new) left
         result }
+    ensures takes { IfSome (D.feed source.old)
+        (λ feed. OnErr result (TakesUpTo left feed (D.feed source.new) result)) }
     ensures uses { CountsFaults (W.sink writer.old) (W.sink writer.new) result }
     ensures len { length buf.new ≡ length buf.old }
     ensures told { D.told source.new ≤ D.told source.old + fault_count result }
@@ -56,6 +58,7 @@ fn put_through<D: ReadDevice, W: WriteDevice>(
     requires { 0 < length buf.old }
     ensures text { IfSome (D.feed source.old)
         (λ feed. Prints (W.sink writer.old) (W.sink writer.new) result (identity_body n feed)) }
+    ensures takes { IfSome (D.feed source.old) (λ feed. TakesUpTo n feed (D.feed source.new) result) }
     ensures uses { CountsFaults (W.sink writer.old) (W.sink writer.new) result }
     ensures told { D.told source.new ≤ D.told source.old + fault_count result }
 {
@@ -80,6 +83,8 @@ pub fn put_exactly<D: ReadDevice, W: WriteDevice>(
 ) -> Result<(), io::Error>
     ensures text { IfSome (D.feed source.old)
         (λ feed. Prints (W.sink writer.old) (W.sink writer.new) result (identity_body n feed)) }
+    // No byte behind the `n` is taken off the data.
+    ensures takes { IfSome (D.feed source.old) (λ feed. TakesUpTo n feed (D.feed source.new) result) }
     ensures uses { CountsFaults (W.sink writer.old) (W.sink writer.new) result }
     // The data aren't asked for on behind their end or fault, nor for more than the `n` bytes.
     ensures told { D.told source.new ≤ D.told source.old + fault_count result }

@@ -1,7 +1,8 @@
 //! A body that grows while it is sent.
 ghost use Rattle.std.specs.Prelude.{◌≡◌, List, ℕ, ◌+◌, ◌<◌, ◌≤◌, ◌++◌, [], true, false, length, take, IfOk, IfErr};
 ghost use Rattle.std.specs.Prelude.{OnOk, OnErr};
-ghost use Rattle.tiny_http_io.specs.Device.{Sink, Puts, Took, HoldsNothing};
+ghost use Rattle.std.specs.IoError.{error_kind};
+ghost use Rattle.tiny_http_io.specs.Device.{Sink, Puts, Took, Failed, HoldsNothing};
 ghost use Rattle.tiny_http_body.specs.Streamed.{piece_text, end_text, Gathers};
 
 use crate::chunks::{CHUNK, put_chunk};
@@ -154,6 +155,9 @@ impl<W: WriteDevice> Streamed<W> {
         ensures body { IfOk result (λ w. (start : Sink) (given : List ℕ)
             → HasStreamed start given self
             → EndsStreamed self.form start (W.sink w) given) }
+        // The fault is the one by which the writer, as it was left, failed within this rest.
+        ensures fault { IfErr result (λ e. self.failed ≡ false → (w : W)
+            × Failed self.sink (W.sink w) (piece_text self.form self.held ++ end_text self.form) (error_kind e)) }
         ensures open { OnOk result (self.failed ≡ false) }
         ensures after { self.failed ≡ true → IsBroken result }
     {

@@ -18,7 +18,7 @@ use Rattle.tiny_http_standard_head.specs.declared.source_lines.NoLine.{NoLine}
 use Rattle.tiny_http_standard_head.specs.declared.source_lines.NoLine.TheVariants as no_line
 use Rattle.tiny_http_standard_head.specs.declared.source_heads.NoHead.{NoHead}
 use Rattle.tiny_http_standard_head.specs.declared.source_heads.NoHead.TheVariants.{Refused, Unfinished, Memory}
-use Rattle.tiny_http_standard_head.specs.Lines.{ReadsRequestLine, IsNoRequestLine, ReadsFieldLine}
+use Rattle.tiny_http_standard_head.specs.Lines.{ReadsRequestLine, IsNoRequestLine, ReadsFieldLine, IsNoFieldLine}
 use Rattle.tiny_http_standard_head.specs.declared.heads.NoHead.TheVariants as stop
 use Rattle.tiny_http_standard_head.specs.Judging.{Judges}
 use Rattle.tiny_http_standard_head.specs.HeadParts.{StopsFields, EndsFields}
@@ -33,25 +33,29 @@ IsBadLine IsBad line =
     IsTrue (has_bare_end is_carriage_return line)
     ⊎ ((text : List ℕ) × (line ≡ text ++ carriage_return ∷ []) × IsBad text)
 
+-- a line that is good: a CR stands at its end, and its text isn't one of those that are no good
+abbrev pub IsGoodLine : (List ℕ → Type 0) → List ℕ → Type 0
+IsGoodLine IsBad line = (text : List ℕ) × (line ≡ text ++ carriage_return ∷ []) × (IsBad text → ⊥)
+
 -- a text of a request line that isn't one, nor the empty line
 abbrev pub IsNoRequestOrEmpty : List ℕ → Type 0
 IsNoRequestOrEmpty text = (text ≢ []) × IsNoRequestLine text
 
--- what a line is read as: a request line, or the empty line
+-- what a line is read as: a request line, or the empty line; no memory is wanted but for a request line
 abbrev pub RequestIn : List ℕ → Result (Option (Method × List ℕ × HTTPVersion)) NoHead → Type 0
 RequestIn line (Ok None) = line ≡ carriage_return ∷ []
 RequestIn line (Ok (Some r)) =
     (text : List ℕ) × (line ≡ text ++ carriage_return ∷ []) × ReadsRequestLine text r.0 r.1 r.2
 RequestIn line (Err (Refused BadLine)) = IsBadLine IsNoRequestOrEmpty line
-RequestIn line (Err Memory) = ⊤
+RequestIn line (Err Memory) = IsGoodLine IsNoRequestLine line
 RequestIn line (Err _) = ⊥
 
--- what a line is read as: a field line, or the empty line
+-- what a line is read as: a field line, or the empty line; no memory is wanted but for a field line
 abbrev pub FieldIn : List ℕ → Result (Option Header) NoHead → Type 0
 FieldIn line (Ok None) = line ≡ carriage_return ∷ []
 FieldIn line (Ok (Some h)) = (text : List ℕ) × (line ≡ text ++ carriage_return ∷ []) × ReadsFieldLine text h
 FieldIn line (Err (Refused BadLine)) = IsBadLine IsNoFieldOrEnd line
-FieldIn line (Err Memory) = ⊤
+FieldIn line (Err Memory) = IsGoodLine IsNoFieldLine line
 FieldIn line (Err _) = ⊥
 
 -- why there is no head where there is no line; later says that a line of the head has come

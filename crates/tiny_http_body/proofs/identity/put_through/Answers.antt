@@ -1,7 +1,7 @@
 use Rattle.std.proofs.Common.{rules, Err, ◌≡◌, ◌+◌, ◌-◌, arith}
 use Rattle.std.proofs.lemmas.Result.{err_from_is_err_and}
 use Rattle.tiny_http_body.proofs.DeviceFaults.{SameFaults-append, Uses-behind}
-use Rattle.tiny_http_body.proofs.DeviceCopies.{Prints-broken, Copied-more}
+use Rattle.tiny_http_body.proofs.DeviceCopies.{Prints-broken, Copied-more, Takes-more}
 use Rattle.tiny_http_body.proofs.identity.put_through.Goals as goal
 
 pub returns-in_err-left-clause-text : goal.returns-in_err-left-clause-text
@@ -24,3 +24,8 @@ pub returns-in_err-left-clause-uses : goal.returns-in_err-left-clause-uses
 returns-in_err-left-clause-uses g c =
     let p = err_from_is_err_and c.from_residual.result c.from_residual.ensures.1 in
     rw (p.1, p.2) (Uses-behind {T = Unit {0}} _ _ _ (Err c.in_err-left.field-0.0) c.loop-left.invariant.same c.in_err-left.ensures.uses)
+
+pub returns-in_err-left-clause-takes : goal.returns-in_err-left-clause-takes
+returns-in_err-left-clause-takes g c =
+    let p = err_from_is_err_and c.from_residual.result c.from_residual.ensures.1 in
+    Takes-more _ _ _ _ _ c.args.n c.loop-left.left (Err c.in_err-left.field-0.0) _ _ p.1 (omega arith) c.loop-left.invariant.copied c.in_err-left.ensures.takes

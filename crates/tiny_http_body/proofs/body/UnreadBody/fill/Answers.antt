@@ -1,10 +1,10 @@
-use Rattle.std.proofs.Common.{rules, ◌≡◌, refl, sym, ◌∙◌, subst, ◌+◌, ◌<◌, ℕ, Bool, true, false, Option, length, take, drop, length-drop, arith}
+use Rattle.std.proofs.Common.{rules, ◌≡◌, refl, sym, ◌∙◌, subst, ◌+◌, ◌<◌, ◌≤◌, ℕ, Bool, true, false, Option, length, take, drop, length-drop, arith}
 use Rattle.std.proofs.lemmas.Bool.{ne_eqb, lt-ltb}
 use Rattle.std.specs.Prelude.{◌==◌}
 use Rattle.tiny_http_io.specs.declared.device.Stop.TheVariants.{End}
-use Rattle.tiny_http_body.specs.Body.{Remaining, remaining, prepended_body, BodyStops, NoneRemains, ReadsOn}
+use Rattle.tiny_http_body.specs.Body.{Remaining, remaining, prepended_body, BodyStops, NoneRemains, ReadsOn, ends_met}
 use Rattle.tiny_http_io.proofs.SourceGoesOn.{goes-on_more}
-use Rattle.tiny_http_body.proofs.BodyReads.{read-more, moves-more, stays-settled, bytes-none, stops-none-left, standing-more}
+use Rattle.tiny_http_body.proofs.BodyReads.{read-more, moves-more, stays-settled, bytes-none, stops-none-left, standing-more, ends-more}
 use Rattle.tiny_http_body.proofs.body.UnreadBody.fill.Goals as goal
 
 pub loop-at-preserved : goal.loop-at-preserved
@@ -82,3 +82,26 @@ returns-in-Ok-eq0-clause-standing g c e =
 pub returns-else-at-eq0-clause-standing : goal.returns-else-at-eq0-clause-standing
 returns-else-at-eq0-clause-standing g c e =
     standing-more c.loop-at.self c.read_behind.new.self 0 true c.args.source.now.standing c.loop-at.source c.read_behind.new.source c.in-Err.ensures.reads.broken c.in-Err.ensures.reads.settled c.in-Err.ensures.reads.standing (c.loop-at.invariant.standing e)
+
+pub returns-in-Ok-eq0-clause-whole : goal.returns-in-Ok-eq0-clause-whole
+returns-in-Ok-eq0-clause-whole g c =
+    let inv = c.loop-at.invariant in
+    let n = c.in-Ok-eq0.field-0 in
+    let told = g.R.ReadDevice.told in
+    let more = ends-more c.args.self.now c.loop-at.self c.read_behind.new.self c.loop-at.at inv.start inv.moves in
+    let T : ℕ → Type 0 = λ k. told c.read_behind.new.source.reader ≤ told c.loop-at.source.reader + ends_met c.loop-at.self k c.read_behind.new.self in
+    let here : T 0 = subst T c.in-Ok-eq0.field-0-test c.in-Ok-eq0.ensures.whole in
+    omega (arith, here, inv.told, more)
+
+pub returns-then-at-eq0-clause-whole : goal.returns-then-at-eq0-clause-whole
+returns-then-at-eq0-clause-whole g c =
+    let inv = c.loop-at.invariant in
+    let more = ends-more c.args.self.now c.loop-at.self c.read_behind.new.self c.loop-at.at inv.start inv.moves in
+    let M : ℕ → Type 0 = λ k. ends_met c.loop-at.self 0 c.read_behind.new.self ≤ ends_met c.args.self.now k c.read_behind.new.self in
+    omega (arith, c.in-Err.ensures.whole, inv.told, subst M c.if-at-eq0.true more)
+
+pub returns-else-at-eq0-clause-whole : goal.returns-else-at-eq0-clause-whole
+returns-else-at-eq0-clause-whole g c =
+    let inv = c.loop-at.invariant in
+    let more = ends-more c.args.self.now c.loop-at.self c.read_behind.new.self c.loop-at.at inv.start inv.moves in
+    omega (arith, c.in-Err.ensures.whole, inv.told, more)
