@@ -124,6 +124,16 @@ length-finish (Some Held) k marks = length-pass (slice_get marks (suc k)) (suc k
 length-finish (Some (Left text)) k marks = refl
 length-finish (Some Finished) k marks = refl
 
+-- a step that neither issues a number nor loses one leaves as many marks
+pub count-taken : (issued k : ℕ) (old new : List Mark) → issued ≡ length old → new ≡ marks_after_step (Take k) old → issued ≡ length new
+count-taken issued k old new count marks = count ∙ sym (ap length marks ∙ length-take (slice_get old k) k old)
+
+pub count-left : (issued k : ℕ) (text : List ℕ) (old new : List Mark) → issued ≡ length old → new ≡ marks_after_step (Leave k text) old → issued ≡ length new
+count-left issued k text old new count marks = count ∙ sym (ap length marks ∙ length-leave (slice_get old k) k text old)
+
+pub count-finished : (issued k : ℕ) (old new : List Mark) → issued ≡ length old → new ≡ marks_after_step (Finish k) old → issued ≡ length new
+count-finished issued k old new count marks = count ∙ sym (ap length marks ∙ length-finish (slice_get old k) k old)
+
 -- ---- the steps
 module _ {T : Type 0} where
   -- the item was taken
@@ -191,46 +201,44 @@ module _ {T : Type 0} where
 -- ---- what stands under the lock
 module _ {T W C : Type 0} where
   -- the same number of marks, and those that wait had waited, or may; it isn't their turn
-  sound-same : (old new : LineState T W C) → IsSoundLine old → length new.turns.marks ≡ length old.turns.marks → new.issued ≡ old.issued → new.waiting ≡ old.waiting
+  sound-same : (old new : LineState T W C) → IsSoundLine old → length new.turns.marks ≡ length old.turns.marks → new.waiting ≡ old.waiting
       → ((n : ℕ) → IsItsTurn new.turns.marks n → IsItsTurn old.turns.marks n) → IsSoundLine new
-  sound-same old new sound long issued waiting turn = record {
-    count = issued ∙ (sound.count ∙ sym long);
+  sound-same old new sound long waiting turn = record {
     issued = λ n waits. subst (λ l. n < l) (sym long) (sound.issued n (subst (λ ws. IsSome (waker ws n)) waiting waits));
     waits = λ n waits is. sound.waits n (subst (λ ws. IsSome (waker ws n)) waiting waits) (turn n is);
   }
 
-  module _ (old new : LineState T W C) (sound : IsSoundLine old) (order : IsInOrder new.turns) (issued : new.issued ≡ old.issued) where
+  module _ (old new : LineState T W C) (sound : IsSoundLine old) (order : IsInOrder new.turns) where
     module _ (k : ℕ) (marks : new.turns.marks ≡ marks_after_step (Take k) old.turns.marks) where
       long-take : length new.turns.marks ≡ length old.turns.marks
       long-take = ap length marks ∙ length-take (slice_get old.turns.marks k) k old.turns.marks
 
       pub sound-taken : (item : T) → new.waiting ≡ old.waiting → TakesTurn (turn_answer (Take k) old.turns.marks) old.turns.resting (Some item) new.turns.resting → IsSoundLine new
-      sound-taken item waiting takes = sound-same old new sound long-take issued waiting (λ n turn. absurd (turn-held new.turns order (taken-none (turn_answer (Take k) old.turns.marks) old.turns.resting new.turns.resting item takes) n turn))
+      sound-taken item waiting takes = sound-same old new sound long-take waiting (λ n turn. absurd (turn-held new.turns order (taken-none (turn_answer (Take k) old.turns.marks) old.turns.resting new.turns.resting item takes) n turn))
 
       module _ (takes : TakesTurn (turn_answer (Take k) old.turns.marks) old.turns.resting None new.turns.resting) where
         marks-same : new.turns.marks ≡ old.turns.marks
         marks-same = marks ∙ untaken (slice_get old.turns.marks k) k old.turns.marks old.turns.resting new.turns.resting takes
 
         pub sound-untaken : new.waiting ≡ old.waiting → IsSoundLine new
-        sound-untaken waiting = sound-same old new sound long-take issued waiting (λ n turn. subst (λ ms. IsItsTurn ms n) marks-same turn)
+        sound-untaken waiting = sound-same old new sound long-take waiting (λ n turn. subst (λ ms. IsItsTurn ms n) marks-same turn)
 
         -- the number waits from now on
-        pub sound-waits : k < old.issued → (IsItsTurn old.turns.marks k → ⊥) → ((n : ℕ) → n ≢ k → waker new.waiting n ≡ waker old.waiting n) → IsSoundLine new
+        pub sound-waits : k < length old.turns.marks → (IsItsTurn old.turns.marks k → ⊥) → ((n : ℕ) → n ≢ k → waker new.waiting n ≡ waker old.waiting n) → IsSoundLine new
         sound-waits was_issued not_yet others = record {
-          count = issued ∙ (sound.count ∙ sym long-take);
           issued = λ n waits. subst (λ l. n < l) (sym long-take) (is_issued n waits);
           waits = λ n waits is. no_turn n waits (subst (λ ms. IsItsTurn ms n) marks-same is);
         }
           where
             is_issued : (n : ℕ) → IsSome (waker new.waiting n) → n < length old.turns.marks
-            is_issued n waits = ⊎_elim (λ e. omega (arith, e, was_issued, sound.count)) (λ ne. sound.issued n (subst IsSome (others n ne) waits)) (cases_eq n k)
+            is_issued n waits = ⊎_elim (λ e. omega (arith, e, was_issued)) (λ ne. sound.issued n (subst IsSome (others n ne) waits)) (cases_eq n k)
 
             no_turn : (n : ℕ) → IsSome (waker new.waiting n) → IsItsTurn old.turns.marks n → ⊥
             no_turn n waits is = ⊎_elim (λ e. not_yet (subst (λ j. IsItsTurn old.turns.marks j) e is)) (λ ne. sound.waits n (subst IsSome (others n ne) waits) is) (cases_eq n k)
 
     pub sound-leave : (k : ℕ) (text : List ℕ) (r : Leaving T) → new.waiting ≡ old.waiting → new.turns.marks ≡ marks_after_step (Leave k text) old.turns.marks
         → LeavesTurn (turn_answer (Leave k text) old.turns.marks) old.turns.resting r new.turns.resting → IsSoundLine new
-    sound-leave k text r waiting marks leaves = sound-same old new sound (ap length marks ∙ length-leave (slice_get old.turns.marks k) k text old.turns.marks) issued waiting
+    sound-leave k text r waiting marks leaves = sound-same old new sound (ap length marks ∙ length-leave (slice_get old.turns.marks k) k text old.turns.marks) waiting
         (left-turn (slice_get old.turns.marks k) k text old.turns new.turns r refl order marks leaves)
 
     module _ (k : ℕ) (marks : new.turns.marks ≡ marks_after_step (Finish k) old.turns.marks) where
@@ -240,13 +248,12 @@ module _ {T W C : Type 0} where
       -- the item doesn't rest
       pub sound-not_passed : (item : T) (r : Finishing T) → (r ≡ IsPassed → ⊥) → new.waiting ≡ old.waiting → Finishes (turn_answer (Finish k) old.turns.marks) item old.turns.resting r new.turns.resting → IsSoundLine new
       sound-not_passed item IsPassed other waiting h = absurd (other refl)
-      sound-not_passed item (FinishGo on with) other waiting h = sound-same old new sound long-finish issued waiting (λ n turn. absurd (turn-held new.turns order (gone-none (turn_answer (Finish k) old.turns.marks) item on with old.turns.resting new.turns.resting h) n turn))
-      sound-not_passed item (FinishStrange back) other waiting h = sound-same old new sound long-finish issued waiting (λ n turn. subst (λ ms. IsItsTurn ms n) (marks ∙ unfinished (slice_get old.turns.marks k) k old.turns.marks item back old.turns.resting new.turns.resting h) turn)
+      sound-not_passed item (FinishGo on with) other waiting h = sound-same old new sound long-finish waiting (λ n turn. absurd (turn-held new.turns order (gone-none (turn_answer (Finish k) old.turns.marks) item on with old.turns.resting new.turns.resting h) n turn))
+      sound-not_passed item (FinishStrange back) other waiting h = sound-same old new sound long-finish waiting (λ n turn. subst (λ ms. IsItsTurn ms n) (marks ∙ unfinished (slice_get old.turns.marks k) k old.turns.marks item back old.turns.resting new.turns.resting h) turn)
 
       -- the item rests, and the next number waits no more
       pub sound-passed : waker new.waiting (first_unfinished new.turns.marks) ≡ None → ((n : ℕ) → n ≢ first_unfinished new.turns.marks → waker new.waiting n ≡ waker old.waiting n) → IsSoundLine new
       sound-passed gone others = record {
-        count = issued ∙ (sound.count ∙ sym long-finish);
         issued = λ n waits. subst (λ l. n < l) (sym long-finish) (sound.issued n (subst IsSome (others n (apart n waits)) waits));
         waits = λ n waits is. apart n waits is.1;
       }
@@ -254,11 +261,10 @@ module _ {T W C : Type 0} where
           apart : (n : ℕ) → IsSome (waker new.waiting n) → n ≢ first_unfinished new.turns.marks
           apart n waits e = let none : IsSome {T = W} None = subst IsSome (ap (waker new.waiting) e ∙ gone) waits in cc
 
-  pub sound-issue : (old new : LineState T W C) → IsSoundLine old → new.turns.marks ≡ old.turns.marks ++ Open ∷ [] → new.issued ≡ length old.turns.marks + 1 → new.waiting ≡ old.waiting → IsSoundLine new
-  sound-issue old new sound marks issued waiting =
+  pub sound-issue : (old new : LineState T W C) → IsSoundLine old → new.turns.marks ≡ old.turns.marks ++ Open ∷ [] → new.waiting ≡ old.waiting → IsSoundLine new
+  sound-issue old new sound marks waiting =
       let long : length new.turns.marks ≡ length old.turns.marks + 1 = ap length marks ∙ length-append old.turns.marks (Open ∷ []) in
       record {
-        count = issued ∙ sym long;
         issued = λ n waits. let below : n < length old.turns.marks = sound.issued n (subst (λ ws. IsSome (waker ws n)) waiting waits) in omega (arith, long, below);
         waits = λ n waits is. sound.waits n (had n waits) (turn-issue old.turns.marks n (sound.issued n (had n waits)) (subst (λ ms. IsItsTurn ms n) marks is));
       }

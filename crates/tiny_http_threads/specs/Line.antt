@@ -1,11 +1,10 @@
 -- A LINE: an item that numbers have in turn, and the numbers whose threads wait, as they stand under the lock.
-use Rattle.std.specs.Arc.{arc_value}
 use Rattle.std.specs.BTreeMap.{is_at}
 use Rattle.std.specs.Global.{Box, Global}
 use Rattle.std.specs.Map.{lookup}
 use Rattle.std.specs.Ordering.{nat_cmp}
 use Rattle.std.specs.Prelude.{◌≡◌, ◌≢◌, ℕ, ◌<◌, Bool, false, List, [], length, Option, Some, None, IsSome, option_map}
-use Rattle.std.specs.Prelude.{slice_get}
+use Rattle.std.specs.Prelude.{box_value, slice_get}
 use Rattle.std.specs.declared.sync.Arc.{Arc}
 use Rattle.tiny_http_turns.specs.Turns.{TurnsState, Mark, Open, first_unfinished}
 use Rattle.tiny_http_turns.specs.declared.turns.Finishing.{Finishing}
@@ -14,13 +13,13 @@ use Rattle.std.specs.declared.sync.Condvar.{Condvar}
 use Rattle.tiny_http_threads.specs.declared.line.Taking.{Taking}
 use Rattle.tiny_http_threads.specs.declared.line.Taking.TheVariants.{Held, Waits as IsWaiting, Refused}
 
--- The turns; the numbers whose threads wait, and what wakes each; the last number that was issued unless the line was
--- closed; how many were issued; where those are counted that aren't finished; whether a thread waits for room.
+-- The turns, with a mark for each number that was issued; the numbers whose threads wait, and what wakes each; the last
+-- number that was issued unless the line was closed; where those are counted that aren't finished; whether a thread
+-- waits for room.
 pub record LineState (T W C : Type 0) : Type 0 where
   pub turns : TurnsState T
   pub waiting : List (ℕ × W)
   pub last : Option ℕ
-  pub issued : ℕ
   pub counter : Option C
   pub wants_room : Bool
 
@@ -32,23 +31,19 @@ IsItsTurn marks n = (slice_get marks n ≡ Some Open) × (n ≡ first_unfinished
 abbrev pub waker : {W : Type 0} → List (ℕ × W) → ℕ → Option W
 waker waiting n = lookup (is_at (nat_cmp n)) waiting
 
--- Each number that was issued is counted. One that waits was issued, and its turn hasn't come.
+-- a number that waits was issued, and its turn hasn't come
 pub record IsSoundLine {T W C : Type 0} (line : LineState T W C) : Type 0 where
-  pub count : line.issued ≡ length line.turns.marks
   pub issued : (n : ℕ) → IsSome (waker line.waiting n) → n < length line.turns.marks
   pub waits : (n : ℕ) → IsSome (waker line.waiting n) → IsItsTurn line.turns.marks n → ⊥
 
-module _ {T W C : Type 0} where
-  -- the item rests or doesn't, and no number is issued
-  abbrev pub new_line : Option T → LineState T W C
-  new_line resting = record {
-    turns = record { marks = []; resting = resting };
-    waiting = [];
-    last = None;
-    issued = 0;
-    counter = None;
-    wants_room = false;
-  }
+-- the item rests, no number is issued, and nothing else is there
+pub record IsNewLine {T W C : Type 0} (item : T) (line : LineState (Box T) W C) : Type 0 where
+  pub rests : option_map box_value line.turns.resting ≡ Some item
+  pub marks : line.turns.marks ≡ []
+  pub waiting : line.waiting ≡ []
+  pub last : line.last ≡ None
+  pub counter : line.counter ≡ None
+  pub wants_room : line.wants_room ≡ false
 
 module _ {W : Type 0} where
   -- each other number waits as before, or doesn't
@@ -68,10 +63,10 @@ taken_item (IsWaiting woken) = None
 taken_item Refused = None
 
 -- A number that is to wait is listed, if it isn't yet. That its thread waits on the condition that is listed no clause
--- can say: the standard library's contracts tell no two conditions apart.
+-- says: to contracts all conditions are equal.
 abbrev pub ListsWaiter : {T : Type 0} → Taking T → ℕ → List (ℕ × Arc Condvar Global) → List (ℕ × Arc Condvar Global)
     → Type 0
 ListsWaiter (Held item) number old new = new ≡ old
-ListsWaiter (IsWaiting woken) number old new = (option_map arc_value (waker new number) ≡ Some (arc_value woken))
-    × (IsSome (waker old number) → new ≡ old) × OthersStay number old new
+ListsWaiter (IsWaiting woken) number old new =
+    IsSome (waker new number) × (IsSome (waker old number) → new ≡ old) × OthersStay number old new
 ListsWaiter Refused number old new = new ≡ old

@@ -1,9 +1,8 @@
 //! An item that numbers have in turn, under a lock, and the threads that wait for their turns.
-ghost use Rattle.std.specs.Arc.{arc_value};
 ghost use Rattle.std.specs.BTreeMap.{get};
 ghost use Rattle.std.specs.Ordering.{nat_cmp};
 ghost use Rattle.std.specs.Prelude.{◌≡◌, ◌≢◌, ℕ, ◌+◌, ◌-◌, ◌<◌, ◌↔◌, max, true, false, Some, None, IfOk, OnOk, OnErr};
-ghost use Rattle.std.specs.Prelude.{IsSome, IsTrue, IfSome, box_value, option_map};
+ghost use Rattle.std.specs.Prelude.{IsSome, IsTrue, IfSome, length};
 ghost use Rattle.tiny_http_turns.specs.Turns.{Issue, Take, Finish, Leave, Issued, marks_after_step, turn_answer};
 ghost use Rattle.tiny_http_turns.specs.Turns.{first_unfinished};
 ghost use Rattle.tiny_http_turns.specs.TurnsCalls.{TakesTurn, Finishes, LeavesTurn, GivesBack};
@@ -46,6 +45,7 @@ struct Queue<T> {
 
 impl<T> Model for Queue<T> {
     ghost use Rattle.std.specs.Global.{Box, Global};
+    ghost use Rattle.std.specs.Prelude.{◌≡◌, length};
     ghost use Rattle.std.specs.declared.sync.Arc.{Arc};
     ghost use Rattle.std.specs.declared.sync.Condvar.{Condvar};
     ghost use Rattle.std.specs.declared.sync.atomic.AtomicU64.{AtomicU64};
@@ -57,29 +57,27 @@ impl<T> Model for Queue<T> {
       turns = q.turns;
       waiting = q.waiters.entries;
       last = q.last;
-      issued = q.issued;
       counter = q.open;
       wants_room = q.wants_room;
     } };
 
-    ghost invariant = { λ q. IsSoundLine (record {
+    ghost invariant = { λ q. (q.issued ≡ length q.turns.marks) × IsSoundLine (record {
       turns = q.turns;
       waiting = q.waiters.entries;
       last = q.last;
-      issued = q.issued;
       counter = q.open;
       wants_room = q.wants_room;
     }) };
 }
 
-// What wakes the thread of this number, which waits from now on. An error, and nothing has changed, where memory was
-// refused.
+// What wakes the thread of this number, which waits from now on: that it is what is listed no clause says, since to
+// contracts all conditions are equal. An error, and nothing has changed, where memory was refused.
 fn list_waiter(
     waiters: &mut BTreeMap<u64, Arc<Condvar>>,
     alloc: Global,
     number: u64,
 ) -> Result<Arc<Condvar>, AllocError>
-    ensures woken { IfOk result (λ w. option_map arc_value (get nat_cmp waiters.new number) ≡ Some (arc_value w)) }
+    ensures listed { OnOk result (IsSome (get nat_cmp waiters.new number)) }
     ensures others { (n : ℕ) → n ≢ number → get nat_cmp waiters.new n ≡ get nat_cmp waiters.old n }
     ensures again { IsSome (get nat_cmp waiters.old number) → waiters.new.entries ≡ waiters.old.entries }
     ensures err { OnErr result (waiters.new.entries ≡ waiters.old.entries) }
@@ -103,12 +101,11 @@ fn take_waiter(waiters: &mut BTreeMap<u64, Arc<Condvar>>, number: u64) -> Option
 }
 
 impl<T: Drop> Queue<T> {
-    ghost use Rattle.tiny_http_threads.specs.Line.{IsSoundLine, new_line, ListsWaiter, WakesNext, taken_item};
+    ghost use Rattle.tiny_http_threads.specs.Line.{IsSoundLine, IsNewLine, ListsWaiter, WakesNext, taken_item};
 
     // No number is issued. An error where memory was refused.
     fn new(alloc: Global, item: T) -> Result<Queue<T>, AllocError>
-        ensures item { IfOk result (λ q. option_map box_value q.turns.resting ≡ Some item) }
-        ensures rest { IfOk result (λ q. q ≡ new_line q.turns.resting) }
+        ensures { IfOk result (λ q. IsNewLine item q) }
     {
         Ok(Queue {
             turns: Turns::new(alloc, Box::new(alloc, item)?),
@@ -123,9 +120,8 @@ impl<T: Drop> Queue<T> {
     // The next number. An error where memory was refused, or no number is left; then nothing has changed.
     fn issue(&mut self) -> Result<u64, AllocError>
         ensures number { IfOk result (λ n. turn_answer Issue self.old.turns.marks ≡ Issued n) }
-        ensures ok { IfOk result (λ n. self.new ≡ record self.old {
+        ensures ok { OnOk result (self.new ≡ record self.old {
           turns = record self.old.turns { marks = marks_after_step Issue self.old.turns.marks };
-          issued = n + 1;
         }) }
         ensures err { OnErr result (self.new ≡ self.old) }
     {
@@ -148,14 +144,14 @@ impl<T: Drop> Queue<T> {
 
     // How many numbers were issued and aren't finished.
     fn open(&self) -> u64
-        ensures { result ≡ self.now.issued - first_unfinished self.now.turns.marks }
+        ensures { result ≡ length self.now.turns.marks - first_unfinished self.now.turns.marks }
     {
         self.issued.saturating_sub(self.turns.first_unfinished())
     }
 
     // Whether fewer numbers than `most`, or none where that is 0, were issued and aren't finished.
     fn has_room(&self, most: usize) -> bool
-        ensures { IsTrue result ↔ (self.now.issued - first_unfinished self.now.turns.marks < max most 1) }
+        ensures { IsTrue result ↔ (length self.now.turns.marks - first_unfinished self.now.turns.marks < max most 1) }
     {
         self.open() < most.max(1) as u64
     }

@@ -1,13 +1,16 @@
-use Rattle.std.proofs.Common.{◌≡◌, ◌+◌, ◌-◌, ◌^◌, List, length, refl, arith}
-use Rattle.tiny_http_turns.specs.Turns.{Mark}
+use Rattle.std.proofs.Common.{◌≡◌, ◌+◌, ◌-◌, ◌^◌, List, [], ◌∷◌, length, refl, sym, ap, ◌∙◌, arith}
+use Rattle.std.proofs.lemmas.List.{length-append}
+use Rattle.tiny_http_turns.specs.Turns.{Mark, Open}
 use Rattle.tiny_http_threads.proofs.LineLemmas.{sound-issue}
 use Rattle.tiny_http_threads.proofs.line.Queue.issue.Goals as goal
 
 pub invariant_of-self : goal.invariant_of-self
-invariant_of-self g c =
-    sound-issue (record { turns = c.self.inside.turns; waiting = c.self.inside.waiters.entries; last = c.self.inside.last; issued = c.self.inside.issued; counter = c.self.inside.open; wants_room = c.self.inside.wants_room })
-    (record { turns = c.issue.new.self; waiting = c.self.inside.waiters.entries; last = c.self.inside.last; issued = c.saturating_add-self-inside.result; counter = c.self.inside.open; wants_room = c.self.inside.wants_room })
-    c.self.invariant c.in-Ok.ensures.marks one_more refl
+invariant_of-self g c = (
+  one_more ∙ sym (ap length c.in-Ok.ensures.marks ∙ length-append marks (Open ∷ [])),
+  sound-issue (record { turns = c.self.inside.turns; waiting = c.self.inside.waiters.entries; last = c.self.inside.last; counter = c.self.inside.open; wants_room = c.self.inside.wants_room })
+      (record { turns = c.issue.new.self; waiting = c.self.inside.waiters.entries; last = c.self.inside.last; counter = c.self.inside.open; wants_room = c.self.inside.wants_room })
+      c.self.invariant.1 c.in-Ok.ensures.marks refl,
+)
   where
     marks : List Mark
     marks = c.self.inside.turns.marks
@@ -19,4 +22,4 @@ invariant_of-self g c =
     some_left e = let x = c.issue.ensures.exhausted.1 e in cc
 
     one_more : c.saturating_add-self-inside.result ≡ length marks + 1
-    one_more = omega (arith, c.saturating_add-self-inside.ensures, numbered, some_left, c.self.invariant.count)
+    one_more = omega (arith, c.saturating_add-self-inside.ensures, numbered, some_left, c.self.invariant.0)
