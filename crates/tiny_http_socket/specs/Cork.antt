@@ -1,5 +1,5 @@
 -- What clauses read of the halves of a corked connection.
-use Rattle.std.specs.Prelude.{◌≡◌, [], Option, Some, None, false, Result, Ok, Err}
+use Rattle.std.specs.Prelude.{◌≡◌, ℕ, [], Option, Some, None, false, Result, Ok, Err}
 use Rattle.std.specs.IoError.{error_kind}
 use Rattle.std.specs.declared.io.Error.{Error}
 use Rattle.tiny_http_io.specs.Device.{Feed, Sink, next_count}
@@ -10,6 +10,10 @@ use Rattle.tiny_http_socket.specs.declared.cork.CorkedWriter.{CorkedWriter}
 -- the bytes that the half still gives that is read
 abbrev pub reader_feed : {R W : Type 0} → CorkedReader R W → Option Feed
 reader_feed r = ahead_feed r.ahead
+
+-- how many ends and faults the reader of that half told
+abbrev pub reader_told : {R W : Type 0} → (R → ℕ) → CorkedReader R W → ℕ
+reader_told told r = told r.ahead.reader
 
 -- what the half states that is written: its failures, and no bytes
 abbrev pub writer_sink : {W Rt : Type 0} → CorkedWriter W Rt → Sink

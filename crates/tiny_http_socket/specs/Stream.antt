@@ -5,6 +5,7 @@ use Rattle.std.specs.declared.net.Shutdown.TheVariants.{Read, Write}
 use Rattle.std.specs.declared.net.socket_addr.SocketAddr.{SocketAddr}
 use Rattle.tiny_http_io.specs.Device.{Sink}
 use Rattle.tiny_http_socket.specs.Connection.{HasPeerOf}
+use Rattle.tiny_http_socket.specs.Cork.{fresh_sink}
 use Rattle.tiny_http_socket.specs.declared.connection.Connection.{Connection}
 use Rattle.tiny_http_socket.specs.declared.connection.Connection.TheVariants as C
 use Rattle.tiny_http_socket.specs.declared.refined_tcp_stream.Half.{Half}
@@ -19,10 +20,6 @@ shutdown_of Writing = Write
 -- what it states as a writer: its failures and the kind of the last one, and no bytes
 abbrev pub stream_sink : RefinedTcpStream → Sink
 stream_sink s = record { taken = None; sent = []; failures = s.failures; last_kind = s.last; has_ended = false }
-
--- what a writer states that has not failed
-abbrev pub fresh_sink : Sink
-fresh_sink = record { taken = None; sent = []; failures = 0; last_kind = None; has_ended = false }
 
 -- the connection that it shares with the other half
 abbrev pub connection_of : RefinedTcpStream → Connection

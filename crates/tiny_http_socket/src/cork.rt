@@ -249,9 +249,11 @@ pub struct CorkedReader<R: ReadDevice + Drop, W: WriteBoth + Drop> {
 }
 
 impl<R: ReadDevice + Drop, W: WriteBoth + Drop> ReadDevice for CorkedReader<R, W> {
-    ghost use Rattle.tiny_http_socket.specs.Cork.{reader_feed};
+    ghost use Rattle.tiny_http_socket.specs.Cork.{reader_feed, reader_told};
 
     ghost feed = { reader_feed };
+
+    ghost told = { reader_told R.told };
 
     /// Gives bytes that were read before, if there are some; else has what waits sent, and reads a piece.
     fn read_in(&mut self, buf: &mut [u8]) -> Result<usize, io::Error> {

@@ -1,8 +1,8 @@
 //! A reader by large pieces.
-ghost use Rattle.std.specs.Prelude.{◌≡◌, ◌≢◌, ◌<◌, ◌≤◌, ◌++◌, min, [], length, take, drop, Ok, Err, IfOk, IfErr};
+ghost use Rattle.std.specs.Prelude.{◌≡◌, ◌≢◌, ◌<◌, ◌≤◌, ◌+◌, ◌++◌, min, [], length, take, drop, Ok, Err, IfOk, IfErr};
 ghost use Rattle.std.specs.Prelude.{OnOk, OnErr, vec_len};
 ghost use Rattle.std.specs.IoError.{error_kind};
-ghost use Rattle.tiny_http_io.specs.Device.{Reads, prepended, StopsBy};
+ghost use Rattle.tiny_http_io.specs.Device.{Reads, Tells, prepended, StopsBy};
 ghost use Rattle.tiny_http_io.specs.declared.device.Stop.TheVariants.{End, Fault};
 ghost use Rattle.tiny_http_socket.specs.declared.read_ahead.TheConstants.{PIECE};
 
@@ -92,6 +92,8 @@ impl<R: ReadDevice> ReadAhead<R> {
         ensures end { OnOk result (self.new.held ≡ [] → StopsBy End self.old.feed) }
         ensures fault { IfErr result (λ e. StopsBy (Fault (error_kind e)) self.old.feed) }
         ensures again { OnErr result ((self.new.held ≡ []) × (self.new.feed ≡ self.old.feed)) }
+        ensures told { R.told self.new.reader ≤ R.told self.old.reader + 1 }
+        ensures lazy { OnOk result (0 < length self.new.held → R.told self.new.reader ≤ R.told self.old.reader) }
     {
         let read = self.reader.read_in(self.piece.as_mut_slice());
         self.start = 0;
@@ -109,6 +111,7 @@ impl<R: ReadDevice> ReadAhead<R> {
         buf: &mut [u8],
     ) -> Result<usize, io::Error>
         ensures reads { Reads (ahead_feed self.old) (ahead_feed self.new) result buf.new }
+        ensures told { Tells (R.told self.old.reader) (R.told self.new.reader) result }
         ensures empty { length buf.new ≡ 0 → (result ≡ Ok 0) × (self.new ≡ self.old) × (before.new ≡ before.old) }
         ensures held { self.old.held ≢ [] → (self.new.reader ≡ self.old.reader) × (before.new ≡ before.old) }
         ensures calls { self.old.held ≡ [] → 0 < length buf.new → B.does before.old before.new }
@@ -127,6 +130,7 @@ impl<R: ReadDevice> ReadAhead<R> {
     fn read_more(&mut self, buf: &mut [u8]) -> Result<usize, io::Error>
         requires none { self.old.held ≡ [] }
         ensures reads { Reads self.old.feed (ahead_feed self.new) result buf.new }
+        ensures told { Tells (R.told self.old.reader) (R.told self.new.reader) result }
     {
         if buf.len() >= PIECE {
             return self.reader.read_in(buf);
