@@ -126,22 +126,22 @@ or-true true = refl
 or-true false = refl
 
 -- no line
-pub request-unread : (limit left : ℕ) (old new : Option Feed) (why : NoLine) → HasNoLine limit old new why → ReadsRequest limit left old new (Err (no_head why RequestLineTooLong false))
-request-unread limit left None new why h = tt
-request-unread limit left (Some f) new no_line.Memory h = tt
-request-unread limit left (Some f) None (no_line.Cut b) h = let no : ◌≡◌ {A = Option Feed} (Some f) None = h.1.joins in cc
-request-unread limit left (Some f) None no_line.TooLong h = let no : ◌≡◌ {A = Option Feed} (Some f) None = h.1.joins in cc
-request-unread limit left (Some f) (Some g) (no_line.Cut b) h =
+pub request-unread : (limit left : ℕ) (old new : Option Feed) (held : List ℕ) (why : NoLine) → HasNoLine limit old new held why → ReadsRequest limit left old new (Err (no_head why RequestLineTooLong false))
+request-unread limit left None new held why h = tt
+request-unread limit left (Some f) new held no_line.Memory h = tt
+request-unread limit left (Some f) None held (no_line.Cut b) h = let no : ◌≡◌ {A = Option Feed} (Some f) None = h.1.joins in cc
+request-unread limit left (Some f) None held no_line.TooLong h = let no : ◌≡◌ {A = Option Feed} (Some f) None = h.1.joins in cc
+request-unread limit left (Some f) (Some g) held (no_line.Cut b) h =
     let bytes = all-gone f g h.0 h.1.joins h.3 in
     ((subst (HasNo line_feed) (sym bytes) h.1.none, omega (arith, h.2, ap length bytes)), or-false b ∙ h.4 ∙ ap (λ (x : List ℕ). not (length x == 0)) (sym bytes))
-request-unread limit left (Some f) (Some g) no_line.TooLong h = long-gone limit f g h.0 h.1.joins h.1.none h.2
+request-unread limit left (Some f) (Some g) held no_line.TooLong h = long-gone limit f g h.0 h.1.joins h.1.none h.2
 
-pub field-unread : (limit left : ℕ) (old new : Option Feed) (why : NoLine) → HasNoLine limit old new why → ReadsField limit left old new (Err (no_head why HeaderFieldsTooLarge true))
-field-unread limit left None new why h = tt
-field-unread limit left (Some f) new no_line.Memory h = tt
-field-unread limit left (Some f) None (no_line.Cut b) h = let no : ◌≡◌ {A = Option Feed} (Some f) None = h.1.joins in cc
-field-unread limit left (Some f) None no_line.TooLong h = let no : ◌≡◌ {A = Option Feed} (Some f) None = h.1.joins in cc
-field-unread limit left (Some f) (Some g) (no_line.Cut b) h =
+pub field-unread : (limit left : ℕ) (old new : Option Feed) (held : List ℕ) (why : NoLine) → HasNoLine limit old new held why → ReadsField limit left old new (Err (no_head why HeaderFieldsTooLarge true))
+field-unread limit left None new held why h = tt
+field-unread limit left (Some f) new held no_line.Memory h = tt
+field-unread limit left (Some f) None held (no_line.Cut b) h = let no : ◌≡◌ {A = Option Feed} (Some f) None = h.1.joins in cc
+field-unread limit left (Some f) None held no_line.TooLong h = let no : ◌≡◌ {A = Option Feed} (Some f) None = h.1.joins in cc
+field-unread limit left (Some f) (Some g) held (no_line.Cut b) h =
     let bytes = all-gone f g h.0 h.1.joins h.3 in
     ((subst (HasNo line_feed) (sym bytes) h.1.none, omega (arith, h.2, ap length bytes)), or-true b)
-field-unread limit left (Some f) (Some g) no_line.TooLong h = long-gone limit f g h.0 h.1.joins h.1.none h.2
+field-unread limit left (Some f) (Some g) held no_line.TooLong h = long-gone limit f g h.0 h.1.joins h.1.none h.2
