@@ -1,6 +1,6 @@
 -- From the lines of a source to a head.
 use Rattle.std.proofs.Common.{◌≡◌, refl, sym, ap, ◌∙◌, subst, ℕ, suc, ◌+◌, ◌-◌, ◌<◌, inl, inr, Bool, true, false, not, List, [], ◌∷◌, ◌++◌, length, take, Option, Some, None, Result, Ok, Err, append_assoc, append-nil, length-append, take_all, length-take-le, arith}
-use Rattle.std.specs.Prelude.{◌==◌, ◌||◌}
+use Rattle.std.specs.Prelude.{◌==◌, ◌||◌, IfSome}
 use Rattle.std.specs.List.{list_all}
 use Rattle.std.proofs.lemmas.Bool.{and_parts}
 use Rattle.std.proofs.lemmas.List.{take-append-le}
@@ -16,9 +16,10 @@ use Rattle.tiny_http_standard_head.specs.declared.source_lines.NoLine.{NoLine}
 use Rattle.tiny_http_standard_head.specs.declared.source_lines.NoLine.TheVariants as no_line
 use Rattle.tiny_http_standard_head.specs.declared.source_heads.NoHead.{NoHead}
 use Rattle.tiny_http_standard_head.specs.declared.source_heads.NoHead.TheVariants.{Refused, Unfinished, Memory}
+use Rattle.tiny_http_standard_head.specs.Lines.{IsNoRequestLine, IsNoFieldLine}
 use Rattle.tiny_http_standard_head.specs.SourceLines.{EndsLine, TakesLine, HasNoLine}
 use Rattle.tiny_http_standard_head.specs.Heads.{line_feed, carriage_return, Line, BeginsWithBadLine, IsNoFieldOrEnd}
-use Rattle.tiny_http_standard_head.specs.SourceHeads.{IsBadLine, IsNoRequestOrEmpty, RequestIn, FieldIn, no_head, IsSpent, TakesText, IsLong, ReadsRequest, ReadsField}
+use Rattle.tiny_http_standard_head.specs.SourceHeads.{IsBadLine, IsGoodLine, LacksMemory, IsNoRequestOrEmpty, RequestIn, FieldIn, no_head, IsSpent, TakesText, IsLong, ReadsRequest, ReadsField}
 
 -- what a limit lets through of a line and what is behind it
 window : (limit left : ℕ) (line rest : List ℕ) → length line + 1 + left ≡ limit → take limit (line ++ line_feed ∷ rest) ≡ line ++ line_feed ∷ take left rest
@@ -106,6 +107,19 @@ held-taken limit n old mid new held line same joins ends within is = record {
   first = subst (HasNo line_feed) (sym is) ends.first;
   within = omega (arith, ap length is ∙ length-take-le n held (omega (arith, ends.within)), within);
 }
+
+-- no memory was found for a line that was taken
+pub request-memory : (line : List ℕ) (r : Result (Option (Method × List ℕ × HTTPVersion)) NoHead) → RequestIn line r → r ≡ Err Memory → IsGoodLine IsNoRequestLine line
+request-memory line r h e = let P : Result (Option (Method × List ℕ × HTTPVersion)) NoHead → Type 0 = λ x. RequestIn line x in subst P e h
+
+pub field-memory : (line : List ℕ) (r : Result (Option Header) NoHead) → FieldIn line r → r ≡ Err Memory → IsGoodLine IsNoFieldLine line
+field-memory line r h e = let P : Result (Option Header) NoHead → Type 0 = λ x. FieldIn line x in subst P e h
+
+pub lacks-taken : (IsBad : List ℕ → Type 0) (limit : ℕ) (old new : Option Feed) (held line : List ℕ) → TakesLine limit old new line → IsGoodLine IsBad line → IfSome old (λ f. LacksMemory IsBad limit f new held)
+lacks-taken IsBad limit None new held line t good = tt
+lacks-taken IsBad limit (Some f) new held line t good =
+    let at = takes-at limit (limit - (length line + 1)) f new line refl t in
+    inl (good.0, take (limit - (length line + 1)) at.rest, line-at limit (limit - (length line + 1)) f new line good.0 at good.1, good.2)
 
 -- all bytes were taken, or so many as the limit allows
 all-gone : (f g : Feed) (gone : List ℕ) → Some f ≡ Some (prepend gone g) → g.bytes ≡ [] → f.bytes ≡ gone
