@@ -1,5 +1,5 @@
 -- What the calls that read the parts of an answer give.
-use Rattle.std.specs.Prelude.{◌≡◌, ℕ, List, [], Option, Some, None, Result, Ok, Err, false, ⊤}
+use Rattle.std.specs.Prelude.{◌≡◌, ℕ, ◌≤◌, List, [], length, Option, Some, None, Result, Ok, Err, false, ⊤}
 use Rattle.std.specs.declared.io.ErrorKind.{ErrorKind}
 use Rattle.std.specs.declared.io.ErrorKind.TheVariants.{InvalidData}
 use Rattle.tiny_http_head.specs.declared.common.HTTPVersion.{HTTPVersion}
@@ -15,6 +15,7 @@ use Rattle.tiny_http_client.specs.declared.answer.Answer.{Answer}
 use Rattle.tiny_http_client.specs.ClientAnswer.{AnswerHead, ClientAnswer, FieldLine, BeginsWithFieldLines}
 use Rattle.tiny_http_client.specs.ClientAnswer.{BeginsWithAnswerHead, PassesOver, is_interim, Lack, Unfinished}
 use Rattle.tiny_http_client.specs.ClientAnswer.{Invalid, LacksLine, IsFieldLineOrEmpty, LacksHead}
+use Rattle.tiny_http_client.specs.ClientAnswer.{Extent, NoBody, OfChunks, OfLength, OfUnknownLength}
 
 -- a head, and an answer, as the grammar sees them
 abbrev pub head_of : HeadParts → AnswerHead
@@ -34,6 +35,14 @@ abbrev pub LacksBy : (Lack → Type 0) → Fault → Type 0
 LacksBy lacks IsCut = lacks Unfinished
 LacksBy lacks IsBad = lacks Invalid
 LacksBy lacks IsMemory = ⊤
+
+-- where memory is wanted for a body: for the data of chunks, and for so many bytes as the length says, once they are
+-- there
+abbrev pub WantsMemory : Extent → List ℕ → Type 0
+WantsMemory NoBody bytes = ⊥
+WantsMemory OfChunks bytes = ⊤
+WantsMemory (OfLength n) bytes = n ≤ length bytes
+WantsMemory OfUnknownLength bytes = ⊥
 
 -- what a fault of this kind says of a chunked body whose bytes end
 abbrev pub chunk_fault : ErrorKind → Fault

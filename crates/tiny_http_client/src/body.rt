@@ -1,10 +1,10 @@
 //! The body of an answer, as a client reads it.
-ghost use Rattle.std.specs.Prelude.{◌≡◌, ◌&&◌, codes, IfOk, IfErr};
+ghost use Rattle.std.specs.Prelude.{◌≡◌, ◌&&◌, codes, Err, IfOk, IfErr};
 ghost use Rattle.std.specs.Option.{option_copied};
 ghost use Rattle.tiny_http_head.specs.Common.{same_name};
 ghost use Rattle.tiny_http_client.specs.ClientAnswer.{has_no_body, says_chunked, content_length, first_value, extent};
 ghost use Rattle.tiny_http_client.specs.ClientAnswer.{BeginsWithBody, LacksBody, OfChunks, OfLength};
-ghost use Rattle.tiny_http_client.specs.AnswerParts.{head_of, LacksBy, chunk_fault};
+ghost use Rattle.tiny_http_client.specs.AnswerParts.{head_of, LacksBy, chunk_fault, WantsMemory};
 
 use crate::head::{Fault, HeadParts};
 use crate::number::number_in;
@@ -94,6 +94,7 @@ fn read_chunks(alloc: Global, rest: &mut Rest<'_>) -> Result<Vec<u8>, Fault>
 fn read_counted(alloc: Global, length: usize, rest: &mut Rest<'_>) -> Result<Vec<u8>, Fault>
     ensures read { IfOk result (λ body. BeginsWithBody (OfLength length) rest.old body.items rest.new) }
     ensures lacks { IfErr result (LacksBy (LacksBody (OfLength length) rest.old)) }
+    ensures memory { result ≡ Err Fault.Memory → WantsMemory (OfLength length) rest.old }
 {
     match rest.take(length) {
         Some(bytes) => Ok(bytes.to_vec(alloc)?),
@@ -111,6 +112,8 @@ pub(crate) fn read_body(
     ensures read { IfOk result
         (λ body. BeginsWithBody (extent method.now (head_of head.now)) rest.old body.items rest.new) }
     ensures lacks { IfErr result (LacksBy (LacksBody (extent method.now (head_of head.now)) rest.old)) }
+    // No memory is wanted for a body before its bytes are there, but for chunks.
+    ensures memory { result ≡ Err Fault.Memory → WantsMemory (extent method.now (head_of head.now)) rest.old }
 {
     if has_no_body(method, head.status) {
         return Ok(Vec::new(alloc));

@@ -1,6 +1,6 @@
 -- From the lines of a source to a head.
 use Rattle.std.proofs.Common.{◌≡◌, refl, sym, ap, ◌∙◌, subst, ℕ, suc, ◌+◌, ◌-◌, ◌<◌, inl, inr, Bool, true, false, not, List, [], ◌∷◌, ◌++◌, length, take, Option, Some, None, Result, Ok, Err, append_assoc, append-nil, length-append, take_all, length-take-le, arith}
-use Rattle.std.specs.Prelude.{◌==◌, ◌||◌}
+use Rattle.std.specs.Prelude.{◌==◌, ◌||◌, IfSome}
 use Rattle.std.specs.List.{list_all}
 use Rattle.std.proofs.lemmas.Bool.{and_parts}
 use Rattle.std.proofs.lemmas.List.{take-append-le}
@@ -16,9 +16,10 @@ use Rattle.tiny_http_standard_head.specs.declared.source_lines.NoLine.{NoLine}
 use Rattle.tiny_http_standard_head.specs.declared.source_lines.NoLine.TheVariants as no_line
 use Rattle.tiny_http_standard_head.specs.declared.source_heads.NoHead.{NoHead}
 use Rattle.tiny_http_standard_head.specs.declared.source_heads.NoHead.TheVariants.{Refused, Unfinished, Memory}
+use Rattle.tiny_http_standard_head.specs.Lines.{IsNoRequestLine, IsNoFieldLine}
 use Rattle.tiny_http_standard_head.specs.SourceLines.{EndsLine, TakesLine, HasNoLine}
 use Rattle.tiny_http_standard_head.specs.Heads.{line_feed, carriage_return, Line, BeginsWithBadLine, IsNoFieldOrEnd}
-use Rattle.tiny_http_standard_head.specs.SourceHeads.{IsBadLine, IsNoRequestOrEmpty, RequestIn, FieldIn, no_head, IsSpent, TakesText, IsLong, ReadsRequest, ReadsField}
+use Rattle.tiny_http_standard_head.specs.SourceHeads.{IsBadLine, IsGoodLine, LacksMemory, IsNoRequestOrEmpty, RequestIn, FieldIn, no_head, IsSpent, TakesText, IsLong, ReadsRequest, ReadsField}
 
 -- what a limit lets through of a line and what is behind it
 window : (limit left : ℕ) (line rest : List ℕ) → length line + 1 + left ≡ limit → take limit (line ++ line_feed ∷ rest) ≡ line ++ line_feed ∷ take left rest
@@ -107,6 +108,19 @@ held-taken limit n old mid new held line same joins ends within is = record {
   within = omega (arith, ap length is ∙ length-take-le n held (omega (arith, ends.within)), within);
 }
 
+-- no memory was found for a line that was taken
+pub request-memory : (line : List ℕ) (r : Result (Option (Method × List ℕ × HTTPVersion)) NoHead) → RequestIn line r → r ≡ Err Memory → IsGoodLine IsNoRequestLine line
+request-memory line r h e = let P : Result (Option (Method × List ℕ × HTTPVersion)) NoHead → Type 0 = λ x. RequestIn line x in subst P e h
+
+pub field-memory : (line : List ℕ) (r : Result (Option Header) NoHead) → FieldIn line r → r ≡ Err Memory → IsGoodLine IsNoFieldLine line
+field-memory line r h e = let P : Result (Option Header) NoHead → Type 0 = λ x. FieldIn line x in subst P e h
+
+pub lacks-taken : (IsBad : List ℕ → Type 0) (limit : ℕ) (old new : Option Feed) (held line : List ℕ) → TakesLine limit old new line → IsGoodLine IsBad line → IfSome old (λ f. LacksMemory IsBad limit f new held)
+lacks-taken IsBad limit None new held line t good = tt
+lacks-taken IsBad limit (Some f) new held line t good =
+    let at = takes-at limit (limit - (length line + 1)) f new line refl t in
+    inl (good.0, take (limit - (length line + 1)) at.rest, line-at limit (limit - (length line + 1)) f new line good.0 at good.1, good.2)
+
 -- all bytes were taken, or so many as the limit allows
 all-gone : (f g : Feed) (gone : List ℕ) → Some f ≡ Some (prepend gone g) → g.bytes ≡ [] → f.bytes ≡ gone
 all-gone f g gone e none = ap (λ (x : Feed). x.bytes) (some-feed f g gone e) ∙ ap (λ (x : List ℕ). gone ++ x) none ∙ append-nil gone
@@ -126,22 +140,22 @@ or-true true = refl
 or-true false = refl
 
 -- no line
-pub request-unread : (limit left : ℕ) (old new : Option Feed) (why : NoLine) → HasNoLine limit old new why → ReadsRequest limit left old new (Err (no_head why RequestLineTooLong false))
-request-unread limit left None new why h = tt
-request-unread limit left (Some f) new no_line.Memory h = tt
-request-unread limit left (Some f) None (no_line.Cut b) h = let no : ◌≡◌ {A = Option Feed} (Some f) None = h.1.joins in cc
-request-unread limit left (Some f) None no_line.TooLong h = let no : ◌≡◌ {A = Option Feed} (Some f) None = h.1.joins in cc
-request-unread limit left (Some f) (Some g) (no_line.Cut b) h =
+pub request-unread : (limit left : ℕ) (old new : Option Feed) (held : List ℕ) (why : NoLine) → HasNoLine limit old new held why → ReadsRequest limit left old new (Err (no_head why RequestLineTooLong false))
+request-unread limit left None new held why h = tt
+request-unread limit left (Some f) new held no_line.Memory h = tt
+request-unread limit left (Some f) None held (no_line.Cut b) h = let no : ◌≡◌ {A = Option Feed} (Some f) None = h.1.joins in cc
+request-unread limit left (Some f) None held no_line.TooLong h = let no : ◌≡◌ {A = Option Feed} (Some f) None = h.1.joins in cc
+request-unread limit left (Some f) (Some g) held (no_line.Cut b) h =
     let bytes = all-gone f g h.0 h.1.joins h.3 in
     ((subst (HasNo line_feed) (sym bytes) h.1.none, omega (arith, h.2, ap length bytes)), or-false b ∙ h.4 ∙ ap (λ (x : List ℕ). not (length x == 0)) (sym bytes))
-request-unread limit left (Some f) (Some g) no_line.TooLong h = long-gone limit f g h.0 h.1.joins h.1.none h.2
+request-unread limit left (Some f) (Some g) held no_line.TooLong h = long-gone limit f g h.0 h.1.joins h.1.none h.2
 
-pub field-unread : (limit left : ℕ) (old new : Option Feed) (why : NoLine) → HasNoLine limit old new why → ReadsField limit left old new (Err (no_head why HeaderFieldsTooLarge true))
-field-unread limit left None new why h = tt
-field-unread limit left (Some f) new no_line.Memory h = tt
-field-unread limit left (Some f) None (no_line.Cut b) h = let no : ◌≡◌ {A = Option Feed} (Some f) None = h.1.joins in cc
-field-unread limit left (Some f) None no_line.TooLong h = let no : ◌≡◌ {A = Option Feed} (Some f) None = h.1.joins in cc
-field-unread limit left (Some f) (Some g) (no_line.Cut b) h =
+pub field-unread : (limit left : ℕ) (old new : Option Feed) (held : List ℕ) (why : NoLine) → HasNoLine limit old new held why → ReadsField limit left old new (Err (no_head why HeaderFieldsTooLarge true))
+field-unread limit left None new held why h = tt
+field-unread limit left (Some f) new held no_line.Memory h = tt
+field-unread limit left (Some f) None held (no_line.Cut b) h = let no : ◌≡◌ {A = Option Feed} (Some f) None = h.1.joins in cc
+field-unread limit left (Some f) None held no_line.TooLong h = let no : ◌≡◌ {A = Option Feed} (Some f) None = h.1.joins in cc
+field-unread limit left (Some f) (Some g) held (no_line.Cut b) h =
     let bytes = all-gone f g h.0 h.1.joins h.3 in
     ((subst (HasNo line_feed) (sym bytes) h.1.none, omega (arith, h.2, ap length bytes)), or-true b)
-field-unread limit left (Some f) (Some g) no_line.TooLong h = long-gone limit f g h.0 h.1.joins h.1.none h.2
+field-unread limit left (Some f) (Some g) held no_line.TooLong h = long-gone limit f g h.0 h.1.joins h.1.none h.2

@@ -1,17 +1,17 @@
 -- The parts of a head that are read from a source, joined.
 use Rattle.std.proofs.Common.{◌≡◌, ◌≢◌, refl, sym, ap, ◌∙◌, subst, ℕ, ◌+◌, ◌-◌, ◌<◌, ◌≤◌, inl, inr, Bool, true, false, not, List, [], ◌∷◌, ◌++◌, length, take, drop, length-take, Option, Some, None, Result, Ok, Err, length-append, take_all, arith, eqb-true}
 use Rattle.std.proofs.Math.Seq.{drop-append_seam}
-use Rattle.std.specs.Prelude.{◌==◌, IfOk, IsTrue}
+use Rattle.std.specs.Prelude.{◌==◌, suc, IfOk, OnErr, IfSome, IsTrue}
 use Rattle.std.specs.Global.{Vec}
 use Rattle.std.specs.declared.alloc.AllocError.{AllocError}
 use Rattle.std.proofs.lemmas.Bool.{and_parts}
 use Rattle.tiny_http_text.specs.Bytes.{HasNo, has_bare_end}
-use Rattle.tiny_http_io.specs.Device.{Feed}
+use Rattle.tiny_http_io.specs.Device.{Feed, prepend, prepended}
 use Rattle.tiny_http_io.specs.Source.{SourceState, GoesOn, IsCutOff, feed_from}
 use Rattle.tiny_http_head.specs.declared.common.Method.{Method}
 use Rattle.tiny_http_head.specs.declared.common.HTTPVersion.{HTTPVersion}
 use Rattle.tiny_http_head.specs.declared.common.Header.{Header}
-use Rattle.tiny_http_head.specs.Heads.{Message}
+use Rattle.tiny_http_head.specs.Heads.{Message, method_of}
 use Rattle.tiny_http_standard_head.specs.declared.heads.StandardHead.{StandardHead}
 use Rattle.tiny_http_standard_head.specs.declared.heads.StandardFault.TheVariants.{BadLine, RequestLineTooLong, HeaderFieldsTooLarge, Judged}
 use Rattle.tiny_http_standard_head.specs.declared.heads.StandardRead.{StandardRead}
@@ -23,7 +23,7 @@ use Rattle.tiny_http_standard_head.specs.declared.source_heads.NoHead.TheVariant
 use Rattle.tiny_http_standard_head.specs.Lines.{ReadsRequestLine, IsNoRequestLine}
 use Rattle.tiny_http_standard_head.specs.Judging.{Judges}
 use Rattle.tiny_http_standard_head.specs.Heads.{line_feed, carriage_return, is_carriage_return, Line, BeginsWithBareLine, behind_empty_line, BeginsWithRequestLine, BeginsWithFieldLines, BeginsWithBadLine, HasOpenRequestLine, HasOpenField, BeginsWithHead, is_begun, message_of}
-use Rattle.tiny_http_standard_head.specs.SourceHeads.{IsNoRequestOrEmpty, IsSpent, TakesText, ReadsRequest, ReadsField, ReadsStart, HasReadFields, ReadsFields, IsWithoutHead, ReadsFrom}
+use Rattle.tiny_http_standard_head.specs.SourceHeads.{IsNoRequestOrEmpty, LacksMemory, LacksMemoryAtStart, IsSpent, TakesText, ReadsRequest, ReadsField, ReadsStart, HasReadFields, ReadsFields, IsWithoutHead, ReadsFrom}
 use Rattle.tiny_http_standard_head.proofs.HeadsLemmas.{more-fields, whole-head, fields-stop}
 
 -- bytes that don't begin with an empty line
@@ -110,6 +110,55 @@ first-err limit left (Some f) new (Unfinished b) h =
     let all : take limit f.bytes ≡ f.bytes = take_all limit f.bytes (omega (arith, h.0.1)) in
     (subst (λ (x : List ℕ). HasNo line_feed (behind_empty_line x)) (sym all) (subst (HasNo line_feed) (sym same) h.0.0), h.0.1, h.1 ∙ ap (λ (x : List ℕ). not (length x == 0)) (sym same))
 first-err limit left (Some f) new Memory h = tt
+
+-- no memory was found for it
+empty-request : IsNoRequestLine []
+empty-request name t v r = no-empty_request (method_of name) t v (name, r, refl)
+
+pub first-lacks : (limit : ℕ) (old new : Option Feed) (held : List ℕ) → IfSome old (λ f. LacksMemory IsNoRequestLine limit f new held) → IfSome old (λ f. LacksMemoryAtStart limit f new held)
+first-lacks limit None new held h = tt
+first-lacks limit (Some f) new held (inl k) =
+    let some : k.0 ≢ [] = λ e. k.3 (subst IsNoRequestLine (sym e) empty-request) in
+    let same = line-kept (take limit f.bytes) k.0 k.1 k.2 some in
+    inl (record { text = k.0; rest = k.1; line = subst (λ (x : List ℕ). Line x k.0 k.1) (sym same) k.2; good = k.3 })
+first-lacks limit (Some f) new held (inr k) =
+    let same = open-kept k.0 k.2 in
+    let P : ℕ → Type 0 = λ n. HasNo line_feed (take n held) in
+    inr (k.0, k.1, subst (HasNo line_feed) (sym same) k.2, λ e. (let none : k.0 ≡ [] = sym same ∙ e in let all : limit ≡ limit - length k.0 = omega (arith, ap length none) in subst P all (k.3 none)))
+
+-- behind an empty line
+crlf-twice : (bs : List ℕ) (o : Option Feed) → prepended (13 ∷ 10 ∷ []) (prepended bs o) ≡ prepended (13 ∷ 10 ∷ bs) o
+crlf-twice bs None = refl
+crlf-twice bs (Some g) = refl
+
+crlf-front : (f a : Feed) → Some f ≡ Some (prepend (13 ∷ 10 ∷ []) a) → f ≡ prepend (13 ∷ 10 ∷ []) a
+crlf-front f a e = cc
+
+pub second-lacks : (limit mid : ℕ) (old at new : Option Feed) (held : List ℕ) → old ≡ prepended (13 ∷ 10 ∷ []) at → limit ≡ mid + 2 → IfSome at (λ f. LacksMemory IsNoRequestLine mid f new held) → IfSome old (λ f. LacksMemoryAtStart limit f new held)
+second-lacks limit mid None at new held e l h = tt
+second-lacks limit mid (Some f) None new held e l h = let no : ◌≡◌ {A = Option Feed} (Some f) None = e in cc
+second-lacks limit mid (Some f) (Some a) new held e l h = by h
+  where
+    bytes : f.bytes ≡ 13 ∷ 10 ∷ a.bytes
+    bytes = ap (λ (x : Feed). x.bytes) (crlf-front f a e)
+
+    two : limit ≡ suc (suc mid)
+    two = omega (arith, l)
+
+    behind : behind_empty_line (take limit f.bytes) ≡ take mid a.bytes
+    behind = ap (λ (x : List ℕ). behind_empty_line (take limit x)) bytes ∙ ap (λ (n : ℕ). behind_empty_line (take n (13 ∷ 10 ∷ a.bytes))) two
+
+    by : LacksMemory IsNoRequestLine mid a new held → LacksMemoryAtStart limit f new held
+    by (inl k) = inl (record { text = k.0; rest = k.1; line = subst (λ (x : List ℕ). Line x k.0 k.1) (sym behind) k.2; good = k.3 })
+    by (inr k) =
+        let P : ℕ → Type 0 = λ n. HasNo line_feed (take n held) in
+        inr (13 ∷ 10 ∷ k.0, e ∙ ap (prepended (13 ∷ 10 ∷ [])) k.1 ∙ crlf-twice k.0 new, k.2, λ none. (let all : mid ≡ limit - suc (suc (length k.0)) = omega (arith, ap length none, l) in subst P all (k.3 none)))
+
+-- nor for what stands behind a good request line
+pub start-lacks : {T E : Type 0} (limit left : ℕ) (old mid new : Option Feed) (held : List ℕ) (start : Method × List ℕ × HTTPVersion) (r : Result T E) → ReadsStart limit left old mid (Ok start) → OnErr r (IfSome old (λ f. LacksMemoryAtStart limit f new held))
+start-lacks limit left old mid new held start (Ok x) h = tt
+start-lacks limit left None mid new held start (Err e) h = tt
+start-lacks limit left (Some f) mid new held start (Err e) h = inl (record { text = h.1.text; rest = take left h.0; line = h.1.line; good = λ none. none h.1.reads.0 start.1 start.2 h.1.reads.1 })
 
 -- AN EMPTY LINE stands in front of it
 second-some : (limit mid left : ℕ) (f : Feed) (new : Option Feed) (rest : List ℕ) (r : Method × List ℕ × HTTPVersion) → Line (take limit f.bytes) [] (take mid rest) → IsSpent limit f.bytes mid rest

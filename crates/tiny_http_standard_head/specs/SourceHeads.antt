@@ -1,10 +1,11 @@
 -- A head that is read from a source: what it is, and what is left of the input behind it.
-use Rattle.std.specs.Prelude.{◌≡◌, ◌≢◌, ℕ, ◌+◌, ◌<◌, ◌≤◌, ◌⊎◌, ⊤, Bool, true, ◌||◌, ◌==◌, not, List, [], ◌∷◌, ◌++◌}
+use Rattle.std.specs.Prelude.{◌≡◌, ◌≢◌, ℕ, ◌+◌, ◌-◌, ◌<◌, ◌≤◌, ◌⊎◌, ⊤, Bool, true, ◌||◌, ◌==◌, not, List, [], ◌∷◌}
+use Rattle.std.specs.Prelude.{◌++◌}
 use Rattle.std.specs.Prelude.{length, take, drop, Option, Some, None, Result, Ok, Err, IsTrue, IsErr}
 use Rattle.std.specs.Global.{Vec}
 use Rattle.std.specs.declared.alloc.AllocError.{AllocError}
 use Rattle.tiny_http_text.specs.Bytes.{HasNo, has_bare_end}
-use Rattle.tiny_http_io.specs.Device.{Feed}
+use Rattle.tiny_http_io.specs.Device.{Feed, prepended}
 use Rattle.tiny_http_io.specs.Source.{feed_from}
 use Rattle.tiny_http_head.specs.declared.common.Method.{Method}
 use Rattle.tiny_http_head.specs.declared.common.HTTPVersion.{HTTPVersion}
@@ -25,7 +26,7 @@ use Rattle.tiny_http_standard_head.specs.HeadParts.{StopsFields, EndsFields}
 use Rattle.tiny_http_standard_head.specs.Heads.{line_feed, carriage_return, is_carriage_return, Line}
 use Rattle.tiny_http_standard_head.specs.Heads.{behind_empty_line, BeginsWithRequestLine, BeginsWithFieldLines}
 use Rattle.tiny_http_standard_head.specs.Heads.{BeginsWithBadLine, IsNoFieldOrEnd, HasOpenRequestLine, is_begun}
-use Rattle.tiny_http_standard_head.specs.Heads.{Reads}
+use Rattle.tiny_http_standard_head.specs.Heads.{HasGoodRequestLine, Reads}
 
 -- a line that is no good: no CR stands at its end, or its text isn't what has to stand there
 abbrev pub IsBadLine : (List ℕ → Type 0) → List ℕ → Type 0
@@ -117,6 +118,25 @@ ReadsField limit left (Some f) new (Err (Refused HeaderFieldsTooLarge)) = IsLong
 ReadsField limit left (Some f) new (Err (Unfinished has_begun)) = IsShort limit f.bytes × (has_begun ≡ true)
 ReadsField limit left (Some f) new (Err Memory) = ⊤
 ReadsField limit left (Some f) new (Err _) = ⊥
+
+-- why no memory is found for the first line: it is a good one; or it doesn't lie whole in the buffer: bytes of it were
+-- taken, or no LF is among those that are held then
+abbrev pub LacksMemory : (List ℕ → Type 0) → ℕ → Feed → Option Feed → List ℕ → Type 0
+LacksMemory IsBad limit f new held =
+    ((text : List ℕ) × (rest : List ℕ) × Line (take limit f.bytes) text rest × (IsBad text → ⊥))
+    ⊎ ((gone : List ℕ)
+    × (Some f ≡ prepended gone new)
+    × HasNo line_feed gone
+    × (gone ≡ [] → HasNo line_feed (take limit held)))
+
+-- the same of a request line, in front of which an empty line is passed over
+abbrev pub LacksMemoryAtStart : ℕ → Feed → Option Feed → List ℕ → Type 0
+LacksMemoryAtStart limit f new held =
+    HasGoodRequestLine (take limit f.bytes)
+    ⊎ ((gone : List ℕ)
+    × (Some f ≡ prepended gone new)
+    × HasNo line_feed (behind_empty_line gone)
+    × (behind_empty_line gone ≡ [] → HasNo line_feed (take (limit - length gone) held)))
 
 -- the request line, and an empty line in front of it if there is one
 abbrev pub ReadsStart : ℕ → ℕ → Option Feed → Option Feed → Result (Method × List ℕ × HTTPVersion) NoHead → Type 0

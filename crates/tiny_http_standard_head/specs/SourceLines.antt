@@ -1,7 +1,7 @@
 -- A line of the bytes that a source still gives: up to its first LF, and within a limit.
 use Rattle.std.specs.Prelude.{◌≡◌, ℕ, ◌+◌, ◌<◌, ◌≤◌, ⊤, ◌==◌, not, List, [], ◌∷◌, ◌++◌, length, take, Option}
 use Rattle.tiny_http_text.specs.Bytes.{HasNo}
-use Rattle.tiny_http_io.specs.Device.{Feed, prepended, TakesFront}
+use Rattle.tiny_http_io.specs.Device.{Feed, prepended}
 use Rattle.tiny_http_io.specs.ToCome.{HasNoByte}
 use Rattle.tiny_http_standard_head.specs.declared.source_lines.FoundLine.{FoundLine}
 use Rattle.tiny_http_standard_head.specs.declared.source_lines.FoundLine.TheVariants.{Held, Taken}
@@ -36,13 +36,15 @@ abbrev pub IsCut : NoLine → Type 0
 IsCut (Cut has_begun) = ⊤
 IsCut _ = ⊥
 
--- why there is no line within the limit
-abbrev pub HasNoLine : ℕ → Option Feed → Option Feed → NoLine → Type 0
-HasNoLine limit old new (Cut has_begun) =
+-- why there is no line within the limit, where these bytes are in the buffer then; memory is wanted but for a line that
+-- doesn't lie whole there
+abbrev pub HasNoLine : ℕ → Option Feed → Option Feed → List ℕ → NoLine → Type 0
+HasNoLine limit old new held (Cut has_begun) =
     (gone : List ℕ)
     × Passes old new gone
     × (length gone < limit)
     × HasNoByte new
     × (has_begun ≡ not (length gone == 0))
-HasNoLine limit old new TooLong = (gone : List ℕ) × Passes old new gone × (length gone ≡ limit)
-HasNoLine limit old new Memory = TakesFront old new
+HasNoLine limit old new held TooLong = (gone : List ℕ) × Passes old new gone × (length gone ≡ limit)
+HasNoLine limit old new held Memory =
+    (gone : List ℕ) × Passes old new gone × (gone ≡ [] → HasNo line_feed (take limit held))

@@ -1,11 +1,15 @@
 //! Whole heads by the standard, read from a source (RFC 9112, sections 2.2, 3 and 5).
-ghost use Rattle.std.specs.Prelude.{◌≡◌, ◌<◌, ◌≤◌, ◌++◌, ◌∷◌, [], IsTrue, IfSome, IfNone, IfOk, IfErr, OnOk};
-ghost use Rattle.tiny_http_text.specs.Bytes.{has_bare_end};
+ghost use Rattle.std.specs.Prelude.{◌≡◌, ◌+◌, ◌<◌, ◌≤◌, ◌++◌, ◌∷◌, [], IsTrue, Ok, Err, None, IfSome, IfNone, IfOk};
+ghost use Rattle.std.specs.Prelude.{IfErr, OnOk, OnErr};
+ghost use Rattle.tiny_http_text.specs.Bytes.{crlf, has_bare_end};
+ghost use Rattle.tiny_http_io.specs.Device.{prepended};
 ghost use Rattle.tiny_http_io.specs.Source.{GoesOn, IsCutOff};
 ghost use Rattle.tiny_http_standard_head.specs.Heads.{carriage_return, is_carriage_return};
 ghost use Rattle.tiny_http_standard_head.specs.SourceHeads.{RequestIn, FieldIn, ReadsRequest, ReadsField, ReadsStart};
 ghost use Rattle.tiny_http_standard_head.specs.SourceHeads.{ReadsFields, ReadsFrom, IsJudged, no_head, IsWithoutHead};
-ghost use Rattle.tiny_http_standard_head.specs.SourceHeads.{IsUnfinished, IsUnfinishedRead};
+ghost use Rattle.tiny_http_standard_head.specs.SourceHeads.{IsUnfinished, IsUnfinishedRead, LacksMemory};
+ghost use Rattle.tiny_http_standard_head.specs.SourceHeads.{LacksMemoryAtStart};
+ghost use Rattle.tiny_http_standard_head.specs.Lines.{IsNoRequestLine, IsNoFieldLine};
 
 use crate::heads::{StandardFault, StandardHead, StandardRead};
 use crate::judging::judge;
@@ -97,6 +101,9 @@ fn read_request<R: ReadDevice>(
     left: &mut usize,
 ) -> Result<Option<(Method, AsciiString, HTTPVersion)>, NoHead>
     ensures reads { ReadsRequest left.old left.new source.old.feed source.new.feed result }
+    ensures memory { result ≡ Err NoHead.Memory → IfSome source.old.feed
+        (λ f. LacksMemory IsNoRequestLine left.old f source.new.feed source.new.held) }
+    ensures empty { result ≡ Ok None → (source.old.feed ≡ prepended crlf source.new.feed) × (left.old ≡ left.new + 2) }
     ensures shorter { OnOk result (left.new ≤ left.old) }
     ensures goes_on { GoesOn source.old.feed source.new.feed }
     ensures cut { IfErr result (λ why. IsUnfinished why → IsCutOff source.old source.new) }
@@ -126,6 +133,8 @@ fn read_field<R: ReadDevice>(
     left: &mut usize,
 ) -> Result<Option<Header>, NoHead>
     ensures reads { ReadsField left.old left.new source.old.feed source.new.feed result }
+    ensures memory { result ≡ Err NoHead.Memory → IfSome source.old.feed
+        (λ f. LacksMemory IsNoFieldLine left.old f source.new.feed source.new.held) }
     ensures shorter { OnOk result (left.new < left.old) }
     ensures goes_on { GoesOn source.old.feed source.new.feed }
     ensures cut { IfErr result (λ why. IsUnfinished why → IsCutOff source.old source.new) }
@@ -155,6 +164,8 @@ fn read_start<R: ReadDevice>(
     left: &mut usize,
 ) -> Result<(Method, AsciiString, HTTPVersion), NoHead>
     ensures reads { ReadsStart left.old left.new source.old.feed source.new.feed result }
+    ensures memory { result ≡ Err NoHead.Memory → IfSome source.old.feed
+        (λ f. LacksMemoryAtStart left.old f source.new.feed source.new.held) }
     ensures shorter { OnOk result (left.new ≤ left.old) }
     ensures goes_on { GoesOn source.old.feed source.new.feed }
     ensures cut { IfErr result (λ why. IsUnfinished why → IsCutOff source.old source.new) }
@@ -224,6 +235,9 @@ pub fn read_head_from<R: ReadDevice>(
     limit: usize,
 ) -> Result<StandardRead, AllocError>
     ensures reads { IfOk result (λ read. ReadsFrom limit source.old.feed source.new.feed read) }
+    // Memory is wanted for a good request line and what stands behind it, or for one that isn't whole in the buffer.
+    ensures memory { OnErr result (IfSome source.old.feed
+        (λ f. LacksMemoryAtStart limit f source.new.feed source.new.held)) }
     ensures judged { IfOk result IsJudged }
     ensures goes_on { GoesOn source.old.feed source.new.feed }
     ensures cut { IfOk result (λ read. IsUnfinishedRead read → IsCutOff source.old source.new) }

@@ -1,5 +1,5 @@
 //! Lines of the bytes that a source still gives, each up to its first LF (RFC 9112, section 2.2).
-ghost use Rattle.std.specs.Prelude.{◌≡◌, IfSome, IfNone, IfOk, IfErr, OnOk, true, take};
+ghost use Rattle.std.specs.Prelude.{◌≡◌, ◌<◌, IfSome, IfNone, IfOk, IfErr, OnOk, true, length, take};
 ghost use Rattle.tiny_http_text.specs.Bytes.{HasNo};
 ghost use Rattle.tiny_http_io.specs.Source.{GoesOn, IsCutOff};
 ghost use Rattle.tiny_http_standard_head.specs.Heads.{line_feed};
@@ -48,26 +48,25 @@ fn within(bytes: &[u8], limit: usize) -> &[u8]
     &bytes[..bytes.len().min(limit)]
 }
 
-// Takes a line off, wherever its pieces come.
+// Takes a line off whose first bytes are in the buffer, but not its LF, wherever its other pieces come.
 fn take_line<R: ReadDevice>(
     alloc: Global,
     source: &mut Source<R>,
     limit: usize,
 ) -> Result<Vec<u8>, NoLine>
+    requires limit { 0 < limit }
+    requires skip { source.old.skip ≡ 0 }
+    requires some { 0 < length source.old.held }
+    requires begun { HasNo line_feed (take limit source.old.held) }
     ensures takes { IfOk result (λ line. TakesLine limit source.old.feed source.new.feed line.items) }
-    ensures none { IfErr result (λ why. HasNoLine limit source.old.feed source.new.feed why) }
+    ensures none { IfErr result (λ why. HasNoLine limit source.old.feed source.new.feed source.new.held why) }
     ensures cut { IfErr result (λ why. IsCut why → source.new.is_over ≡ true) }
     ensures lazy { OnOk result (source.new.stop ≡ source.old.stop) }
     ensures passed { IfErr result (λ why. (IsCut why → ⊥) → source.new.stop ≡ source.old.stop) }
     ensures standing { source.new.standing ≡ source.old.standing }
 {
     let mut line = Vec::new(alloc);
-    while line.len() < limit {
-        if !source.has_byte() {
-            return Err(NoLine::Cut {
-                has_begun: !line.is_empty(),
-            });
-        }
+    loop {
         let held = within(source.held(), limit - line.len());
         match find_line_feed(held) {
             Some(n) => {
@@ -85,8 +84,15 @@ fn take_line<R: ReadDevice>(
                 source.consume(n);
             }
         }
+        if line.len() >= limit {
+            return Err(NoLine::TooLong);
+        }
+        if !source.has_byte() {
+            return Err(NoLine::Cut {
+                has_begun: !line.is_empty(),
+            });
+        }
     }
-    Err(NoLine::TooLong)
 }
 
 /// Finds the next line, within so many bytes with its LF. A line that lies whole in the buffer stays there, to be
@@ -98,7 +104,7 @@ pub(crate) fn find_line<R: ReadDevice>(
 ) -> Result<FoundLine, NoLine>
     ensures finds { IfOk result
         (λ line. FindsLine limit source.old.feed source.new.feed source.new.held source.new.skip line) }
-    ensures none { IfErr result (λ why. HasNoLine limit source.old.feed source.new.feed why) }
+    ensures none { IfErr result (λ why. HasNoLine limit source.old.feed source.new.feed source.new.held why) }
     ensures goes_on { GoesOn source.old.feed source.new.feed }
     ensures cut { IfErr result (λ why. IsCut why → IsCutOff source.old source.new) }
     ensures lazy { OnOk result (source.new.stop ≡ source.old.stop) }

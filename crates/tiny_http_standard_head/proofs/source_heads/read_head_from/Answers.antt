@@ -4,7 +4,7 @@ use Rattle.tiny_http_io.proofs.SourceGoesOn.{goes-on_more}
 use Rattle.tiny_http_standard_head.specs.declared.judging.HeadSummary.{HeadSummary}
 use Rattle.tiny_http_standard_head.specs.declared.judging.Judgement.{Judgement}
 use Rattle.tiny_http_standard_head.specs.Judging.{Judges}
-use Rattle.tiny_http_standard_head.proofs.SourceJoining.{fields-err-read, reads-whole_head, reads-refused_head}
+use Rattle.tiny_http_standard_head.proofs.SourceJoining.{fields-err-read, start-lacks, reads-whole_head, reads-refused_head}
 use Rattle.tiny_http_standard_head.proofs.source_heads.read_head_from.Goals as goal
 
 pub returns-in-Err-read_fields-clause-goes_on : goal.returns-in-Err-read_fields-clause-goes_on
@@ -36,3 +36,7 @@ pub returns-in-Err-read_fields-clause-reads : goal.returns-in-Err-read_fields-cl
 returns-in-Err-read_fields-clause-reads g c =
     fields-err-read c.args.limit c.read_start.new.left c.read_fields.new.left c.args.source.now.feed c.read_start.new.source.feed c.read_fields.new.source.feed c.in-Ok.start c.in-Err-read_fields.why c.without_head-in-Err-read_fields.result
     c.in-Ok.ensures.reads c.in-Err-read_fields.ensures.reads c.without_head-in-Err-read_fields.ensures
+
+pub returns-in-Err-read_fields-clause-memory : goal.returns-in-Err-read_fields-clause-memory
+returns-in-Err-read_fields-clause-memory g c =
+    start-lacks c.args.limit c.read_start.new.left c.args.source.now.feed c.read_start.new.source.feed c.read_fields.new.source.feed c.read_fields.new.source.held c.in-Ok.start c.without_head-in-Err-read_fields.result c.in-Ok.ensures.reads

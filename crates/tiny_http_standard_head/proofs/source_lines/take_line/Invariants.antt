@@ -1,14 +1,19 @@
-use Rattle.std.proofs.Common.{◌≡◌, ◌-◌, ◌≤◌, length}
+use Rattle.std.proofs.Common.{◌≡◌, ◌-◌, ◌<◌, [], length, take}
+use Rattle.tiny_http_text.specs.Bytes.{HasNo}
+use Rattle.tiny_http_standard_head.specs.Heads.{line_feed}
 use Rattle.tiny_http_standard_head.specs.SourceLines.{Passes}
 use Rattle.tiny_http_standard_head.proofs.source_lines.take_line.Given as goal
 
-abbrev pub invariant-loop-source : goal.invariant-loop-source
-invariant-loop-source g l = record {
+abbrev pub invariant-loop-n : goal.invariant-loop-n
+invariant-loop-n g l = record {
   passes : Passes l.fn.source.feed l.source.feed l.line.items;
-  within : length l.line.items ≤ l.limit;
+  within : length l.line.items < l.limit;
+  skip : l.source.skip ≡ 0;
+  some : 0 < length l.source.held;
+  begun : l.line.items ≡ [] → HasNo line_feed (take l.limit l.source.held);
   stop : l.source.stop ≡ l.fn.source.stop;
   standing : l.source.standing ≡ l.fn.source.standing;
 }
 
-abbrev pub decreases-loop-source : goal.decreases-loop-source
-decreases-loop-source g l = l.limit - length l.line.items
+abbrev pub decreases-loop-n : goal.decreases-loop-n
+decreases-loop-n g l = l.limit - length l.line.items
