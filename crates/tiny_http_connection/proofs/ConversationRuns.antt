@@ -1,6 +1,6 @@
 -- A run goes on by one step.
 use Rattle.tiny_http_io.specs.declared.source.Standing.TheVariants as at
-use Rattle.std.proofs.Common.{◌≡◌, refl, sym, ap, ◌∙◌, subst, ℕ, ◌-◌, ◌^◌, ◌<◌, ◌≤◌, Bool, true, false, List, [], ◌∷◌, ◌++◌, length, Option, Some, None, arith, append-nil, inl, inr}
+use Rattle.std.proofs.Common.{◌≡◌, refl, sym, ap, ◌∙◌, subst, ℕ, ◌-◌, ◌<◌, ◌≤◌, Bool, true, false, List, [], ◌∷◌, ◌++◌, length, Option, Some, None, arith, append-nil, inl, inr}
 use Rattle.std.specs.Prelude.{MatchBool}
 use Rattle.std.specs.Option.{option_map}
 use Rattle.std.specs.List.{AllZip}
@@ -29,10 +29,8 @@ use Rattle.tiny_http_io.specs.declared.device.Stop.TheVariants.{End}
 use Rattle.tiny_http_connection.proofs.ConnectionReader.{LastKept, done-open, waiting-open, open-by, behind-settled}
 use Rattle.tiny_http_connection.specs.declared.driver.Timed.{Timed}
 use Rattle.tiny_http_connection.specs.declared.driver.Reply.{Reply}
-use Rattle.std.specs.declared.io.ErrorKind.{ErrorKind}
 use Rattle.tiny_http_connection.specs.declared.driver.Step.{Step}
 use Rattle.tiny_http_connection.specs.declared.driver.Step.TheVariants as step
-use Rattle.httpdate.specs.declared.date.HttpDate.{HttpDate}
 use Rattle.tiny_http_connection.specs.Seen.{seen, all_sent_after, all_sent}
 use Rattle.tiny_http_connection.specs.Driving.{stated_step, TakesStep}
 use Rattle.tiny_http_connection.specs.Runs.{TakesSteps}

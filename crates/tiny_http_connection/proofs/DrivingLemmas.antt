@@ -16,7 +16,6 @@ use Rattle.tiny_http_connection.specs.declared.pending.Unfinished.TheVariants as
 use Rattle.tiny_http_connection.specs.Pending.{is_last_once_finished_at as kept_lacks, refuses_at, is_last_with_stream_at, last_holds_next_head, kept_body, GivesUpBody, refuses_upgrade_at}
 use Rattle.std.specs.List.{AllZip}
 use Rattle.tiny_http_connection.specs.declared.driver.Timed.{Timed}
-use Rattle.tiny_http_connection.specs.declared.driver.Reply.{Reply}
 use Rattle.tiny_http_connection.specs.declared.driver.Step.{Step}
 use Rattle.tiny_http_connection.specs.declared.driver.Step.TheVariants as step
 use Rattle.tiny_http_connection.specs.declared.pending.Pending.{Pending}
@@ -27,7 +26,7 @@ use Rattle.tiny_http_connection.specs.Steps.{StepValue, Ask, AsReader, Read, Res
 use Rattle.tiny_http_connection.specs.Outcomes.{Reached, changes, ends_asking, use_in_turn, outcome}
 use Rattle.tiny_http_connection.specs.Conversation.{State, IsFresh, StepsTo, IsAskOutOfMemory, start_state}
 use Rattle.tiny_http_response.specs.Sending.{FailsOnceUnlessEnded, IsHonest, FailsOnce, Sends}
-use Rattle.tiny_http_connection.specs.Seen.{seen, IsResponse, IsStep, IsTimedStep, ReportsOfWriter, Answers, IsAnswered, IsOfWriter, is_done, all_sent_after}
+use Rattle.tiny_http_connection.specs.Seen.{IsResponse, IsStep, IsTimedStep, ReportsOfWriter, Answers, IsAnswered, IsOfWriter, is_done, all_sent_after}
 use Rattle.tiny_http_body.specs.declared.body.UnreadBody.{UnreadBody}
 use Rattle.tiny_http_open_request.specs.declared.open_request.OpenRequest.{OpenRequest}
 use Rattle.tiny_http_open_request.specs.OpenRequest.{refuses_code, request_check}

@@ -38,7 +38,6 @@ use Rattle.tiny_http_connection.specs.declared.pending.Unfinished.TheVariants as
 use Rattle.tiny_http_body.specs.Body.{is_streaming, stream_body, body_standing}
 use Rattle.tiny_http_connection.specs.Seen.{IsStep, IsAnswered, IsOfWriter, ReportsOfWriter, all_sent_after}
 use Rattle.tiny_http_connection.specs.Outcomes.{fault_reply}
-use Rattle.tiny_http_turns.specs.Turns.{Mark}
 use Rattle.tiny_http_connection.specs.Connection.{ConnectionState, kept, Stands}
 
 -- By a connection of this profile, over this client's feed and a fresh writer, these steps were done, with these
