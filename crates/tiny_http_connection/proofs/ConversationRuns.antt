@@ -1,6 +1,6 @@
 -- A run goes on by one step.
 use Rattle.tiny_http_io.specs.declared.source.Standing.TheVariants as at
-use Rattle.std.proofs.Common.{◌≡◌, refl, sym, ap, ◌∙◌, subst, ℕ, ◌-◌, ◌^◌, ◌<◌, ◌≤◌, Bool, true, false, List, [], ◌∷◌, ◌++◌, length, Option, Some, None, arith, append-nil, inl, inr}
+use Rattle.std.proofs.Common.{◌≡◌, refl, sym, ap, ◌∙◌, subst, ℕ, ◌-◌, ◌<◌, ◌≤◌, Bool, true, false, List, [], ◌∷◌, ◌++◌, length, Option, Some, None, arith, append-nil, inl, inr}
 use Rattle.std.specs.Prelude.{MatchBool}
 use Rattle.std.specs.Option.{option_map}
 use Rattle.std.specs.List.{AllZip}
@@ -19,9 +19,8 @@ use Rattle.tiny_http_io.specs.declared.device.Stop.{Stop}
 use Rattle.tiny_http_connection.specs.Segments.{Slot, is_last_item}
 use Rattle.tiny_http_connection.specs.Slots.{joined, last_slot, last_is_open, last_was_abandoned, is_last_slot}
 use Rattle.tiny_http_connection.specs.Steps.{ReplyValue, TimedValue}
-use Rattle.tiny_http_connection.specs.Conversation.{State, Failure, StepsTo, Run, start_state, IsFresh, HasAskOutOfMemory, PlaceAt, WithinBody, WithinLast, InputAt, IsOutput, IsConversation}
-use Rattle.tiny_http_connection.specs.Connection.{Kept, OutputAt, IsOpen, behind_body, slot_rest, GivesRest, BeginsMore, PlaceIn, Stands}
-use Rattle.tiny_http_connection.proofs.ConversationEnded.{begins-behind_items}
+use Rattle.tiny_http_connection.specs.Conversation.{State, Failure, StepsTo, Run, start_state, IsFresh, HasAskOutOfMemory, PlaceAt, WithinBody, WithinLast, InputAt, IsOutput, IsConversation, BeginsBehind}
+use Rattle.tiny_http_connection.specs.Connection.{ConnectionState, Kept, OutputAt, IsOpen, behind_body, slot_rest, GivesRest, PlaceIn, Stands}
 use Rattle.tiny_http_io.specs.ToCome.{stopped}
 use Rattle.tiny_http_body.specs.Body.{Remaining, remaining, is_streaming}
 use Rattle.tiny_http_connection.specs.Pending.{last_body, is_streaming_body}
@@ -30,13 +29,12 @@ use Rattle.tiny_http_io.specs.declared.device.Stop.TheVariants.{End}
 use Rattle.tiny_http_connection.proofs.ConnectionReader.{LastKept, done-open, waiting-open, open-by, behind-settled}
 use Rattle.tiny_http_connection.specs.declared.driver.Timed.{Timed}
 use Rattle.tiny_http_connection.specs.declared.driver.Reply.{Reply}
-use Rattle.std.specs.declared.io.ErrorKind.{ErrorKind}
 use Rattle.tiny_http_connection.specs.declared.driver.Step.{Step}
 use Rattle.tiny_http_connection.specs.declared.driver.Step.TheVariants as step
-use Rattle.httpdate.specs.declared.date.HttpDate.{HttpDate}
-use Rattle.tiny_http_connection.specs.Seen.{seen, ReportsHonestly, ReportHonestly, WriteTells, ReportsOfWriter, MayFail, all_sent_after, all_sent}
-use Rattle.tiny_http_connection.specs.Driving.{stated_step}
-use Rattle.tiny_http_response.specs.Sending.{SinkFailsOnce, FailsOnceUnlessEnded, FailsAtMostOnce}
+use Rattle.tiny_http_connection.specs.Seen.{seen, all_sent_after, all_sent}
+use Rattle.tiny_http_connection.specs.Driving.{stated_step, TakesStep}
+use Rattle.tiny_http_connection.specs.Runs.{TakesSteps}
+use Rattle.tiny_http_response.specs.Sending.{SinkFailsOnce, FailsOnceUnlessEnded}
 use Rattle.tiny_http_io.proofs.DeviceLemmas.{grown-nil}
 use Rattle.tiny_http_io.proofs.SourceGoesOn.{goes-on_same}
 use Rattle.tiny_http_connection.proofs.ConnectionAsk.{stated-feed, last-of}
@@ -189,11 +187,11 @@ output-end before sink held ended slots flushed (Some f) empty begins h =
 
 -- a run to where the connection stands is a conversation, with what is then held and left
 pub conversation : (profile : Profile) (client : Feed) (before sink : Sink) (held : List ℕ) (k : Kept) (ended : Bool) (items : List Item) (end : State) (replies : List ReplyValue) (dated : List TimedValue) → k.profile ≡ profile → k.sink ≡ holding sink held ended → k.output_ended ≡ ended → (ended ≡ true → held ≡ []) → BeginsKnown sink.sent sink.taken
-    → Pipeline profile (Some client.bytes) client.stop items → Run (start_state items) dated replies end → Stands client before k end → (HasAskOutOfMemory dated replies → (end.reached.asking_ended ≡ true) × (end.reached.rest ≡ [] → BeginsMore profile client)) → IsConversation profile client before dated replies sink held ended k.feed
+    → Pipeline profile (Some client.bytes) client.stop items → Run (start_state items) dated replies end → Stands client before k end → (HasAskOutOfMemory dated replies → (end.reached.asking_ended ≡ true) × (end.reached.rest ≡ [] → BeginsBehind profile (Some client.bytes) client.stop items)) → IsConversation profile client before dated replies sink held ended k.feed
 conversation profile client before sink held k ended items end replies dated profile_is same same_end empty begins pipeline run st memory =
     let P : Sink → Bool → Type 0 = λ x y. OutputAt before x y end.reached.slots end.flushed end.failure in
     let out : P (holding sink held ended) ended = subst (λ y. P (holding sink held ended) y) same_end (subst (λ x. P x k.output_ended) same st.output) in
-    record { items = items; end = end; pipeline = pipeline; run = run; output = output-end before sink held ended end.reached.slots end.flushed end.failure empty begins out; input = subst (λ p. InputAt p end.reached k.feed) profile_is (input-end client before k end st); memory = λ vain none. begins-behind_items profile client items pipeline ((memory vain).1 none) }
+    record { items = items; end = end; pipeline = pipeline; run = run; output = output-end before sink held ended end.reached.slots end.flushed end.failure empty begins out; input = subst (λ p. InputAt p end.reached k.feed) profile_is (input-end client before k end st); memory = λ vain. (memory vain).1 }
 
 -- the writer's count over the steps
 pub fails-step : (writer old new : Sink) (was ended : Bool) → SinkFailsOnce writer old was → FailsOnceUnlessEnded was old new ended → SinkFailsOnce writer new ended
@@ -203,65 +201,13 @@ fails-step writer old new false ended (inl e) (inl s) = inl (s ∙ e)
 fails-step writer old new false ended (inl e) (inr s) = inr (s.0 ∙ ap next_count e, s.1)
 fails-step writer old new false ended (inr h) s = let no : false ≡ true = h.1 in cc
 
--- where two sinks count alike, so do the steps before them and behind
-rise-along : (a b c : Sink) → b.failures ≡ a.failures → FailsAtMostOnce b c → FailsAtMostOnce a c
-rise-along a b c e (inl h) = inl (h ∙ e)
-rise-along a b c e (inr h) = inr (h ∙ ap next_count e)
-
-fail-along : {D : Type 0} (feed : D → Option Feed) (a b c : Sink) (date : HttpDate) (s : Step D) (kind : ErrorKind) → b.failures ≡ a.failures → MayFail feed b c date s kind → MayFail feed a c date s kind
-fail-along feed a b c date step.Ask kind e h = h
-fail-along {D = D} feed a b c date (step.AsReader n) kind e h = elim h [ ]
-fail-along feed a b c date (step.Read n m) kind e h = h
-fail-along {D = D} feed a b c date (step.Drop n) kind e h = elim h [ ]
-fail-along {D = D} feed a b c date (step.IntoWriter n) kind e h = elim h [ ]
-fail-along feed a b c date (step.Write n v) kind e h = (h.0 ∙ ap next_count e, h.1)
-fail-along feed a b c date (step.Flush n) kind e h = (h.0 ∙ ap next_count e, h.1)
-fail-along {D = D} feed a b c date (step.Upgrade n p r) kind e h = elim h [ ]
-fail-along {D = D} feed a b c date (step.Finish n) kind e h = elim h [ ]
-fail-along feed a b c date (step.Respond n r) kind e (p, inl h) = let L : ℕ → Type 0 = λ m. m < 2 ^ 64 - 1 in (p, inl (h.0 ∙ ap next_count e, λ low. h.1 (subst L (sym e) low)))
-fail-along feed a b c date (step.Respond n r) kind e (p, inr h) = (p, inr h)
-
--- what is told of a failure, along such sinks
-tells-of : (a b c : Sink) (reply : ReplyValue) → b.failures ≡ a.failures → ReportsOfWriter b c reply → ReportsOfWriter a c reply
-tells-of a b c reply e (inl h) = inl (h ∙ e)
-tells-of a b c reply e (inr h) = inr (h.0, h.1, (h.2.0 ∙ ap next_count e, h.2.1))
-
-tells-along : {D : Type 0} (a b c : Sink) (s : Step D) (reply : ReplyValue) → b.failures ≡ a.failures → WriteTells b c s reply → WriteTells a c s reply
-tells-along a b c step.Ask reply e h = h
-tells-along a b c (step.AsReader n) reply e h = h
-tells-along a b c (step.Read n m) reply e h = h
-tells-along a b c (step.Drop n) reply e h = h
-tells-along a b c (step.IntoWriter n) reply e h = h
-tells-along a b c (step.Write n v) reply e h = tells-of a b c reply e h
-tells-along a b c (step.Flush n) reply e h = tells-of a b c reply e h
-tells-along a b c (step.Upgrade n p r) reply e h = h
-tells-along a b c (step.Finish n) reply e h = h
-tells-along a b c (step.Respond n r) reply e h = h
-
 -- one step more
-pub honest-snoc : {D : Type 0} (feed : D → Option Feed) (a b c : Sink) (steps : List (Timed D)) (replies : List Reply) (t : Timed D) (r : Reply) → ReportHonestly feed a steps replies b → FailsAtMostOnce b c → ReportsHonestly feed b c t r → WriteTells b c t.step (seen r)
-    → ReportHonestly feed a (steps ++ t ∷ []) (replies ++ r ∷ []) c
-honest-snoc feed a b c [] [] t r h once k tells = (c, rise-along a b c h once, (λ kind stated. fail-along feed a b c t.now t.step kind h (k kind stated)), tells-along a b c t.step (seen r) h tells, refl)
-honest-snoc feed a b c [] (x ∷ replies) t r h once k tells = absurd h
-honest-snoc feed a b c (x ∷ steps) [] t r h once k tells = absurd h
-honest-snoc feed a b c (x ∷ steps) (y ∷ replies) t r h once k tells = (h.0, h.1, h.2, h.3, honest-snoc feed h.0 b c steps replies t r h.4 once k tells)
-
--- a step of an outlet that may have ended
-at-most-once : (old new : Sink) (was ended : Bool) → FailsOnceUnlessEnded was old new ended → FailsAtMostOnce old new
-at-most-once old new true ended s = inl s.0
-at-most-once old new false ended (inl h) = inl h
-at-most-once old new false ended (inr h) = inr h.0
-
-pub honest-step : {D : Type 0} (feed : D → Option Feed) (writer old new : Sink) (was ended : Bool) (done : List (Timed D)) (replies : List Reply) (t : Timed D) (reply : Reply) → FailsOnceUnlessEnded was old new ended
-    → ReportHonestly feed writer done replies old → ReportsHonestly feed old new t reply → WriteTells old new t.step (seen reply) → ReportHonestly feed writer (done ++ t ∷ []) (replies ++ reply ∷ []) new
-honest-step feed writer old new was ended done replies t reply once h k tells = honest-snoc feed writer old new done replies t reply h (at-most-once old new was ended once) k tells
-
--- the end counts as another sink does
-pub honest-end : {D : Type 0} (feed : D → Option Feed) (a b c : Sink) (steps : List (Timed D)) (replies : List Reply) → c.failures ≡ b.failures → ReportHonestly feed a steps replies b → ReportHonestly feed a steps replies c
-honest-end feed a b c [] [] e h = e ∙ h
-honest-end feed a b c [] (x ∷ replies) e h = absurd h
-honest-end feed a b c (x ∷ steps) [] e h = absurd h
-honest-end feed a b c (x ∷ steps) (y ∷ replies) e h = (h.0, h.1, h.2, h.3, honest-end feed h.0 b c steps replies e h.4)
+pub takes-snoc : {R W D : Type 0} (feed : D → Option Feed) (a b c : ConnectionState R W) (steps : List (Timed D)) (replies : List Reply) (t : Timed D) (r : Reply) → TakesSteps feed a steps replies b → TakesStep b c t.now (stated_step feed t.step) (seen r)
+    → TakesSteps feed a (steps ++ t ∷ []) (replies ++ r ∷ []) c
+takes-snoc {R = R} {W = W} feed a b c [] [] t r h step = let P : ConnectionState R W → Type 0 = λ x. TakesStep x c t.now (stated_step feed t.step) (seen r) in (c, subst P h step, refl)
+takes-snoc {R = R} {W = W} {D = D} feed a b c [] (x ∷ replies) t r h step = elim h [ ]
+takes-snoc {R = R} {W = W} {D = D} feed a b c (x ∷ steps) [] t r h step = elim h [ ]
+takes-snoc feed a b c (x ∷ steps) (y ∷ replies) t r h step = (h.0, h.1, takes-snoc feed h.0 b c steps replies t r h.2 step)
 
 -- whether all was sent on after one step more
 pub all-sent-snoc : {D : Type 0} (steps : List (Timed D)) (replies : List Reply) (t : Timed D) (r : Reply) (sent : Bool) → length steps ≡ length replies → all_sent (steps ++ t ∷ []) (replies ++ r ∷ []) sent ≡ all_sent_after t.step (seen r) (all_sent steps replies sent)

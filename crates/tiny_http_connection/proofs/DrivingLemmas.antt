@@ -16,7 +16,6 @@ use Rattle.tiny_http_connection.specs.declared.pending.Unfinished.TheVariants as
 use Rattle.tiny_http_connection.specs.Pending.{is_last_once_finished_at as kept_lacks, refuses_at, is_last_with_stream_at, last_holds_next_head, kept_body, GivesUpBody, refuses_upgrade_at}
 use Rattle.std.specs.List.{AllZip}
 use Rattle.tiny_http_connection.specs.declared.driver.Timed.{Timed}
-use Rattle.tiny_http_connection.specs.declared.driver.Reply.{Reply}
 use Rattle.tiny_http_connection.specs.declared.driver.Step.{Step}
 use Rattle.tiny_http_connection.specs.declared.driver.Step.TheVariants as step
 use Rattle.tiny_http_connection.specs.declared.pending.Pending.{Pending}
@@ -27,7 +26,7 @@ use Rattle.tiny_http_connection.specs.Steps.{StepValue, Ask, AsReader, Read, Res
 use Rattle.tiny_http_connection.specs.Outcomes.{Reached, changes, ends_asking, use_in_turn, outcome}
 use Rattle.tiny_http_connection.specs.Conversation.{State, IsFresh, StepsTo, IsAskOutOfMemory, start_state}
 use Rattle.tiny_http_response.specs.Sending.{FailsOnceUnlessEnded, IsHonest, FailsOnce, Sends}
-use Rattle.tiny_http_connection.specs.Seen.{seen, IsResponse, IsStep, IsTimedStep, MayFail, ReportsHonestly, WriteTells, ReportsOfWriter, Answers, IsAnswered, IsOfWriter, is_done, all_sent_after}
+use Rattle.tiny_http_connection.specs.Seen.{IsResponse, IsStep, IsTimedStep, ReportsOfWriter, Answers, IsAnswered, IsOfWriter, is_done, all_sent_after}
 use Rattle.tiny_http_body.specs.declared.body.UnreadBody.{UnreadBody}
 use Rattle.tiny_http_open_request.specs.declared.open_request.OpenRequest.{OpenRequest}
 use Rattle.tiny_http_open_request.specs.OpenRequest.{refuses_code, request_check}
@@ -39,7 +38,7 @@ use Rattle.tiny_http_connection.proofs.ConnectionDrop.{IsKeptOf, at-drop, at-una
 use Rattle.std.specs.Prelude.{String, string_bytes, slice_get}
 use Rattle.tiny_http_connection.specs.Driving.{HasDone, TakesStep, AskEnds, StepEnds, EndsBehind, UpgradeEnds, ends_behind, IsDeclined, stated_response, stated_step, StepLeaves, AskLeaves, LetsGo, StandsAfter, ReportsFault, AnswerLeaves, UpgradeLeaves, IsDropping, RefusesHeads, RespondEnds, StepReports, RespondReports}
 use Rattle.tiny_http_connection.proofs.ConnectionAsk.{StepIsAnswered, AskIsAnswered, FoundHead}
-use Rattle.tiny_http_connection.proofs.ConversationEnded.{steps-stay, vain-snoc}
+use Rattle.tiny_http_connection.proofs.ConversationEnded.{steps-stay, vain-snoc, begins-behind_items}
 use Rattle.tiny_http_connection.proofs.ConnectionReader.{holds-snoc}
 use Rattle.tiny_http_io.proofs.SourceGoesOn.{goes-on_same, goes-on_more}
 use Rattle.tiny_http_connection.proofs.SeenLemmas.{is-ask, is-as_reader, is-read, is-respond, is-into_writer, is-write, is-flush, is-upgrade, is-finish, is-drop, step-as_reader, step-read, step-respond, step-into_writer, step-write, step-flush, step-upgrade, step-finish, step-drop}
@@ -243,7 +242,7 @@ takes-found old new now x reply answers declined ends leaves moves honest tells 
             stands = a.1;
             memory = λ vain. ⊎_elim
                 (λ before. (let m = done.memory before in let e = steps-stay done.at now asked reply a.0 m.0 a.2 in (e.0, λ none. m.1 (sym e.1 ∙ none))))
-                (λ v. (let m = a.3 v in (m.0, λ none. subst M profile (m.1 none))))
+                (λ v. (let m = a.3 v in (m.0, λ none. begins-behind_items p client done.items done.pipeline (subst M profile (m.1 none)))))
                 (vain-snoc (start_state done.items) done.at steps replies (now, asked) reply done.run vain);
           };
       profile = moves.profile;
@@ -255,7 +254,7 @@ takes-found old new now x reply answers declined ends leaves moves honest tells 
       flushed = moves.flushed;
       sent_on = moves.sent_on;
       honest = honest;
-      tells = tells;
+      reports = tells;
     }
 
 pub takes : {R W : Type 0} (old new : ConnectionState R W) (now : HttpDate) (x : Step (Option Feed)) (reply : ReplyValue)
@@ -675,33 +674,6 @@ is-stated feed (step.Upgrade k p r) asked h =
     subst (λ y. IsStep (λ f. f) (step.Upgrade k p (stated_response feed r)) y) (sym s.is) (refl, refl, s.answer)
 is-stated feed (step.Finish k) asked h = subst (λ y. (let a : Step (Option Feed) = step.Finish k in IsStep (λ f. f) a y)) (sym (is-finish feed k asked h)) refl
 is-stated feed (step.Drop k) asked h = subst (λ y. (let a : Step (Option Feed) = step.Drop k in IsStep (λ f. f) a y)) (sym (is-drop feed k asked h)) refl
-
-may-fail : {R W D : Type 0} (feed : D → Option Feed) (old new : ConnectionState R W) (now : HttpDate) (x : Step D) (kind : ErrorKind) → ReportsFault old new now (stated_step feed x) kind → MayFail feed (output_of old.outlet) (output_of new.outlet) now x kind
-may-fail feed old new now step.Ask kind h = h
-may-fail feed old new now (step.AsReader k) kind h = h
-may-fail feed old new now (step.Read k n) kind h = h
-may-fail feed old new now (step.Respond k r) kind h = (h.0, h.2)
-may-fail feed old new now (step.IntoWriter k) kind h = h
-may-fail feed old new now (step.Write k v) kind h = h
-may-fail feed old new now (step.Flush k) kind h = h
-may-fail feed old new now (step.Upgrade k p r) kind h = h
-may-fail feed old new now (step.Finish k) kind h = h
-may-fail feed old new now (step.Drop k) kind h = h
-
-pub reports-step : {R W D : Type 0} (feed : D → Option Feed) (old new : ConnectionState R W) (t : Timed D) (reply : Reply) → ((kind : ErrorKind) → seen reply ≡ Fault kind → ReportsFault old new t.now (stated_step feed t.step) kind) → ReportsHonestly feed (output_of old.outlet) (output_of new.outlet) t reply
-reports-step feed old new t reply h kind e = may-fail feed old new t.now t.step kind (h kind e)
-
-pub tells-step : {R W D : Type 0} (feed : D → Option Feed) (old new : ConnectionState R W) (now : HttpDate) (x : Step D) (reply : ReplyValue) → StepReports old new now (stated_step feed x) reply → WriteTells (output_of old.outlet) (output_of new.outlet) x reply
-tells-step feed old new now step.Ask reply h = tt
-tells-step feed old new now (step.AsReader k) reply h = tt
-tells-step feed old new now (step.Read k n) reply h = tt
-tells-step feed old new now (step.Respond k r) reply h = tt
-tells-step feed old new now (step.IntoWriter k) reply h = tt
-tells-step feed old new now (step.Write k v) reply h = h
-tells-step feed old new now (step.Flush k) reply h = h
-tells-step feed old new now (step.Upgrade k p r) reply h = tt
-tells-step feed old new now (step.Finish k) reply h = tt
-tells-step feed old new now (step.Drop k) reply h = tt
 
 pub done-none : {R W X : Type 0} (stated : X → TimedValue → Type 0) (p : Profile) (client : Feed) (before : Sink) (c : ConnectionState R W) (dated : List TimedValue) → HasDone p client before c [] [] → AllZip stated [] dated → HasDone p client before c dated []
 done-none stated p client before c [] h t = h

@@ -4,7 +4,7 @@ use Prim.Native.Nat.{zero}
 use Rattle.tiny_http_turns.specs.ByNumber.{value_of}
 use Rattle.std.proofs.lemmas.List.{length-set}
 use Rattle.std.specs.Global.{Vec}
-use Rattle.std.specs.Prelude.{MatchBool, ◌==◌, if◌then◌else◌, slice_get, slice_set}
+use Rattle.std.specs.Prelude.{MatchBool, ◌==◌, drop, if◌then◌else◌, slice_get, slice_set}
 use Rattle.tiny_http_io.specs.Device.{Sink}
 use Rattle.tiny_http_turns.specs.declared.turns.Finishing.{Finishing}
 use Rattle.tiny_http_turns.specs.declared.turns.Finishing.TheVariants.{Passed as IsPassed, Go, Strange as IsStrange}
@@ -21,7 +21,7 @@ use Rattle.tiny_http_body.specs.declared.body.UnreadBody.{UnreadBody}
 use Rattle.tiny_http_open_request.specs.declared.open_request.OpenRequest.{OpenRequest}
 use Rattle.tiny_http_connection.specs.declared.pending.Unfinished.{Unfinished}
 use Rattle.tiny_http_connection.specs.declared.pending.Unfinished.TheVariants as still
-use Rattle.tiny_http_connection.specs.Pending.{left_text, with_left_finished, begins_left, is_left, SendsLeft, FinishesFront, LeavesText, WritesHeld, FinishesHeld, waiting_answer_context, closing_number, last_closing}
+use Rattle.tiny_http_connection.specs.Pending.{left_text, with_left_finished, begins_left, SendsLeft, FinishesFront, LeavesText, WritesHeld, FinishesHeld, waiting_answer_context, closing_number, last_closing}
 use Rattle.tiny_http_open_request.specs.OpenRequest.{closing}
 use Rattle.tiny_http_connection.proofs.ConnectionKept.{get-at, set-at}
 use Rattle.tiny_http_response.proofs.SendingLemmas.{once-append, sends-append, sends-can}
@@ -210,20 +210,13 @@ goes-left front rest marks mid number r next u before behind e place stated is n
     (finishing-other front rest mid (Go u next) before behind none (finishing-at front rest mid marks number (Go u next) before behind e place (subst (λ x. FinishingReported marks mid number x before behind) is stated))).1
 
 -- a number that is held, and those around it
-pub around-held : (marks : List Mark) (n : ℕ) → slice_get marks n ≡ Some Open → (front : List Mark) × (rest : List Mark) × (slice_set marks n Held ≡ front ++ (Held ∷ rest)) × (length front ≡ n) × (begins_left rest ≡ is_left (slice_get marks (n + 1)))
+pub around-held : (marks : List Mark) (n : ℕ) → slice_get marks n ≡ Some Open → (front : List Mark) × (rest : List Mark) × (slice_set marks n Held ≡ front ++ (Held ∷ rest)) × (length front ≡ n) × (begins_left rest ≡ begins_left (drop (n + 1) marks))
 around-held [] n e = cc
-around-held (m ∷ marks) zero e = ([], marks, refl, refl, first marks)
-  where
-    first : (l : List Mark) → begins_left l ≡ is_left (slice_get l 0)
-    first [] = refl
-    first (Open ∷ l) = refl
-    first (Held ∷ l) = refl
-    first (Left text ∷ l) = refl
-    first (Finished ∷ l) = refl
+around-held (m ∷ marks) zero e = ([], marks, refl, refl, refl)
 around-held (m ∷ marks) (suc n) e =
     let h = around-held marks n e in
     let next : suc (n + 1) ≡ suc n + 1 = omega arith in
-    (m ∷ h.0, h.1, ap (λ l. m ∷ l) h.2, ap suc h.3, h.4 ∙ ap (λ k. is_left (slice_get (m ∷ marks) k)) next)
+    (m ∷ h.0, h.1, ap (λ l. m ∷ l) h.2, ap suc h.3, h.4 ∙ ap (λ k. begins_left (drop k (m ∷ marks))) next)
 
 -- what the writer states of its last fault stays where the outlet has ended
 pub left-kind : (rest : List Mark) (was : Bool) (old new : Sink) (ended : Bool) → was ≡ true → SendsLeft rest was old new ended → new.last_kind ≡ old.last_kind

@@ -269,6 +269,7 @@ BeginsMore p client =
     × Pipeline p (Some client.bytes) client.stop items
     × BeginsBehind p (Some client.bytes) client.stop items
 
+-- the same behind these heads, the first of which stands here
 abbrev pub BeginsBehindAt : Profile → Option Feed → List Item → Type 0
 BeginsBehindAt p None rest = ⊥
 BeginsBehindAt p (Some f) rest = BeginsBehind p (Some f.bytes) f.stop rest

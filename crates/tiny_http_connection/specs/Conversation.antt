@@ -268,7 +268,8 @@ pub record IsConversation (p : Profile) (feed : Feed) (before : Sink) (steps : L
   pub run : Run (start_state items) steps replies end
   pub output : IsOutput end.reached.slots end.flushed end.failure before after held ended
   pub input : InputAt p end.reached unread
-  pub memory : HasAskOutOfMemory steps replies → end.reached.rest ≡ [] → BeginsBehind p (Some feed.bytes) feed.stop items
+  pub memory : HasAskOutOfMemory steps replies → end.reached.rest ≡ []
+      → BeginsBehind p (Some feed.bytes) feed.stop items
 
 -- the writer as a run takes it: it states that it took no bytes, it has not ended, and its count can rise
 pub record IsFresh (sink : Sink) : Type 0 where

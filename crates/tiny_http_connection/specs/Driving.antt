@@ -1,7 +1,7 @@
 -- What the calls of a `Connection` come to.
 -- Nobody needs this file to believe the laws of `InShort`.
 use Rattle.std.specs.Prelude.{◌≡◌, ◌⊎◌, ◌||◌, ℕ, ◌+◌, Bool, true, false, List, [], ◌∷◌, ◌++◌, length, replicate}
-use Rattle.std.specs.Prelude.{Option, Some, None, IsSome, MatchBool, slice_get, slice_set, if◌then◌else◌}
+use Rattle.std.specs.Prelude.{Option, Some, None, IsSome, MatchBool, drop, slice_get, slice_set, if◌then◌else◌}
 use Rattle.std.specs.Prelude.{string_bytes, ◌<◌, ◌^◌, ⊤}
 use Rattle.std.specs.declared.io.ErrorKind.{ErrorKind}
 use Rattle.httpdate.specs.declared.date.HttpDate.{HttpDate}
@@ -24,12 +24,13 @@ use Rattle.tiny_http_open_request.specs.Pipeline.{Place, place_feed}
 use Rattle.tiny_http_connection.specs.Steps.{StepValue, ReplyValue, Handed, Ended, NotYet, Done, Refused, NoSuch}
 use Rattle.tiny_http_connection.specs.Steps.{Memory, Fault, TimedValue}
 use Rattle.tiny_http_connection.specs.Conversation.{State, Run, start_state, IsFresh, IsPassedOver, HasAskOutOfMemory}
+use Rattle.tiny_http_connection.specs.Conversation.{BeginsBehind}
 use Rattle.tiny_http_response.specs.declared.answer_context.AnswerContext.{AnswerContext}
 use Rattle.tiny_http_response.specs.ResponseValue.{printing_in}
 use Rattle.tiny_http_response.specs.Sending.{CanSend, IsHonest, FailsOnce}
 use Rattle.tiny_http_connection.specs.Pending.{waiting_answer_context, owes_continue, is_last_once_finished_at}
 use Rattle.tiny_http_connection.specs.Pending.{refuses_at, refuses_upgrade_at, is_last_with_stream_at, asked_to_close}
-use Rattle.tiny_http_connection.specs.Pending.{last_holds_next_head, kept_body, GivesUpBody, with_body, is_left}
+use Rattle.tiny_http_connection.specs.Pending.{last_holds_next_head, kept_body, GivesUpBody, with_body, begins_left}
 use Rattle.tiny_http_body.specs.declared.body.UnreadBody.{UnreadBody}
 use Rattle.tiny_http_open_request.specs.declared.open_request.OpenRequest.{OpenRequest}
 use Rattle.tiny_http_connection.specs.declared.pending.Unfinished.{Unfinished}
@@ -37,8 +38,7 @@ use Rattle.tiny_http_connection.specs.declared.pending.Unfinished.TheVariants as
 use Rattle.tiny_http_body.specs.Body.{is_streaming, stream_body, body_standing}
 use Rattle.tiny_http_connection.specs.Seen.{IsStep, IsAnswered, IsOfWriter, ReportsOfWriter, all_sent_after}
 use Rattle.tiny_http_connection.specs.Outcomes.{fault_reply}
-use Rattle.tiny_http_turns.specs.Turns.{Mark}
-use Rattle.tiny_http_connection.specs.Connection.{ConnectionState, kept, Stands, BeginsMore}
+use Rattle.tiny_http_connection.specs.Connection.{ConnectionState, kept, Stands}
 
 -- By a connection of this profile, over this client's feed and a fresh writer, these steps were done, with these
 -- replies: they are a run over the pipeline that stands in the feed, and the connection stands where it leads.
@@ -52,7 +52,8 @@ pub record HasDone {R W : Type 0} (p : Profile) (client : Feed) (before : Sink) 
   pub run : Run (start_state items) steps replies at
   pub stands : Stands client before (kept c) at
   pub memory : HasAskOutOfMemory steps replies
-      → (at.reached.asking_ended ≡ true) × (at.reached.rest ≡ [] → BeginsMore p client)
+      → (at.reached.asking_ended ≡ true)
+      × (at.reached.rest ≡ [] → BeginsBehind p (Some client.bytes) client.stop items)
 
 -- a response with what its data state, in their place
 abbrev pub stated_response : {D : Type 0} → (D → Option Feed) → ResponseState D → ResponseState (Option Feed)
@@ -315,12 +316,8 @@ ReportsFault old new now (step.Respond k r) kind =
     × (waiting_answer_context (slice_get (asked_to_close r.answer.closes old.requests) k) ≡ Some context)
     × IsHonest (output_of old.outlet) (output_of new.outlet) r.answer r.data_reader (printing_in context now) kind
 
--- the number behind this one was left: its text is sent as this one is finished
-abbrev pub has_left_behind : List Mark → ℕ → Bool
-has_left_behind marks k = is_left (slice_get marks (k + 1))
-
--- All of the answer's own text was sent on, behind what the writer had taken, where its data state fewer than 2^63
--- bytes, the writer takes bytes, and its count can rise.
+-- The answer's own text was sent on whole, behind all that the writer had taken. This is said where the data state
+-- fewer than 2^63 bytes, the writer can still send, and it states what it took.
 abbrev pub AnswerIsSentOn : {R W : Type 0} → ConnectionState R W → ConnectionState R W → HttpDate → ℕ
     → ResponseState (Option Feed) → Type 0
 AnswerIsSentOn old new now k r =
@@ -333,19 +330,19 @@ AnswerIsSentOn old new now k r =
     → (output_of old.outlet).taken ≡ Some taken
     → IsFront (taken ++ (text_of r.answer content (printing_in context now)).bytes) (output_of new.outlet).sent)
 
--- An answer tells a failure of the writer by its kind: as `Done` where that says that the client has closed the
--- connection. It doesn't tell one that was met in a text behind its own, which had been sent on before. Where the
--- answer is refused the request is dropped, of which no failure is told.
+-- An answer reports a failure of the writer by its kind. A kind which says that the client has gone is reported as
+-- `Done`. A failure isn't reported that was met behind the answer: the next number was left, and the answer's own text
+-- had been sent on. Nor is one that a refused answer met: its request is dropped.
 abbrev pub RespondReports : {R W : Type 0} → ConnectionState R W → ConnectionState R W → HttpDate → ℕ
     → ResponseState (Option Feed) → ReplyValue → Type 0
 RespondReports old new now k r Refused = Unit {0}
 RespondReports old new now k r reply =
     ((output_of new.outlet).failures ≡ (output_of old.outlet).failures)
     ⊎ ((kind : ErrorKind) × (reply ≡ fault_reply kind) × ReportsFault old new now (step.Respond k r) kind)
-    ⊎ ((has_left_behind old.marks k ≡ true) × AnswerIsSentOn old new now k r)
+    ⊎ ((begins_left (drop (k + 1) old.marks) ≡ true) × AnswerIsSentOn old new now k r)
 
--- WHERE THE WRITER FAILED in a step, and its count rose, the reply tells it: of a Write, of a Flush, and of an answer.
--- The other steps report no fault of the writer.
+-- WHERE THE WRITER FAILED in a step its count rose. A Write and a Flush report that, and so does an answer, as above.
+-- The other steps don't report it.
 abbrev pub StepReports : {R W : Type 0} → ConnectionState R W → ConnectionState R W → HttpDate → Step (Option Feed)
     → ReplyValue → Type 0
 StepReports old new now (step.Write k bytes) reply = ReportsOfWriter (output_of old.outlet) (output_of new.outlet) reply
@@ -353,29 +350,31 @@ StepReports old new now (step.Flush k) reply = ReportsOfWriter (output_of old.ou
 StepReports old new now (step.Respond k r) reply = RespondReports old new now k r reply
 StepReports old new now _ reply = Unit {0}
 
--- One step on a date: what was done is done with this step and its reply after it, and the profile is kept. And
--- whatever reader, writer and data state: a step that was not done changes nothing, why the requests end is kept, the
--- other requests are left alone, the source goes on, the writer fails once at most, what is held and what was sent on
--- is told by step and reply, a fault that is reported is one, and a failure of the writer is told by the step that met
--- it.
+-- ONE STEP on a date, and its reply.
 pub record TakesStep {R W : Type 0} (old new : ConnectionState R W) (now : HttpDate) (step : Step (Option Feed))
     (reply : ReplyValue) : Type 0 where
+  -- what was done before is done, and this step and its reply after it
   pub does : (p : Profile) (client : Feed) (before : Sink) (steps : List TimedValue) (replies : List ReplyValue)
       (asked : StepValue) → IsStep (λ f. f) step asked
       → HasDone p client before old steps replies
       → HasDone p client before new (steps ++ (now, asked) ∷ []) (replies ++ reply ∷ [])
+  -- What follows holds whatever reader, writer and data state. The profile is kept, and a step that was not done
+  -- changes nothing.
   pub profile : new.profile ≡ old.profile
   pub declined : IsDeclined step reply → new ≡ old
+  -- why the requests end, and what becomes of requests, source and output
   pub ends : StepEnds step old new reply
   pub leaves : StepLeaves step old new reply
   pub goes_on : GoesOn old.source.feed new.source.feed
+  -- the writer fails once at most; and what is held and what was sent on, by step and reply
   pub fails_once : FailsOnce old.outlet new.outlet
   pub flushed : (sent : Bool) → (sent ≡ true → old.outlet.held ≡ []) → all_sent_after step reply sent ≡ true
       → new.outlet.held ≡ []
   pub sent_on : (sent : Bool) → (sent ≡ true → SentOn old.outlet) → all_sent_after step reply sent ≡ true
       → SentOn new.outlet
+  -- a fault that is reported is one, and a failure of the writer is reported
   pub honest : (kind : ErrorKind) → reply ≡ Fault kind → ReportsFault old new now step kind
-  pub tells : StepReports old new now step reply
+  pub reports : StepReports old new now step reply
 
 -- a step that drops the request of this number, and its reply: a Drop, an answer that is refused, or an Upgrade that is
 abbrev pub IsDropping : List (Option Unfinished) → ℕ → Step (Option Feed) → ReplyValue → Type 0

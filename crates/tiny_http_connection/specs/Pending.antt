@@ -47,14 +47,6 @@ begins_left (Held ∷ marks) = false
 begins_left (Left text ∷ marks) = true
 begins_left (Finished ∷ marks) = false
 
--- the number with this mark was left
-abbrev pub is_left : Option Mark → Bool
-is_left None = false
-is_left (Some Open) = false
-is_left (Some Held) = false
-is_left (Some (Left text)) = true
-is_left (Some Finished) = false
-
 -- as a turn passes to these numbers the texts that were left at their front are sent; if there is none, nothing is done
 abbrev pub SendsLeft : List Mark → Bool → Sink → Sink → Bool → Type 0
 SendsLeft rest was old new ended =

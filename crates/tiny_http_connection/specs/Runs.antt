@@ -1,15 +1,19 @@
 -- What a run of a list of steps comes to.
 -- Nobody needs this file to believe the laws of `InShort`.
-use Rattle.std.specs.Prelude.{◌≡◌, List, map, true, [], length, Option, Some}
+use Rattle.std.specs.Prelude.{◌≡◌, List, map, true, false, [], ◌∷◌, length, Option, Some, None}
 use Rattle.std.specs.List.{AllZip}
 use Rattle.tiny_http_io.specs.Device.{Feed, Sink, HoldsNothing}
 use Rattle.tiny_http_io.specs.Source.{GoesOn}
 use Rattle.tiny_http_io.specs.Outlet.{SentOn}
+use Rattle.tiny_http_io.specs.declared.source.Standing.TheVariants as at
 use Rattle.tiny_http_response.specs.Sending.{FailsAtMostOnce}
 use Rattle.tiny_http_body.specs.declared.framing.Profile.{Profile}
 use Rattle.tiny_http_connection.specs.declared.driver.Timed.{Timed}
 use Rattle.tiny_http_connection.specs.declared.driver.Record.{Record}
-use Rattle.tiny_http_connection.specs.Seen.{IsTimedStep, seen, ReportHonestly, all_sent}
+use Rattle.tiny_http_connection.specs.declared.driver.Reply.{Reply}
+use Rattle.tiny_http_connection.specs.Seen.{IsTimedStep, seen, all_sent}
+use Rattle.tiny_http_connection.specs.Connection.{ConnectionState}
+use Rattle.tiny_http_connection.specs.Driving.{TakesStep, stated_step}
 use Rattle.tiny_http_connection.specs.Conversation.{IsConversation, IsFresh}
 use Rattle.tiny_http_connection.specs.Steps.{TimedValue}
 
@@ -27,17 +31,43 @@ IsConversationOf client sink stated p reader writer steps done =
     → IsConversation p feed (sink writer) dated (map seen done.replies.items)
     (sink done.outlet.writer) done.outlet.held done.outlet.ended done.source.feed
 
+-- a connection under this profile, on which nothing was asked yet: over this reader, which states this of its bytes,
+-- and this writer, which states this
+pub record IsNew {R W : Type 0} (p : Profile) (reader : R) (client : Option Feed) (writer : W) (before : Sink)
+    (c : ConnectionState R W) : Type 0 where
+  pub profile : c.profile ≡ p
+  pub unasked : (c.marks ≡ []) × (c.requests ≡ []) × (c.end ≡ None)
+  pub source : (c.source.reader ≡ reader) × (c.source.feed ≡ client) × (c.source.standing ≡ at.Head)
+  pub outlet : c.outlet ≡ record { held = []; ended = false; writer = writer; sink = before }
+
+-- the steps were taken one after another, each with its reply, from one state of a connection to another
+abbrev pub TakesSteps : {R W D : Type 0} → (D → Option Feed) → ConnectionState R W → List (Timed D) → List Reply
+    → ConnectionState R W → Type 0
+TakesSteps stated old [] [] new = new ≡ old
+TakesSteps {R = R} {W = W} stated old (t ∷ steps) (r ∷ replies) new =
+    (mid : ConnectionState R W)
+    × TakesStep old mid t.now (stated_step stated t.step) (seen r)
+    × TakesSteps stated mid steps replies new
+TakesSteps stated old [] (r ∷ replies) new = ⊥
+TakesSteps stated old (t ∷ steps) [] new = ⊥
+
 -- WHAT A RUN LEAVES, whatever reader, writer and data state.
 pub record RunsSteps {R W D : Type 0} (client : R → Option Feed) (sink : W → Sink) (stated : D → Option Feed)
-    (reader : R) (writer : W) (steps : List (Timed D)) (done : Record R W) : Type 0 where
+    (p : Profile) (reader : R) (writer : W) (steps : List (Timed D)) (done : Record R W) : Type 0 where
   -- one reply a step
   pub replies : length done.replies.items ≡ length steps
   -- what the source still gives is the client's bytes from some place on, if the reader states them
   pub source : GoesOn (client reader) done.source.feed
-  -- The writer failed at most once. A fault that an answer reports is the writer's, or that of its own data, and a
-  -- Write or a Flush that met the failure reports it.
+  -- The steps were taken one after another by a connection that was new. So what `TakesStep` says holds of each step
+  -- and its reply. Source and outlet are as the last step left them, and the outlet states what its writer states.
+  pub first : ConnectionState R W
+  pub last : ConnectionState R W
+  pub begins : IsNew p reader (client reader) writer (sink writer) first
+  pub takes : TakesSteps stated first steps done.replies.items last
+  pub leaves : (done.source ≡ last.source) × (done.outlet ≡ last.outlet)
+  pub states : done.outlet.sink ≡ sink done.outlet.writer
+  -- the writer failed at most once
   pub fails_once : FailsAtMostOnce (sink writer) (sink done.outlet.writer)
-  pub honest : ReportHonestly stated (sink writer) steps done.replies.items (sink done.outlet.writer)
   -- Nothing is held, unless a Write stands behind the last Flush, the last answer and the last upgrade. If the writer
   -- held nothing back before the run, it then sent on all that it took.
   pub flushed : all_sent steps done.replies.items true ≡ true → done.outlet.held ≡ []

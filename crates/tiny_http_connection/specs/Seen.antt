@@ -5,22 +5,20 @@ use Rattle.std.specs.Prelude.{◌||◌, Result, Ok, Err, string_bytes}
 use Rattle.std.specs.IoError.{error_kind}
 use Rattle.std.specs.declared.io.Error.{Error}
 use Rattle.std.specs.declared.io.ErrorKind.{ErrorKind}
-use Rattle.httpdate.specs.declared.date.HttpDate.{HttpDate}
 use Rattle.tiny_http_io.specs.Device.{Feed, Sink, StatesKind, next_count}
 use Rattle.tiny_http_response.specs.Answer.{Answer, Printing, ResponseState}
 use Rattle.tiny_http_connection.specs.declared.driver.Step.{Step}
 use Rattle.tiny_http_connection.specs.declared.driver.Step.TheVariants as step
 use Rattle.tiny_http_connection.specs.declared.driver.Timed.{Timed}
-use Rattle.tiny_http_response.specs.declared.answer_context.AnswerContext.{AnswerContext}
 use Rattle.tiny_http_connection.specs.declared.driver.Reply.{Reply}
 use Rattle.tiny_http_connection.specs.declared.driver.Reply.TheVariants as reply
 use Rattle.tiny_http_open_request.specs.HeadReads.{head_message, head_framing}
-use Rattle.tiny_http_response.specs.ResponseValue.{ResponseValue, printing_in}
+use Rattle.tiny_http_response.specs.ResponseValue.{ResponseValue}
 use Rattle.tiny_http_connection.specs.Steps.{StepValue, Ask, AsReader, Read, Respond, IntoWriter, Write, Flush}
 use Rattle.tiny_http_connection.specs.Steps.{Upgrade, Finish, Drop, ReplyValue, Handed, Ended, Given, Fault, NotYet}
 use Rattle.tiny_http_connection.specs.Steps.{Done, Refused, NoSuch, Memory, TimedValue}
 use Rattle.tiny_http_connection.specs.Outcomes.{fault_reply}
-use Rattle.tiny_http_response.specs.Sending.{Sends, IsFlushed, IsHonest, FailsAtMostOnce}
+use Rattle.tiny_http_response.specs.Sending.{Sends, IsFlushed}
 
 -- the response states its data, of fewer than 2^63 bytes
 abbrev pub IsResponse : {D : Type 0} → (D → Option Feed) → ResponseState D → ResponseValue → Type 0
@@ -62,50 +60,10 @@ seen reply.Memory = Memory
 abbrev pub IsOfWriter : Sink → Sink → ErrorKind → Type 0
 IsOfWriter old new kind = (new.failures ≡ next_count old.failures) × StatesKind new.last_kind kind
 
--- The step may fail by this kind: a Write and a Flush by the writer, a Respond by the writer or by its own data,
--- printed for some request, and a Read by that of the body that it reads. The others report no fault.
-abbrev pub MayFail : {D : Type 0} → (D → Option Feed) → Sink → Sink → HttpDate → Step D → ErrorKind → Type 0
-MayFail feed old new date step.Ask kind = ⊥
-MayFail feed old new date (step.AsReader k) kind = ⊥
-MayFail feed old new date (step.Read k n) kind = Unit {0}
-MayFail feed old new date (step.Drop k) kind = ⊥
-MayFail feed old new date (step.IntoWriter k) kind = ⊥
-MayFail feed old new date (step.Write k v) kind = IsOfWriter old new kind
-MayFail feed old new date (step.Flush k) kind = IsOfWriter old new kind
-MayFail feed old new date (step.Upgrade k p r) kind = ⊥
-MayFail feed old new date (step.Finish k) kind = ⊥
-MayFail feed old new date (step.Respond k r) kind =
-    (context : AnswerContext) × IsHonest old new r.answer (feed r.data_reader) (printing_in context date) kind
-
--- a fault that an answer reports is the writer's, whose count rose, or that of the step's own data; of a body's
--- nothing is said
-abbrev pub ReportsHonestly : {D : Type 0} → (D → Option Feed) → Sink → Sink → Timed D → Reply → Type 0
-ReportsHonestly feed old new t reply =
-    (kind : ErrorKind) → seen reply ≡ Fault kind → MayFail feed old new t.now t.step kind
-
 -- the writer's count stays, or the reply is its fault
 abbrev pub ReportsOfWriter : Sink → Sink → ReplyValue → Type 0
 ReportsOfWriter old new reply =
     (new.failures ≡ old.failures) ⊎ ((kind : ErrorKind) × (reply ≡ Fault kind) × IsOfWriter old new kind)
-
--- a Write and a Flush tell a failure of the writer that they meet
-abbrev pub WriteTells : {D : Type 0} → Sink → Sink → Step D → ReplyValue → Type 0
-WriteTells old new (step.Write k v) reply = ReportsOfWriter old new reply
-WriteTells old new (step.Flush k) reply = ReportsOfWriter old new reply
-WriteTells old new _ reply = Unit {0}
-
--- Steps that report their faults so, while the writer's count goes from one number to another: a step raises it at
--- most once, and a Write or a Flush that does so tells it.
-abbrev pub ReportHonestly : {D : Type 0} → (D → Option Feed) → Sink → List (Timed D) → List Reply → Sink → Type 0
-ReportHonestly feed old [] [] new = new.failures ≡ old.failures
-ReportHonestly feed old (t ∷ steps) (r ∷ replies) new =
-    (mid : Sink)
-    × FailsAtMostOnce old mid
-    × ReportsHonestly feed old mid t r
-    × WriteTells old mid t.step (seen r)
-    × ReportHonestly feed mid steps replies new
-ReportHonestly feed old [] (r ∷ replies) new = ⊥
-ReportHonestly feed old (t ∷ steps) [] new = ⊥
 
 -- the step was done
 abbrev pub is_done : ReplyValue → Bool

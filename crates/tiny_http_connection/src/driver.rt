@@ -1,13 +1,13 @@
 //! A connection driven step by step, or by a list of steps, without threads.
 ghost use Rattle.std.specs.Global.{Global as Heap, Vec};
-ghost use Rattle.std.specs.Prelude.{◌≡◌, ℕ, ◌+◌, ◌-◌, ◌<◌, ◌^◌, true, false, List, [], length, Some, None, Ok, IfOk};
-ghost use Rattle.std.specs.Prelude.{◌⊎◌, IfErr, IsTrue, is_some, slice_get, String, string_bytes};
+ghost use Rattle.std.specs.Prelude.{◌≡◌, ℕ, ◌+◌, ◌-◌, ◌<◌, ◌≤◌, ◌^◌, true, false, List, [], length, Some, None};
+ghost use Rattle.std.specs.Prelude.{◌⊎◌, Ok, IfOk, IfErr, IsTrue, is_some, slice_get, String, string_bytes};
 ghost use Rattle.tiny_http_io.specs.Device.{Feed, Sink};
 ghost use Rattle.tiny_http_response.specs.ResponseValue.{ResponseValue};
 ghost use Rattle.tiny_http_open_request.specs.OpenRequest.{final_context};
 ghost use Rattle.tiny_http_open_request.specs.Pipeline.{Item, Pipeline};
 ghost use Rattle.tiny_http_connection.specs.Conversation.{IsConversation, IsFresh};
-ghost use Rattle.tiny_http_connection.specs.Steps.{TimedValue, ReplyValue, Done, Fault};
+ghost use Rattle.tiny_http_connection.specs.Steps.{TimedValue, ReplyValue, Given, Done, Fault};
 ghost use Rattle.httpdate.specs.declared.date.HttpDate.{HttpDate as Date};
 ghost use Rattle.std.specs.declared.io.ErrorKind.{ErrorKind};
 ghost use Rattle.tiny_http_connection.specs.Outcomes.{fault_reply};
@@ -16,7 +16,7 @@ ghost use Rattle.tiny_http_connection.specs.Driving.{HasDone, TakesStep, Drops, 
 ghost use Rattle.tiny_http_connection.specs.Driving.{stated_step};
 ghost use Rattle.tiny_http_connection.specs.Runs.{IsConversationOf, RunsSteps};
 ghost use Rattle.tiny_http_response.specs.ResponseValue.{printing_in};
-ghost use Rattle.tiny_http_connection.specs.Seen.{seen, write_reply, Answers, IsAnswered, IsResponse, ReportsHonestly};
+ghost use Rattle.tiny_http_connection.specs.Seen.{seen, write_reply, Answers, IsAnswered};
 ghost use Rattle.tiny_http_io.specs.Outlet.{output_of, outlet_ended, outlet_held, outlet_writer, SentOn};
 ghost use Rattle.tiny_http_response.specs.Sending.{CanSend, IsHonest, FailsOnce};
 
@@ -224,8 +224,9 @@ impl<R: ReadDevice, W: WriteDevice> Connection<R, W> {
             → R.feed reader ≡ Some client
             → IsFresh (W.sink writer)
             → HasDone Profile.Lenient client (W.sink writer) result [] [] }
-        ensures open { (result.end ≡ None) × (result.requests ≡ []) }
-        ensures source { (result.source.feed ≡ R.feed reader) × (result.source.standing ≡ Standing.Head) }
+        ensures open { (result.end ≡ None) × (result.requests ≡ []) × (result.marks ≡ []) }
+        ensures source { (result.source.feed ≡ R.feed reader) × (result.source.standing ≡ Standing.Head)
+            × (result.source.reader ≡ reader) }
         ensures outlet { result.outlet ≡ record { held = []; ended = false; writer = writer; sink = W.sink writer } }
     {
         Connection::new_with(alloc, Profile::Lenient, reader, writer)
@@ -238,8 +239,9 @@ impl<R: ReadDevice, W: WriteDevice> Connection<R, W> {
             → R.feed reader ≡ Some client
             → IsFresh (W.sink writer)
             → HasDone profile client (W.sink writer) result [] [] }
-        ensures open { (result.end ≡ None) × (result.requests ≡ []) }
-        ensures source { (result.source.feed ≡ R.feed reader) × (result.source.standing ≡ Standing.Head) }
+        ensures open { (result.end ≡ None) × (result.requests ≡ []) × (result.marks ≡ []) }
+        ensures source { (result.source.feed ≡ R.feed reader) × (result.source.standing ≡ Standing.Head)
+            × (result.source.reader ≡ reader) }
         ensures outlet { result.outlet ≡ record { held = []; ended = false; writer = writer; sink = W.sink writer } }
     {
         Connection {
@@ -354,6 +356,10 @@ impl<R: ReadDevice, W: WriteDevice> Connection<R, W> {
     #[inline(never)]
     pub fn read(&mut self, alloc: Global, number: u64, count: u16) -> Reply
         ensures step { (date : Date) → TakesStep self.old self.new date (Step.Read number count) (seen result) }
+        // The client's reader is asked for no second end or fault, and for none once there are `count` bytes.
+        ensures told { R.told self.new.source.reader ≤ R.told self.old.source.reader + 1 }
+        ensures lazy { (bytes : List ℕ) → seen result ≡ Given bytes → length bytes ≡ count
+            → R.told self.new.source.reader ≤ R.told self.old.source.reader }
     {
         if !self.pending.is_readable(number) {
             return Reply::NoSuch;
@@ -623,7 +629,7 @@ pub fn run<R: ReadDevice + Drop, W: WriteDevice + Drop, D: ReadDevice + Drop>(
     ensures conversation { IfOk result
         (IsConversationOf R.feed W.sink D.feed Profile.Lenient reader writer steps.items) }
     // Whatever reader, writer and data state.
-    ensures run { IfOk result (RunsSteps R.feed W.sink D.feed reader writer steps.items) }
+    ensures run { IfOk result (RunsSteps R.feed W.sink D.feed Profile.Lenient reader writer steps.items) }
     ensures err { IfErr result (λ e. (e.reader ≡ reader) × (e.writer ≡ writer)) }
 {
     run_with(alloc, Profile::Lenient, reader, writer, steps)
@@ -643,7 +649,7 @@ pub fn run_with<R: ReadDevice + Drop, W: WriteDevice + Drop, D: ReadDevice + Dro
     // The connection theorem.
     ensures conversation { IfOk result (IsConversationOf R.feed W.sink D.feed profile reader writer steps.items) }
     // Whatever reader, writer and data state.
-    ensures run { IfOk result (RunsSteps R.feed W.sink D.feed reader writer steps.items) }
+    ensures run { IfOk result (RunsSteps R.feed W.sink D.feed profile reader writer steps.items) }
     ensures err { IfErr result (λ e. (e.reader ≡ reader) × (e.writer ≡ writer)) }
 {
     let Ok(mut replies) = Vec::with_capacity(alloc, steps.len()) else {

@@ -288,6 +288,10 @@ impl Pending {
             × (is_streaming was ≡ true → source.new.standing ≡ body_standing body source.old.standing) }
         ensures turns { self.new.turns ≡ self.old.turns }
         ensures goes_on { GoesOn source.old.feed source.new.feed }
+        // The source's reader is asked for no second end or fault, and for none once the buffer is full.
+        ensures told { R.told source.new.reader ≤ R.told source.old.reader + 1 }
+        ensures lazy { IfOk result
+            (λ n. n ≡ length buf.new → R.told source.new.reader ≤ R.told source.old.reader) }
     {
         let Some(mut unfinished) = self.requests.replace(number, Some(Unfinished::Raw)) else {
             return Ok(0);
@@ -415,6 +419,9 @@ fn fill_from<R: ReadDevice>(
         × (is_streaming was ≡ false → source.new ≡ source.old)
         × (is_streaming was ≡ true → source.new.standing ≡ body_standing body source.old.standing) }
     ensures goes_on { GoesOn source.old.feed source.new.feed }
+    ensures told { R.told source.new.reader ≤ R.told source.old.reader + 1 }
+    ensures lazy { IfOk result
+        (λ n. n ≡ length buf.new → R.told source.new.reader ≤ R.told source.old.reader) }
 {
     match unfinished {
         Unfinished::Waiting(request) => request.body.fill(source, buf),

@@ -6,11 +6,11 @@ use Rattle.tiny_http_io.specs.Device.{Feed}
 use Rattle.tiny_http_io.specs.Source.{GoesOn}
 use Rattle.tiny_http_connection.specs.Seen.{IsTimedStep, seen, all_sent_after, all_sent}
 use Rattle.tiny_http_connection.specs.Driving.{stated_step}
-use Rattle.tiny_http_io.specs.Outlet.{OutletState, output_of, SentOn, outlet_writer}
+use Rattle.tiny_http_io.specs.Outlet.{OutletState, output_of, SentOn}
 use Rattle.tiny_http_response.specs.Sending.{SinkFailsOnce}
 use Rattle.tiny_http_io.proofs.SourceGoesOn.{goes-on_same, goes-on_more}
-use Rattle.tiny_http_connection.proofs.ConversationRuns.{all-sent-snoc, sent-stated, joins-more, joins-end, fails-step, honest-step, honest-end}
-use Rattle.tiny_http_connection.proofs.DrivingLemmas.{done-none, done-step, reports-step, tells-step}
+use Rattle.tiny_http_connection.proofs.ConversationRuns.{all-sent-snoc, sent-stated, joins-more, joins-end, fails-step, takes-snoc}
+use Rattle.tiny_http_connection.proofs.DrivingLemmas.{done-none, done-step}
 use Rattle.tiny_http_connection.proofs.driver.run_with.Goals as goal
 
 pub loop-timed-init : goal.loop-timed-init
@@ -29,7 +29,9 @@ loop-timed-init g c =
       fails_once = rw c.new_with-connection.ensures.outlet (inl refl);
       flushed = λ all. rw c.new_with-connection.ensures.outlet refl;
       sent_on = λ none all. rw c.new_with-connection.ensures.outlet (λ e. none);
-      honest = rw (c.in-Ok.ensures.items, c.new_with-connection.ensures.outlet) refl;
+      first = new;
+      begins = record { profile = c.new_with-connection.ensures.profile; unasked = (c.new_with-connection.ensures.open.2, c.new_with-connection.ensures.open.1, c.new_with-connection.ensures.open.0); source = (c.new_with-connection.ensures.source.2, c.new_with-connection.ensures.source.0, c.new_with-connection.ensures.source.1); outlet = c.new_with-connection.ensures.outlet };
+      takes = rw c.in-Ok.ensures.items refl;
     }
 
 pub loop-timed-preserved : goal.loop-timed-preserved
@@ -54,10 +56,9 @@ loop-timed-preserved g c =
       fails_once = fails-step writer (output_of old.outlet) (output_of new.outlet) old.outlet.ended new.outlet.ended inv.fails_once step.fails_once;
       flushed = λ e. step.flushed (all_sent c.loop-timed.yielded c.loop-timed.replies.items true) inv.flushed (before e);
       sent_on = λ none e. step.sent_on (all_sent c.loop-timed.yielded c.loop-timed.replies.items true) (inv.sent_on none) (before e);
-      honest = rw c.push_reserved.ensures.items
-          (honest-step g.D.ReadDevice.feed writer (output_of old.outlet) (output_of new.outlet) old.outlet.ended new.outlet.ended c.loop-timed.yielded c.loop-timed.replies.items c.in-Some.timed c.step-reply.result step.fails_once inv.honest
-          (reports-step g.D.ReadDevice.feed old new c.in-Some.timed c.step-reply.result step.honest)
-          (tells-step g.D.ReadDevice.feed old new c.in-Some.timed.now c.in-Some.timed.step (seen c.step-reply.result) step.tells));
+      first = inv.first;
+      begins = inv.begins;
+      takes = rw c.push_reserved.ensures.items (takes-snoc g.D.ReadDevice.feed inv.first old new done replies c.in-Some.timed c.step-reply.result inv.takes step);
     }
 
 pub returns-clause-conversation : goal.returns-clause-conversation
@@ -81,7 +82,12 @@ returns-clause-run g c =
       replies = sym inv.as_many ∙ ap length whole;
       source = rw left.source inv.source;
       fails_once = rw (← left.sink) (⊎_elim (λ h. inl h) (λ h. inr h.0) (subst Once (sym left.outlet) inv.fails_once));
-      honest = rw (← whole) (honest-end g.D.ReadDevice.feed writer (output_of c.loop-timed.connection.outlet) (g.W.WriteDevice.sink (outlet_writer c.into_parts-source.result.1)) c.loop-timed.yielded replies (rw (← left.sink, left.outlet) refl) inv.honest);
+      first = inv.first;
+      last = c.loop-timed.connection;
+      begins = inv.begins;
+      takes = rw (← whole) inv.takes;
+      leaves = (left.source, left.outlet);
+      states = left.sink;
       flushed = subst Flushed (sym left.outlet) (rw (← whole) inv.flushed);
       sent_on = λ none. subst Sent (sym left.outlet) (rw (← whole) (inv.sent_on none));
     }

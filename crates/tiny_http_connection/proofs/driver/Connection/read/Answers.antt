@@ -1,6 +1,7 @@
-use Rattle.std.proofs.Common.{rules, ◌≡◌, refl, sym, ap, ◌∙◌, subst, List, [], ◌∷◌, Ok, Err, ℕ, ◌++◌, length, take, drop, arith, inl, inr}
+use Rattle.std.proofs.Common.{rules, ◌≡◌, refl, sym, ap, ◌∙◌, subst, List, [], ◌∷◌, Ok, Err, ℕ, ◌++◌, ◌≤◌, length, take, drop, arith, inl, inr}
 use Rattle.std.proofs.lemmas.Grind.{common_steps}
 use Rattle.std.specs.Prelude.{slice_get}
+use Rattle.std.specs.declared.io.ErrorKind.{ErrorKind}
 use Rattle.tiny_http_connection.specs.Steps.{Read, Given, Fault, NoSuch, Memory}
 use Rattle.tiny_http_turns.specs.Turns.{Mark}
 use Rattle.tiny_http_connection.specs.Connection.{Kept, kept}
@@ -16,49 +17,53 @@ use Rattle.tiny_http_connection.proofs.driver.Connection.read.Goals as goal
 whole : (buf items : List ℕ) {count : ℕ} (n : ℕ) → n ≡ length items → length buf ≡ count → length items ≡ count → take n (buf ++ drop (length buf) items) ≡ buf
 whole buf items n e f g = grind (arith, common_steps)
 
+given-bytes : (xs ys : List ℕ) → Given xs ≡ Given ys → xs ≡ ys
+given-bytes xs ys e = cc
+
+gives-none : (kind : ErrorKind) (bytes : List ℕ) → Fault kind ≡ Given bytes → ⊥
+gives-none kind bytes e = cc
+
+-- as many bytes came as were asked for
+all-came : (buf bytes : List ℕ) (n count : ℕ) → take n buf ≡ bytes → length buf ≡ count → n ≤ length buf → length bytes ≡ count → n ≡ length buf
+all-came buf bytes n count came size bound all = grind (arith, common_steps)
+
 none : (l : List ℕ) → length l ≡ 0 → [] ≡ l
 none [] e = refl
 none (x ∷ xs) e = absurd (omega (arith, e))
 
-pub returns-then-not-is_readable : goal.returns-then-not-is_readable
-returns-then-not-is_readable g c =
+pub returns-then-not-is_readable-clause-step : goal.returns-then-not-is_readable-clause-step
+returns-then-not-is_readable-clause-step g c date =
     let n = c.args.number in
     let q = c.self.inside in
     let old = viewed q.profile q.source q.outlet q.pending q.end in
-    record {
-      step = λ date. rw (← c.self.view_is) (takes-read old old date n c.args.count NoSuch
-          (λ client before s st. read-nothing client before (kept old) s date n c.args.count st (sym c.is_readable.ensures ∙ c.if-not-is_readable.true)) (λ no. refl) refl (refl, refl, inl (refl, refl)) (moves-none old));
-    }
+    rw (← c.self.view_is) (takes-read old old date n c.args.count NoSuch
+    (λ client before s st. read-nothing client before (kept old) s date n c.args.count st (sym c.is_readable.ensures ∙ c.if-not-is_readable.true)) (λ no. refl) refl (refl, refl, inl (refl, refl)) (moves-none old))
 
-pub returns-then-count-eq0 : goal.returns-then-count-eq0
-returns-then-count-eq0 g c =
-    let n = c.args.number in
-    let q = c.self.inside in
-    let old = viewed q.profile q.source q.outlet q.pending q.end in
-    let k : Kept = kept old in
-    record {
-      step = λ date. rw (← c.self.view_is) (takes-read old old date n c.args.count (Given c.new.result.items)
-          (λ client before s st.
-          let w = readable-some (slice_get k.requests n) (sym c.is_readable.ensures ∙ c.if-not-is_readable.false) in
-          let P : List ℕ → Type 0 = λ l. StepIsAnswered client before k s date (Read n c.args.count) (Given l) in
-          subst P (none _ (search rules)) (read-none client before k s date n c.args.count w.0 w.1 st w.2 w.3 w.4 c.if-count-eq0.true)) (λ no. refl) refl (refl, refl, inl (refl, refl)) (moves-none old));
-    }
-
-pub returns-in_default : goal.returns-in_default
-returns-in_default g c =
+pub returns-then-count-eq0-clause-step : goal.returns-then-count-eq0-clause-step
+returns-then-count-eq0-clause-step g c date =
     let n = c.args.number in
     let q = c.self.inside in
     let old = viewed q.profile q.source q.outlet q.pending q.end in
     let k : Kept = kept old in
-    record {
-      step = λ date. rw (← c.self.view_is) (takes-read old old date n c.args.count Memory
-          (λ client before s st.
-          let w = readable-some (slice_get k.requests n) (sym c.is_readable.ensures ∙ c.if-not-is_readable.false) in
-          read-memory client before k s date n c.args.count w.0 w.1 st w.2 w.3 w.4 (omega (arith, c.if-count-eq0.false))) (λ no. refl) refl (refl, refl, inl (refl, refl)) (moves-none old));
-    }
+    rw (← c.self.view_is) (takes-read old old date n c.args.count (Given c.new.result.items)
+    (λ client before s st.
+    let w = readable-some (slice_get k.requests n) (sym c.is_readable.ensures ∙ c.if-not-is_readable.false) in
+    let P : List ℕ → Type 0 = λ l. StepIsAnswered client before k s date (Read n c.args.count) (Given l) in
+    subst P (none _ (search rules)) (read-none client before k s date n c.args.count w.0 w.1 st w.2 w.3 w.4 c.if-count-eq0.true)) (λ no. refl) refl (refl, refl, inl (refl, refl)) (moves-none old))
 
-pub returns : goal.returns
-returns g c =
+pub returns-in_default-clause-step : goal.returns-in_default-clause-step
+returns-in_default-clause-step g c date =
+    let n = c.args.number in
+    let q = c.self.inside in
+    let old = viewed q.profile q.source q.outlet q.pending q.end in
+    let k : Kept = kept old in
+    rw (← c.self.view_is) (takes-read old old date n c.args.count Memory
+    (λ client before s st.
+    let w = readable-some (slice_get k.requests n) (sym c.is_readable.ensures ∙ c.if-not-is_readable.false) in
+    read-memory client before k s date n c.args.count w.0 w.1 st w.2 w.3 w.4 (omega (arith, c.if-count-eq0.false))) (λ no. refl) refl (refl, refl, inl (refl, refl)) (moves-none old))
+
+pub returns-clause-step : goal.returns-clause-step
+returns-clause-step g c date =
     let n = c.args.number in
     let q = c.self.inside in
     let old = viewed q.profile q.source q.outlet q.pending q.end in
@@ -66,21 +71,33 @@ returns g c =
     let k : Kept = kept old in
     let w = readable-some (slice_get k.requests n) (sym c.is_readable.ensures ∙ c.if-not-is_readable.false) in
     let size : length c.fill.new.buf ≡ c.args.count = search (rules, c.in-Ok.ensures) in
-    record {
-      step = λ date. rw (← c.self.view_is) (takes-read old new date n c.args.count (seen c.match-fill.result)
-          (λ client before s st. elim c.match-fill.branch [
-            | in-Ok-fill b ↦
-                let fills = b.in-Ok-fill.ensures.fills w.0 w.1 w.2 w.4 in
-                let done = read-done client before k s date n c.args.count w.0 w.1 fills.0 q.source c.fill.new.source c.fill.new.self.requests (Ok b.in-Ok-fill.n) c.fill.new.buf st w.2 w.3 w.4 fills.1 (record { feed = refl; stop = refl; ends = refl; standing = refl }) b.in-Ok-fill.ensures.bound size (omega (arith, c.if-count-eq0.false)) fills.2 fills.3 fills.4 c.fill.ensures.goes_on in
-                let P : List Mark → List ℕ → Type 0 = λ m l. StepIsAnswered client before (record (with_reader k c.fill.new.self.requests c.fill.new.source) { marks = m }) s date (Read n c.args.count) (Given l) in
-                rw b.result-is (subst (λ l. P c.fill.new.self.turns.marks l) (ap (take b.in-Ok-fill.n) (sym (whole c.fill.new.buf c.in-Ok.bytes.items c.in-Ok.bytes.len (search (rules, c.in-Ok.ensures)) size c.in-Ok.ensures)) ∙ sym b.truncate.ensures.items) (subst (λ m. P m (take b.in-Ok-fill.n c.fill.new.buf)) (ap (λ t. t.marks) (sym c.fill.ensures.turns)) done))
-            | in-Err b ↦
-                let fills = b.in-Err.ensures.fills w.0 w.1 w.2 w.4 in
-                let done = read-done client before k s date n c.args.count w.0 w.1 fills.0 q.source c.fill.new.source c.fill.new.self.requests (Err b.in-Err.kind) c.fill.new.buf st w.2 w.3 w.4 fills.1 (record { feed = refl; stop = refl; ends = refl; standing = refl }) tt size (omega (arith, c.if-count-eq0.false)) fills.2 fills.3 fills.4 c.fill.ensures.goes_on in
-                let P : List Mark → Type 0 = λ m. StepIsAnswered client before (record (with_reader k c.fill.new.self.requests c.fill.new.source) { marks = m }) s date (Read n c.args.count) (Fault b.in-Err.kind) in
-                rw b.result-is (subst P (ap (λ t. t.marks) (sym c.fill.ensures.turns)) done)
-          ])
-          (elim c.match-fill.branch [ in-Ok-fill b ↦ rw b.result-is (λ no. elim no [ ]) | in-Err b ↦ rw b.result-is (λ no. elim no [ ]) ]) refl
-          (let fills = c.fill.ensures.fills w.0 w.1 w.2 w.4 in (refl, ap (λ t. t.marks) c.fill.ensures.turns, inr (w.0, w.1, fills.0, w.2, w.4, fills.1, stands-after w.1 fills.0 q.source c.fill.new.source fills.3 fills.4)))
-          (driving-reads-on old new refl refl c.fill.ensures.goes_on));
-    }
+    rw (← c.self.view_is) (takes-read old new date n c.args.count (seen c.match-fill.result)
+    (λ client before s st. elim c.match-fill.branch [
+      | in-Ok-fill b ↦
+          let fills = b.in-Ok-fill.ensures.fills w.0 w.1 w.2 w.4 in
+          let done = read-done client before k s date n c.args.count w.0 w.1 fills.0 q.source c.fill.new.source c.fill.new.self.requests (Ok b.in-Ok-fill.n) c.fill.new.buf st w.2 w.3 w.4 fills.1 (record { feed = refl; stop = refl; ends = refl; standing = refl }) b.in-Ok-fill.ensures.bound size (omega (arith, c.if-count-eq0.false)) fills.2 fills.3 fills.4 c.fill.ensures.goes_on in
+          let P : List Mark → List ℕ → Type 0 = λ m l. StepIsAnswered client before (record (with_reader k c.fill.new.self.requests c.fill.new.source) { marks = m }) s date (Read n c.args.count) (Given l) in
+          rw b.result-is (subst (λ l. P c.fill.new.self.turns.marks l) (ap (take b.in-Ok-fill.n) (sym (whole c.fill.new.buf c.in-Ok.bytes.items c.in-Ok.bytes.len (search (rules, c.in-Ok.ensures)) size c.in-Ok.ensures)) ∙ sym b.truncate.ensures.items) (subst (λ m. P m (take b.in-Ok-fill.n c.fill.new.buf)) (ap (λ t. t.marks) (sym c.fill.ensures.turns)) done))
+      | in-Err b ↦
+          let fills = b.in-Err.ensures.fills w.0 w.1 w.2 w.4 in
+          let done = read-done client before k s date n c.args.count w.0 w.1 fills.0 q.source c.fill.new.source c.fill.new.self.requests (Err b.in-Err.kind) c.fill.new.buf st w.2 w.3 w.4 fills.1 (record { feed = refl; stop = refl; ends = refl; standing = refl }) tt size (omega (arith, c.if-count-eq0.false)) fills.2 fills.3 fills.4 c.fill.ensures.goes_on in
+          let P : List Mark → Type 0 = λ m. StepIsAnswered client before (record (with_reader k c.fill.new.self.requests c.fill.new.source) { marks = m }) s date (Read n c.args.count) (Fault b.in-Err.kind) in
+          rw b.result-is (subst P (ap (λ t. t.marks) (sym c.fill.ensures.turns)) done)
+    ])
+    (elim c.match-fill.branch [ in-Ok-fill b ↦ rw b.result-is (λ no. elim no [ ]) | in-Err b ↦ rw b.result-is (λ no. elim no [ ]) ]) refl
+    (let fills = c.fill.ensures.fills w.0 w.1 w.2 w.4 in (refl, ap (λ t. t.marks) c.fill.ensures.turns, inr (w.0, w.1, fills.0, w.2, w.4, fills.1, stands-after w.1 fills.0 q.source c.fill.new.source fills.3 fills.4)))
+    (driving-reads-on old new refl refl c.fill.ensures.goes_on))
+
+pub returns-clause-told : goal.returns-clause-told
+returns-clause-told g c = rw (← c.self.view_is) c.fill.ensures.told
+
+pub returns-clause-lazy : goal.returns-clause-lazy
+returns-clause-lazy g c =
+    let size : length c.fill.new.buf ≡ c.args.count = search (rules, c.in-Ok.ensures) in
+    rw (← c.self.view_is) (λ bytes given all. elim c.match-fill.branch [
+      | in-Ok-fill b ↦
+          let items = whole c.fill.new.buf c.in-Ok.bytes.items c.in-Ok.bytes.len (search (rules, c.in-Ok.ensures)) size c.in-Ok.ensures in
+          let came : take b.in-Ok-fill.n c.fill.new.buf ≡ bytes = ap (take b.in-Ok-fill.n) (sym items) ∙ sym b.truncate.ensures.items ∙ given-bytes _ _ (ap seen (sym b.result-is) ∙ given) in
+          b.in-Ok-fill.ensures.lazy (all-came c.fill.new.buf bytes b.in-Ok-fill.n c.args.count came size b.in-Ok-fill.ensures.bound all)
+      | in-Err b ↦ absurd (gives-none b.in-Err.kind bytes (ap seen (sym b.result-is) ∙ given))
+    ])

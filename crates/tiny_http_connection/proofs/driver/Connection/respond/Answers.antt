@@ -1,19 +1,19 @@
 use Rattle.tiny_http_response.specs.Sending.{IsHonest}
 use Rattle.tiny_http_body.specs.declared.body.Remainder.{Remainder}
 use Rattle.tiny_http_open_request.specs.OpenRequest.{final_context}
-use Rattle.std.proofs.Common.{◌&&◌, ◌||◌, ◌⊎◌, inl, inr, rules, ℕ, ◌≡◌, refl, sym, ap, ◌∙◌, subst, Bool, true, false, List, ◌∷◌, ◌++◌, Option, Some, None}
-use Rattle.std.specs.Prelude.{is_some, slice_get, slice_set, IsTrue}
+use Rattle.std.proofs.Common.{◌&&◌, ◌||◌, ◌⊎◌, inl, inr, rules, ℕ, ◌+◌, ◌≡◌, refl, sym, ap, ◌∙◌, subst, Bool, true, false, List, ◌∷◌, ◌++◌, Option, Some, None}
+use Rattle.std.specs.Prelude.{is_some, drop, slice_get, slice_set, IsTrue}
 use Rattle.tiny_http_response.specs.Answer.{Answer}
 use Rattle.tiny_http_connection.specs.declared.pending.Unfinished.{Unfinished}
 use Rattle.tiny_http_connection.specs.declared.pending.Unfinished.TheVariants as still
 use Rattle.tiny_http_connection.specs.Steps.{ReplyValue, Handed, Ended, Given, Fault, Done, Refused, Memory, Respond, NotYet, NoSuch}
-use Rattle.tiny_http_connection.specs.Driving.{IsDeclined, RespondEnds, LetsGoAnswered, AnswerLeaves, ends_behind, stated_response, has_left_behind, AnswerIsSentOn, RespondReports}
+use Rattle.tiny_http_connection.specs.Driving.{IsDeclined, RespondEnds, LetsGoAnswered, AnswerLeaves, ends_behind, stated_response, AnswerIsSentOn, RespondReports}
 use Rattle.tiny_http_connection.specs.Seen.{IsAnswered, is_done}
 use Rattle.tiny_http_connection.specs.declared.driver.Step.TheVariants as step
 use Rattle.tiny_http_response.specs.Answer.{ResponseState}
 use Rattle.tiny_http_io.specs.Device.{Feed}
 use Rattle.tiny_http_turns.specs.Turns.{Mark, Held}
-use Rattle.tiny_http_connection.specs.Pending.{waiting_answer_context, is_last_once_finished_at as kept_lacks, refuses_at, kept_body, closing_number, asked_to_close}
+use Rattle.tiny_http_connection.specs.Pending.{waiting_answer_context, is_last_once_finished_at as kept_lacks, refuses_at, kept_body, closing_number, asked_to_close, begins_left}
 use Rattle.tiny_http_io.specs.Outlet.{output_of, outlet_ended}
 use Rattle.tiny_http_connection.specs.Connection.{Kept, ConnectionState, kept}
 use Rattle.tiny_http_response.specs.ResponseValue.{printing_in}
@@ -161,7 +161,7 @@ answered-tells : {R W : Type 0} (n : ℕ) (r : ResponseState (Option Feed)) (old
     → waiting_answer_context (slice_get (asked_to_close r.answer.closes old.requests) n) ≡ Some context
     → ((output_of new.outlet).failures ≡ (output_of old.outlet).failures)
     ⊎ ((kind : ErrorKind) × (reply ≡ fault_reply kind) × IsHonest (output_of old.outlet) (output_of new.outlet) r.answer r.data_reader (printing_in context now) kind)
-    ⊎ ((has_left_behind old.marks n ≡ true) × AnswerIsSentOn old new now n r)
+    ⊎ ((begins_left (drop (n + 1) old.marks) ≡ true) × AnswerIsSentOn old new now n r)
     → RespondReports old new now n r reply
 answered-tells n r old new now reply context a waits (inl h) = by reply a
   where
@@ -283,7 +283,7 @@ returns g c =
     let around = around-held q.pending.turns.marks n (c.hold.ensures.held.0 held_is).0 in
     let marks_are : c.take.new.self.turns.marks ≡ around.0 ++ (Held ∷ around.1) = ap (λ t. t.marks) c.take.ensures.turns ∙ ap (λ t. t.marks) c.close_last.ensures.turns ∙ c.hold.ensures.marks held_is ∙ around.2 in
     let last_kind : mid.ended ≡ true → (output_of last.outlet).last_kind ≡ (output_of mid).last_kind = λ e. left-kind around.1 mid.ended (output_of mid) (output_of last.outlet) last.outlet.ended e (c.pass.ensures.sends around.0 around.1 marks_are around.3 (λ open_is. absurd (true-false e open_is))) in
-    let idle : has_left_behind q.pending.turns.marks n ≡ false → last.outlet ≡ mid = λ e. c.pass.ensures.idle around.0 around.1 marks_are around.3 (around.4 ∙ e) in
+    let idle : begins_left (drop (n + 1) q.pending.turns.marks) ≡ false → last.outlet ≡ mid = λ e. c.pass.ensures.idle around.0 around.1 marks_are around.3 (around.4 ∙ e) in
     let A : Remainder → Feed → Type 0 = λ l content. Answers k.sink (output_of mid) (outlet_ended mid) reply c.args.response.answer content (printing_in (final_context w0 l) c.args.now) in
     let own_sent : mid.ended ≡ false → AnswerIsSentOn old new c.args.now n (stated_response g.D.ReadDevice.feed c.args.response) =
     λ goes. (context, waits, λ content taken stated few can known. answer-sent_on k.sink (output_of mid) (output_of last.outlet) mid.ended reply c.args.response.answer content p taken goes (subst (λ l. A l content) c.remainder-left.ensures (c.answer-reply.ensures.sends content stated few (or-parts q.outlet.ended q.outlet.sink.has_ended can.unended).0 can)) known c.pass.ensures.keeps) in
@@ -323,6 +323,6 @@ returns g c =
           let h = c.answer-reply.ensures.honest kind e in
           (context, waits, honest-more (outlet_ended mid) (outlet_ended last.outlet) k.sink (output_of mid) (output_of last.outlet) c.args.response.answer feed p kind h.0 c.pass.ensures.fails_once (last_kind h.0) (subst (λ l. H l kind) c.remainder-left.ensures h.1)))
           (answered-tells n (stated_response g.D.ReadDevice.feed c.args.response) old new c.args.now reply context c.answer-reply.ensures.done waits
-          (answer-tells k.sink mid last.outlet reply (has_left_behind q.pending.turns.marks n) c.args.response.answer feed p (AnswerIsSentOn old new c.args.now n (stated_response g.D.ReadDevice.feed c.args.response))
+          (answer-tells k.sink mid last.outlet reply (begins_left (drop (n + 1) q.pending.turns.marks)) c.args.response.answer feed p (AnswerIsSentOn old new c.args.now n (stated_response g.D.ReadDevice.feed c.args.response))
           (subst (λ l. T (final_context w0 l)) c.remainder-left.ensures c.answer-reply.ensures.tells) c.pass.ensures.fails_once last_kind idle own_sent)));
     }
