@@ -4,7 +4,6 @@ use Rattle.std.specs.Prelude.{Result, Ok, IfOk, IfErr, IfSome}
 use Rattle.std.specs.Option.{option_map}
 use Rattle.std.specs.IoError.{error_kind}
 use Rattle.std.specs.declared.io.Error.{Error}
-use Rattle.std.specs.declared.snapshot.Snapshot.{Snapshot}
 use Rattle.tiny_http_io.specs.Device.{AnswersStop, Feed}
 use Rattle.tiny_http_io.specs.declared.device.Stop.TheVariants.{End, Fault}
 use Rattle.tiny_http_io.specs.Source.{SourceState}
@@ -12,6 +11,7 @@ use Rattle.tiny_http_io.specs.ToCome.{stopped}
 use Rattle.tiny_http_body.specs.declared.body.UnreadBody.{UnreadBody}
 use Rattle.tiny_http_threads.specs.declared.turn.HeldReader.{HeldReader}
 use Rattle.tiny_http_threads.specs.Turn.{held_item}
+use Rattle.tiny_http_request.specs.declared.remembered.Remembered.{Remembered}
 use Rattle.tiny_http_request.specs.declared.body.GivesOn.{GivesOn}
 use Rattle.tiny_http_request.specs.declared.body.GivesOn.TheVariants.{AfterBody, AfterAnswer, Never}
 use Rattle.tiny_http_body.specs.Body.{Remaining, is_streaming, body_stop, BodyStops, ReadsOn, remaining, prepended_body}
@@ -31,12 +31,12 @@ pub record BodyState : Type 0 where
   pub holds_input : Bool
 
 -- what the input gave as a body was made; an ended feed, where the body held no input
-abbrev pub begun_feed : {R : Type 0} → Option (Snapshot (SourceState R)) → Option Feed
+abbrev pub begun_feed : {R : Type 0} → Option (Remembered (SourceState R)) → Option Feed
 begun_feed (Some source) = source.value.feed
 begun_feed None = Some (stopped End)
 
 -- what the input gives that is held; or what it gave at first
-abbrev pub input_of : {R Rt : Type 0} → Option (HeldReader (SourceState R) Rt) → Option (Snapshot (SourceState R))
+abbrev pub input_of : {R Rt : Type 0} → Option (HeldReader (SourceState R) Rt) → Option (Remembered (SourceState R))
     → Option Feed
 input_of (Some reader) begun = (held_item reader).feed
 input_of None begun = begun_feed begun

@@ -9,10 +9,10 @@ ghost use Rattle.tiny_http_body.specs.Body.{BodyStops, remaining, prepended_body
 ghost use Rattle.tiny_http_request.specs.Body.{ReadsUnread, KeepsLeft, outlasts_body, input_of, body_left};
 ghost use Rattle.tiny_http_request.specs.Body.{upgraded_body};
 
+use crate::remembered::Remembered;
 use std::io;
 use std::io::{ErrorKind, Read};
 use std::marker::Model;
-use std::snapshot::Snapshot;
 use std::sync::Wait;
 use tiny_http_body::body::{Remainder, UnreadBody};
 use tiny_http_io::device::ReadDevice;
@@ -52,7 +52,7 @@ pub struct Body<R: ReadDevice + Drop, Rt: Wait + Drop> {
     reader: Option<HeldReader<Source<R>, Rt>>,
     gives_on: GivesOn,
     // The input as the body was made, if it held it then. Contracts alone see it.
-    begun: Option<Snapshot<Source<R>>>,
+    begun: Option<Remembered<Source<R>>>,
 }
 
 // Gives the input on, where the body isn't read from it any more and no answer is waited for; else it comes back.
@@ -107,7 +107,7 @@ impl<R: ReadDevice + Drop, Rt: Wait + Drop> Body<R, Rt> {
         ensures { result ≡ record { unread = unread; input = input_of reader None; holds_input = is_some reader } }
     {
         let begun = match &reader {
-            Some(reader) => Some(Snapshot::of(&*reader.turn.item)),
+            Some(reader) => Some(Remembered::of(&*reader.turn.item)),
             None => None,
         };
         Body {

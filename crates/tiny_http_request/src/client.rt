@@ -233,6 +233,8 @@ impl<R: ReadDevice + Drop, W: WriteDevice + Drop, Rt: Wait + Copy> ClientConnect
         ensures over { IsOver self.old → (result ≡ Ok None) × IsOver self.new }
         ensures none { IfOk result (λ r. IfNone r (IsOver self.new)) }
         ensures err { OnErr result (IsOver self.new) }
+        // Whether a request that was handed out has closed the connection is known behind a lock. So no clause says
+        // when a request is handed out: `None` may be answered where one stands in the input.
         ensures handed { IfOk result (λ r. IfSome r (HandsOut self.old self.new now)) }
         // Where the connection holds the input, it is the next request that stands in what the input gives.
         ensures reads { IfOk result (λ r. IfSome r (HandsOutNext self.old self.new now)) }

@@ -5,6 +5,7 @@
 
 mod body;
 pub mod client;
+mod remembered;
 pub mod request;
 mod streamed_body;
 pub mod test;
