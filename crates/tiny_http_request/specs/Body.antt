@@ -15,7 +15,7 @@ use Rattle.tiny_http_request.specs.declared.remembered.Remembered.{Remembered}
 use Rattle.tiny_http_request.specs.declared.body.GivesOn.{GivesOn}
 use Rattle.tiny_http_request.specs.declared.body.GivesOn.TheVariants.{AfterBody, AfterAnswer, Never}
 use Rattle.tiny_http_body.specs.Body.{Remaining, is_streaming, body_stop, BodyStops, ReadsOn, remaining, prepended_body}
-use Rattle.tiny_http_body.specs.Body.{stream_body}
+use Rattle.tiny_http_body.specs.Body.{is_whole, stream_body}
 
 -- the input isn't given on as the body ends
 abbrev pub outlasts_body : GivesOn → Bool
@@ -60,13 +60,15 @@ upgraded_body by_standard b = record b { unread = stream_body (by_standard && b.
 
 -- ONE READ OF A BODY: how far the body was read, and what holds where the connection's reader states no feed; the
 -- bytes of what is left stand in `Reads`. A body that came with its head gives its next bytes, and none only at its
--- end. A body that is over answers its end or fault again. A read into no room changes nothing.
+-- end. A body whose end is answered has come whole. A body that is over answers its end or fault again. A read into no
+-- room changes nothing.
 pub record ReadsUnread (old new : BodyState) (r : Result ℕ Error) (buf : List ℕ) : Type 0 where
   pub held : is_streaming old.unread ≡ false → (feed : Option Feed)
       → IfOk r (λ n. remaining old.unread feed ≡ prepended_body (take n buf) (remaining new.unread feed))
   pub end : is_streaming old.unread ≡ false → (feed : Option Feed)
       → IfOk r (λ n. n ≡ 0 → 0 < length buf → BodyStops End (remaining old.unread feed))
   pub moves : IfOk r (λ n. 0 < length buf → ReadsOn old.unread n (n == 0) new.unread)
+  pub ended : IfOk r (λ n. n ≡ 0 → 0 < length buf → is_whole new.unread ≡ true)
   pub broken : IfErr r (λ e. body_stop new.unread ≡ Some (Fault (error_kind e)))
   pub reports_stop : IfSome (body_stop old.unread)
       (λ stop. 0 < length buf → AnswersStop stop r × (body_stop new.unread ≡ Some stop))

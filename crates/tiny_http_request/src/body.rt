@@ -1,6 +1,6 @@
 //! The body of a request that a thread may read, while the connection reads on.
 ghost use Rattle.std.specs.Prelude.{◌≡◌, ◌+◌, ◌≤◌, ◌<◌, ◌==◌, ◌||◌, false, length, take, drop, Option, is_some, Ok};
-ghost use Rattle.std.specs.Prelude.{Some, None, IfOk, IfErr, IfSome, OnOk};
+ghost use Rattle.std.specs.Prelude.{true, Some, None, IfOk, IfErr, IfSome, OnOk};
 ghost use Rattle.std.specs.IoError.{error_kind};
 ghost use Rattle.tiny_http_io.specs.Device.{AnswersStop, Feed, Reads, bytes_of, prepended};
 ghost use Rattle.tiny_http_io.specs.declared.device.Stop.TheVariants.{End, Fault};
@@ -175,6 +175,7 @@ impl<R: ReadDevice + Drop, Rt: Wait + Drop> Body<R, Rt> {
             → (feed : Option Feed)
             → IfOk result (λ n. n ≡ 0 → 0 < length buf.new → BodyStops End (remaining self.old.unread feed)) }
         ensures moves { IfOk result (λ n. ReadsOn self.old.unread n (n == 0) self.new.unread) }
+        ensures ended { IfOk result (λ n. n ≡ 0 → is_whole self.new.unread ≡ true) }
         ensures broken { IfErr result (λ e. body_stop self.new.unread ≡ Some (Fault (error_kind e))) }
         ensures reports_stop { IfSome (body_stop self.old.unread) (λ stop. AnswersStop stop result
             × (body_stop self.new.unread ≡ Some stop)) }
