@@ -120,7 +120,7 @@ ReadsField limit left (Some f) new (Err Memory) = ⊤
 ReadsField limit left (Some f) new (Err _) = ⊥
 
 -- why no memory is found for the first line: it is a good one; or it doesn't lie whole in the buffer: bytes of it were
--- taken, or no LF is among those that are held then
+-- taken, or none that is held then is an LF within the limit
 abbrev pub LacksMemory : (List ℕ → Type 0) → ℕ → Feed → Option Feed → List ℕ → Type 0
 LacksMemory IsBad limit f new held =
     ((text : List ℕ) × (rest : List ℕ) × Line (take limit f.bytes) text rest × (IsBad text → ⊥))

@@ -36,8 +36,8 @@ abbrev pub IsCut : NoLine → Type 0
 IsCut (Cut has_begun) = ⊤
 IsCut _ = ⊥
 
--- why there is no line within the limit, where these bytes are in the buffer then; memory is wanted but for a line that
--- doesn't lie whole there
+-- why there is no line within the limit, where these bytes are in the buffer then; memory is wanted only for a line
+-- that doesn't lie whole there
 abbrev pub HasNoLine : ℕ → Option Feed → Option Feed → List ℕ → NoLine → Type 0
 HasNoLine limit old new held (Cut has_begun) =
     (gone : List ℕ)
