@@ -1,11 +1,11 @@
 //! A request without locks: its head, its body on the connection's input, and what becomes of both.
-ghost use Rattle.std.specs.Prelude.{◌≡◌, ◌<◌, true, false, [], length, Some, None, Ok, IfOk, IfSome, IsSome, OnOk};
+ghost use Rattle.std.specs.Prelude.{◌≡◌, ◌+◌, ◌<◌, ◌≤◌, true, false, [], length, Some, None, Ok, IfOk, IfSome, IsSome, OnOk};
 ghost use Rattle.std.specs.Prelude.{OnErr};
 ghost use Rattle.tiny_http_response.specs.ResponseValue.{printing_in, upgrade_text};
 ghost use Rattle.tiny_http_io.specs.Source.{GoesOn, IsAtEnd, IsCutOff};
 ghost use Rattle.tiny_http_open_request.specs.Pipeline.{profile_of, is_timed_out, ends_too_new, refusal_status};
 ghost use Rattle.tiny_http_open_request.specs.Pipeline.{framing_refusal};
-ghost use Rattle.tiny_http_body.specs.Body.{ReadsBody, PassesOver};
+ghost use Rattle.tiny_http_body.specs.Body.{ReadsBody, PassesOver, bytes_given, ends_met};
 ghost use Rattle.tiny_http_open_request.specs.HeadReads.{ReadsHead, RefusesWith, RefusesTooNew, AnswersCut};
 ghost use Rattle.tiny_http_open_request.specs.HeadReads.{AnswersFault, TakesHead, HasByteOrTimedOut, Begins};
 ghost use Rattle.tiny_http_open_request.specs.HeadReads.{IsRequest, IsFramedRequest, IsRefusedUncut, IsOkEnd};
@@ -158,6 +158,9 @@ impl Exchange {
         ensures kept { KeepsButBody self.old self.new }
         // The source's reader is asked for no second end or fault, nor for more than the bytes that came.
         ensures told { Tells (R.told source.old.reader) (R.told source.new.reader) result }
+        // It is asked for none where the body has its own end.
+        ensures whole { R.told source.new.reader ≤ R.told source.old.reader
+            + ends_met (exchange_body self.old) (bytes_given result) (exchange_body self.new) }
     {
         self.open_request.read(source, buf)
     }

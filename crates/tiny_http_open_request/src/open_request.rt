@@ -1,7 +1,7 @@
 //! A request that was handed out and isn't answered yet: what it owes, how its answer is printed, and its body. A
 //! `Connection` keeps it under its number, a `Request` beside its turn. They see to the turn; what is sent, and what
 //! is owed after it, is decided here.
-ghost use Rattle.std.specs.Prelude.{◌≡◌, ℕ, List, true, false, IfOk};
+ghost use Rattle.std.specs.Prelude.{◌≡◌, ◌+◌, ◌≤◌, ℕ, List, true, false, IfOk};
 ghost use Rattle.tiny_http_standard_head.specs.Judging.{names_protocol};
 ghost use Rattle.std.specs.List.{list_all};
 ghost use Rattle.tiny_http_text.specs.Bytes.{is_ascii};
@@ -17,7 +17,7 @@ ghost use Rattle.tiny_http_open_request.specs.OpenRequest.{HasNoDropText, HasNoB
 ghost use Rattle.tiny_http_open_request.specs.OpenRequest.{streaming_context, is_last_once_finished};
 ghost use Rattle.tiny_http_open_request.specs.OpenRequest.{is_last_with_stream, refuses_code, request_check};
 ghost use Rattle.tiny_http_open_request.specs.Pipeline.{is_head_method};
-ghost use Rattle.tiny_http_body.specs.Body.{ReadsBody, GivesUp};
+ghost use Rattle.tiny_http_body.specs.Body.{ReadsBody, GivesUp, bytes_given, ends_met};
 
 use crate::exchange::Head;
 use crate::own_answer::{DropText, persistence_of, send_own_quietly};
@@ -318,6 +318,9 @@ impl OpenRequest<UnreadBody> {
         ensures kept { self.new ≡ record self.old { body = self.new.body } }
         // The source's reader is asked for no second end or fault, nor for more than the bytes that came.
         ensures told { Tells (R.told source.old.reader) (R.told source.new.reader) result }
+        // It is asked for none where the body has its own end.
+        ensures whole { R.told source.new.reader
+            ≤ R.told source.old.reader + ends_met self.old.body (bytes_given result) self.new.body }
     {
         self.body.read(source, buf)
     }

@@ -1,5 +1,5 @@
 -- What a clause says of a request's body, and of a read of it.
-use Rattle.std.specs.Prelude.{◌≡◌, ◌<◌, ◌==◌, ◌&&◌, ℕ, Bool, true, false, List, length, take, Option, Some, None}
+use Rattle.std.specs.Prelude.{◌≡◌, ◌<◌, ◌==◌, ◌&&◌, ◌||◌, ℕ, Bool, true, false, List, length, take, Option, Some, None}
 use Rattle.std.specs.Prelude.{Result, Ok, IfOk, IfErr, IfSome}
 use Rattle.std.specs.Option.{option_map}
 use Rattle.std.specs.IoError.{error_kind}
@@ -23,12 +23,16 @@ outlasts_body AfterBody = false
 outlasts_body AfterAnswer = true
 outlasts_body Never = false
 
--- What is seen of a body: how far it was read; what the connection's input still gives, or once that was given on,
--- what it gave as the body was made, or an ended feed, if the body never held it; and whether the body holds it now.
+-- What is seen of a body.
 pub record BodyState : Type 0 where
+  -- how far it was read
   pub unread : UnreadBody
+  -- What the connection's input still gives, if the body holds it. If it gave it on, what the input gave as the body
+  -- was made. If it never held it, an ended feed.
   pub input : Option Feed
+  -- whether it holds the input; and whether it does so behind its own end, until its request is answered or dropped
   pub holds_input : Bool
+  pub outlasts : Bool
 
 -- what the input gave as a body was made; an ended feed, where the body held no input
 abbrev pub begun_feed : {R : Type 0} → Option (Remembered (SourceState R)) → Option Feed
@@ -58,6 +62,11 @@ pub record KeepsLeft (old new : BodyState) : Type 0 where
 abbrev pub upgraded_body : Bool → BodyState → BodyState
 upgraded_body by_standard b = record b { unread = stream_body (by_standard && b.holds_input) b.unread }
 
+-- the input is given on once the body isn't read from it any more, unless the next head waits for the answer
+pub record GivesOnInput (old new : BodyState) : Type 0 where
+  pub outlasts : new.outlasts ≡ old.outlasts
+  pub holds_input : new.holds_input ≡ (is_streaming new.unread || old.outlasts)
+
 -- ONE READ OF A BODY: how far the body was read, and what holds where the connection's reader states no feed; the
 -- bytes of what is left stand in `Reads`. A body that came with its head gives its next bytes, and none only at its
 -- end. A body whose end is answered has come whole. A body that is over answers its end or fault again. A read into no
@@ -69,6 +78,7 @@ pub record ReadsUnread (old new : BodyState) (r : Result ℕ Error) (buf : List 
       → IfOk r (λ n. n ≡ 0 → 0 < length buf → BodyStops End (remaining old.unread feed))
   pub moves : IfOk r (λ n. 0 < length buf → ReadsOn old.unread n (n == 0) new.unread)
   pub ended : IfOk r (λ n. n ≡ 0 → 0 < length buf → is_whole new.unread ≡ true)
+  pub holds : 0 < length buf → GivesOnInput old new
   pub broken : IfErr r (λ e. body_stop new.unread ≡ Some (Fault (error_kind e)))
   pub reports_stop : IfSome (body_stop old.unread)
       (λ stop. 0 < length buf → AnswersStop stop r × (body_stop new.unread ≡ Some stop))

@@ -6,7 +6,7 @@ ghost use Rattle.tiny_http_io.specs.Device.{AnswersStop, Feed, Reads, bytes_of, 
 ghost use Rattle.tiny_http_io.specs.declared.device.Stop.TheVariants.{End, Fault};
 ghost use Rattle.tiny_http_body.specs.Body.{is_streaming, is_whole, bytes_left, remainder, body_stop, ReadsOn};
 ghost use Rattle.tiny_http_body.specs.Body.{BodyStops, remaining, prepended_body};
-ghost use Rattle.tiny_http_request.specs.Body.{ReadsUnread, KeepsLeft, outlasts_body, input_of, body_left};
+ghost use Rattle.tiny_http_request.specs.Body.{ReadsUnread, GivesOnInput, KeepsLeft, outlasts_body, input_of, body_left};
 ghost use Rattle.tiny_http_request.specs.Body.{upgraded_body};
 
 use crate::remembered::Remembered;
@@ -88,7 +88,8 @@ impl<R: ReadDevice + Drop, Rt: Wait + Drop> Model for Body<R, Rt> {
     ghost Value = { BodyState };
 
     ghost view = { λ b. record
-        { unread = b.unread; input = input_of b.reader b.begun; holds_input = is_some b.reader } };
+        { unread = b.unread; input = input_of b.reader b.begun; holds_input = is_some b.reader
+        ; outlasts = outlasts_body b.gives_on } };
 
     // It holds the input exactly while it is read from there, or the next head waits for the answer. And the input
     // states its feed exactly if it did at first.
@@ -104,7 +105,8 @@ impl<R: ReadDevice + Drop, Rt: Wait + Drop> Body<R, Rt> {
         gives_on: GivesOn,
     ) -> Body<R, Rt>
         requires { is_some reader ≡ (is_streaming unread || outlasts_body gives_on) }
-        ensures { result ≡ record { unread = unread; input = input_of reader None; holds_input = is_some reader } }
+        ensures { result ≡ record { unread = unread; input = input_of reader None; holds_input = is_some reader
+            ; outlasts = outlasts_body gives_on } }
     {
         let begun = match &reader {
             Some(reader) => Some(Remembered::of(&*reader.turn.item)),
@@ -176,6 +178,7 @@ impl<R: ReadDevice + Drop, Rt: Wait + Drop> Body<R, Rt> {
             → IfOk result (λ n. n ≡ 0 → 0 < length buf.new → BodyStops End (remaining self.old.unread feed)) }
         ensures moves { IfOk result (λ n. ReadsOn self.old.unread n (n == 0) self.new.unread) }
         ensures ended { IfOk result (λ n. n ≡ 0 → is_whole self.new.unread ≡ true) }
+        ensures holds { GivesOnInput self.old self.new }
         ensures broken { IfErr result (λ e. body_stop self.new.unread ≡ Some (Fault (error_kind e))) }
         ensures reports_stop { IfSome (body_stop self.old.unread) (λ stop. AnswersStop stop result
             × (body_stop self.new.unread ≡ Some stop)) }
