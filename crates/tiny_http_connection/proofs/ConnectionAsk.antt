@@ -228,7 +228,7 @@ handed-of client profile false stop None more items begins = (handed-place profi
   where
     none : (xs : List Item) → Pipeline profile None stop xs → BeginsBehindAt profile (Some (place_feed stop None)) xs → ⊥
     none [] h (inl b) = b refl
-    none [] h (inr b) = let no : false ≡ true = b in cc
+    none [] h (inr b) = let no : false ≡ true = b.1 in cc
     none (x ∷ xs) h b = elim h [ ]
 handed-of client profile false stop (Some bytes) more items begins = (handed-place profile false stop (Some bytes) more items, λ open_is b. begins b)
 
@@ -454,7 +454,7 @@ ask-none client before k s date from_here why p stop over at st e o quiet reads 
         )
 
 -- no memory was found
-pub ask-memory : (client : Feed) (before : Sink) (k : Kept) (s : State) (date : HttpDate) (p : Option Feed) (stop : Option Stop) (over : Bool) (at : Standing) → Stands client before k s → k.asking_ended ≡ false → is_past_last k.standing ≡ false → IsQuiet k.requests → is_last_slot (last_slot s.reached.slots) ≡ false → (InputEnded k → ⊥) → HasByteOrTimedOut k.feed → GoesOn k.feed p
+pub ask-memory : (client : Feed) (before : Sink) (k : Kept) (s : State) (date : HttpDate) (p : Option Feed) (stop : Option Stop) (over : Bool) (at : Standing) → Stands client before k s → k.asking_ended ≡ false → is_past_last k.standing ≡ false → IsQuiet k.requests → is_last_slot (last_slot s.reached.slots) ≡ false → (InputEnded k → ⊥) → HasByteOrTimedOut k.profile k.feed → GoesOn k.feed p
     → AskIsAnswered client before (after_end k p stop over at) s date Memory
 ask-memory client before k s date p stop over at st e o quiet more open_input begun goes =
     let g = going client before k s st e o quiet open_input in
@@ -473,7 +473,7 @@ ask-memory client before k s date p stop over at st e o quiet more open_input be
         tt,
         (ap R (sym (append-nil s.reached.slots)), refl, (refl, refl)),
       ),
-      λ none. g.begins (subst (λ x. BeginsBehind k.profile (Some g.feed.bytes) g.feed.stop x) (sym none) (subst (λ o. HasByteOrTimedOut o) g.stated begun)),
+      λ none. g.begins (subst (λ x. BeginsBehind k.profile (Some g.feed.bytes) g.feed.stop x) (sym none) (subst (λ o. HasByteOrTimedOut k.profile o) g.stated begun)),
     )
 
 -- a refused head has its number, and its answer was sent, or waits for its turn

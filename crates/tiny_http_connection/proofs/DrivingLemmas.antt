@@ -133,7 +133,7 @@ begins-behind profile at date (Some f) p status text h begun =
     (Refuses h.0 h.1 h.2 false ∷ next.0, next.1, (refl, h.3, h.4, next.2), next.3)
 
 -- a byte of a head comes here
-pub begins-here : (profile : Profile) (o : Option Feed) → HasByteOrTimedOut o → HasByteBehind profile o
+pub begins-here : (profile : Profile) (o : Option Feed) → HasByteOrTimedOut profile o → HasByteBehind profile o
 begins-here profile None h = tt
 begins-here profile (Some f) h = ([], f, refl, h)
 

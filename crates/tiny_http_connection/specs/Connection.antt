@@ -262,7 +262,7 @@ is_in_body at.Last = false
 is_in_body at.Abandoned = false
 is_in_body (at.Broken kind) = false
 
--- behind the client's whole pipeline a byte of a further head comes, or the reader times out there
+-- behind the client's whole pipeline a byte of a further head comes; or, but by the standard, the reader times out
 abbrev pub BeginsMore : Profile → Feed → Type 0
 BeginsMore p client =
     (items : List Item)

@@ -240,10 +240,10 @@ InputAt p old feed =
     (MatchBool (last_is_open (last_slot old.slots)) (WithinLast p (last_slot old.slots) feed old.rest)
     (PlaceAt p (is_last_slot (last_slot old.slots)) feed old.rest)))
 
--- behind all these heads a byte of a further one comes, or the reader times out there
+-- behind all these heads a byte of a further one comes; or, but by the standard, the reader times out there
 abbrev pub BeginsBehind : Profile → Place → Stop → List Item → Type 0
 BeginsBehind p None stop items = ⊥
-BeginsBehind p (Some bytes) stop [] = HasByteOrTimedOut (Some (record { bytes = bytes; stop = stop }))
+BeginsBehind p (Some bytes) stop [] = HasByteOrTimedOut p (Some (record { bytes = bytes; stop = stop }))
 BeginsBehind p (Some bytes) stop (item ∷ items) =
     (next : Place) × OneHead p bytes stop (Some item) next × BeginsBehind p next stop items
 
@@ -259,7 +259,8 @@ HasAskOutOfMemory _ _ = ⊥
 
 -- THE CONNECTION THEOREM: replies and output are those of a run over the pipeline that stands in the feed under this
 -- profile; and this of the feed is left. No memory is asked for where no head comes: if an Ask found none, an item of
--- the pipeline is left, or behind them all a byte of a further head comes, or the reader times out there.
+-- the pipeline is left, or behind them all a byte of a further head comes; or, but by the standard, the reader times
+-- out there.
 pub record IsConversation (p : Profile) (feed : Feed) (before : Sink) (steps : List TimedValue)
     (replies : List ReplyValue) (after : Sink) (held : List ℕ) (ended : Bool) (unread : Option Feed) : Type 0 where
   pub items : List Item

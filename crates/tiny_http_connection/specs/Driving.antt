@@ -95,11 +95,11 @@ ArePassedOver p f (item ∷ items) behind =
     × OneHead p f.bytes f.stop (Some item) next
     × ArePassedOver p (place_feed f.stop next) items behind
 
--- a byte of a further head comes behind such heads, or the reader times out there
+-- behind such heads a byte of a further one comes; or, but by the standard, the reader times out there
 abbrev pub HasByteBehind : Profile → Option Feed → Type 0
 HasByteBehind p None = ⊤
 HasByteBehind p (Some f) =
-    (passed : List Item) × (behind : Feed) × ArePassedOver p f passed behind × HasByteOrTimedOut (Some behind)
+    (passed : List Item) × (behind : Feed) × ArePassedOver p f passed behind × HasByteOrTimedOut p (Some behind)
 
 -- where the source stands behind such heads
 abbrev pub standing_behind : Standing → List Item → Standing

@@ -22,6 +22,7 @@ use Rattle.tiny_http_body.proofs.ChunksLemmas.{decoded_by-is}
 use Rattle.tiny_http_head.specs.Heads.{Message as Texted, BeginsWithRequestHead, FaultyHead, Cut, version, is_too_new}
 use Rattle.tiny_http_open_request.specs.declared.heads.MessageHead.{MessageHead}
 use Rattle.tiny_http_body.specs.declared.framing.Profile.{Profile}
+use Rattle.tiny_http_body.specs.declared.framing.Profile.TheVariants as under
 use Rattle.tiny_http_body.specs.declared.framing.HeadRules.{HeadRules}
 use Rattle.tiny_http_body.specs.declared.framing.HeadRules.TheVariants as rule
 use Rattle.tiny_http_body.specs.declared.framing.FramingFault.{FramingFault}
@@ -381,22 +382,27 @@ end-unanswered date stop begun r e k =
     subst P (sym (subst S e k)) tt
 
 -- where a head that didn't begin is answered, the reader timed out
-pub timed-out : {R : Type 0} (date : HttpDate) (o : Option Feed) (new : SourceState R) (stop : Option Stop) (r : Result HeadRead AllocError) → new.feed ≡ o → new.is_over ≡ true → (new.is_over ≡ true → IsSome stop × IfSome stop (λ s. StopsBy s new.feed))
-    → IfSome stop (λ s. AnswersCut s false false date r) → (IsOkEnd r → ⊥) → HasByteOrTimedOut o
-timed-out date None new stop r same is over h some = inl tt
-timed-out date (Some f) new None r same is over h some = let no : false ≡ true = (over is).0 in cc
-timed-out date (Some f) new (Some stop) r same is over h some =
+pub timed-out : {R : Type 0} (p : Profile) (date : HttpDate) (o : Option Feed) (new : SourceState R) (stop : Option Stop) (r : Result HeadRead AllocError) → new.feed ≡ o → new.is_over ≡ true → (new.is_over ≡ true → IsSome stop × IfSome stop (λ s. StopsBy s new.feed))
+    → IfSome stop (λ s. AnswersCut s false false date r) → (IsOkEnd r → ⊥) → (p ≡ under.Standard → ⊥) → HasByteOrTimedOut p o
+timed-out p date None new stop r same is over h some other = inl tt
+timed-out p date (Some f) new None r same is over h some other = let no : false ≡ true = (over is).0 in cc
+timed-out p date (Some f) new (Some stop) r same is over h some other =
     let P : Option Feed → Type 0 = λ x. StopsBy stop x in
     let stops = subst P same (over is).1 in
     let S : Stop → Type 0 = λ s. AnswersCut s false false date r in
-    inr (by (is_timed_out f.stop) refl (subst S (sym stops.1) h))
+    inr (other, by (is_timed_out f.stop) refl (subst S (sym stops.1) h))
   where
     by : (t : Bool) → is_timed_out f.stop ≡ t → MatchBool t (RefusesWith 408 (plainly (version 1 1)) date r) (r ≡ Ok (read.Ended (cut_end f.stop false))) → is_timed_out f.stop ≡ true
     by true e k = e
     by false e k = absurd (some (let E : Result HeadRead AllocError → Type 0 = λ x. IsOkEnd x in subst E (sym k) tt))
 
-pub has-begun : (o : Option Feed) → HasByte o → HasByteOrTimedOut o
-has-begun o h = inl h
+pub has-begun : (p : Profile) (o : Option Feed) → HasByte o → HasByteOrTimedOut p o
+has-begun p o h = inl h
+
+-- the rules of tiny_http aren't the standard
+pub other-rules : (rules : HeadRules) → profile_of rules ≡ under.Standard → ⊥
+other-rules rule.Lenient e = let no : under.Lenient ≡ under.Standard = e in cc
+other-rules rule.Strict e = let no : under.Strict ≡ under.Standard = e in cc
 
 -- a head that is refused by another status than 408 and 431 was faulty in a line that was read
 refused-by : (status : ℕ) (v : Manner) (date : HttpDate) (x : HeadRead) → RefusesWith status v date (Ok x) → IsRefusedUncut x → (status ≢ 408) × (status ≢ 431)

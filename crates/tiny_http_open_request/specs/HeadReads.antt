@@ -297,9 +297,9 @@ abbrev pub TimesOut : Option Feed → Type 0
 TimesOut None = ⊥
 TimesOut (Some f) = is_timed_out f.stop ≡ true
 
--- a byte of a head comes, or the reader times out
-abbrev pub HasByteOrTimedOut : Option Feed → Type 0
-HasByteOrTimedOut o = HasByte o ⊎ TimesOut o
+-- a byte of a head comes; or, but by the standard, the reader times out
+abbrev pub HasByteOrTimedOut : Profile → Option Feed → Type 0
+HasByteOrTimedOut p o = HasByte o ⊎ ((p ≢ under.Standard) × TimesOut o)
 
 -- After a refused head that is the last no head follows; after another the input stands at the place of the next one.
 abbrev pub GoesOnAt : Bool → Stop → Place → Option Feed → Type 0
@@ -404,8 +404,9 @@ pub record TakesHead {R : Type 0} (p : Profile) (date : HttpDate) (old new : Sou
   pub goes_on : GoesOn old.feed new.feed
   -- whatever the reader states: after the end no head follows, and the reader isn't called
   pub at_end : IsAtEnd old → IsOkEnd r × (new.reader ≡ old.reader)
-  -- unless it is the end, a byte of a head has come, or the reader timed out: memory isn't refused in place of the end
-  pub begun : (IsOkEnd r → ⊥) → HasByteOrTimedOut old.feed
+  -- Unless it is the end, a byte of a head has come; or, but by the standard, the reader timed out. Memory isn't
+  -- refused in place of the end.
+  pub begun : (IsOkEnd r → ⊥) → HasByteOrTimedOut p old.feed
   -- whatever the reader states: a request is framed as its version and headers say, and its drop's text is that of
   -- its head
   pub framed : IfOk r (IsFramedRequest p date)

@@ -474,7 +474,7 @@ fn read_by_rules<R: ReadDevice>(
     ensures reads { ReadsHead (profile_of rules) Standing.Head now source.old.feed source.new.feed result }
     ensures goes_on { GoesOn source.old.feed source.new.feed }
     ensures at_end { IsAtEnd source.old → IsOkEnd result × (source.new ≡ source.old) }
-    ensures begun { (IsOkEnd result → ⊥) → HasByteOrTimedOut source.old.feed }
+    ensures begun { (IsOkEnd result → ⊥) → HasByteOrTimedOut (profile_of rules) source.old.feed }
     ensures framed { IfOk result (IsFramedRequest (profile_of rules) now) }
     ensures lazy { IfOk result (λ read. IsRequest read → source.new.stop ≡ source.old.stop) }
     ensures passed { IfOk result (λ read. IsRefusedUncut read → source.new.stop ≡ source.old.stop) }
@@ -519,7 +519,7 @@ fn read_item<R: ReadDevice>(
     ensures reads { ReadsHead profile Standing.Head now source.old.feed source.new.feed result }
     ensures goes_on { GoesOn source.old.feed source.new.feed }
     ensures at_end { IsAtEnd source.old → IsOkEnd result × (source.new ≡ source.old) }
-    ensures begun { (IsOkEnd result → ⊥) → HasByteOrTimedOut source.old.feed }
+    ensures begun { (IsOkEnd result → ⊥) → HasByteOrTimedOut profile source.old.feed }
     ensures framed { IfOk result (IsFramedRequest profile now) }
     ensures lazy { IfOk result (λ read. IsRequest read → source.new.stop ≡ source.old.stop) }
     ensures passed { IfOk result (λ read. IsRefusedUncut read → source.new.stop ≡ source.old.stop) }

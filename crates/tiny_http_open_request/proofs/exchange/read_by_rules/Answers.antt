@@ -5,7 +5,7 @@ use Rattle.tiny_http_io.specs.declared.source.Standing.TheVariants as at
 use Rattle.tiny_http_open_request.specs.declared.exchange.HeadRead.TheVariants as read
 use Rattle.tiny_http_open_request.specs.HeadReads.{ReadsHead, ReadsMessage, RefusesWith, RefusesTooNew}
 use Rattle.tiny_http_open_request.specs.Pipeline.{ends_too_new, plainly, profile_of}
-use Rattle.tiny_http_open_request.proofs.HeadReadsServing.{head-closed, head-refused, head-unframed, head-too_new, passed-on, head-cut, head-handed, cut-stop, begun-is, end-unanswered, timed-out, cut-passed, fault-passed}
+use Rattle.tiny_http_open_request.proofs.HeadReadsServing.{head-closed, head-refused, head-unframed, head-too_new, passed-on, head-cut, head-handed, cut-stop, begun-is, end-unanswered, timed-out, other-rules, cut-passed, fault-passed}
 use Rattle.tiny_http_io.proofs.SourceGoesOn.{goes-on_more}
 use Rattle.tiny_http_open_request.proofs.exchange.read_by_rules.Goals as goal
 
@@ -20,9 +20,9 @@ returns-then-not-has_byte-clause-at_end g c end =
     (end-unanswered c.args.now c.stop.result false c.answer_cut.result (c.stop.ensures.stop ∙ ap (λ s. s.stop) same ∙ end.1) c.answer_cut.ensures, same)
 
 pub returns-then-not-has_byte-clause-begun : goal.returns-then-not-has_byte-clause-begun
-returns-then-not-has_byte-clause-begun g c =
+returns-then-not-has_byte-clause-begun g c some =
     let first = c.if-not-has_byte.ensures.looks in
-    timed-out c.args.now c.args.source.now.feed c.has_byte.new.self c.stop.result c.answer_cut.result first.feed (first.none refl).1 c.stop.ensures.over c.answer_cut.ensures
+    timed-out (profile_of c.args.rules) c.args.now c.args.source.now.feed c.has_byte.new.self c.stop.result c.answer_cut.result first.feed (first.none refl).1 c.stop.ensures.over c.answer_cut.ensures some (other-rules c.args.rules)
 
 pub returns-then-not-has_byte-clause-passed : goal.returns-then-not-has_byte-clause-passed
 returns-then-not-has_byte-clause-passed g c =
