@@ -2,7 +2,7 @@
 -- Nobody needs this file to believe the laws of `InShort`.
 use Rattle.std.specs.Prelude.{◌≡◌, ◌⊎◌, ◌||◌, ℕ, ◌+◌, Bool, true, false, List, [], ◌∷◌, ◌++◌, length, replicate}
 use Rattle.std.specs.Prelude.{Option, Some, None, IsSome, MatchBool, drop, slice_get, slice_set, if◌then◌else◌}
-use Rattle.std.specs.Prelude.{string_bytes, ◌<◌, ◌^◌, ⊤}
+use Rattle.std.specs.Prelude.{string_bytes, ◌<◌, ◌≤◌, ◌^◌, ⊤}
 use Rattle.std.specs.declared.io.ErrorKind.{ErrorKind}
 use Rattle.httpdate.specs.declared.date.HttpDate.{HttpDate}
 use Rattle.tiny_http_io.specs.Device.{Feed, Sink, IsFront}
@@ -21,7 +21,7 @@ use Rattle.tiny_http_body.specs.declared.framing.Framing.{Framing}
 use Rattle.tiny_http_io.specs.Outlet.{output_of, SentOn}
 use Rattle.tiny_http_open_request.specs.Pipeline.{Item, Manner, Refuses, Refusal, refusal_status, OneHead, Pipeline}
 use Rattle.tiny_http_open_request.specs.Pipeline.{Place, place_feed}
-use Rattle.tiny_http_connection.specs.Steps.{StepValue, ReplyValue, Handed, Ended, NotYet, Done, Refused, NoSuch}
+use Rattle.tiny_http_connection.specs.Steps.{StepValue, ReplyValue, Given, Handed, Ended, NotYet, Done, Refused, NoSuch}
 use Rattle.tiny_http_connection.specs.Steps.{Memory, Fault, TimedValue}
 use Rattle.tiny_http_connection.specs.Conversation.{State, Run, start_state, IsFresh, IsPassedOver, HasAskOutOfMemory}
 use Rattle.tiny_http_connection.specs.Conversation.{BeginsBehind}
@@ -35,7 +35,7 @@ use Rattle.tiny_http_body.specs.declared.body.UnreadBody.{UnreadBody}
 use Rattle.tiny_http_open_request.specs.declared.open_request.OpenRequest.{OpenRequest}
 use Rattle.tiny_http_connection.specs.declared.pending.Unfinished.{Unfinished}
 use Rattle.tiny_http_connection.specs.declared.pending.Unfinished.TheVariants as still
-use Rattle.tiny_http_body.specs.Body.{is_streaming, stream_body, body_standing}
+use Rattle.tiny_http_body.specs.Body.{is_streaming, stream_body, body_standing, ends_met}
 use Rattle.tiny_http_connection.specs.Seen.{IsStep, IsAnswered, IsOfWriter, ReportsOfWriter, all_sent_after}
 use Rattle.tiny_http_connection.specs.Outcomes.{fault_reply}
 use Rattle.tiny_http_connection.specs.Connection.{ConnectionState, kept, Stands}
@@ -340,6 +340,24 @@ RespondReports old new now k r reply =
     ((output_of new.outlet).failures ≡ (output_of old.outlet).failures)
     ⊎ ((kind : ErrorKind) × (reply ≡ fault_reply kind) × ReportsFault old new now (step.Respond k r) kind)
     ⊎ ((begins_left (drop (k + 1) old.marks) ≡ true) × AnswerIsSentOn old new now k r)
+
+-- how many bytes a reply gives
+abbrev pub given_count : ReplyValue → ℕ
+given_count (Given bytes) = length bytes
+given_count _ = 0
+
+-- HOW MANY ENDS AND FAULTS OF THE CLIENT A READ MEETS on this number: none, or no more than what it gave of the body
+-- and left of it allow.
+abbrev pub ReadMeets : {R W : Type 0} → (R → ℕ) → ConnectionState R W → ConnectionState R W → ℕ → ReplyValue → Type 0
+ReadMeets told old new k reply =
+    (told new.source.reader ≤ told old.source.reader)
+    ⊎ ((u : Unfinished)
+    × (was : UnreadBody)
+    × (body : UnreadBody)
+    × (slice_get old.requests k ≡ Some (Some u))
+    × (kept_body (Some u) ≡ Some was)
+    × (new.requests ≡ slice_set old.requests k (Some (with_body body u)))
+    × (told new.source.reader ≤ told old.source.reader + ends_met was (given_count reply) body))
 
 -- WHERE THE WRITER FAILED in a step its count rose. A Write and a Flush report that, and so does an answer, as above.
 -- The other steps don't report it.

@@ -38,6 +38,7 @@ pub record IsNew {R W : Type 0} (p : Profile) (reader : R) (client : Option Feed
   pub profile : c.profile ≡ p
   pub unasked : (c.marks ≡ []) × (c.requests ≡ []) × (c.end ≡ None)
   pub source : (c.source.reader ≡ reader) × (c.source.feed ≡ client) × (c.source.standing ≡ at.Head)
+  pub unread : (c.source.stop ≡ None) × (c.source.held ≡ []) × (c.source.skip ≡ 0)
   pub outlet : c.outlet ≡ record { held = []; ended = false; writer = writer; sink = before }
 
 -- the steps were taken one after another, each with its reply, from one state of a connection to another
@@ -54,7 +55,7 @@ TakesSteps stated old (t ∷ steps) [] new = ⊥
 -- WHAT A RUN LEAVES, whatever reader, writer and data state.
 pub record RunsSteps {R W D : Type 0} (client : R → Option Feed) (sink : W → Sink) (stated : D → Option Feed)
     (p : Profile) (reader : R) (writer : W) (steps : List (Timed D)) (done : Record R W) : Type 0 where
-  -- one reply a step
+  -- one reply a step, as `takes` says too
   pub replies : length done.replies.items ≡ length steps
   -- what the source still gives is the client's bytes from some place on, if the reader states them
   pub source : GoesOn (client reader) done.source.feed

@@ -12,7 +12,7 @@ ghost use Rattle.httpdate.specs.declared.date.HttpDate.{HttpDate as Date};
 ghost use Rattle.std.specs.declared.io.ErrorKind.{ErrorKind};
 ghost use Rattle.tiny_http_connection.specs.Outcomes.{fault_reply};
 ghost use Rattle.tiny_http_connection.specs.Pending.{waiting_answer_context};
-ghost use Rattle.tiny_http_connection.specs.Driving.{HasDone, TakesStep, Drops, ends_behind, stated_response};
+ghost use Rattle.tiny_http_connection.specs.Driving.{HasDone, TakesStep, ReadMeets, Drops, ends_behind, stated_response};
 ghost use Rattle.tiny_http_connection.specs.Driving.{stated_step};
 ghost use Rattle.tiny_http_connection.specs.Runs.{IsConversationOf, RunsSteps};
 ghost use Rattle.tiny_http_response.specs.ResponseValue.{printing_in};
@@ -226,7 +226,8 @@ impl<R: ReadDevice, W: WriteDevice> Connection<R, W> {
             → HasDone Profile.Lenient client (W.sink writer) result [] [] }
         ensures open { (result.end ≡ None) × (result.requests ≡ []) × (result.marks ≡ []) }
         ensures source { (result.source.feed ≡ R.feed reader) × (result.source.standing ≡ Standing.Head)
-            × (result.source.reader ≡ reader) }
+            × (result.source.reader ≡ reader) × (result.source.stop ≡ None) × (result.source.held ≡ [])
+            × (result.source.skip ≡ 0) }
         ensures outlet { result.outlet ≡ record { held = []; ended = false; writer = writer; sink = W.sink writer } }
     {
         Connection::new_with(alloc, Profile::Lenient, reader, writer)
@@ -241,7 +242,8 @@ impl<R: ReadDevice, W: WriteDevice> Connection<R, W> {
             → HasDone profile client (W.sink writer) result [] [] }
         ensures open { (result.end ≡ None) × (result.requests ≡ []) × (result.marks ≡ []) }
         ensures source { (result.source.feed ≡ R.feed reader) × (result.source.standing ≡ Standing.Head)
-            × (result.source.reader ≡ reader) }
+            × (result.source.reader ≡ reader) × (result.source.stop ≡ None) × (result.source.held ≡ [])
+            × (result.source.skip ≡ 0) }
         ensures outlet { result.outlet ≡ record { held = []; ended = false; writer = writer; sink = W.sink writer } }
     {
         Connection {
@@ -360,6 +362,8 @@ impl<R: ReadDevice, W: WriteDevice> Connection<R, W> {
         ensures told { R.told self.new.source.reader ≤ R.told self.old.source.reader + 1 }
         ensures lazy { (bytes : List ℕ) → seen result ≡ Given bytes → length bytes ≡ count
             → R.told self.new.source.reader ≤ R.told self.old.source.reader }
+        // It is asked for none where the body has its own end.
+        ensures whole { ReadMeets R.told self.old self.new number (seen result) }
     {
         if !self.pending.is_readable(number) {
             return Reply::NoSuch;

@@ -14,7 +14,7 @@ ghost use Rattle.tiny_http_open_request.specs.OpenRequest.{HasSentAll};
 ghost use Rattle.tiny_http_body.specs.declared.body.UnreadBody.{UnreadBody};
 ghost use Rattle.tiny_http_open_request.specs.declared.open_request.OpenRequest.{OpenRequest};
 ghost use Rattle.tiny_http_io.specs.Source.{GoesOn};
-ghost use Rattle.tiny_http_body.specs.Body.{is_streaming, stream_body, body_standing, FillsFromBody};
+ghost use Rattle.tiny_http_body.specs.Body.{bytes_given, ends_met, is_streaming, stream_body, body_standing, FillsFromBody};
 ghost use Rattle.tiny_http_connection.specs.Pending.{WaitsAt, left_text, SendsLeft, FinishesFront, LeavesText};
 ghost use Rattle.tiny_http_connection.specs.Pending.{waiting_answer_context, is_readable, is_writable, owes_continue};
 ghost use Rattle.tiny_http_connection.specs.Pending.{holds_next_head_at, refuses_at, refuses_upgrade_at};
@@ -285,7 +285,8 @@ impl Pending {
             → (body : UnreadBody) × (self.new.requests ≡ slice_set self.old.requests number (Some (with_body body u)))
             × FillsFromBody was source.old.feed body source.new.feed result buf.new
             × (is_streaming was ≡ false → source.new ≡ source.old)
-            × (is_streaming was ≡ true → source.new.standing ≡ body_standing body source.old.standing) }
+            × (is_streaming was ≡ true → source.new.standing ≡ body_standing body source.old.standing)
+            × (R.told source.new.reader ≤ R.told source.old.reader + ends_met was (bytes_given result) body) }
         ensures turns { self.new.turns ≡ self.old.turns }
         ensures goes_on { GoesOn source.old.feed source.new.feed }
         // The source's reader is asked for no second end or fault, and for none once the buffer is full.
@@ -417,7 +418,8 @@ fn fill_from<R: ReadDevice>(
         → (body : UnreadBody) × (unfinished.new ≡ with_body body unfinished.old)
         × FillsFromBody was source.old.feed body source.new.feed result buf.new
         × (is_streaming was ≡ false → source.new ≡ source.old)
-        × (is_streaming was ≡ true → source.new.standing ≡ body_standing body source.old.standing) }
+        × (is_streaming was ≡ true → source.new.standing ≡ body_standing body source.old.standing)
+        × (R.told source.new.reader ≤ R.told source.old.reader + ends_met was (bytes_given result) body) }
     ensures goes_on { GoesOn source.old.feed source.new.feed }
     ensures told { R.told source.new.reader ≤ R.told source.old.reader + 1 }
     ensures lazy { IfOk result

@@ -30,7 +30,7 @@ loop-timed-init g c =
       flushed = λ all. rw c.new_with-connection.ensures.outlet refl;
       sent_on = λ none all. rw c.new_with-connection.ensures.outlet (λ e. none);
       first = new;
-      begins = record { profile = c.new_with-connection.ensures.profile; unasked = (c.new_with-connection.ensures.open.2, c.new_with-connection.ensures.open.1, c.new_with-connection.ensures.open.0); source = (c.new_with-connection.ensures.source.2, c.new_with-connection.ensures.source.0, c.new_with-connection.ensures.source.1); outlet = c.new_with-connection.ensures.outlet };
+      begins = record { profile = c.new_with-connection.ensures.profile; unasked = (c.new_with-connection.ensures.open.2, c.new_with-connection.ensures.open.1, c.new_with-connection.ensures.open.0); source = (c.new_with-connection.ensures.source.2, c.new_with-connection.ensures.source.0, c.new_with-connection.ensures.source.1); unread = (c.new_with-connection.ensures.source.3, c.new_with-connection.ensures.source.4, c.new_with-connection.ensures.source.5); outlet = c.new_with-connection.ensures.outlet };
       takes = rw c.in-Ok.ensures.items refl;
     }
 

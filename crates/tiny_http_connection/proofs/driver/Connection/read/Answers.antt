@@ -1,4 +1,4 @@
-use Rattle.std.proofs.Common.{rules, ◌≡◌, refl, sym, ap, ◌∙◌, subst, List, [], ◌∷◌, Ok, Err, ℕ, ◌++◌, ◌≤◌, length, take, drop, arith, inl, inr}
+use Rattle.std.proofs.Common.{rules, ◌≡◌, refl, sym, ap, ◌∙◌, subst, List, [], ◌∷◌, Ok, Err, ℕ, ◌+◌, ◌++◌, ◌≤◌, length, take, drop, arith, inl, inr}
 use Rattle.std.proofs.lemmas.Grind.{common_steps}
 use Rattle.std.specs.Prelude.{slice_get}
 use Rattle.std.specs.declared.io.ErrorKind.{ErrorKind}
@@ -6,6 +6,8 @@ use Rattle.tiny_http_connection.specs.Steps.{Read, Given, Fault, NoSuch, Memory}
 use Rattle.tiny_http_turns.specs.Turns.{Mark}
 use Rattle.tiny_http_connection.specs.Connection.{Kept, kept}
 use Rattle.tiny_http_connection.specs.Seen.{seen}
+use Rattle.tiny_http_connection.specs.Driving.{given_count}
+use Rattle.tiny_http_body.specs.Body.{ends_met}
 use Rattle.tiny_http_connection.proofs.ConnectionAsk.{StepIsAnswered}
 use Rattle.tiny_http_connection.proofs.ConnectionBody.{with_reader}
 use Rattle.tiny_http_connection.proofs.ConnectionRead.{read-nothing, readable-some, read-none, read-memory, read-done}
@@ -100,4 +102,28 @@ returns-clause-lazy g c =
           let came : take b.in-Ok-fill.n c.fill.new.buf ≡ bytes = ap (take b.in-Ok-fill.n) (sym items) ∙ sym b.truncate.ensures.items ∙ given-bytes _ _ (ap seen (sym b.result-is) ∙ given) in
           b.in-Ok-fill.ensures.lazy (all-came c.fill.new.buf bytes b.in-Ok-fill.n c.args.count came size b.in-Ok-fill.ensures.bound all)
       | in-Err b ↦ absurd (gives-none b.in-Err.kind bytes (ap seen (sym b.result-is) ∙ given))
+    ])
+
+-- so many bytes are in the reply
+taken-count : (buf bytes : List ℕ) (n : ℕ) → take n buf ≡ bytes → n ≤ length buf → length bytes ≡ n
+taken-count buf bytes n came bound = grind (arith, common_steps)
+
+pub returns-clause-whole : goal.returns-clause-whole
+returns-clause-whole g c =
+    let n = c.args.number in
+    let told = g.R.ReadDevice.told in
+    let q = c.self.inside in
+    let k : Kept = kept (viewed q.profile q.source q.outlet q.pending q.end) in
+    let w = readable-some (slice_get k.requests n) (sym c.is_readable.ensures ∙ c.if-not-is_readable.false) in
+    let size : length c.fill.new.buf ≡ c.args.count = search (rules, c.in-Ok.ensures) in
+    rw (← c.self.view_is) (elim c.match-fill.branch [
+      | in-Ok-fill b ↦
+          let fills = b.in-Ok-fill.ensures.fills w.0 w.1 w.2 w.4 in
+          let items = whole c.fill.new.buf c.in-Ok.bytes.items c.in-Ok.bytes.len (search (rules, c.in-Ok.ensures)) size c.in-Ok.ensures in
+          let count : given_count (seen c.match-fill.result) ≡ b.in-Ok-fill.n = ap (λ r. given_count (seen r)) b.result-is ∙ taken-count c.fill.new.buf _ b.in-Ok-fill.n (ap (take b.in-Ok-fill.n) (sym items) ∙ sym b.truncate.ensures.items) b.in-Ok-fill.ensures.bound in
+          inr (w.0, w.1, fills.0, w.2, w.4, fills.1, subst (λ m. told c.fill.new.source.reader ≤ told q.source.reader + ends_met w.1 m fills.0) (sym count) fills.5)
+      | in-Err b ↦
+          let fills = b.in-Err.ensures.fills w.0 w.1 w.2 w.4 in
+          let count : given_count (seen c.match-fill.result) ≡ 0 = ap (λ r. given_count (seen r)) b.result-is in
+          inr (w.0, w.1, fills.0, w.2, w.4, fills.1, subst (λ m. told c.fill.new.source.reader ≤ told q.source.reader + ends_met w.1 m fills.0) (sym count) fills.5)
     ])
