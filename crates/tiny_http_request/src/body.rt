@@ -87,9 +87,12 @@ impl<R: ReadDevice + Drop, Rt: Wait + Drop> Model for Body<R, Rt> {
 
     ghost Value = { BodyState };
 
-    ghost view = { λ b. record
-        { unread = b.unread; input = input_of b.reader b.begun; holds_input = is_some b.reader
-        ; outlasts = outlasts_body b.gives_on } };
+    ghost view = { λ b. record {
+      unread = b.unread;
+      input = input_of b.reader b.begun;
+      holds_input = is_some b.reader;
+      outlasts = outlasts_body b.gives_on;
+    } };
 
     // It holds the input exactly while it is read from there, or the next head waits for the answer. And the input
     // states its feed exactly if it did at first.
@@ -105,8 +108,12 @@ impl<R: ReadDevice + Drop, Rt: Wait + Drop> Body<R, Rt> {
         gives_on: GivesOn,
     ) -> Body<R, Rt>
         requires { is_some reader ≡ (is_streaming unread || outlasts_body gives_on) }
-        ensures { result ≡ record { unread = unread; input = input_of reader None; holds_input = is_some reader
-            ; outlasts = outlasts_body gives_on } }
+        ensures { result ≡ record {
+          unread = unread;
+          input = input_of reader None;
+          holds_input = is_some reader;
+          outlasts = outlasts_body gives_on;
+        } }
     {
         let begun = match &reader {
             Some(reader) => Some(Remembered::of(&*reader.turn.item)),

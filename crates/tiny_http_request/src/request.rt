@@ -142,8 +142,12 @@ impl<R: ReadDevice + Drop, W: WriteDevice + Drop, Rt: Wait + Drop> Request<R, W,
         ensures head { request_head result ≡ head }
         ensures open { request_open result ≡ open_request }
         ensures body { request_body result
-            ≡ record { unread = open_request.body; input = input_of reader None; holds_input = is_some reader
-            ; outlasts = open_request.holds_next_head } }
+            ≡ record {
+              unread = open_request.body;
+              input = input_of reader None;
+              holds_input = is_some reader;
+              outlasts = open_request.holds_next_head;
+            } }
         ensures client { (request_secure result ≡ client.0) × (request_address result ≡ client.1) }
     {
         let (secure, remote_addr) = client;
