@@ -7,6 +7,9 @@ use tiny_http_wire::device::{ByPieces, Canned, FailsAt};
 /// The reader of a trial: a client's bytes, so many a call at most, and one call that may fail.
 pub type Reader = FailsAt<ByPieces<Canned>>;
 
+/// The most bytes of a call of the readers that each case is tried with.
+pub const PIECES: [usize; 4] = [1, 2, 1023, 1024];
+
 /// A writer that keeps what it takes. It takes so many bytes, and then fails; or one of its calls fails. Writes and
 /// flushes count alike.
 #[derive(Drop)]

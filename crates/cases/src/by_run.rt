@@ -1,10 +1,10 @@
 //! The cases by `run_with`.
 use case_files::case::Case;
-use case_files::outcome::Outcome;
-use case_files::replies::{end_words, reply_line};
-use case_files::report::Runner;
-use case_files::steps::{StepsFault, steps_of};
-use case_files::trial::Trial;
+use case_trials::outcome::Outcome;
+use case_trials::replies::{end_words, reply_line};
+use case_trials::report::Runner;
+use case_trials::steps::{StepsFault, steps_of};
+use case_trials::trial::Trial;
 use std::alloc::{AllocError, Global};
 use tiny_http_core::driver::{Connection, Reply, run_with};
 use tiny_http_wire::device::{Metered, WriteDevice};

@@ -14,7 +14,7 @@ use crate::by_requests::{ByRequests, Leaving};
 use crate::by_run::ByRun;
 use case_files::fault::FilesFault;
 use case_files::program::{Checker, NamedFile, run_program};
-use case_files::report::{files_of, try_files};
+use case_trials::report::{files_of, try_files};
 use std::alloc::{AllocError, Global};
 use std::io::Write;
 use std::process::ExitCode;

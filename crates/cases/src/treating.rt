@@ -1,7 +1,7 @@
 //! The calls that steps name.
 use crate::holding::{Asked, Held, Holding};
-use case_files::replies::{fault_line, given_line, handed_line};
-use case_files::steps::StepsFault;
+use case_trials::replies::{fault_line, given_line, handed_line};
+use case_trials::steps::StepsFault;
 use httpdate::HttpDate;
 use replay_script::script_data::ScriptData;
 use std::alloc::{AllocError, Global};

@@ -1,8 +1,8 @@
 //! Cases whose client's bytes are cut, or one of them is another: what comes of them.
-use crate::case::{Case, CaseStep, Deed};
 use crate::outcome::{Difference, Outcome, count_differs, differing, output_differs};
-use crate::plain::plain_lines;
-use crate::plain_standard::standard_lines;
+use case_files::case::{Case, CaseStep, Deed};
+use plain_reading::lenient::plain_lines;
+use plain_reading::standard::standard_lines;
 use std::alloc::{AllocError, Global};
 use std::io::ErrorKind;
 use tiny_http_core::framing::Profile;

@@ -1,13 +1,14 @@
 //! Tries the cases of files, and reports those that differ.
-use crate::case::Case;
-use crate::fault::FilesFault;
 use crate::front::{cut_difference, plain_difference};
-use crate::kinds::kind_at;
 use crate::outcome::{Difference, Outcome, first_difference, outcomes_differ};
-use crate::program::NamedFile;
-use crate::reading::read_cases;
 use crate::steps::StepsFault;
 use crate::trial::{Harm, Trial};
+use case_files::case::Case;
+use case_files::devices::PIECES;
+use case_files::fault::FilesFault;
+use case_files::kinds::kind_at;
+use case_files::program::NamedFile;
+use case_files::reading::read_cases;
 use std::alloc::{AllocError, Global};
 use std::io;
 use std::io::{ErrorKind, Write};
@@ -75,9 +76,6 @@ impl Tally {
         *count = count.saturating_add(1);
     }
 }
-
-/// The most bytes of a call of the readers that each case is tried with.
-pub const PIECES: [usize; 4] = [1, 2, 1023, 1024];
 
 // The most calls of the writer that are made to fail.
 const MOST_CALLS: u64 = 10_000;

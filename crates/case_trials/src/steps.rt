@@ -1,5 +1,5 @@
 //! The steps of a case, as a connection takes them.
-use crate::case::{Answer, Case, Deed};
+use case_files::case::{Answer, Case, Deed};
 use httpdate::HttpDate;
 use replay_script::line::{ScriptLine, text_in};
 use replay_script::script::{first_date, step_in};

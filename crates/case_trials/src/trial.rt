@@ -1,6 +1,6 @@
 //! How a case is tried.
-use crate::case::Case;
-use crate::devices::{Reader, Trier};
+use case_files::case::Case;
+use case_files::devices::{Reader, Trier};
 use std::alloc::{AllocError, Global};
 use std::fmt;
 use std::io::ErrorKind;

@@ -1,7 +1,7 @@
 //! A plain reading of what a client sends, by the standard profile: all of its bytes at once, line by line, without a
 //! buffer. What connections hand out is compared with it. It is written from docs/RULES.md, and shares no code with
 //! the server. It knows no limit of a head: a client that it reads sends fewer than 65,536 bytes.
-use crate::plain_parts::{RequestWords, SHORT, add_header, decimal};
+use crate::parts::{RequestWords, SHORT, add_header, decimal};
 use std::alloc::{AllocError, Global};
 use std::fmt::Write;
 

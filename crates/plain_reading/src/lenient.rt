@@ -1,6 +1,6 @@
 //! A plain reading of what a client sends, by the lenient profile: all of its bytes at once, line by line, without a
 //! buffer. What connections hand out is compared with it.
-use crate::plain_parts::{RequestWords, SHORT, add_header, decimal};
+use crate::parts::{RequestWords, SHORT, add_header, decimal};
 use std::alloc::{AllocError, Global};
 
 const VERSIONS: [&str; 5] = ["HTTP/0.9", "HTTP/1.0", "HTTP/1.1", "HTTP/2.0", "HTTP/3.0"];
