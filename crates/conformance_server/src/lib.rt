@@ -12,8 +12,6 @@ mod by_path;
 #[cfg(test)]
 mod closing;
 #[cfg(test)]
-mod corked;
-#[cfg(test)]
 mod leaving;
 #[cfg(test)]
 mod limits;
@@ -31,5 +29,3 @@ mod script;
 mod server;
 #[cfg(test)]
 mod serving;
-#[cfg(test)]
-mod sockets;

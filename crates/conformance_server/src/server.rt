@@ -9,7 +9,7 @@ use crate::script::{Step, Way, play_each};
 use httpdate::HttpDate;
 use std::alloc::Global;
 use std::io::{ErrorKind, Write};
-use std::net::{TcpListener, TcpStream};
+use std::net::{SocketAddr, TcpListener, TcpStream};
 use std::os::unix::net::UnixStream;
 use std::path::{Path, PathBuf};
 use std::process::Abort;
@@ -503,4 +503,19 @@ fn assert_no_request_of_silent<R: Host>(rt: &R, alloc: Global, process: u32) {
 #[test]
 fn a_client_that_sends_nothing_is_no_request(rt: HostRuntime) {
     assert_no_request_of_silent(&rt, rt.alloc(), std::process::id(rt.process()));
+}
+
+// Of two addresses a server listens at the second, as the first is taken.
+fn assert_listens_at_the_second<R: Host>(rt: &R, alloc: Global) {
+    let taken = TcpListener::bind(rt, "127.0.0.1:0").expect(rt, "a listener");
+    let first = taken.local_addr().expect(rt, "an address");
+    let both = [first, SocketAddr::from(([127, 0, 0, 1], 0))];
+    let server = Server::http(*rt, alloc, both.as_slice()).expect(rt, "a server");
+    let addr = server.server_addr().to_ip().expect(rt, "an address of TCP");
+    assert_holds(rt, "another port is bound", addr != first);
+}
+
+#[test]
+fn a_server_listens_at_the_second_address(rt: HostRuntime) {
+    assert_listens_at_the_second(&rt, rt.alloc());
 }

@@ -1,19 +1,30 @@
 //! Halves of a connection.
-use crate::bench::{DATED, Host, Tcp, assert_reads, send, text};
 use crate::same::{assert_holds, assert_same, assert_shown};
+use httpdate::HttpDate;
 use std::alloc::Global;
 use std::io;
 use std::io::{ErrorKind, Read, Write};
 use std::net::{Net, SocketAddr, TcpListener, TcpStream};
 use std::os::unix::net::UnixStream;
 use std::process::Abort;
+use std::sync::Wait;
 use std::time::Duration;
-use tiny_http::client::ClientConnection;
-use tiny_http::connection::{ConfigListenAddr, Connection, ListenAddr, Listener};
-use tiny_http::device::{ReadDevice, WriteDevice};
-use tiny_http::refined_tcp_stream::RefinedTcpStream;
-use tiny_http::request::Request;
-use tiny_http::server::{Server, current_date};
+use tiny_http_request::client::ClientConnection;
+use tiny_http_request::request::Request;
+use tiny_http_socket::connection::{ConfigListenAddr, Connection, Listener, SocketFiles};
+use tiny_http_socket::refined_tcp_stream::RefinedTcpStream;
+use tiny_http_wire::device::{ReadDevice, WriteDevice};
+use tiny_http_wire::response::Response;
+
+/// Sockets of TCP, and an end where something goes wrong.
+pub trait Tcp: Net<Listener = TcpListener, Stream = TcpStream> + Abort {}
+
+impl<R: Net<Listener = TcpListener, Stream = TcpStream> + Abort> Tcp for R {}
+
+/// What connections and their clients need of the system, and an end where something goes wrong.
+pub trait Host: Tcp + SocketFiles + Wait + Copy + Drop {}
+
+impl<R: Tcp + SocketFiles + Wait + Copy + Drop> Host for R {}
 
 // The reading and the writing half of a connection.
 type Halves = (RefinedTcpStream, RefinedTcpStream);
@@ -23,6 +34,24 @@ type Client<R> = ClientConnection<RefinedTcpStream, RefinedTcpStream, R>;
 
 // A request of it.
 type ClientRequest<R> = Request<RefinedTcpStream, RefinedTcpStream, R>;
+
+// Wed, 04 May 1983 11:17:00 GMT.
+fn now(rt: &impl Abort) -> HttpDate {
+    HttpDate::from_unix_secs(420_895_020).expect(rt, "a date")
+}
+
+// Sends this text.
+fn send<S: Write>(rt: &impl Abort, stream: &mut S, text: &str) {
+    stream.write_all(text.as_bytes()).expect(rt, "it is sent");
+}
+
+// What comes up to the end is this text.
+fn assert_reads<S: Read>(rt: &impl Abort, alloc: Global, stream: &mut S, wanted: &str) {
+    let mut bytes = Vec::new(alloc);
+    let read = stream.read_to_end(&mut bytes);
+    read.expect(rt, "an end of what is read");
+    assert_same(rt, str::from_utf8(&bytes).ok(), Some(wanted));
+}
 
 // The halves of this connection.
 fn halves_of<C>(rt: &impl Abort, alloc: Global, connection: C) -> Halves
@@ -169,20 +198,11 @@ fn assert_binds_second<R: Host>(rt: &R, alloc: Global, first: SocketAddr, second
     assert_holds(rt, "another port is bound", port != first.port());
 }
 
-// Of two addresses a server listens at the second, as the first is taken.
-fn assert_serves_second<R: Host>(rt: &R, alloc: Global, both: &[SocketAddr]) {
-    let server = Server::http(*rt, alloc, both).expect(rt, "a server");
-    let addr = server.server_addr().to_ip().expect(rt, "an address of TCP");
-    assert_holds(rt, "another port is bound", Some(&addr) != both.first());
-}
-
 // The first address that can be bound is.
 fn assert_addresses_in_turn<R: Host>(rt: &R, alloc: Global) {
     let taken = TcpListener::bind(rt, "127.0.0.1:0").expect(rt, "a listener");
     let first = taken.local_addr().expect(rt, "an address");
     assert_binds_second(rt, alloc, first, SocketAddr::from(([127, 0, 0, 1], 0)));
-    let both = [first, SocketAddr::from(([127, 0, 0, 1], 0))];
-    assert_serves_second(rt, alloc, &both);
     let none = ConfigListenAddr::IP(Vec::new(alloc));
     let fault = none.bind(rt).err().expect(rt, "no listener");
     assert_same(rt, fault.kind(), ErrorKind::InvalidInput);
@@ -204,7 +224,7 @@ where
 
 // The next request of a connection, if it has one.
 fn next_of<R: Host>(rt: &R, client: &mut Client<R>) -> Option<ClientRequest<R>> {
-    client.next(current_date(rt)).expect(rt, "memory")
+    client.next(now(rt)).expect(rt, "memory")
 }
 
 // The request of a client has its address.
@@ -280,6 +300,9 @@ fn assert_one_request<R: Host>(rt: &R, client: &mut Client<R>) -> ClientRequest<
     request
 }
 
+const ANSWER: &str = "HTTP/1.1 200 OK\r\nServer: tiny-http (Rust)\r\n\
+    Date: Wed, 04 May 1983 11:17:00 GMT\r\nContent-Length: 1\r\n\r\na";
+
 // A client of a Unix socket has one request, which is answered after its connection was dropped.
 fn assert_client_over_halves<R: Host>(rt: &R, alloc: Global) {
     let (ours, mut theirs) = UnixStream::pair(rt).expect(rt, "a pair");
@@ -291,12 +314,10 @@ fn assert_client_over_halves<R: Host>(rt: &R, alloc: Global) {
     let mut client = client_over(rt, alloc, ours);
     let request = assert_one_request(rt, &mut client);
     drop(client);
-    let answer = text(alloc, "a").expect(rt, "memory");
-    let sent = request.respond(answer, current_date(rt));
+    let body = b"a".to_vec(alloc).expect(rt, "memory");
+    let sent = request.respond(Response::from_data(alloc, body), now(rt));
     sent.expect(rt, "it is sent");
-    let rest = "Content-Type: text/plain; charset=UTF-8\r\nContent-Length: 1\r\n\r\na";
-    let wanted = ["HTTP/1.1 200 OK\r\n", DATED, rest];
-    assert_reads(rt, alloc, &mut theirs, &wanted);
+    assert_reads(rt, alloc, &mut theirs, ANSWER);
 }
 
 #[test]

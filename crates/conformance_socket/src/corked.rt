@@ -5,9 +5,9 @@ use crate::same::assert_same;
 use std::alloc::Global;
 use std::io::ErrorKind;
 use std::process::Abort;
-use tiny_http::corked::Corked;
-use tiny_http::device::{Budget, ByPieces, Canned, WriteDevice};
-use tiny_http::read_ahead::{BeforeRead, ReadAhead};
+use tiny_http_socket::corked::Corked;
+use tiny_http_socket::read_ahead::{BeforeRead, ReadAhead};
+use tiny_http_wire::device::{Budget, ByPieces, Canned, WriteDevice};
 
 // A writer that takes so many bytes, with nothing in front of it.
 fn corked_of(rt: &impl Abort, alloc: Global, room: usize) -> Corked<Budget> {
