@@ -1,6 +1,6 @@
-//! Files of cases: what a client sends, the steps of a server, what they are answered, and the output. This library
-//! reads such files, and has the devices over which `case_trials` tries each case. docs/CASES.md describes the language.
-//! It stands on `replay_script`, whose lines are steps here.
+//! Files of cases: what a client sends, the steps of a server, the reply to each, and the output. This library reads
+//! such files, and has the readers and writers with which each case is tried. `cases` and `calls` share its command
+//! line, its errors and its texts. A step is a line of `replay_script`. docs/CASES.md describes the language.
 #![tactic(auto)]
 
 pub mod case;

@@ -1,5 +1,5 @@
-//! Tries the cases of files, which `case_files` reads: by all readers and with each call of the writer failing, in
-//! whatever way a program runs their steps.
+//! Runs each case that `case_files` reads with several readers, with each call of the writer failing, with the client's
+//! bytes cut, and with one of them changed. A `Runner` says how the steps are run.
 #![tactic(auto)]
 
 pub mod front;
