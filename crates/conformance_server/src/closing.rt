@@ -295,13 +295,11 @@ fn a_server_is_dropped_while_a_request_comes(rt: HostRuntime) {
     }
 }
 
-// A request that comes after its server was dropped is answered 500, and its connection ends. An answer comes before, so
-// that the client was let in: one that is only counted may still be turned away.
-const LATE: [Step; 7] = [
-    Step::Send(GET),
-    Step::Receive("/"),
-    Step::RespondEmpty(200),
-    Step::Next(&["HTTP/1.1 200 OK\r\n", DATED, "Content-Length: 0\r\n\r\n"]),
+// A request that comes after its server was dropped is answered 500, and its connection ends. A client counts shortly
+// before it is let in, and until then a dropped server turns it away, so there is a wait.
+const LATE: [Step; 5] = [
+    Step::Clients(1),
+    Step::Turns(50),
     Step::Close,
     Step::Send(GET),
     Step::Rest(DROPPED),

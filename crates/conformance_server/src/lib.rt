@@ -16,6 +16,8 @@ mod leaving;
 #[cfg(test)]
 mod limits;
 #[cfg(test)]
+mod named;
+#[cfg(test)]
 mod network;
 #[cfg(test)]
 mod pipelines;

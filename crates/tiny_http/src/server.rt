@@ -196,7 +196,7 @@ impl SslConfig {
 /// Where it is dropped it accepts no further client, and the file of its Unix socket is removed; the accepting thread
 /// ends soon after. Requests that were handed out can still be answered. Each other request, one that waits or comes
 /// later, is answered by an empty 500. The connection of one that comes later ends with it; that of one that waited
-/// ends with its next request, or when the client ends it.
+/// ends with its next request, or when the client ends it. A client that is just being accepted may be turned away.
 ///
 /// A request's date, that of its 500 if it is dropped, is read before the wait for its head: on a connection that was
 /// idle it is older than the request.
