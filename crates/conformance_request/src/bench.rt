@@ -8,7 +8,6 @@ use std::sync::{Arc, Mutex, Wait};
 use std::test::Fail;
 use std::time::{Clock, Duration};
 use std::{io, thread};
-use tiny_http_body::framing::Profile;
 use tiny_http_request::client::ClientConnection;
 use tiny_http_request::request::Request;
 use tiny_http_wire::device::{Canned, Metered};
@@ -33,12 +32,7 @@ pub(crate) const AMPLE: usize = 10_000_000;
 
 /// Wed, 04 May 1983 11:17:00 GMT.
 pub(crate) fn now() -> Result<HttpDate, Fail> {
-    after(0)
-}
-
-/// So many seconds after that.
-pub(crate) fn after(seconds: u64) -> Result<HttpDate, Fail> {
-    Ok(HttpDate::from_unix_secs(seconds.saturating_add(420_895_020))?)
+    Ok(HttpDate::from_unix_secs(420_895_020)?)
 }
 
 /// A writer that keeps what it takes where a test can look, and counts the calls. After so many bytes it fails by
@@ -147,26 +141,14 @@ pub(crate) fn gated<R: Wait + Clock + Copy>(
     kind: ErrorKind,
     gate: u64,
 ) -> Result<Bench<R>, AllocError> {
-    let recording = record(rt, alloc, room, kind, gate)?;
-    recorded(rt, alloc, Profile::Lenient, client, recording)
-}
-
-// A connection to this client, over this writer, whose heads are read under this profile.
-fn recorded<R: Wait + Clock + Copy>(
-    rt: R,
-    alloc: Global,
-    profile: Profile,
-    client: Canned,
-    recording: Recording<R>,
-) -> Result<Bench<R>, AllocError> {
     let Recording {
         writer,
         output,
         entered,
         gate,
-    } = recording;
+    } = record(rt, alloc, room, kind, gate)?;
     let writer = Metered::new(writer);
-    let client = ClientConnection::over_with(rt, alloc, profile, writer, client, None, false)?;
+    let client = ClientConnection::over(rt, alloc, writer, client, None, false)?;
     Ok(Bench {
         client,
         output,
@@ -192,17 +174,6 @@ pub(crate) fn connect<R: Wait + Clock + Copy>(
 ) -> Result<Bench<R>, AllocError> {
     let client = self::client(alloc, client, None)?;
     gated(rt, alloc, client, AMPLE, ErrorKind::Other, 1)
-}
-
-/// The same, whose heads are read by the standard.
-pub(crate) fn connect_standard<R: Wait + Clock + Copy>(
-    rt: R,
-    alloc: Global,
-    client: &[u8],
-) -> Result<Bench<R>, AllocError> {
-    let client = self::client(alloc, client, None)?;
-    let recording = record(rt, alloc, AMPLE, ErrorKind::Other, 1)?;
-    recorded(rt, alloc, Profile::Standard, client, recording)
 }
 
 /// The next request, which there must be.

@@ -4,13 +4,7 @@
 #[cfg(test)]
 mod bench;
 #[cfg(test)]
-mod beside;
-#[cfg(test)]
 mod bodies;
-#[cfg(test)]
-mod closing;
-#[cfg(test)]
-mod faults;
 #[cfg(test)]
 mod handlers;
 #[cfg(test)]
@@ -18,12 +12,8 @@ mod heads;
 #[cfg(test)]
 mod in_turn;
 #[cfg(test)]
-mod rows;
-#[cfg(test)]
 mod storm;
 #[cfg(test)]
 mod streaming;
 #[cfg(test)]
 mod test_request;
-#[cfg(test)]
-mod whole_bodies;

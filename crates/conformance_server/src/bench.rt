@@ -1,13 +1,12 @@
 //! A server and a client of it, what the client reads, and the texts of answers. What goes wrong here ends the test.
-use crate::same::{assert_holds, assert_same};
+use crate::same::assert_same;
 use std::alloc::{AllocError, Global};
 use std::io::{ErrorKind, Read, Write};
-use std::net::{Net, Shutdown, TcpListener, TcpStream};
+use std::net::TcpStream;
 use std::process::Abort;
 use std::sync::Wait;
 use std::time::{Clock, Duration};
 use std::{io, thread};
-use tiny_http::common::StatusCode;
 use tiny_http::response::Response;
 use tiny_http::server::{Server, ServerRequest, ServerRuntime, current_date};
 
@@ -16,11 +15,6 @@ pub const TURNS: u32 = 10_000;
 
 /// The headers in front of an answer's own, its date left out.
 pub const DATED: &str = "Server: tiny-http (Rust)\r\nDate: \r\n";
-
-/// Sockets of TCP, and an end where something goes wrong.
-pub trait Tcp: Net<Listener = TcpListener, Stream = TcpStream> + Abort {}
-
-impl<R: Net<Listener = TcpListener, Stream = TcpStream> + Abort> Tcp for R {}
 
 /// What a server and its clients need of the system, and an end where something goes wrong.
 pub trait Host: ServerRuntime + Sync + Abort {}
@@ -70,34 +64,9 @@ pub fn send<S: Write>(rt: &impl Abort, stream: &mut S, text: &str) {
     send_bytes(rt, stream, text.as_bytes());
 }
 
-/// Sends this text so many times.
-pub fn send_often<S: Write>(rt: &impl Abort, stream: &mut S, text: &str, count: u16) {
-    for _ in 0..count {
-        send(rt, stream, text);
-    }
-}
-
-/// Sends so many bytes of a body.
-pub fn send_body<S: Write>(rt: &impl Abort, alloc: Global, stream: &mut S, length: usize) {
-    let body = vec![in alloc; b'A'; length].expect(rt, "memory");
-    send_bytes(rt, stream, &body);
-}
-
-/// The client sends no more.
-pub fn end_sending(rt: &impl Abort, client: &TcpStream) {
-    let shut = client.shutdown(Shutdown::Write);
-    shut.expect(rt, "an end of what the client sends");
-}
-
 /// The next request of a server.
 pub fn receive<R: Host>(rt: &R, server: &Server<R>) -> ServerRequest<R> {
     server.recv().expect(rt, "a request")
-}
-
-/// `try_recv` finds no request.
-pub fn assert_no_request<R: Host>(rt: &R, server: &Server<R>) {
-    let tried = server.try_recv().expect(rt, "no fault");
-    assert_holds(rt, "try_recv finds no request", tried.is_none());
 }
 
 /// Reads once, for a number of turns at most.
@@ -109,17 +78,6 @@ pub fn read_once<S: Read>(stream: &mut S, buf: &mut [u8]) -> io::Result<usize> {
         }
     }
     Err(ErrorKind::TimedOut.into())
-}
-
-/// So many clients are connected, within a number of turns.
-pub fn assert_clients<R: Host>(rt: &R, server: &Server<R>, count: usize) {
-    for _ in 0..TURNS {
-        if server.num_connections() == count {
-            return;
-        }
-        turn(rt);
-    }
-    assert_same(rt, server.num_connections(), count);
 }
 
 /// Reads until so many bytes are there, or the end.
@@ -168,13 +126,6 @@ fn assert_answers(rt: &impl Abort, alloc: Global, found: &[u8], wanted: &str) {
     assert_same(rt, str::from_utf8(&found).ok(), Some(wanted));
 }
 
-/// The client gets just this, but for the dates, and then the end.
-pub fn assert_reads<S: Read>(rt: &impl Abort, alloc: Global, stream: &mut S, wanted: &[&str]) {
-    let wanted = joined(alloc, wanted).expect(rt, "memory");
-    let found = read_all(rt, alloc, stream);
-    assert_answers(rt, alloc, &found, wanted.as_str());
-}
-
 /// The next bytes that the client gets are these, but for the date, of which there is one.
 pub fn assert_reads_next<S: Read>(rt: &impl Abort, alloc: Global, stream: &mut S, wanted: &[&str]) {
     let wanted = joined(alloc, wanted).expect(rt, "memory");
@@ -190,25 +141,6 @@ fn joined(alloc: Global, texts: &[&str]) -> Result<String, AllocError> {
         all.push_str(text)?;
     }
     Ok(all)
-}
-
-/// The body of a request is just this.
-pub fn assert_body<R: Host>(rt: &R, alloc: Global, request: &mut ServerRequest<R>, wanted: &[u8]) {
-    let mut body = Vec::new(alloc);
-    let read = request.as_reader(current_date(rt)).read_to_end(&mut body);
-    read.expect(rt, "the whole body");
-    assert_same(rt, body.as_slice(), wanted);
-}
-
-/// The body of a request is so many bytes.
-pub fn assert_body_of<R: Host>(
-    rt: &R,
-    alloc: Global,
-    request: &mut ServerRequest<R>,
-    length: usize,
-) {
-    let wanted = vec![in alloc; b'A'; length].expect(rt, "memory");
-    assert_body(rt, alloc, request, &wanted);
 }
 
 /// An answer of this text.
@@ -227,24 +159,4 @@ pub fn respond<R: Clock + Wait + Drop>(
         return false;
     };
     request.respond(response, current_date(rt)).is_ok()
-}
-
-/// A request is answered by this text.
-pub fn assert_responds<R: Host>(rt: &R, alloc: Global, request: ServerRequest<R>, answer: &str) {
-    assert!(rt;
-        respond(rt, alloc, request, answer),
-        "{answer} can't be sent"
-    );
-}
-
-/// A request is answered by this status and no body.
-pub fn assert_responds_empty<R: Host>(
-    rt: &R,
-    alloc: Global,
-    request: ServerRequest<R>,
-    status: u16,
-) {
-    let response = Response::empty(alloc, StatusCode(status));
-    let sent = request.respond(response, current_date(rt));
-    sent.expect(rt, "an answer of no body can be sent");
 }

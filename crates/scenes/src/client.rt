@@ -1,0 +1,244 @@
+//! A client of a scene.
+use crate::mishap::{Mishap, demand, demand_bytes, demand_fault, differs};
+use std::alloc::{AllocError, Global};
+use std::io::ErrorKind;
+use std::net::{Net, Shutdown, TcpListener, TcpStream};
+use std::os::unix::net::UnixStream;
+use std::time::{Clock, Duration};
+use std::{io, thread};
+use tiny_http::connection::{Connection, ListenAddr};
+
+/// How many reads, of a millisecond at most, wait for bytes that have to come.
+pub(crate) const TURNS: u32 = 10_000;
+
+// How many bytes a read asks for.
+const PIECE: usize = 16_384;
+
+// How often a text is sent by a client that is to be cut off.
+const MOST_PIECES: u32 = 4_096;
+
+// The front of each date's header, and how many bytes that has in all.
+const DATE: &[u8] = b"Date: ";
+
+const DATE_LENGTH: usize = 35;
+
+// The header with the date of all scenes.
+const DATED: &[u8] = b"Date: Wed, 04 May 1983 11:17:00 GMT";
+
+/// How a connection ended.
+#[derive(Clone, Copy, Debug, PartialEq, Eq)]
+enum End {
+    Closed,
+    Failed(ErrorKind),
+}
+
+/// A client: its socket, and what came to it and wasn't looked at.
+#[derive(Drop)]
+pub(crate) struct Client {
+    alloc: Global,
+    socket: Connection,
+    came: Vec<u8>,
+    end: Option<End>,
+}
+
+// The bytes, with the date of all scenes in place of each date.
+fn dated(alloc: Global, bytes: &[u8]) -> Result<Vec<u8>, AllocError> {
+    let mut all = Vec::new(alloc);
+    let mut rest = bytes;
+    for _ in 0..bytes.len() {
+        if rest.starts_with(DATE)
+            && let Some(behind) = rest.get(DATE_LENGTH..)
+        {
+            all.extend_from_slice(DATED)?;
+            rest = behind;
+        } else if let Some((first, behind)) = rest.split_first() {
+            all.extend_from_slice(&[*first])?;
+            rest = behind;
+        }
+    }
+    Ok(all)
+}
+
+// A connection to this address.
+fn connect_to<R: Net<Listener = TcpListener, Stream = TcpStream>>(
+    rt: &R,
+    addr: &ListenAddr,
+) -> io::Result<Connection> {
+    let socket = match addr {
+        ListenAddr::IP(addr) => Connection::Tcp(TcpStream::connect(rt, *addr)?),
+        ListenAddr::Unix(addr) => Connection::Unix(UnixStream::connect_addr(rt, addr)?),
+    };
+    socket.set_nodelay(true)?;
+    socket.set_read_timeout(Duration::from_millis(1))?;
+    socket.set_write_timeout(Duration::from_secs(10))?;
+    Ok(socket)
+}
+
+impl Client {
+    /// A client that is connected to this address.
+    pub(crate) fn connect<R: Net<Listener = TcpListener, Stream = TcpStream>>(
+        rt: &R,
+        alloc: Global,
+        addr: &ListenAddr,
+    ) -> Result<Client, Mishap> {
+        match connect_to(rt, addr) {
+            Ok(socket) => Ok(Client {
+                alloc,
+                socket,
+                came: Vec::new(alloc),
+                end: None,
+            }),
+            Err(_) => Err(Mishap::Unplayable("it can't connect")),
+        }
+    }
+
+    /// The address of its end, if that is one of TCP.
+    pub(crate) fn local_addr(&self) -> Option<std::net::SocketAddr> {
+        match &self.socket {
+            Connection::Tcp(stream) => stream.local_addr().ok(),
+            Connection::Unix(_) => None,
+        }
+    }
+
+    // Reads once, for a millisecond at most.
+    fn read_once(&mut self) -> Result<(), AllocError> {
+        let mut piece = [0u8; PIECE];
+        match self.socket.read_shared(&mut piece) {
+            Ok(0) => self.end = Some(End::Closed),
+            Ok(n) => self.came.extend_from_slice(&piece[..n])?,
+            Err(fault) => match fault.kind() {
+                ErrorKind::WouldBlock | ErrorKind::Interrupted => {}
+                kind => self.end = Some(End::Failed(kind)),
+            },
+        }
+        Ok(())
+    }
+
+    // Reads until as many bytes are there, or the end, within a number of turns.
+    fn read_up_to(&mut self, count: usize) -> Result<(), AllocError> {
+        for _ in 0..TURNS {
+            if self.came.len() >= count || self.end.is_some() {
+                break;
+            }
+            self.read_once()?;
+        }
+        Ok(())
+    }
+
+    // Writes all the bytes.
+    fn write_all(&mut self, bytes: &[u8]) -> io::Result<()> {
+        let mut rest = bytes;
+        for _ in 0..bytes.len() {
+            if rest.is_empty() {
+                break;
+            }
+            match self.socket.write_shared(rest) {
+                Ok(n) => rest = rest.get(n..).unwrap_or_default(),
+                Err(fault) if fault.kind() == ErrorKind::Interrupted => {}
+                Err(fault) => return Err(fault),
+            }
+        }
+        Ok(())
+    }
+
+    /// Sends these bytes.
+    pub(crate) fn send(&mut self, bytes: &[u8]) -> Result<(), Mishap> {
+        let sent = self.write_all(bytes).err().map(|fault| fault.kind());
+        demand_fault(self.alloc, None, sent)
+    }
+
+    /// Sends these bytes again and again, as far as they can be sent, until the connection ends.
+    pub(crate) fn drip<R: Clock>(
+        &mut self,
+        rt: &R,
+        bytes: &[u8],
+        millis: u64,
+    ) -> Result<(), Mishap> {
+        for _ in 0..TURNS {
+            if self.end.is_some() {
+                break;
+            }
+            let _ = self.write_all(bytes);
+            thread::sleep(rt, Duration::from_millis(millis.saturating_sub(1)));
+            self.read_once()?;
+        }
+        demand(self.alloc, "the connection ends", self.end.is_some())
+    }
+
+    /// Sends these bytes again and again, and can't in the end.
+    pub(crate) fn is_cut_off(&mut self, bytes: &[u8]) -> Result<(), Mishap> {
+        for _ in 0..MOST_PIECES {
+            if self.write_all(bytes).is_err() {
+                return Ok(());
+            }
+        }
+        Err(differs(self.alloc, "a write fails", "none failed"))
+    }
+
+    /// The next bytes are these.
+    pub(crate) fn gets(&mut self, wanted: &[u8]) -> Result<(), Mishap> {
+        self.read_up_to(wanted.len())?;
+        let count = wanted.len().min(self.came.len());
+        let behind = self.came.split_off(count)?;
+        let front = dated(self.alloc, self.came.as_slice())?;
+        self.came = behind;
+        demand_bytes(self.alloc, wanted, front.as_slice())
+    }
+
+    /// So many bytes come up to the end.
+    pub(crate) fn counts(&mut self, least: usize, most: usize) -> Result<(), Mishap> {
+        self.read_up_to(usize::MAX)?;
+        let alloc = self.alloc;
+        let count = self.came.len();
+        self.came = Vec::new(alloc);
+        if least <= count && count <= most {
+            return Ok(());
+        }
+        let wanted = format!(in alloc; "{least} to {most} bytes")?;
+        let came = format!(in alloc; "{count} bytes")?;
+        Err(Mishap::Differs { wanted, came })
+    }
+
+    // Nothing came but what was looked at.
+    fn demand_nothing(&self) -> Result<(), Mishap> {
+        let came = dated(self.alloc, self.came.as_slice())?;
+        demand_bytes(self.alloc, b"", came.as_slice())
+    }
+
+    /// No byte comes, and no end, for this time.
+    pub(crate) fn is_idle(&mut self, millis: u64) -> Result<(), Mishap> {
+        for _ in 0..millis {
+            if !self.came.is_empty() || self.end.is_some() {
+                break;
+            }
+            self.read_once()?;
+        }
+        self.demand_nothing()?;
+        demand(self.alloc, "no end", self.end.is_none())
+    }
+
+    /// The end comes, and no byte before it.
+    pub(crate) fn is_closed(&mut self) -> Result<(), Mishap> {
+        let next = self.came.len().saturating_add(1);
+        self.read_up_to(next)?;
+        self.demand_nothing()?;
+        let end = self.end;
+        if end == Some(End::Closed) {
+            return Ok(());
+        }
+        let came = format!(in self.alloc; "{end:?}")?;
+        Err(differs(self.alloc, "the end", came.as_str()))
+    }
+
+    /// The connection ends, whatever comes before.
+    pub(crate) fn is_gone(&mut self) -> Result<(), Mishap> {
+        self.read_up_to(usize::MAX)?;
+        demand(self.alloc, "the connection ends", self.end.is_some())
+    }
+
+    /// It sends no more.
+    pub(crate) fn half_close(&mut self) -> Result<(), Mishap> {
+        let shut = self.socket.shutdown(Shutdown::Write);
+        demand_fault(self.alloc, None, shut.err().map(|fault| fault.kind()))
+    }
+}
