@@ -17,6 +17,9 @@ const PIECE: usize = 16_384;
 // How often a text is sent by a client that is to be cut off.
 const MOST_PIECES: u32 = 4_096;
 
+// How often a client sips.
+const SIPS: u32 = 100;
+
 // The front of each date's header, and how many bytes that has in all.
 const DATE: &[u8] = b"Date: ";
 
@@ -163,6 +166,23 @@ impl Client {
             self.read_once()?;
         }
         demand(self.alloc, "the connection ends", self.end.is_some())
+    }
+
+    /// Reads so many bytes at a time, a hundred times, and forgets them.
+    pub(crate) fn sip<R: Clock>(
+        &mut self,
+        rt: &R,
+        count: usize,
+        millis: u64,
+    ) -> Result<(), Mishap> {
+        let mut piece = vec![in self.alloc; 0u8; count]?;
+        for _ in 0..SIPS {
+            thread::sleep(rt, Duration::from_millis(millis));
+            if self.socket.read_shared(&mut piece).is_ok_and(|n| n == 0) {
+                break;
+            }
+        }
+        Ok(())
     }
 
     /// Sends these bytes again and again, and can't in the end.

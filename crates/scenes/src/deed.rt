@@ -14,6 +14,8 @@ pub(crate) enum ClientDeed<'a> {
     Drips(&'a str, u64),
     /// Sends this text again and again, and can't in the end.
     IsCutOff(&'a str),
+    /// Reads this many bytes a hundred times, with this many milliseconds between.
+    Sips(usize, u64),
     /// The next bytes are this text.
     Gets(&'a str),
     /// As many bytes come up to the end: at least the first number, and at most the second.
@@ -75,6 +77,19 @@ pub(crate) enum ServerDeed<'a> {
     IsFree,
     /// A second server at the same address is refused by this kind.
     Rival(ErrorKind),
+    /// A server with limits at a path where this is already: the kind by which it is refused, if it is.
+    At(Found, Option<ErrorKind>),
+}
+
+/// What is at the path of a Unix socket before a server is made there.
+#[derive(Clone, Copy, PartialEq, Eq)]
+pub(crate) enum Found {
+    /// A socket on which nobody listens.
+    Stale,
+    /// One on which another listens.
+    Live,
+    /// A file that is no socket.
+    Plain,
 }
 
 /// The data of an answer.
@@ -208,6 +223,10 @@ fn client_deed<'a>(verb: &str, rest: &'a str) -> Option<ClientDeed<'a>> {
             Some(ClientDeed::Drips(text, millis_in(millis)?))
         }
         ("is-cut-off-sending", text) => Some(ClientDeed::IsCutOff(text)),
+        ("sips", numbers) => {
+            let (count, millis) = numbers.split_once(" every ")?;
+            Some(ClientDeed::Sips(number_in(count)?, millis_in(millis)?))
+        }
         ("gets", text) => Some(ClientDeed::Gets(text)),
         ("counts", numbers) => {
             let (least, most) = numbers.split_once(" to ")?;
@@ -264,6 +283,9 @@ fn call_of_server<'a>(call: &'a str, outcome: &'a str) -> Option<ServerDeed<'a>>
         ("num_connections", "now") => Some(ServerDeed::ClientsNow(number_in(outcome)?)),
         ("counts", field) => Some(ServerDeed::Count(field, millis_in(outcome)?)),
         ("rival", "") => Some(ServerDeed::Rival(kind_of(outcome)?)),
+        ("with", "stale socket") => Some(ServerDeed::At(Found::Stale, served_in(outcome)?)),
+        ("with", "live socket") => Some(ServerDeed::At(Found::Live, served_in(outcome)?)),
+        ("with", "plain file") => Some(ServerDeed::At(Found::Plain, served_in(outcome)?)),
         _ => None,
     }
 }

@@ -107,6 +107,7 @@ fn act_client<R: Host>(
             client.drip(rt, text_of(alloc, text)?.as_slice(), millis)
         }
         ClientDeed::IsCutOff(text) => client.is_cut_off(text_of(alloc, text)?.as_slice()),
+        ClientDeed::Sips(count, millis) => client.sip(rt, count, millis),
         ClientDeed::Gets(text) => client.gets(text_of(alloc, text)?.as_slice()),
         ClientDeed::Counts(least, most) => client.counts(least, most),
         ClientDeed::IsIdle(millis) => client.is_idle(millis),

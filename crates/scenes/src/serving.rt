@@ -1,6 +1,6 @@
 //! The server of a scene: how it is made, and its calls.
 use crate::client::{Client, TURNS};
-use crate::deed::{Given, ServerDeed};
+use crate::deed::{Found, Given, ServerDeed};
 use crate::handler::ByPath;
 use crate::hands::{Hands, add};
 use crate::mishap::{Mishap, demand, demand_fault, demand_number, demand_text, differs};
@@ -8,7 +8,7 @@ use crate::scene::{Ground, Over, Way};
 use std::alloc::Global;
 use std::io::ErrorKind;
 use std::net::TcpListener;
-use std::path::PathBuf;
+use std::path::{Path, PathBuf};
 use std::sync::Arc;
 use std::sync::atomic::{AtomicBool, Ordering};
 use std::time::Duration;
@@ -17,6 +17,7 @@ use tiny_http::connection::{ConfigListenAddr, ListenAddr, Listener};
 use tiny_http::counts::Counts;
 use tiny_http::messages_queue::MessagesQueue;
 use tiny_http::server::{Host, Server, ServerConfig, ServerError, ServerRequest, Stopped};
+use tiny_http::{Limits, Profile};
 
 /// How many seconds a request may take to come that has to.
 const LONGEST: u64 = 10;
@@ -328,6 +329,73 @@ fn demand_rival<R: Host>(
     }
 }
 
+// The name of a file in the folder of the program, which is no socket.
+const PLAIN: &str = "closing.scenes";
+
+// Makes a server with limits at a path where this is: the kind by which it is refused, if it is, and whether what was
+// there is still there.
+fn made_at<R: Host>(
+    rt: &R,
+    alloc: Global,
+    path: &str,
+    found: Found,
+) -> Result<(Option<ErrorKind>, bool), Mishap> {
+    let was = rt.bind_unix(Path::new(path));
+    if was.is_err() && found != Found::Plain {
+        return Err(Mishap::Unplayable("no socket can be made there"));
+    }
+    if found == Found::Stale {
+        drop(was.ok());
+        return Ok((refusal_at(rt, alloc, path)?, rt.is_socket(Path::new(path))));
+    }
+    let refusal = refusal_at(rt, alloc, path)?;
+    let is_there = rt.bind_unix(Path::new(path)).is_err();
+    drop(was.ok());
+    if found == Found::Live {
+        let _ = rt.remove_socket(Path::new(path));
+    }
+    Ok((refusal, is_there))
+}
+
+// The kind by which a server with limits at this path is refused, if it is. One that is made goes at once.
+fn refusal_at<R: Host>(rt: &R, alloc: Global, path: &str) -> Result<Option<ErrorKind>, Mishap> {
+    let Ok(config) = config_of(rt, alloc, Place::Path(path)) else {
+        return Err(Mishap::OutOfMemory);
+    };
+    match Server::with(*rt, alloc, config, Profile::Standard, Limits::new()) {
+        Ok(_) => Ok(None),
+        Err(ServerError::Io(fault)) => Ok(Some(fault.kind())),
+        Err(_) => Err(Mishap::OutOfMemory),
+    }
+}
+
+// A server with limits at a path where this is. It takes over a stale socket, whose file goes with it; what else is
+// there stays.
+fn demand_made_at<R: Host>(
+    rt: &R,
+    alloc: Global,
+    (addr, found): (&ListenAddr, Found),
+    wanted: Option<ErrorKind>,
+) -> Result<(), Mishap> {
+    let ListenAddr::Unix(addr) = addr else {
+        return Err(Mishap::Unplayable("only a Unix socket has a path"));
+    };
+    let Some(path) = addr.as_pathname() else {
+        return Err(Mishap::Unplayable("the socket has no path"));
+    };
+    let beside = format!(in alloc; "{}.beside", path.display())?;
+    let path = match found {
+        Found::Plain => PLAIN,
+        Found::Stale | Found::Live => beside.as_str(),
+    };
+    let (refusal, is_there) = made_at(rt, alloc, path, found)?;
+    demand_fault(alloc, wanted, refusal)?;
+    if found == Found::Stale {
+        return demand(alloc, "the file is gone", !is_there);
+    }
+    demand(alloc, "what was there is still there", is_there)
+}
+
 // Stops the server; whether all was answered.
 fn stop<R: Host>(
     alloc: Global,
@@ -435,6 +503,7 @@ pub(crate) fn act_server<R: Host>(
         ServerDeed::File(is_there) => demand_file(rt, alloc, &hands.addr, is_there),
         ServerDeed::IsFree => demand_free(rt, alloc, &hands.addr),
         ServerDeed::Rival(kind) => demand_rival(rt, alloc, &hands.addr, kind),
+        ServerDeed::At(found, wanted) => { demand_made_at(rt, alloc, (&hands.addr, found), wanted) }
         _ => act_giving(rt, alloc, hands, deed),
     }
 }
