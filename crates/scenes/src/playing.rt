@@ -3,7 +3,7 @@ use crate::deed::{ClientDeed, Deed, deed_in};
 use crate::hands::{Hands, get, take};
 use crate::mishap::{Mishap, demand};
 use crate::requests::{act_output, act_request};
-use crate::scene::{Ground, Line, Scene, Way};
+use crate::scene::{Line, Scene, Way};
 use crate::serving::{act_server, connect, first_hands, place_of};
 use case_files::text::text_of;
 use std::alloc::{AllocError, Global};
@@ -12,7 +12,7 @@ use std::sync::atomic::{AtomicBool, Ordering};
 use std::thread;
 use std::thread::JoinHandle;
 use std::time::{Duration, Instant};
-use tiny_http::server::{Host, Server};
+use tiny_http::server::Host;
 
 // How many milliseconds a thread that waits is watched.
 const WATCHED: u64 = 20;
@@ -380,17 +380,14 @@ fn wait_until_served<R: Host>(rt: &R, alloc: Global, hands: &mut Hands<R>) -> Re
     Ok(())
 }
 
-// The scene's threads that have ended by themselves once the server has gone.
+// Ends a scene: requests, outputs and clients go first, so that nobody waits for them. Whoever serves is unblocked.
 fn clear<R: Host>(rt: &R, stage: &mut Stage<R>) {
-    let _ = rt;
     stage.hands.requests.clear();
     stage.hands.outputs.clear();
     stage.hands.clients.clear();
-}
-
-// Unblocks the one who serves, if there is one, and waits until that has ended.
-fn end_serving<R: Host>(rt: &R, stage: &mut Stage<R>, server: &Server<R>) {
-    if let Some(serving) = stage.serving.take() {
+    if let Some(serving) = stage.serving.take()
+        && let Some(server) = stage.hands.server.take()
+    {
         let _ = server.unblock();
         let _ = serving.join(rt);
     }
@@ -423,16 +420,13 @@ fn play_once<R: Host>(
     }
     let failure = play_all(rt, alloc, &mut stage, scene.lines.as_slice());
     clear(rt, &mut stage);
-    if let Some(server) = stage.hands.server.take() {
-        end_serving(rt, &mut stage, &server);
-    }
     failure
 }
 
 /// Plays a scene as often as it says, and in each way that it names: its failure, if it fails. A Unix socket is made
 /// at this path.
 pub(crate) fn play<R: Host>(rt: &R, alloc: Global, scene: &Scene, path: &str) -> Option<Failure> {
-    let ground: Ground = scene.ground;
+    let ground = scene.ground;
     for _ in 0..ground.repeats {
         if let Some(failure) = play_once(rt, alloc, scene, (Way::Recv, path)) {
             return Some(failure);
