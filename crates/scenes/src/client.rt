@@ -50,13 +50,13 @@ fn dated(alloc: Global, bytes: &[u8]) -> Result<Vec<u8>, AllocError> {
     let mut rest = bytes;
     for _ in 0..bytes.len() {
         if rest.starts_with(DATE)
-            && let Some(behind) = rest.get(DATE_LENGTH..)
+            && let Some(after) = rest.get(DATE_LENGTH..)
         {
             all.extend_from_slice(DATED)?;
-            rest = behind;
-        } else if let Some((first, behind)) = rest.split_first() {
+            rest = after;
+        } else if let Some((first, after)) = rest.split_first() {
             all.extend_from_slice(&[*first])?;
-            rest = behind;
+            rest = after;
         }
     }
     Ok(all)
@@ -168,7 +168,7 @@ impl Client {
         demand(self.alloc, "the connection ends", self.end.is_some())
     }
 
-    /// Reads so many bytes at a time, a hundred times, and forgets them.
+    /// Reads `count` bytes at most, a hundred times, and forgets them.
     pub(crate) fn sip<R: Clock>(
         &mut self,
         rt: &R,
@@ -199,13 +199,13 @@ impl Client {
     pub(crate) fn gets(&mut self, wanted: &[u8]) -> Result<(), Mishap> {
         self.read_up_to(wanted.len())?;
         let count = wanted.len().min(self.came.len());
-        let behind = self.came.split_off(count)?;
+        let rest = self.came.split_off(count)?;
         let front = dated(self.alloc, self.came.as_slice())?;
-        self.came = behind;
+        self.came = rest;
         demand_bytes(self.alloc, wanted, front.as_slice())
     }
 
-    /// So many bytes come up to the end.
+    /// From `least` to `most` bytes come up to the end.
     pub(crate) fn counts(&mut self, least: usize, most: usize) -> Result<(), Mishap> {
         self.read_up_to(usize::MAX)?;
         let alloc = self.alloc;

@@ -198,12 +198,12 @@ fn millis_in(digits: &str) -> Option<u64> {
     Some(number_in(digits)? as u64)
 }
 
-// What stands before the last ` = ` and behind it.
+// The text before the last ` = `, and the text after it.
 fn sides(text: &str) -> Option<(&str, &str)> {
     text.rsplit_once(" = ")
 }
 
-// What stands before ` = KIND` at the end of a line, and the kind; the whole without one.
+// The text before ` = KIND` at the end of a line, and the kind; the whole text without one.
 fn before_kind(text: &str) -> (&str, Option<ErrorKind>) {
     if let Some((front, name)) = sides(text)
         && let Some(kind) = kind_of(name)
@@ -213,7 +213,7 @@ fn before_kind(text: &str) -> (&str, Option<ErrorKind>) {
     (text, None)
 }
 
-// What a verb of a client says, with the words behind it.
+// What a verb of a client says, with the words after it.
 fn client_deed<'a>(verb: &str, rest: &'a str) -> Option<ClientDeed<'a>> {
     match (verb, rest) {
         ("connects", "") => Some(ClientDeed::Connects),
@@ -260,7 +260,7 @@ fn served_in(text: &str) -> Option<Option<ErrorKind>> {
     Some(Some(kind_of(text)?))
 }
 
-// What a call of the server says that has a result behind ` = `.
+// What a call of the server says that has an outcome after ` = `.
 fn call_of_server<'a>(call: &'a str, outcome: &'a str) -> Option<ServerDeed<'a>> {
     let (verb, rest) = call.split_once(' ').unwrap_or((call, ""));
     match (verb, rest) {
@@ -329,7 +329,7 @@ fn data_in(text: &str) -> Option<Data<'_>> {
     }
 }
 
-// A status and what stands behind it.
+// A status, and the words after it.
 fn status_in(text: &str) -> Option<(u16, &str)> {
     let (digits, rest) = text.split_once(' ')?;
     Some((u16::try_from(number_in(digits)?).ok()?, rest))
@@ -358,7 +358,7 @@ fn answer_in(word: &str) -> Option<bool> {
     }
 }
 
-// What a call of a request says that has a result behind ` = `.
+// What a call of a request says that has an outcome after ` = `.
 fn look_at_request<'a>(verb: &str, call: &'a str, outcome: &'a str) -> Option<RequestDeed<'a>> {
     match verb {
         "read_body" => Some(RequestDeed::ReadBody(number_in(call)?, whole_in(outcome)?)),

@@ -78,7 +78,7 @@ pub(crate) fn get<'a, T>(all: &'a mut Vec<Named<T>>, name: &str) -> Result<&'a m
     }
 }
 
-// Whether one of the lines is of this name, or names it behind a verb.
+// Whether one of the lines has this name in it.
 fn is_named(lines: &[Line], name: &str) -> bool {
     lines.iter().any(|line| {
         let text = line.text.as_str();

@@ -25,26 +25,29 @@ use tiny_http::server::Host;
 // How many scenes are played side by side.
 const BESIDE: usize = 8;
 
-// Plays scenes.
+// The files that the command line names.
 #[derive(Drop)]
-struct Player<R> {
-    rt: R,
-    // The number of this process, which the paths of Unix sockets have.
-    process: u32,
+struct SceneFiles {
+    files: Vec<SceneFile>,
 }
 
-// The scenes of each of these files; or the first line that is of no scene, and why.
-fn files_of<'a>(
-    alloc: Global,
-    files: &[NamedFile<'a>],
-) -> Result<Vec<SceneFile<'a>>, FilesFault<'a>> {
-    let mut all = Vec::new(alloc);
-    for NamedFile { name, bytes } in files {
-        let scenes = read_scenes(alloc, name, bytes.as_slice())?;
-        all.push(SceneFile { name, scenes })
-            .map_err(AllocError::from)?;
+impl Checker for SceneFiles {
+    /// Reads the scenes of each of these files. They are played once all are read.
+    fn check<'a, O: Write>(
+        &mut self,
+        alloc: Global,
+        files: &[NamedFile<'a>],
+        _out: &mut O,
+    ) -> Result<bool, FilesFault<'a>> {
+        for NamedFile { name, bytes } in files {
+            let scenes = read_scenes(alloc, name, bytes.as_slice())?;
+            let name = String::from_str(alloc, name)?;
+            self.files
+                .push(SceneFile { name, scenes })
+                .map_err(AllocError::from)?;
+        }
+        Ok(true)
     }
-    Ok(all)
 }
 
 // Plays a scene. Its Unix socket has the number of the process and its own in its path.
@@ -71,79 +74,80 @@ fn report<O: Write>(
     writeln!(out, "{file}:{number}: {name}: {line}:{mishap}")
 }
 
-impl<R: Host> Player<R> {
-    // Plays scenes side by side, and reports those that fail: how many did.
-    fn play_group<'a, O: Write>(
-        &self,
-        alloc: Global,
-        (file, scenes): (&'a str, &[Scene]),
-        out: &mut O,
-    ) -> Result<usize, FilesFault<'a>> {
-        let (rt, process) = (self.rt, self.process);
-        let played = thread::map_indices(
-            &rt,
-            alloc,
-            scenes.len(),
-            &|number| {
-                let scene = scenes.get(number)?;
-                play_at(&rt, alloc, (scene, process, number))
-            },
-        )?;
-        let mut failed = 0usize;
-        for (scene, failure) in scenes.iter().zip(played.as_slice()) {
-            let Some(failure) = failure else {
-                continue;
-            };
+// Plays scenes side by side, and reports those that fail: how many did.
+fn play_group<R: Host, O: Write>(
+    rt: &R,
+    alloc: Global,
+    (file, scenes, process): (&str, &[Scene], u32),
+    out: &mut O,
+) -> io::Result<usize> {
+    let played = thread::map_indices(
+        rt,
+        alloc,
+        scenes.len(),
+        &|number| {
+            let scene = scenes.get(number)?;
+            play_at(rt, alloc, (scene, process, number))
+        },
+    )?;
+    let mut failed = 0usize;
+    for (scene, failure) in scenes.iter().zip(played.as_slice()) {
+        if let Some(failure) = failure {
             failed = failed.saturating_add(1);
-            if report(out, (file, scene), failure).is_err() {
-                return Err(FilesFault::CannotWrite);
-            }
-        }
-        Ok(failed)
-    }
-
-    // Plays the scenes of a file, and says how many failed: whether none did.
-    fn play_file<'a, O: Write>(
-        &self,
-        alloc: Global,
-        file: &SceneFile<'a>,
-        out: &mut O,
-    ) -> Result<bool, FilesFault<'a>> {
-        let mut failed = 0usize;
-        for group in file.scenes.as_slice().chunks(BESIDE) {
-            let more = self.play_group(alloc, (file.name, group), out)?;
-            failed = failed.saturating_add(more);
-        }
-        let (name, count) = (file.name, file.scenes.len());
-        match writeln!(out, "{name}: {count} scenes, {failed} failed") {
-            Ok(()) => Ok(failed == 0),
-            Err(_) => Err(FilesFault::CannotWrite),
+            report(out, (file, scene), failure)?;
         }
     }
+    Ok(failed)
 }
 
-impl<R: Host> Checker for Player<R> {
-    fn check<'a, O: Write>(
-        &mut self,
-        alloc: Global,
-        files: &[NamedFile<'a>],
-        out: &mut O,
-    ) -> Result<bool, FilesFault<'a>> {
-        let files = files_of(alloc, files)?;
-        let mut all_hold = true;
-        for file in files.as_slice() {
-            if !self.play_file(alloc, file, out)? {
-                all_hold = false;
-            }
-        }
-        Ok(all_hold)
+// Plays the scenes of a file, and says how many failed: whether none did.
+fn play_file<R: Host, O: Write>(
+    rt: &R,
+    alloc: Global,
+    (file, process): (&SceneFile, u32),
+    out: &mut O,
+) -> io::Result<bool> {
+    let (name, count) = (file.name.as_str(), file.scenes.len());
+    let mut failed = 0usize;
+    for group in file.scenes.as_slice().chunks(BESIDE) {
+        let more = play_group(rt, alloc, (name, group, process), out)?;
+        failed = failed.saturating_add(more);
     }
+    writeln!(out, "{name}: {count} scenes, {failed} failed")?;
+    Ok(failed == 0)
+}
+
+// Plays the scenes of all files, and gives the exit status: 0 where all hold, 3 where one fails, and 1 where `out`
+// can't be written or memory is refused.
+fn play_files<R: Host, O: Write>(
+    rt: &R,
+    alloc: Global,
+    (files, process): (&[SceneFile], u32),
+    out: &mut O,
+) -> u8 {
+    let mut status = 0;
+    for file in files {
+        match play_file(rt, alloc, (file, process), out) {
+            Ok(true) => {}
+            Ok(false) => status = 3,
+            Err(_) => return 1,
+        }
+    }
+    status
 }
 
 fn main(rt: HostRuntime) -> ExitCode {
     let mut out = rt.stdout();
     let mut err = rt.stderr();
+    let alloc = rt.alloc();
+    let mut read = SceneFiles {
+        files: Vec::new(alloc),
+    };
+    let status = run_program(&rt, "scenes", &mut read, &mut out, &mut err);
+    if status != 0 {
+        return ExitCode::from(status);
+    }
     let process = std::process::id(rt.process());
-    let mut player = Player { rt, process };
-    ExitCode::from(run_program(&rt, "scenes", &mut player, &mut out, &mut err))
+    let files = read.files.as_slice();
+    ExitCode::from(play_files(&rt, alloc, (files, process), &mut out))
 }

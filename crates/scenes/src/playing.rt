@@ -7,11 +7,13 @@ use crate::scene::{Line, Scene, Way};
 use crate::serving::{act_server, connect, first_hands, place_of};
 use case_files::text::text_of;
 use std::alloc::{AllocError, Global};
-use std::sync::Arc;
+use std::net::Net;
 use std::sync::atomic::{AtomicBool, Ordering};
+use std::sync::{Arc, Wait};
 use std::thread;
 use std::thread::JoinHandle;
-use std::time::{Duration, Instant};
+use std::time::{Clock, Duration, Instant};
+use tiny_http::connection::SocketFiles;
 use tiny_http::server::Host;
 
 // How many milliseconds a thread that waits is watched.
@@ -27,14 +29,14 @@ pub(crate) struct Failure {
 
 // What is left at hand of a thread, and the line at which it failed.
 #[derive(Drop)]
-struct Done<R: Host> {
+struct Done<R: Net + SocketFiles + Wait + Clock + Drop> {
     hands: Hands<R>,
     failure: Option<Failure>,
 }
 
 // A thread of a scene.
 #[derive(Drop)]
-struct Beside<R: Host> {
+struct Beside<R: Net + SocketFiles + Wait + Clock + Drop> {
     name: String,
     has_ended: Arc<AtomicBool>,
     thread: JoinHandle<Done<R>>,
@@ -42,7 +44,7 @@ struct Beside<R: Host> {
 
 // A scene that is played: what is at hand, the threads, and the one that serves.
 #[derive(Drop)]
-struct Stage<R: Host> {
+struct Stage<R: Net + SocketFiles + Wait + Clock + Drop> {
     hands: Hands<R>,
     besides: Vec<Beside<R>>,
     serving: Option<JoinHandle<bool>>,

@@ -77,7 +77,7 @@ fn respond_empty<R: Wait + Clock + Drop>(
     request.respond(response, current_date(rt))
 }
 
-// Answers by so many bytes, as one piece where their length is stated.
+// Answers by `count` bytes, whose length is stated, and then not in chunks, or left open.
 fn respond_bytes<R: Wait + Clock + Drop>(
     rt: &R,
     alloc: Global,
@@ -167,7 +167,7 @@ fn words_of(whole: &Result<Vec<u8>, BodyError>) -> &'static str {
     }
 }
 
-// A request's body, of at most so many bytes, is read whole.
+// A request's body, of at most `most` bytes, is read whole.
 fn demand_whole<R: Wait + Clock + Drop>(
     rt: &R,
     alloc: Global,

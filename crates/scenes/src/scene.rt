@@ -59,8 +59,8 @@ pub(crate) struct Scene {
 
 /// The scenes of a file, and its name.
 #[derive(Drop)]
-pub(crate) struct SceneFile<'a> {
-    pub name: &'a str,
+pub(crate) struct SceneFile {
+    pub name: String,
     pub scenes: Vec<Scene>,
 }
 
@@ -80,7 +80,7 @@ fn set_limit(limits: &mut Limits, name: &str, number: usize) -> Option<()> {
     Some(())
 }
 
-// Adds one of the words behind `server`: a profile, what it listens on, or a limit.
+// Adds one of the words after `server`: a profile, what it listens on, or a limit.
 fn add_word(ground: &mut Ground, word: &str) -> Option<()> {
     match word {
         "lenient" => ground.profile = Profile::Lenient,
@@ -108,7 +108,7 @@ fn add_word(ground: &mut Ground, word: &str) -> Option<()> {
     Some(())
 }
 
-// The server that the words behind `server` name.
+// The server that the words after `server` name.
 fn ground_in(words: &str) -> Option<Ground> {
     let mut ground = Ground {
         profile: Profile::Lenient,

@@ -384,11 +384,11 @@ fn demand_made_at<R: Host>(
         return Err(Mishap::Unplayable("the socket has no path"));
     };
     let beside = format!(in alloc; "{}.beside", path.display())?;
-    let path = match found {
-        Found::Plain => PLAIN,
-        Found::Stale | Found::Live => beside.as_str(),
+    let (refusal, is_there) = if found == Found::Plain {
+        made_at(rt, alloc, PLAIN, found)?
+    } else {
+        made_at(rt, alloc, beside.as_str(), found)?
     };
-    let (refusal, is_there) = made_at(rt, alloc, path, found)?;
     demand_fault(alloc, wanted, refusal)?;
     if found == Found::Stale {
         return demand(alloc, "the file is gone", !is_there);
