@@ -131,33 +131,22 @@ struct Begun {
     lines: Vec<Line>,
 }
 
-// Why a scene isn't whole, if it isn't.
-fn lack_of(begun: &Begun) -> Option<&'static str> {
-    if begun.ground.is_none() {
-        return Some("the scene above has no server");
-    }
-    if begun.lines.is_empty() {
-        return Some("the scene above has no line");
-    }
-    None
-}
-
 // Adds the scene that has begun, if there is one.
 fn add_scene(scenes: &mut Vec<Scene>, begun: Option<Begun>) -> Result<(), LineFault> {
     let Some(begun) = begun else {
         return Ok(());
     };
-    if let Some(why) = lack_of(&begun) {
-        return Err(LineFault::Bad(why));
-    }
     let Begun {
         name,
-        ground: Some(ground),
+        ground,
         lines,
-    } = begun
-    else {
-        return Ok(());
+    } = begun;
+    let Some(ground) = ground else {
+        return Err(LineFault::Bad("the scene above has no server"));
     };
+    if lines.is_empty() {
+        return Err(LineFault::Bad("the scene above has no line"));
+    }
     let scene = Scene {
         name,
         ground,
@@ -167,7 +156,7 @@ fn add_scene(scenes: &mut Vec<Scene>, begun: Option<Begun>) -> Result<(), LineFa
     Ok(())
 }
 
-// Whether what is indented may stand here: below a line `beside`, or a line that is indented.
+// Whether an indented line may come here: below a line `beside`, or another indented one.
 fn may_be_inner(lines: &[Line]) -> bool {
     match lines.last() {
         None => false,
