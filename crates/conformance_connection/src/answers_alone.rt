@@ -3,14 +3,13 @@ use crate::broken_answers::{Watched, lent};
 use crate::exchanges::{date, request, source_of};
 use crate::runs::{AMPLE, DATED, EMPTY, TEXT, assert_joined, assert_output, output_of};
 use crate::same::{assert_holds, assert_same};
-use httpdate::HttpDate;
 use std::alloc::Global;
 use std::io::{Cursor, ErrorKind};
 use std::process::Abort;
 use std::test::Fail;
 use tiny_http_core::exchange::Exchange;
 use tiny_http_core::outlet::Outlet;
-use tiny_http_wire::common::{HTTPVersion, Method};
+use tiny_http_wire::common::Method;
 use tiny_http_wire::device::{Budget, ReadDevice};
 use tiny_http_wire::response::Response;
 
@@ -227,32 +226,6 @@ fn a_writer_that_fails_ends_the_outlet(rt: HostRuntime) -> Result<(), Fail> {
     assert_output(&rt, rt.alloc(), outlet, &["HTTP/1.1 2"])
 }
 
-// What the data have before they fail, and the fault that is reported where the writer fails after ten bytes: the one
-// that is met first. Five bytes and the head are still held as the data fail.
-const TWO_FAULTS: &[(usize, ErrorKind)] = &[(5, ErrorKind::Other), (20_000, ErrorKind::TimedOut)];
-
-// Of the writer's fault and the data's, which have so many bytes, this one is reported.
-fn assert_first_fault(
-    rt: &impl Abort,
-    alloc: Global,
-    exchange: &mut Exchange,
-    (length, kind): (usize, ErrorKind),
-) -> Result<(), Fail> {
-    let mut bytes = Vec::new(alloc);
-    bytes.resize(length, b'x')?;
-    let mut outlet = outlet_of(alloc, 10);
-    assert_fault(rt, alloc, (exchange, &mut outlet), &bytes, kind)
-}
-
-#[test]
-fn the_first_of_two_faults_is_reported(rt: HostRuntime) -> Result<(), Fail> {
-    let mut exchange = exchange_of(&rt, rt.alloc(), ASKS_FOR_CHUNKS)?;
-    for row in TWO_FAULTS {
-        assert_first_fault(&rt, rt.alloc(), &mut exchange, *row)?;
-    }
-    Ok(())
-}
-
 // A request, and what is sent if it is dropped.
 const DROPPED: &[(&[u8], &[&str])] = &[
     (
@@ -345,40 +318,6 @@ fn no_100_is_sent_for_a_body_that_was_given_up(rt: HostRuntime) -> Result<(), Fa
     let mut exchange = request(&rt, alloc, &mut source, "/")?;
     exchange.give_up(&mut source);
     assert_same(&rt, continued(alloc, &mut exchange)?.len(), 0);
-    Ok(())
-}
-
-// What an answer with so many bytes of data is printed as.
-fn printed_whole(alloc: Global, count: usize) -> Result<Vec<u8>, Fail> {
-    let mut data = Vec::new(alloc);
-    data.resize(count, b'x')?;
-    let mut writer = Budget::new(alloc, AMPLE, ErrorKind::Other);
-    let now = HttpDate::from_unix_secs(420_895_020)?;
-    let answer = Response::from_data(alloc, data);
-    answer.raw_print(alloc, &mut writer, HTTPVersion(1, 1), &[], false, None, now)?;
-    Ok(writer.into_bytes())
-}
-
-// The head that says so many bytes, and then as many.
-fn is_whole(alloc: Global, bytes: &[u8], count: usize) -> Result<bool, Fail> {
-    let length = format!(in alloc; "\r\nContent-Length: {count}\r\n\r\n")?;
-    let Some(head) = bytes.len().checked_sub(count) else {
-        return Ok(false);
-    };
-    let (head, data) = bytes.split_at(head);
-    Ok(head.ends_with(length.as_bytes()) && data.iter().all(|b| *b == b'x'))
-}
-
-#[test]
-fn data_of_each_size_are_sent_whole(rt: HostRuntime) -> Result<(), Fail> {
-    for count in [0, 1, 1023, 1024, 1025, 8191, 8192, 8193, 20_000] {
-        let bytes = printed_whole(rt.alloc(), count)?;
-        assert_same(
-            &rt,
-            (count, is_whole(rt.alloc(), &bytes, count)?),
-            (count, true),
-        );
-    }
     Ok(())
 }
 

@@ -1,6 +1,5 @@
 //! Answers of more than one chunk, and answers whose data fail: the output ends with what was sent of them.
 use crate::exchanges::date;
-use crate::runs::Deed::{Data, Drop};
 use crate::runs::{AMPLE, assert_output, describe};
 use crate::same::assert_same;
 use httpdate::HttpDate;

@@ -6,7 +6,7 @@ use std::io::{ErrorKind, Write};
 use std::process::Abort;
 use std::test::Fail;
 use tiny_http_core::outlet::Outlet;
-use tiny_http_wire::device::{Budget, Metered, WriteDevice};
+use tiny_http_wire::device::{Budget, Metered};
 
 fn outlet_of(alloc: Global, room: usize) -> Outlet<Budget> {
     Outlet::new(Budget::new(alloc, room, ErrorKind::Other))
@@ -23,18 +23,6 @@ fn assert_sent(rt: &impl Abort, outlet: Outlet<Budget>, wanted: &[u8]) {
     assert_same(rt, writer.bytes(), wanted);
 }
 
-#[test]
-fn writes_are_held_until_the_flush(rt: HostRuntime) -> Result<(), Fail> {
-    let mut outlet = outlet_of(rt.alloc(), 100);
-    outlet.write(b"hello ")?;
-    outlet.write(b"world")?;
-    assert_state(&rt, &outlet, b"hello world", false);
-    outlet.flush()?;
-    assert_state(&rt, &outlet, b"", false);
-    assert_sent(&rt, outlet, b"hello world");
-    Ok(())
-}
-
 // So many bytes, of all values up to 250.
 fn bytes_of(alloc: Global, length: usize) -> Result<Vec<u8>, Fail> {
     let mut bytes = Vec::new(alloc);
@@ -42,27 +30,6 @@ fn bytes_of(alloc: Global, length: usize) -> Result<Vec<u8>, Fail> {
         bytes.push((i % 251) as u8)?;
     }
     Ok(bytes)
-}
-
-// What is written after a front goes out after it.
-fn assert_written(rt: &impl Abort, alloc: Global, bytes: &[u8]) -> Result<(), Fail> {
-    let mut outlet = outlet_of(alloc, 10_000);
-    outlet.write(b"front")?;
-    outlet.write(bytes)?;
-    outlet.flush()?;
-    let writer = outlet.into_inner();
-    assert_same(rt, writer.bytes().get(..5), Some(b"front"));
-    assert_same(rt, writer.bytes().get(5..), Some(bytes));
-    Ok(())
-}
-
-#[test]
-fn what_does_not_fit_is_sent(rt: HostRuntime) -> Result<(), Fail> {
-    for length in [1023, 1024, 1025, 3000, 4096, 4097, 9_000] {
-        let bytes = bytes_of(rt.alloc(), length)?;
-        assert_written(&rt, rt.alloc(), bytes.as_slice())?;
-    }
-    Ok(())
 }
 
 // A writer that notes the length of each write.
@@ -107,31 +74,6 @@ fn broken(rt: &impl Abort, alloc: Global) -> Result<Outlet<Budget>, Fail> {
     };
     assert_same(rt, fault, Some(ErrorKind::Other));
     Ok(outlet)
-}
-
-#[test]
-fn a_fault_ends_it(rt: HostRuntime) -> Result<(), Fail> {
-    let mut outlet = broken(&rt, rt.alloc())?;
-    assert_state(&rt, &outlet, b"", true);
-    outlet.write(b"more")?;
-    outlet.flush()?;
-    assert_state(&rt, &outlet, b"", true);
-    let writer = outlet.into_inner();
-    assert_same(&rt, writer.bytes(), b"hel");
-    assert_same(&rt, writer.failures(), 1);
-    Ok(())
-}
-
-#[test]
-fn it_is_ended_behind_what_it_holds(rt: HostRuntime) -> Result<(), Fail> {
-    let mut outlet = outlet_of(rt.alloc(), 100);
-    outlet.write(b"hello")?;
-    outlet.end()?;
-    assert_holds(&rt, "the outlet is ended", outlet.is_ended());
-    outlet.write(b" world")?;
-    outlet.flush()?;
-    assert_sent(&rt, outlet, b"hello");
-    Ok(())
 }
 
 #[test]

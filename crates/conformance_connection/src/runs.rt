@@ -3,13 +3,11 @@ use crate::same::assert_same;
 use httpdate::HttpDate;
 use std::alloc::{AllocError, Global};
 use std::fmt::Write;
-use std::io::ErrorKind;
 use std::process::Abort;
 use std::test::Fail;
-use tiny_http_core::driver::{Reply, Step, Timed, run};
+use tiny_http_core::driver::{Reply, Step, Timed};
 use tiny_http_core::exchange::Head;
 use tiny_http_core::outlet::Outlet;
-use tiny_http_wire::common::StatusCode;
 use tiny_http_wire::device::{Budget, ByPieces, Canned};
 use tiny_http_wire::response::Response;
 
@@ -34,27 +32,17 @@ pub(crate) const AMPLE: usize = 1_000_000;
 #[derive(Clone, Copy, Debug)]
 pub(crate) enum Deed<'a> {
     Ask,
-    /// Sends the 100 that the request of this number expects.
-    AsReader(u64),
     /// Reads the body of the request of this number, up to so many bytes.
     Read(u64, u16),
     /// Answers the request of this number by 200 and a text.
     Text(u64, &'a str),
-    /// Answers the request of this number by a code and a text.
-    Coded(u64, u16, &'a str),
-    /// Answers the request of this number by 200 and data of unknown length, which end, or fail by this kind.
-    Data(u64, &'a [u8], Option<ErrorKind>),
-    /// Answers the request of this number by a code and data that are said to have so many bytes.
-    Measured(u64, u16, &'a [u8], usize),
     /// Takes the raw writer of the request of this number.
     IntoWriter(u64),
     /// Writes this text by the raw writer of this number.
     Write(u64, &'a str),
     /// Sends what was written under this number.
     Flush(u64),
-    /// Upgrades the request of this number by an empty answer of this code to this protocol.
-    Upgrade(u64, u16, &'a str),
-    /// Ends the raw writer of this number, or the stream of an upgrade.
+    /// Ends the raw writer of this number.
     Finish(u64),
     /// Drops the request of this number.
     Drop(u64),
@@ -74,49 +62,14 @@ fn text(alloc: Global, text: &str) -> Result<Response<Canned>, AllocError> {
     Ok(answer.with_data(data, length))
 }
 
-// The answer 200 with these data, of unknown length.
-fn data(
-    alloc: Global,
-    bytes: &[u8],
-    fault: Option<ErrorKind>,
-) -> Result<Response<Canned>, AllocError> {
-    let data = Canned::new(bytes.to_vec(alloc)?, fault);
-    Ok(Response::empty(alloc, StatusCode(200)).with_data(data, None))
-}
-
-// The answer of this code with these data, which are said to have so many bytes.
-fn measured(
-    alloc: Global,
-    code: u16,
-    bytes: &[u8],
-    length: usize,
-) -> Result<Response<Canned>, AllocError> {
-    let data = Canned::new(bytes.to_vec(alloc)?, None);
-    Ok(Response::empty(alloc, StatusCode(code)).with_data(data, Some(length)))
-}
-
 fn step_of(alloc: Global, deed: Deed<'_>) -> Result<Step<Canned>, AllocError> {
     Ok(match deed {
         Deed::Ask => Step::Ask,
-        Deed::AsReader(number) => Step::AsReader(number),
         Deed::Read(number, count) => Step::Read(number, count),
         Deed::Text(number, words) => Step::Respond(number, text(alloc, words)?),
-        Deed::Coded(number, code, words) => {
-            let answer = text(alloc, words)?;
-            Step::Respond(number, answer.with_status_code(StatusCode(code)))
-        }
-        Deed::Data(number, bytes, fault) => Step::Respond(number, data(alloc, bytes, fault)?),
-        Deed::Measured(number, code, bytes, length) => {
-            Step::Respond(number, measured(alloc, code, bytes, length)?)
-        }
         Deed::IntoWriter(number) => Step::IntoWriter(number),
         Deed::Write(number, words) => Step::Write(number, words.as_bytes().to_vec(alloc)?),
         Deed::Flush(number) => Step::Flush(number),
-        Deed::Upgrade(number, code, protocol) => {
-            let data = Canned::new(Vec::new(alloc), None);
-            let answer = Response::empty(alloc, StatusCode(code)).with_data(data, Some(0));
-            Step::Upgrade(number, String::from_str(alloc, protocol)?, answer)
-        }
         Deed::Finish(number) => Step::Finish(number),
         Deed::Drop(number) => Step::Drop(number),
     })

@@ -11,8 +11,6 @@ use std::test::Fail;
 use tiny_http_core::driver::{Connection, Reply};
 use tiny_http_wire::device::{Budget, Canned};
 
-const ERROR: &str = "HTTP/1.1 500 Internal Server Error\r\n";
-
 // The reply to an upgrade by these data.
 fn upgrade(
     alloc: Global,

@@ -1,8 +1,8 @@
-//! Raw writers by the calls of a connection: what is held until it is sent on, and how a writer that fails is reported.
+//! Raw writers: what is held until it is sent on, how a writer that fails is reported, and what waits for no answer.
 use crate::exchanges::date;
 use crate::relay::{NEVER, RelayRun, run_relayed};
 use crate::runs::Deed::{Ask, Drop, Finish, Flush, IntoWriter, Text, Write};
-use crate::runs::{AMPLE, Deed, EMPTY, TEXT, assert_output, describe, joined};
+use crate::runs::{AMPLE, Deed, EMPTY, TEXT, joined};
 use crate::same::{assert_holds, assert_same};
 use std::alloc::Global;
 use std::io::ErrorKind;
@@ -12,8 +12,6 @@ use tiny_http_core::driver::Connection;
 use tiny_http_wire::device::{Budget, Canned};
 
 const ONE: &[u8] = b"GET / HTTP/1.1\r\n\r\n";
-
-const TWO: &[u8] = b"GET / HTTP/1.1\r\n\r\nGET / HTTP/1.1\r\n\r\n";
 
 const THREE: &[u8] = b"GET / HTTP/1.1\r\n\r\nGET / HTTP/1.1\r\n\r\nGET / HTTP/1.1\r\n\r\n";
 
@@ -249,40 +247,6 @@ fn connection_of(alloc: Global, client: &[u8]) -> Result<Connection<Canned, Budg
     let reader = Canned::new(client.to_vec(alloc)?, None);
     let writer = Budget::new(alloc, AMPLE, ErrorKind::Other);
     Ok(Connection::new(alloc, reader, writer))
-}
-
-// What the calls are replied that the steps name.
-fn call_each(alloc: Global, connection: &mut Connection<Canned, Budget>) -> Result<String, Fail> {
-    let now = date()?;
-    let replies = [
-        connection.ask(alloc, now),
-        connection.ask(alloc, now),
-        connection.into_writer(1),
-        connection.write(1, b"b"),
-        connection.flush(1),
-        connection.into_writer(0),
-        connection.write(0, b"a"),
-        connection.flush(0),
-        connection.finish(alloc, 0),
-        connection.finish(alloc, 0),
-        connection.write(1, b"b"),
-        connection.finish(alloc, 1),
-    ];
-    Ok(describe(alloc, &replies)?)
-}
-
-// The same steps by the calls that they name.
-#[test]
-fn the_calls_of_a_connection(rt: HostRuntime) -> Result<(), Fail> {
-    let mut connection = connection_of(rt.alloc(), TWO)?;
-    let replies = call_each(rt.alloc(), &mut connection)?;
-    assert_same(
-        &rt,
-        replies.as_str(),
-        "0: GET / 1.1; 1: GET / 1.1; done; not yet; not yet; done; done; done; done; no such; done; done",
-    );
-    let (_source, outlet) = connection.into_parts();
-    assert_output(&rt, rt.alloc(), outlet, &["ab"])
 }
 
 #[test]
