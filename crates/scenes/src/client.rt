@@ -4,12 +4,13 @@ use std::alloc::{AllocError, Global};
 use std::io::ErrorKind;
 use std::net::{Net, Shutdown, TcpListener, TcpStream};
 use std::os::unix::net::UnixStream;
-use std::time::{Clock, Duration};
+use std::time::{Clock, Duration, Instant};
 use std::{io, thread};
 use tiny_http::connection::{Connection, ListenAddr};
 
-/// How many reads, of a millisecond at most, wait for bytes that have to come.
-pub(crate) const TURNS: u32 = 10_000;
+// How many reads wait for bytes that have to come. Each waits for some milliseconds, by the clock of the system's
+// scheduler: they make ten seconds or more.
+const READS: u32 = 2_500;
 
 // How many bytes a read asks for.
 const PIECE: usize = 16_384;
@@ -119,7 +120,7 @@ impl Client {
 
     // Reads until as many bytes are there, or the end, within a number of turns.
     fn read_up_to(&mut self, count: usize) -> Result<(), AllocError> {
-        for _ in 0..TURNS {
+        for _ in 0..READS {
             if self.came.len() >= count || self.end.is_some() {
                 break;
             }
@@ -157,7 +158,7 @@ impl Client {
         bytes: &[u8],
         millis: u64,
     ) -> Result<(), Mishap> {
-        for _ in 0..TURNS {
+        for _ in 0..READS {
             if self.end.is_some() {
                 break;
             }
@@ -226,9 +227,15 @@ impl Client {
     }
 
     /// No byte comes, and no end, for this time.
-    pub(crate) fn is_idle(&mut self, millis: u64) -> Result<(), Mishap> {
+    pub(crate) fn is_idle<R: Clock>(&mut self, rt: &R, millis: u64) -> Result<(), Mishap> {
+        let Ok(begun) = Instant::now(rt) else {
+            return Err(Mishap::Unplayable("there is no clock"));
+        };
         for _ in 0..millis {
-            if !self.came.is_empty() || self.end.is_some() {
+            let is_over = begun
+                .elapsed(rt)
+                .is_ok_and(|time| time >= Duration::from_millis(millis));
+            if is_over || !self.came.is_empty() || self.end.is_some() {
                 break;
             }
             self.read_once()?;

@@ -112,7 +112,7 @@ fn act_client<R: Host>(
         ClientDeed::Sips(count, millis) => client.sip(rt, count, millis),
         ClientDeed::Gets(text) => client.gets(text_of(alloc, text)?.as_slice()),
         ClientDeed::Counts(least, most) => client.counts(least, most),
-        ClientDeed::IsIdle(millis) => client.is_idle(millis),
+        ClientDeed::IsIdle(millis) => client.is_idle(rt, millis),
         ClientDeed::IsClosed => client.is_closed(),
         ClientDeed::IsGone => client.is_gone(),
         ClientDeed::HalfCloses => client.half_close(),

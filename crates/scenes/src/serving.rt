@@ -1,5 +1,5 @@
 //! The server of a scene: how it is made, and its calls.
-use crate::client::{Client, TURNS};
+use crate::client::Client;
 use crate::deed::{Found, Given, ServerDeed};
 use crate::handler::ByPath;
 use crate::hands::{Hands, add};
@@ -19,8 +19,11 @@ use tiny_http::messages_queue::MessagesQueue;
 use tiny_http::server::{Host, Server, ServerConfig, ServerError, ServerRequest, Stopped};
 use tiny_http::{Limits, Profile};
 
-/// How many seconds a request may take to come that has to.
+// How many seconds a request may take to come that has to.
 const LONGEST: u64 = 10;
+
+// How often something is looked for that has to come, a millisecond apart.
+const TURNS: u32 = 10_000;
 
 // How many requests the queue of those that are kept has room for at first.
 const KEPT_ROOM: usize = 8;
