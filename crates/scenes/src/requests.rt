@@ -226,7 +226,7 @@ fn look<R: Wait + Clock + Drop>(
             };
             demand(alloc, words, request.is_upgrade() == wanted)
         }
-        _ => Ok(()),
+        _ => Err(Mishap::Unplayable("a request can't do that")),
     }
 }
 

@@ -465,7 +465,7 @@ fn act_giving<R: Host>(
             (given, hands.server()?.recv_timeout(most))
         }
         ServerDeed::Next(given) => (given, next_incoming(hands)?),
-        _ => return Ok(()),
+        _ => return Err(Mishap::Unplayable("the server can't do that")),
     };
     take_given(alloc, hands, given, came)
 }
