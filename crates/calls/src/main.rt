@@ -17,8 +17,8 @@ mod written;
 
 use crate::reading::files_of;
 use crate::trying::try_files;
-use case_files::fault::FilesFault;
-use case_files::program::{Checker, NamedFile, run_program};
+use data_files::fault::FilesFault;
+use data_files::program::{Checker, NamedFile, run_program};
 use std::alloc::Global;
 use std::io::Write;
 use std::process::ExitCode;

@@ -1,7 +1,7 @@
 //! The first line of a row: which call it is.
 use crate::row::{Call, Choice, TextCall};
 use crate::words::{coding, number, number_or_none, numbers, split, status, text, version};
-use case_files::fault::LineFault;
+use data_files::fault::LineFault;
 use std::alloc::{AllocError, Global};
 use tiny_http_wire::chunked::ChunkRules;
 use tiny_http_wire::common::{Method, ParseError};

@@ -2,9 +2,9 @@
 use crate::row::{Call, Input, Rooms};
 use crate::words::{add_series, header, header_line, number, numbers, split, text, version};
 use case_files::case::Room;
-use case_files::fault::LineFault;
-use case_files::kinds::kind_of;
-use case_files::text::add_text;
+use data_files::fault::LineFault;
+use data_files::kinds::kind_of;
+use data_files::text::add_text;
 use std::alloc::{AllocError, Global};
 use std::io::ErrorKind;
 

@@ -3,9 +3,9 @@ use crate::naming::call_in;
 use crate::parts::{add_part, empty_input};
 use crate::row::{Finding, Row, is_long, word_of};
 use crate::words::{add_series, split};
-use case_files::fault::{FilesFault, LineFault, line_text};
-use case_files::program::NamedFile;
-use case_files::text::{add_text, text_of};
+use data_files::fault::{FilesFault, LineFault, line_text};
+use data_files::program::NamedFile;
+use data_files::text::{add_text, text_of};
 use std::alloc::{AllocError, Global};
 
 /// The rows of a file, and its name.

@@ -11,8 +11,8 @@ use crate::texts::{ask, choose_by, phrase, read_text, show, write_number};
 use crate::written::{encode, print, write_chunk, write_chunked};
 use case_files::case::Room;
 use case_files::devices::PIECES;
-use case_files::fault::FilesFault;
-use case_files::text::shown;
+use data_files::fault::FilesFault;
+use data_files::text::shown;
 use std::alloc::{AllocError, Global};
 use std::io::{ErrorKind, Write};
 

@@ -1,6 +1,6 @@
 //! The words of a line: numbers, versions, codings, texts.
-use case_files::fault::LineFault;
-use case_files::text::{number_in, text_of};
+use data_files::fault::LineFault;
+use data_files::text::{number_in, text_of};
 use std::alloc::{AllocError, Global};
 use tiny_http_wire::coding::Coding;
 use tiny_http_wire::common::{HTTPVersion, Header, ParseError, StatusCode};

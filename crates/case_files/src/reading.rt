@@ -1,8 +1,8 @@
 //! Reads a file of cases, line by line.
 use crate::case::{Answer, Case, CaseStep, Deed, Room};
-use crate::fault::{FilesFault, LineFault, line_text};
-use crate::kinds::kind_of;
-use crate::text::{add_text, number_in, text_of};
+use data_files::fault::{FilesFault, LineFault, line_text};
+use data_files::kinds::kind_of;
+use data_files::text::{add_text, number_in, text_of};
 use replay_script::line::{ScriptLine, text_in};
 use std::alloc::{AllocError, Global};
 use tiny_http_core::framing::Profile;

@@ -1,6 +1,6 @@
 //! What comes of a trial of a case, and where it differs from what the case says.
 use case_files::case::{Case, CaseStep};
-use case_files::text::shown;
+use data_files::text::shown;
 use std::alloc::{AllocError, Global};
 
 /// What came of a trial.

@@ -12,9 +12,9 @@ mod treating;
 
 use crate::by_requests::{ByRequests, Leaving};
 use crate::by_run::ByRun;
-use case_files::fault::FilesFault;
-use case_files::program::{Checker, NamedFile, run_program};
 use case_trials::report::{files_of, try_files};
+use data_files::fault::FilesFault;
+use data_files::program::{Checker, NamedFile, run_program};
 use std::alloc::{AllocError, Global};
 use std::io::Write;
 use std::process::ExitCode;

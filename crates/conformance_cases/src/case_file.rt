@@ -2,14 +2,14 @@
 use crate::same::assert_same;
 use case_files::case::Case;
 use case_files::devices::{Reader, Trier};
-use case_files::fault::FilesFault;
-use case_files::program::NamedFile;
 use case_files::reading::read_cases;
 use case_trials::front::{cut_difference, plain_difference};
 use case_trials::outcome::{Difference, Outcome, first_difference};
 use case_trials::report::{Runner, files_of, try_files};
 use case_trials::steps::StepsFault;
 use case_trials::trial::{Harm, Trial};
+use data_files::fault::FilesFault;
+use data_files::program::NamedFile;
 use std::alloc::Global;
 use std::io::{ErrorKind, Write};
 use std::process::Abort;

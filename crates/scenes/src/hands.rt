@@ -1,8 +1,8 @@
 //! What the one who acts has at hand: the server, clients, requests and outputs, by their names.
-use crate::client::Client;
 use crate::handler::ByPath;
-use crate::mishap::Mishap;
-use crate::scene::{Line, Way};
+use scene_files::client::Client;
+use scene_files::mishap::Mishap;
+use scene_files::scene::{Line, Way};
 use std::alloc::{AllocError, Global};
 use std::mem;
 use std::net::Net;

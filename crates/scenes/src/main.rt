@@ -2,20 +2,16 @@
 //! line, and what each sees. Some are played side by side. docs/CASES.md describes the files.
 #![tactic(auto)]
 
-mod client;
-mod deed;
 mod handler;
 mod hands;
-mod mishap;
 mod playing;
 mod requests;
-mod scene;
 mod serving;
 
 use crate::playing::{Failure, play};
-use crate::scene::{Scene, SceneFile, read_scenes};
-use case_files::fault::FilesFault;
-use case_files::program::{Checker, NamedFile, run_program};
+use data_files::fault::FilesFault;
+use data_files::program::{Checker, NamedFile, run_program};
+use scene_files::scene::{Scene, SceneFile, read_scenes};
 use std::alloc::{AllocError, Global};
 use std::io::Write;
 use std::process::ExitCode;

@@ -1,11 +1,11 @@
 //! Plays a scene: line after line, and what is beside on threads of its own.
-use crate::deed::{ClientDeed, Deed, deed_in};
 use crate::hands::{Hands, get, take};
-use crate::mishap::{Mishap, demand};
 use crate::requests::{act_output, act_request};
-use crate::scene::{Line, Scene, Way};
 use crate::serving::{act_server, connect, first_hands, place_of};
-use case_files::text::text_of;
+use data_files::text::text_of;
+use scene_files::deed::{ClientDeed, Deed, deed_in};
+use scene_files::mishap::{Mishap, demand};
+use scene_files::scene::{Line, Scene, Way};
 use std::alloc::{AllocError, Global};
 use std::net::Net;
 use std::sync::atomic::{AtomicBool, Ordering};

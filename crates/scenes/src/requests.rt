@@ -1,9 +1,9 @@
 //! What is done with the requests of a scene, and with the outputs that they give.
-use crate::deed::{Data, OutputDeed, RequestDeed, Whole};
 use crate::handler::text_answer;
 use crate::hands::{Hands, Output, add, get, take};
-use crate::mishap::{Mishap, demand, demand_bytes, demand_fault, demand_text, differs};
-use case_files::text::text_of;
+use data_files::text::text_of;
+use scene_files::deed::{Data, OutputDeed, RequestDeed, Whole};
+use scene_files::mishap::{Mishap, demand, demand_bytes, demand_fault, demand_text, differs};
 use std::alloc::Global;
 use std::io;
 use std::io::{ErrorKind, Read, Write};

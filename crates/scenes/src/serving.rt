@@ -1,10 +1,10 @@
 //! The server of a scene: how it is made, and its calls.
-use crate::client::Client;
-use crate::deed::{Found, Given, ServerDeed};
 use crate::handler::ByPath;
 use crate::hands::{Hands, add};
-use crate::mishap::{Mishap, demand, demand_fault, demand_number, demand_text, differs};
-use crate::scene::{Ground, Over, Way};
+use scene_files::client::Client;
+use scene_files::deed::{Found, Given, ServerDeed};
+use scene_files::mishap::{Mishap, demand, demand_fault, demand_number, demand_text, differs};
+use scene_files::scene::{Ground, Over, Way};
 use std::alloc::Global;
 use std::io::ErrorKind;
 use std::net::TcpListener;

@@ -1,11 +1,11 @@
 //! What a line of a scene says.
-use case_files::kinds::kind_of;
-use case_files::text::number_in;
+use data_files::kinds::kind_of;
+use data_files::text::number_in;
 use std::io::ErrorKind;
 
 /// What a client does, and what comes to it.
 #[derive(Clone, Copy)]
-pub(crate) enum ClientDeed<'a> {
+pub enum ClientDeed<'a> {
     /// Connects to the server.
     Connects,
     /// Sends this text.
@@ -34,7 +34,7 @@ pub(crate) enum ClientDeed<'a> {
 
 /// What a call that waits for a request gives.
 #[derive(Clone, Copy)]
-pub(crate) enum Given<'a> {
+pub enum Given<'a> {
     /// A request for this target, which gets this name.
     Request(&'a str, &'a str),
     /// No request.
@@ -45,7 +45,7 @@ pub(crate) enum Given<'a> {
 
 /// A call of the server, or a look at it.
 #[derive(Clone, Copy)]
-pub(crate) enum ServerDeed<'a> {
+pub enum ServerDeed<'a> {
     /// Gives a request for this target, in the way that the scene's first line names.
     Gives(&'a str, &'a str),
     /// The handler of `serve` has kept a request for this target.
@@ -83,7 +83,7 @@ pub(crate) enum ServerDeed<'a> {
 
 /// What is at the path of a Unix socket before a server is made there.
 #[derive(Clone, Copy, PartialEq, Eq)]
-pub(crate) enum Found {
+pub enum Found {
     /// A socket on which nobody listens.
     Stale,
     /// One on which another listens.
@@ -94,7 +94,7 @@ pub(crate) enum Found {
 
 /// The data of an answer.
 #[derive(Clone, Copy)]
-pub(crate) enum Data<'a> {
+pub enum Data<'a> {
     Text(&'a str),
     Empty,
     /// No data, and the connection is to end.
@@ -108,7 +108,7 @@ pub(crate) enum Data<'a> {
 
 /// What is done with a request.
 #[derive(Clone, Copy)]
-pub(crate) enum RequestDeed<'a> {
+pub enum RequestDeed<'a> {
     /// It is answered by this status and these data; the kind of the fault that is reported, if one is.
     Respond(u16, Data<'a>, Option<ErrorKind>),
     Drop,
@@ -148,7 +148,7 @@ pub(crate) enum RequestDeed<'a> {
 
 /// What comes of a body that is read whole.
 #[derive(Clone, Copy)]
-pub(crate) enum Whole<'a> {
+pub enum Whole<'a> {
     Text(&'a str),
     TooLong,
     Cut,
@@ -158,7 +158,7 @@ pub(crate) enum Whole<'a> {
 
 /// What is done with an output: a raw writer, an answer that grows, or an upgraded stream.
 #[derive(Clone, Copy)]
-pub(crate) enum OutputDeed<'a> {
+pub enum OutputDeed<'a> {
     Write(&'a str, Option<ErrorKind>),
     Flush(Option<ErrorKind>),
     /// Closes a raw writer, or finishes an answer that grows.
@@ -170,7 +170,7 @@ pub(crate) enum OutputDeed<'a> {
 
 /// What a line says.
 #[derive(Clone, Copy)]
-pub(crate) enum Deed<'a> {
+pub enum Deed<'a> {
     Client(&'a str, ClientDeed<'a>),
     Server(ServerDeed<'a>),
     Request(&'a str, RequestDeed<'a>),
@@ -475,7 +475,7 @@ fn thread_deed<'a>(who: &'a str, verb: &str, rest: &str) -> Option<Deed<'a>> {
 }
 
 /// What a line says, its indentation left out. None where it is no line of a scene.
-pub(crate) fn deed_in(line: &str) -> Option<Deed<'_>> {
+pub fn deed_in(line: &str) -> Option<Deed<'_>> {
     let (who, what) = line.split_once(' ')?;
     match who {
         "pause" => return Some(Deed::Pause(millis_in(what)?)),

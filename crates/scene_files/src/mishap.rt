@@ -1,12 +1,12 @@
 //! What goes wrong in a scene.
-use case_files::text::{TextFault, shown};
+use data_files::text::{TextFault, shown};
 use std::alloc::{AllocError, Global};
 use std::fmt;
 use std::io::ErrorKind;
 
 /// Why a line of a scene doesn't hold.
 #[derive(Drop)]
-pub(crate) enum Mishap {
+pub enum Mishap {
     /// Something else came than the line says.
     Differs { wanted: String, came: String },
     /// The line can't be played, for this reason.
@@ -43,7 +43,7 @@ impl fmt::Display for Mishap {
 }
 
 /// What a line wants didn't come, but this.
-pub(crate) fn differs(alloc: Global, wanted: &str, came: &str) -> Mishap {
+pub fn differs(alloc: Global, wanted: &str, came: &str) -> Mishap {
     let (Ok(wanted), Ok(came)) = (
         String::from_str(alloc, wanted),
         String::from_str(alloc, came),
@@ -54,7 +54,7 @@ pub(crate) fn differs(alloc: Global, wanted: &str, came: &str) -> Mishap {
 }
 
 /// It has to hold that, in these words.
-pub(crate) fn demand(alloc: Global, words: &str, holds: bool) -> Result<(), Mishap> {
+pub fn demand(alloc: Global, words: &str, holds: bool) -> Result<(), Mishap> {
     if holds {
         return Ok(());
     }
@@ -62,7 +62,7 @@ pub(crate) fn demand(alloc: Global, words: &str, holds: bool) -> Result<(), Mish
 }
 
 /// Two texts are the same.
-pub(crate) fn demand_text(alloc: Global, wanted: &str, came: &str) -> Result<(), Mishap> {
+pub fn demand_text(alloc: Global, wanted: &str, came: &str) -> Result<(), Mishap> {
     if wanted == came {
         return Ok(());
     }
@@ -70,7 +70,7 @@ pub(crate) fn demand_text(alloc: Global, wanted: &str, came: &str) -> Result<(),
 }
 
 /// Two numbers are the same.
-pub(crate) fn demand_number(alloc: Global, wanted: u64, came: u64) -> Result<(), Mishap> {
+pub fn demand_number(alloc: Global, wanted: u64, came: u64) -> Result<(), Mishap> {
     if wanted == came {
         return Ok(());
     }
@@ -96,7 +96,7 @@ fn part_shown(alloc: Global, bytes: &[u8], from: usize) -> Result<String, AllocE
 }
 
 /// Two byte strings are the same.
-pub(crate) fn demand_bytes(alloc: Global, wanted: &[u8], came: &[u8]) -> Result<(), Mishap> {
+pub fn demand_bytes(alloc: Global, wanted: &[u8], came: &[u8]) -> Result<(), Mishap> {
     if wanted == came {
         return Ok(());
     }
@@ -113,7 +113,7 @@ pub(crate) fn demand_bytes(alloc: Global, wanted: &[u8], came: &[u8]) -> Result<
 }
 
 /// A call failed by this kind, or didn't fail.
-pub(crate) fn demand_fault(
+pub fn demand_fault(
     alloc: Global,
     wanted: Option<ErrorKind>,
     came: Option<ErrorKind>,

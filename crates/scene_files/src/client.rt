@@ -6,7 +6,7 @@ use std::net::{Net, Shutdown, TcpListener, TcpStream};
 use std::os::unix::net::UnixStream;
 use std::time::{Clock, Duration, Instant};
 use std::{io, thread};
-use tiny_http::connection::{Connection, ListenAddr};
+use tiny_http_socket::connection::{Connection, ListenAddr};
 
 // How many reads wait for bytes that have to come. Each waits for some milliseconds, by the clock of the system's
 // scheduler: they make ten seconds or more.
@@ -38,7 +38,7 @@ enum End {
 
 /// A client: its socket, and what came to it and wasn't looked at.
 #[derive(Drop)]
-pub(crate) struct Client {
+pub struct Client {
     alloc: Global,
     socket: Connection,
     came: Vec<u8>,
@@ -80,7 +80,7 @@ fn connect_to<R: Net<Listener = TcpListener, Stream = TcpStream>>(
 
 impl Client {
     /// A client that is connected to this address.
-    pub(crate) fn connect<R: Net<Listener = TcpListener, Stream = TcpStream>>(
+    pub fn connect<R: Net<Listener = TcpListener, Stream = TcpStream>>(
         rt: &R,
         alloc: Global,
         addr: &ListenAddr,
@@ -97,7 +97,7 @@ impl Client {
     }
 
     /// The address of its end, if that is one of TCP.
-    pub(crate) fn local_addr(&self) -> Option<std::net::SocketAddr> {
+    pub fn local_addr(&self) -> Option<std::net::SocketAddr> {
         match &self.socket {
             Connection::Tcp(stream) => stream.local_addr().ok(),
             Connection::Unix(_) => None,
@@ -146,18 +146,13 @@ impl Client {
     }
 
     /// Sends these bytes.
-    pub(crate) fn send(&mut self, bytes: &[u8]) -> Result<(), Mishap> {
+    pub fn send(&mut self, bytes: &[u8]) -> Result<(), Mishap> {
         let sent = self.write_all(bytes).err().map(|fault| fault.kind());
         demand_fault(self.alloc, None, sent)
     }
 
     /// Sends these bytes again and again, as far as they can be sent, until the connection ends.
-    pub(crate) fn drip<R: Clock>(
-        &mut self,
-        rt: &R,
-        bytes: &[u8],
-        millis: u64,
-    ) -> Result<(), Mishap> {
+    pub fn drip<R: Clock>(&mut self, rt: &R, bytes: &[u8], millis: u64) -> Result<(), Mishap> {
         for _ in 0..READS {
             if self.end.is_some() {
                 break;
@@ -170,12 +165,7 @@ impl Client {
     }
 
     /// Reads `count` bytes at most, a hundred times, and forgets them.
-    pub(crate) fn sip<R: Clock>(
-        &mut self,
-        rt: &R,
-        count: usize,
-        millis: u64,
-    ) -> Result<(), Mishap> {
+    pub fn sip<R: Clock>(&mut self, rt: &R, count: usize, millis: u64) -> Result<(), Mishap> {
         let mut piece = vec![in self.alloc; 0u8; count]?;
         for _ in 0..SIPS {
             thread::sleep(rt, Duration::from_millis(millis));
@@ -187,7 +177,7 @@ impl Client {
     }
 
     /// Sends these bytes again and again, and can't in the end.
-    pub(crate) fn is_cut_off(&mut self, bytes: &[u8]) -> Result<(), Mishap> {
+    pub fn is_cut_off(&mut self, bytes: &[u8]) -> Result<(), Mishap> {
         for _ in 0..MOST_PIECES {
             if self.write_all(bytes).is_err() {
                 return Ok(());
@@ -197,7 +187,7 @@ impl Client {
     }
 
     /// The next bytes are these.
-    pub(crate) fn gets(&mut self, wanted: &[u8]) -> Result<(), Mishap> {
+    pub fn gets(&mut self, wanted: &[u8]) -> Result<(), Mishap> {
         self.read_up_to(wanted.len())?;
         let count = wanted.len().min(self.came.len());
         let rest = self.came.split_off(count)?;
@@ -207,7 +197,7 @@ impl Client {
     }
 
     /// From `least` to `most` bytes come up to the end.
-    pub(crate) fn counts(&mut self, least: usize, most: usize) -> Result<(), Mishap> {
+    pub fn counts(&mut self, least: usize, most: usize) -> Result<(), Mishap> {
         self.read_up_to(usize::MAX)?;
         let alloc = self.alloc;
         let count = self.came.len();
@@ -227,7 +217,7 @@ impl Client {
     }
 
     /// No byte comes, and no end, for this time.
-    pub(crate) fn is_idle<R: Clock>(&mut self, rt: &R, millis: u64) -> Result<(), Mishap> {
+    pub fn is_idle<R: Clock>(&mut self, rt: &R, millis: u64) -> Result<(), Mishap> {
         let Ok(begun) = Instant::now(rt) else {
             return Err(Mishap::Unplayable("there is no clock"));
         };
@@ -245,7 +235,7 @@ impl Client {
     }
 
     /// The end comes, and no byte before it.
-    pub(crate) fn is_closed(&mut self) -> Result<(), Mishap> {
+    pub fn is_closed(&mut self) -> Result<(), Mishap> {
         let next = self.came.len().saturating_add(1);
         self.read_up_to(next)?;
         self.demand_nothing()?;
@@ -258,13 +248,13 @@ impl Client {
     }
 
     /// The connection ends, whatever comes before.
-    pub(crate) fn is_gone(&mut self) -> Result<(), Mishap> {
+    pub fn is_gone(&mut self) -> Result<(), Mishap> {
         self.read_up_to(usize::MAX)?;
         demand(self.alloc, "the connection ends", self.end.is_some())
     }
 
     /// It sends no more.
-    pub(crate) fn half_close(&mut self) -> Result<(), Mishap> {
+    pub fn half_close(&mut self) -> Result<(), Mishap> {
         let shut = self.socket.shutdown(Shutdown::Write);
         demand_fault(self.alloc, None, shut.err().map(|fault| fault.kind()))
     }

@@ -1,14 +1,15 @@
 //! Files of scenes, read line by line.
 use crate::deed::{Deed, deed_in};
-use case_files::fault::{FilesFault, LineFault, line_text};
-use case_files::text::number_in;
+use data_files::fault::{FilesFault, LineFault, line_text};
+use data_files::text::number_in;
 use std::alloc::{AllocError, Global};
 use std::time::Duration;
-use tiny_http::{Limits, Profile};
+use tiny_http_body::framing::Profile;
+use tiny_http_limits::limits::Limits;
 
 /// What a server listens on.
 #[derive(Clone, Copy, PartialEq, Eq)]
-pub(crate) enum Over {
+pub enum Over {
     Tcp,
     Ipv6,
     Unix,
@@ -20,7 +21,7 @@ pub(crate) enum Over {
 
 /// How `server gives` gets its requests.
 #[derive(Clone, Copy, PartialEq, Eq)]
-pub(crate) enum Way {
+pub enum Way {
     /// By `recv`.
     Recv,
     /// By a handler of `serve` that keeps each of them.
@@ -29,7 +30,7 @@ pub(crate) enum Way {
 
 /// The server of a scene.
 #[derive(Clone, Copy)]
-pub(crate) struct Ground {
+pub struct Ground {
     pub profile: Profile,
     pub over: Over,
     /// The limits, if it has some.
@@ -42,7 +43,7 @@ pub(crate) struct Ground {
 
 /// A line of a scene that is a deed.
 #[derive(Drop)]
-pub(crate) struct Line {
+pub struct Line {
     pub number: usize,
     pub text: String,
     /// Whether it is indented: a deed of the thread above.
@@ -51,7 +52,7 @@ pub(crate) struct Line {
 
 /// A scene.
 #[derive(Drop)]
-pub(crate) struct Scene {
+pub struct Scene {
     pub name: String,
     pub ground: Ground,
     pub lines: Vec<Line>,
@@ -59,7 +60,7 @@ pub(crate) struct Scene {
 
 /// The scenes of a file, and its name.
 #[derive(Drop)]
-pub(crate) struct SceneFile {
+pub struct SceneFile {
     pub name: String,
     pub scenes: Vec<Scene>,
 }
@@ -237,7 +238,7 @@ fn read_line(
 
 /// The scenes of a file of this name and these bytes; or its first line that is of no scene, and why. A file without a
 /// scene is refused.
-pub(crate) fn read_scenes<'a>(
+pub fn read_scenes<'a>(
     alloc: Global,
     name: &'a str,
     bytes: &[u8],
