@@ -2,6 +2,8 @@
 #![tactic(auto)]
 
 #[cfg(test)]
+mod headcount;
+#[cfg(test)]
 mod messages_queue;
 #[cfg(test)]
 mod roster;

@@ -46,7 +46,7 @@ pub use tiny_http_core::{
     turns, upgrading,
 };
 pub use tiny_http_limits::limits::Limits;
-pub use tiny_http_limits::{backoff, census, counts, limits, times};
+pub use tiny_http_limits::{backoff, census, counts, headcount, limits, times};
 pub use tiny_http_request::request::{
     BodyError, ReadWrite, RefusedUpgrade, Request, StreamedBody, StreamedForm,
 };
@@ -62,5 +62,5 @@ pub use tiny_http_wire::common::{HTTPVersion, Header, HeaderField, Method, Statu
 pub use tiny_http_wire::response::{Response, ResponseBox};
 pub use tiny_http_wire::{
     answer_context, ascii, chunked, coding, common, device, encoder, grammar, header_value, number,
-    response, target,
+    response, streamed, target,
 };

@@ -1,6 +1,6 @@
 -- A client that leaves, and one that comes, in the list of those who are connected.
 use Prim.Native.Nat.{suc}
-use Rattle.std.proofs.Common.{◌≡◌, ℕ, ◌+◌, ◌<◌, ◌≤◌, Bool, true, false, List, [], ◌∷◌, ◌++◌, length, Some, None, refl, ap, arith, sym, ◌∙◌, subst, cond, length-append}
+use Rattle.std.proofs.Common.{◌≡◌, ℕ, ◌+◌, ◌-◌, ◌^◌, ◌<◌, ◌≤◌, Bool, true, false, List, [], ◌∷◌, ◌++◌, length, Some, None, refl, ap, arith, sym, ◌∙◌, subst, cond, length-append}
 use Rattle.std.proofs.lemmas.List.Sums.{sum_by-append, sum_by-cons, length-filter, count_by-le-length}
 use Rattle.std.proofs.lemmas.List.Filters.{sum_by-filter_both}
 use Rattle.std.specs.Prelude.{Option, option_map, not, count_by, position, slice_index_or, remove}
@@ -11,6 +11,7 @@ use Rattle.std.specs.Cmp.Lexicographic.{options_equiv}
 use Rattle.std.specs.declared.net.ip_addr.IpAddr.{IpAddr}
 use Rattle.std.specs.contracts.net.ip_addr.IpAddrPartialEq.TheImpl as ip
 use Rattle.std.specs.contracts.net.ip_addr.IpAddrEq.TheImpl.Laws.{laws-law}
+use Rattle.tiny_http_limits.specs.Headcount.{CountsIn, CountsOut}
 use Rattle.tiny_http_limits.specs.declared.census.Guest.{Guest}
 use Rattle.tiny_http_limits.specs.Census.{Connected, has_number, has_address, count_of, is_address_full, with_guest, item_of, without, AreNumbered, IsKept}
 
@@ -22,6 +23,15 @@ alike x y z e = let eq : IsEquivalence (option_eq (ip.ghosts).eq) = options_equi
 of-one : (o : Option IpAddr) (a : IpAddr) → option_eq (ip.ghosts).eq o (Some a) ≡ true → (b : IpAddr) × (o ≡ Some b) × (option_eq (ip.ghosts).eq (Some b) (Some a) ≡ true)
 of-one None a e = cc
 of-one (Some b) a e = (b, refl, e)
+
+-- a headcount that has room is one more, and one that is not 0 one less
+pub one-more : (old new : ℕ) (b : Bool) → CountsIn old b new → old < 2 ^ 64 - 1 → new ≡ old + 1
+one-more old new true c room = c.1
+one-more old new false c room = absurd (omega (arith, c.0, room))
+
+pub one-less : (old new : ℕ) (b : Bool) → CountsOut old b new → 0 < old → new ≡ old - 1
+one-less old new true c some = c.1
+one-less old new false c some = absurd (omega (arith, c.0, some))
 
 module _ {T : Type 0} where
   -- the place of a number, where it is found and where it is not

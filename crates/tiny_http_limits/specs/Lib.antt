@@ -2,3 +2,4 @@ pub mod Census
 pub mod Counts
 pub mod CountsText
 pub mod Times
+pub mod Headcount

@@ -3,6 +3,7 @@ ghost use Rattle.std.specs.Prelude.{◌≡◌, ◌≤◌, ◌↔◌, length, pos
 ghost use Rattle.tiny_http_limits.specs.Census.{nobody, count_of, is_address_full, Enters, has_number, item_of};
 ghost use Rattle.tiny_http_limits.specs.Census.{without, IsKept};
 
+use crate::headcount::Headcount;
 use std::alloc::Global;
 use std::marker::Model;
 use std::net::IpAddr;
@@ -43,10 +44,13 @@ pub struct Census<T> {
     most_of_address: usize,
     // The number of the next client.
     next: u64,
+    // As many as there are guests.
+    present: Headcount,
     guests: Vec<Guest<T>>,
 }
 
 impl<T> Model for Census<T> {
+    ghost use Rattle.std.specs.Prelude.{◌≡◌, length};
     ghost use Rattle.tiny_http_limits.specs.Census.{Connected, IsKept};
 
     ghost Value = { Connected T };
@@ -55,7 +59,8 @@ impl<T> Model for Census<T> {
         { most = c.most; most_of_address = c.most_of_address; next = c.next; guests = c.guests.items } };
 
     ghost invariant = { λ c. IsKept
-        (record { most = c.most; most_of_address = c.most_of_address; next = c.next; guests = c.guests.items }) };
+        (record { most = c.most; most_of_address = c.most_of_address; next = c.next; guests = c.guests.items })
+        × (c.present ≡ length c.guests.items) };
 }
 
 impl<T: Drop> Census<T> {
@@ -67,6 +72,7 @@ impl<T: Drop> Census<T> {
             most,
             most_of_address,
             next: 0,
+            present: Headcount::new(),
             guests: Vec::new(alloc),
         }
     }
@@ -75,7 +81,7 @@ impl<T: Drop> Census<T> {
     pub fn count(&self) -> usize
         ensures { result ≡ length self.now.guests }
     {
-        self.guests.len()
+        self.present.count()
     }
 
     /// Whether as many are connected as may be.
@@ -106,6 +112,7 @@ impl<T: Drop> Census<T> {
         match self.guests.push(guest) {
             Ok(()) => {
                 self.next += 1;
+                let _ = self.present.enter();
                 Ok(number)
             }
             Err(_) => Err(Refusal::Memory),
@@ -140,6 +147,7 @@ impl<T: Drop> Census<T> {
         ensures none { IfNone result (self.new ≡ self.old) }
     {
         let at = self.position_of(number)?;
+        let _ = self.present.leave();
         Some(self.guests.remove(at).item)
     }
 

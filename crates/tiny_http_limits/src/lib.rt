@@ -6,5 +6,6 @@
 pub mod backoff;
 pub mod census;
 pub mod counts;
+pub mod headcount;
 pub mod limits;
 pub mod times;

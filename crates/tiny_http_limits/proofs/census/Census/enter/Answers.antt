@@ -1,7 +1,7 @@
-use Rattle.std.proofs.Common.{◌≡◌, ◌+◌, ◌<◌, false, List, length, sym, ◌∙◌, subst, arith}
+use Rattle.std.proofs.Common.{◌≡◌, ◌+◌, ◌<◌, false, List, length, sym, ap, ◌∙◌, subst, arith, length-append}
 use Rattle.tiny_http_limits.specs.declared.census.Guest.{Guest}
 use Rattle.tiny_http_limits.specs.Census.{Connected, is_address_full, IsKept}
-use Rattle.tiny_http_limits.proofs.CensusLemmas.{kept-with}
+use Rattle.tiny_http_limits.proofs.CensusLemmas.{kept-with, one-more}
 use Rattle.tiny_http_limits.proofs.census.Census.enter.Goals as goal
 
 pub invariant_of-self : goal.invariant_of-self
@@ -10,5 +10,9 @@ invariant_of-self g c =
     let room : length c.args.self.now.guests < c.args.self.now.most = grind (arith, c.is_full.ensures, c.if-is_full.false) in
     let free : is_address_full c.args.self.now c.args.address ≡ false = sym c.is_address_full.ensures ∙ c.if-is_address_full.false in
     let with_guests : List (Guest g.row.T.Denot) → Connected g.row.T.Denot = λ gs. record { most = opened.most; most_of_address = opened.most_of_address; next = opened.next + 1; guests = gs } in
-    subst (λ gs. IsKept (with_guests gs)) (sym {A = List (Guest g.row.T.Denot)} c.in-Ok.ensures.items)
-    (kept-with opened c.args.address c.args.item c.self.invariant (subst (λ v. length v.guests < v.most) (sym c.self.view_is) room) (subst (λ v. is_address_full v c.args.address ≡ false) (sym c.self.view_is) free))
+    let inside : length c.self.inside.guests.items < c.self.inside.most = subst (λ v. length v.guests < v.most) (sym c.self.view_is) room in
+    let present = c.self.invariant.1 in
+    let more = one-more c.self.inside.present c.enter.new.self c.enter.result c.enter.ensures (omega (arith, present, inside, c.self.ranges.0.1)) in
+    let sum : length c.push.new.self.items ≡ length c.self.inside.guests.items + 1 = ap length c.in-Ok.ensures.items ∙ length-append c.self.inside.guests.items _ in
+    (subst (λ gs. IsKept (with_guests gs)) (sym {A = List (Guest g.row.T.Denot)} c.in-Ok.ensures.items)
+    (kept-with opened c.args.address c.args.item c.self.invariant.0 (subst (λ v. length v.guests < v.most) (sym c.self.view_is) room) (subst (λ v. is_address_full v c.args.address ≡ false) (sym c.self.view_is) free)), omega (arith, sum, present, more))

@@ -1,8 +1,8 @@
-use Rattle.std.proofs.Common.{◌≡◌, List, Some, sym, ap, ◌∙◌, subst}
+use Rattle.std.proofs.Common.{◌≡◌, List, arith, Some, sym, ap, ◌∙◌, subst}
 use Rattle.std.specs.Prelude.{option_map, position}
 use Rattle.tiny_http_limits.specs.declared.census.Guest.{Guest}
 use Rattle.tiny_http_limits.specs.Census.{Connected, has_number, item_of, without, IsKept}
-use Rattle.tiny_http_limits.proofs.CensusLemmas.{no-place, nobody-found, all-stay, gone, its-item, kept-without}
+use Rattle.tiny_http_limits.proofs.CensusLemmas.{at-place, one-less, no-place, nobody-found, all-stay, gone, its-item, kept-without}
 use Rattle.tiny_http_limits.proofs.census.Census.leave.Given as given
 use Rattle.tiny_http_limits.proofs.census.Census.leave.Goals as goal
 
@@ -26,13 +26,16 @@ place g c = c.in_ok-at.ensures ∙ ap (λ v. position (has_number c.args.number)
 
 one : (g : given.Over) (c : goal.After-remove g) → c.remove.new.self.items ≡ without c.args.number c.self.inside.guests.items
 unfolding opened
-one g c = gone c.args.number c.in_ok-at.at (opened g c) c.remove.new.self.items c.self.invariant (place g c) c.remove.ensures.items
+one g c = gone c.args.number c.in_ok-at.at (opened g c) c.remove.new.self.items c.self.invariant.0 (place g c) c.remove.ensures.items
 
 pub invariant_of-self : goal.invariant_of-self
 unfolding opened
 invariant_of-self g c =
     let with_guests : List (Guest g.row.T.Denot) → Connected g.row.T.Denot = λ gs. record (opened g c) { guests = gs } in
-    subst (λ gs. IsKept (with_guests gs)) (sym (one g c)) (kept-without c.args.number (opened g c) c.self.invariant)
+    let present = c.self.invariant.1 in
+    let some = (at-place (has_number c.args.number) c.self.inside.guests.items c.in_ok-at.at (sym (place g c))).0 in
+    let less = one-less c.self.inside.present c.leave.new.self c.leave.result c.leave.ensures (omega (arith, present, some)) in
+    (subst (λ gs. IsKept (with_guests gs)) (sym (one g c)) (kept-without c.args.number (opened g c) c.self.invariant.0), omega (arith, less, present, c.remove.ensures.len))
 
 pub returns-clause-item : goal.returns-clause-item
 returns-clause-item g c =

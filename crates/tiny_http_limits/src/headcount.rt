@@ -1,0 +1,58 @@
+//! How many are in.
+ghost use Rattle.tiny_http_limits.specs.Headcount.{CountsIn, CountsOut};
+
+use std::marker::Model;
+
+/// The number of those who entered and didn't leave, from 0 to 2^64 - 1. A contract sees it as that number.
+#[derive(Debug, Drop)]
+pub struct Headcount {
+    present: usize,
+}
+
+impl Model for Headcount {
+    ghost use Rattle.std.specs.Prelude.{ℕ};
+
+    ghost Value = { ℕ };
+
+    ghost view = { λ h. h.present };
+}
+
+impl Headcount {
+    ghost use Rattle.std.specs.Prelude.{◌≡◌};
+
+    /// Returns a count of 0.
+    pub fn new() -> Headcount
+        ensures { result ≡ 0 }
+    {
+        Headcount { present: 0 }
+    }
+
+    /// Counts one more. Returns false, and changes nothing, only at 2^64 - 1.
+    pub fn enter(&mut self) -> bool
+        ensures { CountsIn self.old result self.new }
+    {
+        if self.present == usize::MAX {
+            return false;
+        }
+        self.present += 1;
+        true
+    }
+
+    /// Counts one less. Returns false, and changes nothing, only at 0.
+    pub fn leave(&mut self) -> bool
+        ensures { CountsOut self.old result self.new }
+    {
+        if self.present == 0 {
+            return false;
+        }
+        self.present -= 1;
+        true
+    }
+
+    /// Returns the number of those who are in.
+    pub fn count(&self) -> usize
+        ensures { result ≡ self.now }
+    {
+        self.present
+    }
+}
