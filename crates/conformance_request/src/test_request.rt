@@ -1,10 +1,13 @@
 //! Requests made of their parts.
 use httpdate::HttpDate;
 use std::io::{ErrorKind, Read};
+use std::net::SocketAddr;
 use std::test::Fail;
-use tiny_http_request::request::RequestCreationError;
+use tiny_http_request::request::{RequestCreationError, new_request};
 use tiny_http_request::test::TestRequest;
-use tiny_http_wire::common::{HTTPVersion, Header, ParseError};
+use tiny_http_wire::ascii::AsciiString;
+use tiny_http_wire::common::{HTTPVersion, Header, Method, ParseError};
+use tiny_http_wire::device::{Budget, Canned};
 
 const SECONDS: u64 = 420_895_020;
 
@@ -89,15 +92,60 @@ fn a_target_is_ascii(rt: HostRuntime) -> Result<(), Fail> {
     Ok(())
 }
 
+// Any version is accepted, from any client.
 #[test]
 fn version_2_is_accepted(rt: HostRuntime) -> Result<(), Fail> {
     let alloc = rt.alloc();
     let now = HttpDate::from_unix_secs(SECONDS)?;
-    let made = TestRequest::new(alloc)?.with_http_version(HTTPVersion(2, 0));
+    let client = SocketAddr::from(([192, 0, 2, 1], 80));
+    let made = TestRequest::new(alloc)?
+        .with_http_version(HTTPVersion(2, 0))
+        .with_remote_addr(client)
+        .with_https();
     let Ok(request) = made.into_request(rt, alloc, now) else {
         return Err("refused".into());
     };
     assert_eq!(rt; *request.http_version(), HTTPVersion(2, 0));
+    assert_eq!(rt; request.remote_addr().copied(), Some(client));
+    assert!(rt; request.secure());
+    Ok(())
+}
+
+// The parts are those of the request, and its body is what the reader gives.
+#[test]
+fn a_request_of_its_parts(rt: HostRuntime) -> Result<(), Fail> {
+    let alloc = rt.alloc();
+    let now = HttpDate::from_unix_secs(SECONDS)?;
+    let mut headers = Vec::new(alloc);
+    headers.push(Header::from_str(alloc, "Content-Length: 2")?)?;
+    let Ok(target) = AsciiString::from_ascii(Vec::from_slice(alloc, b"/a")?) else {
+        return Err("not ASCII".into());
+    };
+    let body = Canned::new(Vec::from_slice(alloc, b"421")?, None);
+    let writer = Budget::new(alloc, 0, ErrorKind::Other);
+    let made = new_request(
+        rt,
+        alloc,
+        false,
+        Method::Put,
+        target,
+        HTTPVersion(1, 0),
+        headers,
+        None,
+        body,
+        writer,
+        now,
+    );
+    let Ok(mut request) = made else {
+        return Err("refused".into());
+    };
+    assert_eq!(rt;
+        format!(in alloc; "{request:?}")?.as_str(),
+        "Request(PUT /a from None)"
+    );
+    let mut text = String::new(alloc);
+    request.as_reader(now).read_to_string(&mut text)?;
+    assert_eq!(rt; text.as_str(), "42");
     Ok(())
 }
 
