@@ -6,7 +6,8 @@ use std::alloc::Global;
 use std::io::ErrorKind;
 use std::process::Abort;
 use std::test::Fail;
-use tiny_http_core::exchange::{Exchange, HeadRead, read_head};
+use tiny_http_core::exchange::{Exchange, HeadRead, read_head, read_head_with};
+use tiny_http_core::framing::Profile;
 use tiny_http_core::source::Source;
 use tiny_http_wire::device::Canned;
 
@@ -41,7 +42,7 @@ pub(crate) fn request(
 
 // Whether no request follows.
 fn is_ended(alloc: Global, source: &mut Source<Pieces>) -> Result<bool, Fail> {
-    let read = read_head(alloc, source, date()?)?;
+    let read = read_head_with(alloc, source, Profile::Lenient, date()?)?;
     Ok(matches!(read, HeadRead::Ended(_)))
 }
 

@@ -85,6 +85,11 @@ fn assert_path_is_bound_once<R: Host, F: Files>(rt: &R, files: &F, alloc: Global
     assert_in_use(rt, Server::http_unix(*rt, alloc, path.as_path()));
     assert_holds(rt, "the file is there", is_there(files, path.as_path()));
     assert_shown_by_path(rt, alloc, &server, path.as_path());
+    assert_holds(
+        rt,
+        "an address of a Unix socket",
+        server.server_addr().to_unix().is_some(),
+    );
     let again = ConfigListenAddr::unix_from_path(path.clone().expect(rt, "memory"));
     assert_in_use(rt, with_tls(rt, alloc, again));
     assert_holds(rt, "the file stays", is_there(files, path.as_path()));

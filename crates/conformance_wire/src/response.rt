@@ -187,6 +187,8 @@ fn other_data_of_unknown_length(rt: HostRuntime) -> Result<(), Fail> {
     assert_same(&rt, answer.chunked_threshold(), 5);
     assert_same(&rt, answer.status_code(), StatusCode(404));
     assert_holds(&rt, "no headers", answer.headers().is_empty());
+    assert_same(&rt, answer.upgrade_offer(), None);
+    assert_holds(&rt, "it closes nothing", !answer.closes());
     Ok(())
 }
 
