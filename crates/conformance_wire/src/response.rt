@@ -179,6 +179,26 @@ fn builders_in_a_chain(rt: HostRuntime) -> Result<(), Fail> {
     assert_printed(&rt, alloc, answer, CHAINED)
 }
 
+// A second Content-Type takes the place of the first, the last readable length counts, and Connection is left out.
+#[test]
+fn headers_that_are_not_added(rt: HostRuntime) -> Result<(), Fail> {
+    let alloc = rt.alloc();
+    let mut answer = text(alloc, "x")?;
+    for line in [
+        "Content-Type: a/b",
+        "Content-Length: 7",
+        "Content-Length: y",
+        "Connection: close",
+    ] {
+        answer = with_header(alloc, answer, line)?;
+    }
+    assert_answer(&rt, &answer, 200, 7, 1);
+    for header in answer.headers() {
+        assert_shown(&rt, alloc, header, "Content-Type: a/b")?;
+    }
+    Ok(())
+}
+
 #[test]
 fn other_data_of_unknown_length(rt: HostRuntime) -> Result<(), Fail> {
     let answer = Response::empty(rt.alloc(), StatusCode(404)).with_chunked_threshold(5);

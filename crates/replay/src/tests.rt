@@ -60,6 +60,10 @@ const HELLO: (&str, &str) = (
     "ask\nrespond 0 200 text hello world\n",
 );
 
+const HELLO_OUT: &str =
+    "HTTP/1.1 200 OK\r\nServer: tiny-http (Rust)\r\nDate: Wed, 04 May 1983 11:17:00 GMT\r\n\
+    Content-Type: text/plain; charset=UTF-8\r\nContent-Length: 11\r\n\r\nhello world";
+
 #[test]
 fn bytes_are_printed_in_hexadecimal(rt: HostRuntime) -> Result<(), Fail> {
     for (bytes, want) in [
@@ -86,6 +90,13 @@ fn replies_are_written(rt: HostRuntime) -> Result<(), Fail> {
     for (bytes, script, err) in [("", "", ""), ("", "#ask", ""), (two, script, err)] {
         assert_good(&rt, rt.alloc(), (bytes, script), "", err)?;
     }
+    assert_good(
+        &rt,
+        rt.alloc(),
+        HELLO,
+        HELLO_OUT,
+        "handed 0 GET /hello 1.1 0 -\ndone\n",
+    )?;
     Ok(())
 }
 
