@@ -1,5 +1,5 @@
 -- A chunked body, decoded piece by piece.
-use Rattle.std.proofs.Common.{◌≡◌, refl, sym, ap, ◌∙◌, subst, ℕ, ◌+◌, ◌<◌, List, [], ◌++◌, length, Option, Some, None, Result, Ok, Err, append_assoc, append-nil, arith}
+use Rattle.std.proofs.Common.{◌≡◌, refl, sym, ap, ◌∙◌, subst, ℕ, ◌+◌, ◌<◌, List, [], ◌++◌, length, Option, Some, None, Result, Ok, Err, append_assoc, append-nil, inl, inr, arith}
 use Rattle.std.specs.Prelude.{option_map}
 use Rattle.std.proofs.lemmas.List.{length-append}
 use Rattle.std.specs.declared.io.ErrorKind.{ErrorKind}
@@ -12,7 +12,7 @@ use Rattle.tiny_http_body.specs.ChunkReading.{Decoded, decoded}
 use Rattle.tiny_http_body.proofs.ChunksLemmas.{decoded-is, IsDecoded}
 use Rattle.tiny_http_client.specs.ClientAnswer.{LacksBody, OfChunks}
 use Rattle.tiny_http_client.specs.ClientReading.{lack_of}
-use Rattle.tiny_http_client.specs.AnswerParts.{LacksBy, chunk_fault}
+use Rattle.tiny_http_client.specs.AnswerParts.{LacksBy, chunk_fault, HasChunkData}
 use Rattle.tiny_http_client.proofs.ClientAnswerLemmas.{lack-is}
 
 -- how many bytes of the data are still to come, if that is stated
@@ -109,3 +109,23 @@ fault-lacks bytes _ h = h
 -- the body breaks off
 pub decoded-broken : (bytes body : List ℕ) (kind : ErrorKind) (c : Option Coming) → HasDecoded bytes body c → BreaksBy kind c → LacksBy (LacksBody OfChunks bytes) (chunk_fault kind)
 decoded-broken bytes body kind c h b = fault-lacks bytes kind (lack-is bytes (reading bytes).body kind (cut-by bytes body kind c h b))
+
+data-there : (bytes body : List ℕ) (ends : Result (List ℕ) ErrorKind) → IsDecoded bytes End (read_so body ends) → 0 < length body → HasChunkData bytes
+data-there bytes body (Ok rest) h some = (body, some, inl (rest, h))
+data-there bytes body (Err kind) h some = (body, some, inr (kind, h))
+
+longer : (bytes body : List ℕ) (c : Option Coming) → HasDecoded bytes body c → 0 < length body → 0 < length (reading bytes).body
+longer bytes body None h some = absurd (cc)
+longer bytes body (Some c) h some =
+    let d = reading bytes in
+    let k = coming-parts (body ++ c.bytes) d.body c.behind (rest_at End d.ends) h in
+    let same : length (body ++ c.bytes) ≡ length d.body = ap length k.0 in
+    omega (arith, length-append body c.bytes)
+
+-- data came
+pub decoded-some : (bytes body more : List ℕ) (old new : Option Coming) → old ≡ prepended_data more new → HasDecoded bytes body old → 0 < length more → HasChunkData bytes
+decoded-some bytes body more old new e h some =
+    let d = reading bytes in
+    let all = decoded-more bytes body more old new e h in
+    let front : length (body ++ more) ≡ length body + length more = length-append body more in
+    data-there bytes d.body d.ends (decoded-is (length bytes + 1) bytes End (omega arith)) (longer bytes (body ++ more) new all (omega arith))

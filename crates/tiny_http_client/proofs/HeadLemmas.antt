@@ -1,6 +1,6 @@
 -- What the parsers of an answer's head answer, as the plain reading has it.
 use Rattle.std.proofs.Common.{◌≡◌, refl, sym, ap, ◌∙◌, subst, ℕ, ◌<◌, ◌≤◌, ◌^◌, Bool, true, false, not, List, [], ◌∷◌, ◌++◌, Option, Some, None, arith}
-use Rattle.std.specs.Prelude.{◌==◌, decimal, codes}
+use Rattle.std.specs.Prelude.{◌==◌, decimal, codes, IsSome}
 use Rattle.std.specs.List.{list_all}
 use Rattle.std.specs.Str.{bytes_eq}
 use Rattle.std.specs.Str.{IsUtf8}
@@ -87,6 +87,9 @@ field-line-valueless text w rest j h e v = rw (cut-there colon text w rest j h, 
 pub field-line-made : (text w rest value f v : List ℕ) → text ≡ w ++ colon ∷ rest → HasNo colon w → list_all (λ b. not (is_blank b)) w ≡ true → value_read rest ≡ Some value → f ≡ w → v ≡ value
     → ◌≡◌ {A = Option Header} (Some (record { field = f; value = v })) (field_line_read text)
 field-line-made text w rest value f v j h e r field is = rw (cut-there colon text w rest j h, e, r, field, is) refl
+
+pub field-line-good : (text w rest value : List ℕ) → text ≡ w ++ colon ∷ rest → HasNo colon w → list_all (λ b. not (is_blank b)) w ≡ true → value_read rest ≡ Some value → IsSome (field_line_read text)
+field-line-good text w rest value j h e r = rw (cut-there colon text w rest j h, e, r) refl
 
 -- the length that a value says
 pub length-said : (ds : List ℕ) (r : Option ℕ) → SomeIff r (IsNumeral 10 ds × (digits_value 10 ds < 2 ^ 64)) (digits_value 10 ds) → r ≡ length_of ds

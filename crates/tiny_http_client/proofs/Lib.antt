@@ -13,3 +13,4 @@ pub mod TextLaw
 pub mod FrontLemmas
 pub mod BrokenLemmas
 pub mod SentTextsLemmas
+pub mod AnswerHeadLemmas

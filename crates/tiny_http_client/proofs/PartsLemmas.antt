@@ -1,8 +1,9 @@
 -- The parts of an answer, one after another.
 use Rattle.std.proofs.Common.{◌≡◌, refl, sym, ap, ◌∙◌, subst, ℕ, true, false, List, [], ◌∷◌, ◌++◌, length, drop, ◌+◌, ◌-◌, ◌≤◌, Option, Some, None, inl, inr, append_assoc, arith}
-use Rattle.std.specs.Prelude.{MatchOption}
+use Rattle.std.specs.Prelude.{MatchOption, IsSome}
 use Rattle.std.proofs.Math.Seq.{drop-append_seam}
 use Rattle.std.proofs.lemmas.List.{length-append}
+use Rattle.std.proofs.lemmas.Bool.{false≢true}
 use Rattle.tiny_http_head.specs.declared.common.Method.{Method}
 use Rattle.tiny_http_head.specs.declared.common.Header.{Header}
 use Rattle.tiny_http_head.specs.declared.common.HTTPVersion.{HTTPVersion}
@@ -14,7 +15,7 @@ use Rattle.tiny_http_client.specs.declared.head.Fault.{Fault}
 use Rattle.tiny_http_client.specs.declared.head.Fault.TheVariants.{Unfinished as IsCut, Malformed as IsBad, Memory as IsMemory}
 use Rattle.tiny_http_client.specs.ClientAnswer.{StatusLine, FieldLine, BeginsWithFieldLines, AnswerHead, BeginsWithAnswerHead, PassesOver, is_interim, Extent, NoBody, OfChunks, OfLength, OfUnknownLength, has_no_body, says_chunked, content_length, extent_of_length, extent, BeginsWithBody, ClientAnswer, ReadsAnswer, Lack, IsStatusLine, IsFieldLineOrEmpty}
 use Rattle.tiny_http_client.specs.ClientReading.{status_line_read, field_line_read}
-use Rattle.tiny_http_client.specs.AnswerParts.{LacksBy}
+use Rattle.tiny_http_client.specs.AnswerParts.{LacksBy, HasFieldLine}
 use Rattle.tiny_http_client.proofs.ClientReadingLines.{status-line-one, status-line-are, field-line-one, field-line-are}
 
 -- another reason that goes with the same lack
@@ -47,6 +48,19 @@ field-line-read text h e =
 pub no-field-line : (text : List ℕ) → (text ≡ [] → ⊥) → ◌≡◌ {A = Option Header} None (field_line_read text) → IsFieldLineOrEmpty text → ⊥
 no-field-line text ne e (inl h) = ne h
 no-field-line text ne e (inr h) = none-is-some (field_line_read text) h.0 e (field-line-one text h.0 h.1)
+
+some-of : {A : Type 0} (P : A → Type 0) (o : Option A) → MatchOption o (Unit {0}) P → IsSome o → (x : A) × P x
+some-of P (Some x) m s = (x, m)
+some-of P None m s = absurd (false≢true s)
+
+-- a text that is read as a field-line is one
+pub some-field-line : (text : List ℕ) → IsSome (field_line_read text) → (h : Header) × FieldLine text h
+some-field-line text s = some-of (FieldLine text) (field_line_read text) (field-line-are text) s
+
+-- where a field-line stands behind others, one stands in front
+pub first-field : (bytes rest : List ℕ) (hs : List Header) → BeginsWithFieldLines bytes hs rest → HasFieldLine rest → HasFieldLine bytes
+first-field bytes rest [] b f = subst HasFieldLine b f
+first-field bytes rest (h ∷ hs) b f = (b.0, b.1, b.2, b.3, (h, b.4))
 
 -- one field-line more
 pub field-lines-push : (bytes rest text next : List ℕ) (hs : List Header) (h : Header) → BeginsWithFieldLines bytes hs rest → Line rest text next → AreAscii text → FieldLine text h → BeginsWithFieldLines bytes (hs ++ h ∷ []) next

@@ -1,6 +1,7 @@
 -- The head of an answer, by the grammar of `httparse`.
-use Rattle.std.specs.Prelude.{◌≡◌, ℕ, List, map}
-use Rattle.httparse.specs.Grammar.{Field, field_value, ResponseHead, status_code}
+use Rattle.std.specs.Prelude.{◌≡◌, ℕ, ◌<◌, ◌≤◌, List, ◌++◌, length, map, IsAscii}
+use Rattle.std.specs.List.{All}
+use Rattle.httparse.specs.Grammar.{Field, field_value, ResponseHead, status_code, ReadsResponse}
 use Rattle.tiny_http_head.specs.declared.common.Header.{Header}
 use Rattle.tiny_http_head.specs.declared.common.HTTPVersion.{HTTPVersion}
 use Rattle.tiny_http_client.specs.declared.answer_head.AnswerHead.{AnswerHead}
@@ -17,3 +18,17 @@ pub record IsHeadOf (h : ResponseHead) (a : AnswerHead) : Type 0 where
   pub version : a.version ≡ record { 0 = 1; 1 = h.minor }
   pub status : a.status.0 ≡ status_code h
   pub headers : map header_pair a.headers.items ≡ map field_pair h.fields
+
+-- both texts are ASCII
+abbrev pub IsAsciiPair : List ℕ × List ℕ → Type 0
+IsAsciiPair p = IsAscii p.0 × IsAscii p.1
+
+-- NO BYTES CAN FOLLOW that make it begin with a head of at most so many headers, each of them ASCII.
+abbrev pub NeverHasHead : ℕ → List ℕ → Type 0
+NeverHasHead most bytes =
+    (more : List ℕ) (h : ResponseHead) (rest : List ℕ) → ReadsResponse (bytes ++ more) h rest → length h.fields ≤ most
+    → All IsAsciiPair (map field_pair h.fields) → ⊥
+
+-- the bytes begin with a head that has headers
+abbrev pub HasHeaders : List ℕ → Type 0
+HasHeaders bytes = (h : ResponseHead) × (rest : List ℕ) × ReadsResponse bytes h rest × (0 < length h.fields)

@@ -1,10 +1,13 @@
 -- What the calls that read the parts of an answer give.
-use Rattle.std.specs.Prelude.{◌≡◌, ℕ, ◌≤◌, List, [], length, Option, Some, None, Result, Ok, Err, false, ⊤}
+use Rattle.std.specs.Prelude.{◌≡◌, ℕ, ◌<◌, ◌≤◌, ◌⊎◌, List, [], length, Option, Some, None, Result, Ok, Err, false, ⊤}
 use Rattle.std.specs.declared.io.ErrorKind.{ErrorKind}
 use Rattle.std.specs.declared.io.ErrorKind.TheVariants.{InvalidData}
 use Rattle.tiny_http_head.specs.declared.common.HTTPVersion.{HTTPVersion}
+use Rattle.tiny_http_head.specs.declared.common.Method.{Method}
 use Rattle.tiny_http_head.specs.declared.common.StatusCode.{StatusCode}
 use Rattle.tiny_http_head.specs.declared.common.Header.{Header}
+use Rattle.tiny_http_io.specs.declared.device.Stop.TheVariants.{End}
+use Rattle.tiny_http_body.specs.Chunks.{WholeChunks, CutChunks}
 use Rattle.tiny_http_text.specs.Bytes.{AreAscii}
 use Rattle.tiny_http_text.specs.Lines.{Line}
 use Rattle.tiny_http_client.specs.declared.head.Fault.{Fault}
@@ -15,7 +18,8 @@ use Rattle.tiny_http_client.specs.declared.answer.Answer.{Answer}
 use Rattle.tiny_http_client.specs.ClientAnswer.{AnswerHead, ClientAnswer, FieldLine, BeginsWithFieldLines}
 use Rattle.tiny_http_client.specs.ClientAnswer.{BeginsWithAnswerHead, PassesOver, is_interim, Lack, Unfinished}
 use Rattle.tiny_http_client.specs.ClientAnswer.{Invalid, LacksLine, IsFieldLineOrEmpty, LacksHead}
-use Rattle.tiny_http_client.specs.ClientAnswer.{Extent, NoBody, OfChunks, OfLength, OfUnknownLength}
+use Rattle.tiny_http_client.specs.ClientAnswer.{Extent, NoBody, OfChunks, OfLength, OfUnknownLength, extent}
+use Rattle.tiny_http_client.specs.ClientAnswer.{BeginsWithStatusLine}
 
 -- a head, and an answer, as the grammar sees them
 abbrev pub head_of : HeadParts → AnswerHead
@@ -36,11 +40,17 @@ LacksBy lacks IsCut = lacks Unfinished
 LacksBy lacks IsBad = lacks Invalid
 LacksBy lacks IsMemory = ⊤
 
--- where memory is wanted for a body: for the data of chunks, and for so many bytes as the length says, once they are
--- there
+-- the chunked body that the bytes begin with has data, whole or up to where it breaks off
+abbrev pub HasChunkData : List ℕ → Type 0
+HasChunkData bytes =
+    (body : List ℕ) × (0 < length body)
+    × (((rest : List ℕ) × WholeChunks bytes body rest) ⊎ ((kind : ErrorKind) × CutChunks bytes End body kind))
+
+-- where memory is wanted for a body: for the data of chunks, if there are some, and for so many bytes as the length
+-- says, once they are there
 abbrev pub WantsMemory : Extent → List ℕ → Type 0
 WantsMemory NoBody bytes = ⊥
-WantsMemory OfChunks bytes = ⊤
+WantsMemory OfChunks bytes = HasChunkData bytes
 WantsMemory (OfLength n) bytes = n ≤ length bytes
 WantsMemory OfUnknownLength bytes = ⊥
 
@@ -49,10 +59,16 @@ abbrev pub chunk_fault : ErrorKind → Fault
 chunk_fault InvalidData = IsBad
 chunk_fault _ = IsCut
 
+-- the bytes begin with a field-line, which memory is wanted for
+abbrev pub HasFieldLine : List ℕ → Type 0
+HasFieldLine bytes =
+    (text : List ℕ) × (rest : List ℕ) × Line bytes text rest × AreAscii text × ((header : Header) × FieldLine text header)
+
 -- a call takes the next field-line, or the empty line
 abbrev pub ReadsFieldLine : List ℕ → List ℕ → Result (Option Header) Fault → Type 0
 ReadsFieldLine old new (Ok None) = Line old [] new
 ReadsFieldLine old new (Ok (Some h)) = (text : List ℕ) × Line old text new × AreAscii text × FieldLine text h
+ReadsFieldLine old new (Err IsMemory) = HasFieldLine old
 ReadsFieldLine old new (Err fault) = LacksBy (LacksLine IsFieldLineOrEmpty old) fault
 
 -- the bytes begin with field-lines and an empty line, and the rest follows
@@ -81,3 +97,23 @@ BeginsWithFinalHead bytes head rest =
 abbrev pub LacksFinalHead : List ℕ → Lack → Type 0
 LacksFinalHead bytes lack =
     (interim : List AnswerHead) × (start : List ℕ) × PassesOver bytes interim start × LacksHead start lack
+
+-- the bytes begin with a status-line and a field-line
+abbrev pub HasStartAndField : List ℕ → Type 0
+HasStartAndField bytes =
+    (version : HTTPVersion) × (status : ℕ) × (fields : List ℕ)
+    × BeginsWithStatusLine bytes version status fields
+    × HasFieldLine fields
+
+-- after heads that are passed over a head begins, and has a field-line
+abbrev pub HasSomeField : List ℕ → Type 0
+HasSomeField bytes =
+    (interim : List AnswerHead) × (start : List ℕ) × PassesOver bytes interim start × HasStartAndField start
+
+-- MEMORY IS WANTED FOR AN ANSWER: for a field-line, of a head that is passed over too, or for the body.
+abbrev pub HasSomeToKeep : Method → List ℕ → Type 0
+HasSomeToKeep method bytes =
+    HasSomeField bytes
+    ⊎ ((head : AnswerHead) × (after : List ℕ)
+    × BeginsWithFinalHead bytes head after
+    × WantsMemory (extent method head) after)

@@ -3,6 +3,7 @@ ghost use Rattle.std.specs.Prelude.{◌≡◌, ◌≤◌, length, drop, IfOk, If
 ghost use Rattle.tiny_http_client.specs.ClientAnswer.{is_interim, ReadsAnswer, LacksAnswer, UnfinishedAnswer};
 ghost use Rattle.tiny_http_client.specs.ClientAnswer.{MalformedAnswer};
 ghost use Rattle.tiny_http_client.specs.AnswerParts.{head_of, LacksBy, answer_of, BeginsWithFinalHead, LacksFinalHead};
+ghost use Rattle.tiny_http_client.specs.AnswerParts.{HasSomeField, HasSomeToKeep};
 
 use crate::body::read_body;
 use crate::head::{Fault, HeadParts, read_head};
@@ -46,6 +47,7 @@ fn is_interim(status: StatusCode) -> bool
 fn read_final_head(alloc: Global, rest: &mut Rest<'_>) -> Result<HeadParts, Fault>
     ensures read { IfOk result (λ head. BeginsWithFinalHead rest.old (head_of head) rest.new) }
     ensures lacks { IfErr result (LacksBy (LacksFinalHead rest.old)) }
+    ensures memory { result ≡ Err Fault.Memory → HasSomeField rest.old }
 {
     loop {
         let head = read_head(alloc, rest)?;
@@ -59,6 +61,7 @@ fn read_final_head(alloc: Global, rest: &mut Rest<'_>) -> Result<HeadParts, Faul
 fn read_whole(alloc: Global, method: &Method, rest: &mut Rest<'_>) -> Result<Answer, Fault>
     ensures read { IfOk result (λ answer. ReadsAnswer method.now rest.old (answer_of answer) rest.new) }
     ensures lacks { IfErr result (LacksBy (LacksAnswer method.now rest.old)) }
+    ensures memory { result ≡ Err Fault.Memory → HasSomeToKeep method.now rest.old }
 {
     let head = read_final_head(alloc, rest)?;
     let body = read_body(alloc, method, &head, rest)?;
@@ -102,6 +105,7 @@ pub fn read_answer(
         × ReadsAnswer method.now bytes.now (answer_of a.0) (drop a.1 bytes.now))) }
     ensures unfinished { result ≡ Ok None → UnfinishedAnswer method.now bytes.now }
     ensures malformed { result ≡ Err AnswerFault.Malformed → MalformedAnswer method.now bytes.now }
+    ensures memory { result ≡ Err AnswerFault.Memory → HasSomeToKeep method.now bytes.now }
 {
     let mut rest = Rest::new(bytes);
     match read_whole(alloc, method, &mut rest) {

@@ -1,9 +1,9 @@
 //! One head, read from the front of some bytes.
-ghost use Rattle.std.specs.Prelude.{◌≡◌, ◌≤◌, map, length, drop, Ok, None, IfOk, IfSome};
+ghost use Rattle.std.specs.Prelude.{◌≡◌, ◌<◌, ◌≤◌, map, length, drop, Ok, Err, None, IfOk, IfSome};
 ghost use Rattle.std.specs.List.{All};
 ghost use Rattle.httparse.specs.Grammar.{HasNoResponse, MayBecomeResponse, ResponseHead, ReadsResponse};
 ghost use Rattle.httparse.specs.Spans.{header_bytes, IsHeaderWithin};
-ghost use Rattle.tiny_http_client.specs.AnswerHead.{header_pair, IsHeadOf};
+ghost use Rattle.tiny_http_client.specs.AnswerHead.{header_pair, IsHeadOf, IsAsciiPair, NeverHasHead, HasHeaders};
 
 use httparse::Status;
 use httparse::spans::{EMPTY_HEADER_SPAN, HeaderSpan, parse_response};
@@ -47,14 +47,18 @@ impl From<AllocError> for AnswerHeadFault {
     }
 }
 
-// The headers that stand there. It is malformed where a byte isn't ASCII.
+// The headers that stand there. It is malformed where a byte isn't ASCII, and nowhere else.
 fn headers_at(
     alloc: Global,
     bytes: &[u8],
     spans: &[HeaderSpan],
 ) -> Result<Vec<Header>, AnswerHeadFault>
     requires { All (IsHeaderWithin (length bytes.now)) spans.now }
-    ensures { IfOk result (λ headers. map header_pair headers.items ≡ map (header_bytes bytes.now) spans.now) }
+    ensures headers { IfOk result (λ headers. map header_pair headers.items ≡ map (header_bytes bytes.now) spans.now) }
+    ensures malformed { result ≡ Err AnswerHeadFault.Malformed
+        → All IsAsciiPair (map (header_bytes bytes.now) spans.now)
+        → ⊥ }
+    ensures memory { result ≡ Err AnswerHeadFault.Memory → 0 < length spans.now }
 {
     let mut headers = Vec::new(alloc);
     for span in spans {
@@ -85,6 +89,9 @@ pub fn read_answer_head(
     ensures head { IfOk result (λ found. IfSome found (λ a. (a.1 ≤ length bytes.now)
         × ((h : ResponseHead) × ReadsResponse bytes.now h (drop a.1 bytes.now) × IsHeadOf h a.0))) }
     ensures unfinished { result ≡ Ok None → HasNoResponse bytes.now × MayBecomeResponse bytes.now }
+    // It is refused where nothing that follows makes it a good head, and memory is wanted for a whole head alone.
+    ensures malformed { result ≡ Err AnswerHeadFault.Malformed → NeverHasHead MOST_HEADERS bytes.now }
+    ensures memory { result ≡ Err AnswerHeadFault.Memory → HasHeaders bytes.now }
 {
     let mut spans = [EMPTY_HEADER_SPAN; MOST_HEADERS];
     let found = match parse_response(bytes, &mut spans) {

@@ -77,6 +77,7 @@ fn chunk_fault(kind: ErrorKind) -> Fault
 fn read_chunks(alloc: Global, rest: &mut Rest<'_>) -> Result<Vec<u8>, Fault>
     ensures read { IfOk result (λ body. BeginsWithBody OfChunks rest.old body.items rest.new) }
     ensures lacks { IfErr result (LacksBy (LacksBody OfChunks rest.old)) }
+    ensures memory { result ≡ Err Fault.Memory → WantsMemory OfChunks rest.old }
 {
     let mut decoding = Decoding::new();
     let mut body = Vec::new(alloc);
@@ -112,7 +113,7 @@ pub(crate) fn read_body(
     ensures read { IfOk result
         (λ body. BeginsWithBody (extent method.now (head_of head.now)) rest.old body.items rest.new) }
     ensures lacks { IfErr result (LacksBy (LacksBody (extent method.now (head_of head.now)) rest.old)) }
-    // No memory is wanted for a body before its bytes are there, but for chunks.
+    // No memory is wanted for a body before its bytes are there, or the first of its chunks' data.
     ensures memory { result ≡ Err Fault.Memory → WantsMemory (extent method.now (head_of head.now)) rest.old }
 {
     if has_no_body(method, head.status) {

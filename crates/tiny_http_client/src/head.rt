@@ -1,9 +1,10 @@
 //! The head of an answer: its lines, as a client reads them.
-ghost use Rattle.std.specs.Prelude.{◌≡◌, ◌≤◌, IfOk, IfErr, IfSome, IfNone, None, Some, option_map};
+ghost use Rattle.std.specs.Prelude.{◌≡◌, ◌≤◌, IfOk, IfErr, IfSome, IfNone, IsSome, OnErr, Err, None, Some, option_map};
 ghost use Rattle.tiny_http_text.specs.Bytes.{AreAscii};
 ghost use Rattle.tiny_http_client.specs.ClientReading.{decimal_until, status_line_read, field_line_read, value_read};
 ghost use Rattle.tiny_http_client.specs.AnswerParts.{status_line_of, LacksBy, head_of, ReadsFieldLine};
 ghost use Rattle.tiny_http_client.specs.AnswerParts.{BeginsWithAllFieldLines, LacksFieldLines};
+ghost use Rattle.tiny_http_client.specs.AnswerParts.{HasFieldLine, HasStartAndField};
 ghost use Rattle.tiny_http_client.specs.ClientAnswer.{BeginsWithStatusLine, BeginsWithAnswerHead, LacksLine};
 ghost use Rattle.tiny_http_client.specs.ClientAnswer.{LacksHead, IsStatusLine};
 
@@ -90,10 +91,12 @@ fn after_one_space(text: &[u8]) -> Option<&[u8]>
     Some(value)
 }
 
-// The header that a field-line says: exactly one space stands after the first colon (RFC 9112, section 5).
+// The header that a field-line says: exactly one space stands after the first colon (RFC 9112, section 5). An error
+// where the text is a field-line and there is no memory for the answer.
 fn parse_field_line(alloc: Global, text: &[u8]) -> Result<Option<Header>, AllocError>
     requires { AreAscii text.now }
-    ensures { IfOk result (λ found. found ≡ field_line_read text.now) }
+    ensures value { IfOk result (λ found. found ≡ field_line_read text.now) }
+    ensures judged { OnErr result (IsSome (field_line_read text.now)) }
 {
     let Some((field, after)) = cut(text, b':') else {
         return Ok(None);
@@ -113,6 +116,7 @@ fn parse_field_line(alloc: Global, text: &[u8]) -> Result<Option<Header>, AllocE
 fn read_status_line(rest: &mut Rest<'_>) -> Result<(HTTPVersion, StatusCode), Fault>
     ensures read { IfOk result (λ r. BeginsWithStatusLine rest.old r.0 r.1.0 rest.new) }
     ensures lacks { IfErr result (LacksBy (LacksLine IsStatusLine rest.old)) }
+    ensures no_memory { result ≡ Err Fault.Memory → ⊥ }
 {
     let Some(text) = rest.take_line() else {
         return Err(Fault::Unfinished);
@@ -149,6 +153,7 @@ fn read_field_line(alloc: Global, rest: &mut Rest<'_>) -> Result<Option<Header>,
 fn read_field_lines(alloc: Global, rest: &mut Rest<'_>) -> Result<Vec<Header>, Fault>
     ensures read { IfOk result (λ headers. BeginsWithAllFieldLines rest.old headers.items rest.new) }
     ensures lacks { IfErr result (LacksBy (LacksFieldLines rest.old)) }
+    ensures memory { result ≡ Err Fault.Memory → HasFieldLine rest.old }
 {
     let mut headers = Vec::new(alloc);
     loop {
@@ -167,6 +172,8 @@ fn read_field_lines(alloc: Global, rest: &mut Rest<'_>) -> Result<Vec<Header>, F
 pub(crate) fn read_head(alloc: Global, rest: &mut Rest<'_>) -> Result<HeadParts, Fault>
     ensures read { IfOk result (λ head. BeginsWithAnswerHead rest.old (head_of head) rest.new) }
     ensures lacks { IfErr result (LacksBy (LacksHead rest.old)) }
+    // Memory is wanted for a good field-line alone.
+    ensures memory { result ≡ Err Fault.Memory → HasStartAndField rest.old }
 {
     let (version, status) = read_status_line(rest)?;
     let headers = read_field_lines(alloc, rest)?;

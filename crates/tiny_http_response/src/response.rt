@@ -1,7 +1,7 @@
 //! Answers to requests, and how they are printed.
 ghost use Rattle.std.specs.Prelude.{◌≡◌, true, Option, Some, None, IfSome, if◌then◌else◌, ◌∷◌, IfOk, IfErr, OnOk};
 ghost use Rattle.std.specs.Prelude.{OnErr, IsTrue, ◌↔◌, vec_len, string_len, string_bytes, [], ◌<◌, ◌^◌, ◌++◌};
-ghost use Rattle.std.specs.Prelude.{length};
+ghost use Rattle.std.specs.Prelude.{length, ◌≤◌, ◌+◌};
 ghost use Rattle.std.specs.Option.{option_copied};
 ghost use Rattle.std.specs.List.{list_all, AllByRecursion};
 ghost use Rattle.tiny_http_text.specs.Bytes.{is_ascii};
@@ -18,7 +18,7 @@ ghost use Rattle.tiny_http_io.specs.Cursor.{cursor_bytes};
 ghost use Rattle.tiny_http_io.specs.Metered.{metered_inner};
 ghost use Rattle.tiny_http_response.specs.Top.{top_text};
 ghost use Rattle.tiny_http_response.specs.Coding.{coding_asked};
-ghost use Rattle.tiny_http_io.specs.Device.{Puts, CountsFaults};
+ghost use Rattle.tiny_http_io.specs.Device.{Puts, CountsFaults, fault_count};
 
 use crate::add_header::{add, add_all, add_in_place};
 use crate::answer_context::AnswerContext;
@@ -585,6 +585,8 @@ fn print_as_it_is<D: ReadDevice, W: WriteDevice>(
         (if withheld then whole [] else identity_body n feed))) }
     ensures unread { withheld ≡ true → source.new ≡ source.old }
     ensures uses { CountsFaults (W.sink writer.old) (W.sink writer.new) result }
+    // The data aren't asked for on behind their end or fault, nor for more than the `n` bytes.
+    ensures told { D.told source.new ≤ D.told source.old + fault_count result }
 {
     put_head(writer, top, None, FramingHeader::ContentLength(n))?;
     if withheld {
@@ -624,6 +626,8 @@ fn print_gathered<D: ReadDevice, W: WriteDevice>(
         (top_text top.now None (FramingHeader.ContentLength (length feed.bytes)))
         withheld feed) }
     ensures uses { CountsFaults (W.sink writer.old) (W.sink writer.new) result }
+    // The data aren't asked for on behind their end or fault.
+    ensures told { D.told source.new ≤ D.told source.old + 1 }
 {
     let bytes = gather(alloc, source)?;
     print_bytes(bytes.as_slice(), writer, top, withheld)
@@ -642,6 +646,8 @@ fn print_uncoded<D: ReadDevice, W: WriteDevice>(
         PrintsUncoded (W.sink writer.old) (W.sink writer.new) result data_length
         (uncoded_text data_length (λ framing. top_text top.now None framing) withheld feed)) }
     ensures uses { CountsFaults (W.sink writer.old) (W.sink writer.new) result }
+    // The data aren't asked for on behind their end or fault.
+    ensures told { D.told source.new ≤ D.told source.old + 1 }
 {
     match data_length {
         Some(n) => print_as_it_is(source, writer, top, withheld, n),
@@ -662,6 +668,8 @@ fn print_in_chunks<D: ReadDevice, W: WriteDevice>(
         (body_unless_withheld withheld (chunked_body feed)))) }
     ensures unread { withheld ≡ true → source.new ≡ source.old }
     ensures uses { CountsFaults (W.sink writer.old) (W.sink writer.new) result }
+    // The data aren't asked for on behind their end or fault.
+    ensures told { D.told source.new ≤ D.told source.old + 1 }
 {
     put_head(writer, top, None, FramingHeader::TransferEncoding)?;
     if withheld {

@@ -16,8 +16,8 @@ use Rattle.tiny_http_standard_head.specs.declared.heads.StandardRead.{StandardRe
 use Rattle.tiny_http_standard_head.specs.declared.heads.StandardRead.TheVariants.{Whole, Refused, Unfinished}
 use Rattle.tiny_http_standard_head.specs.declared.heads.NoHead.{NoHead}
 use Rattle.tiny_http_standard_head.specs.declared.heads.NoHead.TheVariants as stop
-use Rattle.tiny_http_standard_head.specs.HeadParts.{StopsFields, EndsFields, StopsHead, ReadsWhole}
-use Rattle.tiny_http_standard_head.specs.Lines.{ReadsFieldLine}
+use Rattle.tiny_http_standard_head.specs.HeadParts.{HasGoodFieldLine, StopsFields, EndsFields, StopsHead, ReadsWhole}
+use Rattle.tiny_http_standard_head.specs.Lines.{ReadsFieldLine, IsNoFieldLine}
 use Rattle.tiny_http_standard_head.specs.Heads.{line_feed, is_carriage_return, Line, BeginsWithBareLine, behind_empty_line, BeginsWithRequestLine, BeginsWithFieldLines, BeginsWithHead, ComesToField, HasOpenRequestLine, HasOpenField, is_begun, Reads}
 
 front-without : (n : ℕ) (text : List ℕ) → HasNo line_feed text → HasNo line_feed (take n text)
@@ -59,6 +59,14 @@ bare-line bytes line rest joins first bare = record { text = line; rest = rest; 
 pub more-fields : (bytes : List ℕ) (hs : List Header) (h : Header) (mid text next : List ℕ) → BeginsWithFieldLines bytes hs mid → Line mid text next → ReadsFieldLine text h → BeginsWithFieldLines bytes (hs ++ h ∷ []) next
 more-fields bytes [] h mid text next b line reads = (text, next, subst (λ (x : List ℕ). Line x text next) b line, reads, refl)
 more-fields bytes (k ∷ ks) h mid text next b line reads = (b.0, b.1, b.2, b.3, more-fields b.1 ks h mid text next b.4 line reads)
+
+pub is-field-line : (text : List ℕ) (h : Header) → ReadsFieldLine text h → IsNoFieldLine text → ⊥
+is-field-line text h r none = none h.field r.0 r.1
+
+-- where a good field line stands behind others, one stands in front
+pub first-field : (bytes rest : List ℕ) (hs : List Header) → BeginsWithFieldLines bytes hs rest → HasGoodFieldLine rest → HasGoodFieldLine bytes
+first-field bytes rest [] b g = subst HasGoodFieldLine b g
+first-field bytes rest (h ∷ hs) b g = (b.0, b.1, b.2, is-field-line b.0 h b.3)
 
 -- what follows a line is shorter
 pub line-shorter : (bytes text rest : List ℕ) → Line bytes text rest → length rest < length bytes

@@ -20,11 +20,11 @@ use Rattle.tiny_http_standard_head.specs.declared.judging.Judgement.{Judgement}
 use Rattle.tiny_http_standard_head.specs.declared.heads.NoHead.TheVariants as stop
 use Rattle.tiny_http_standard_head.specs.declared.source_heads.NoHead.{NoHead}
 use Rattle.tiny_http_standard_head.specs.declared.source_heads.NoHead.TheVariants.{Refused, Unfinished, Memory}
-use Rattle.tiny_http_standard_head.specs.Lines.{ReadsRequestLine, IsNoRequestLine}
+use Rattle.tiny_http_standard_head.specs.Lines.{ReadsRequestLine, IsNoRequestLine, IsNoFieldLine}
 use Rattle.tiny_http_standard_head.specs.Judging.{Judges}
 use Rattle.tiny_http_standard_head.specs.Heads.{line_feed, carriage_return, is_carriage_return, Line, BeginsWithBareLine, behind_empty_line, BeginsWithRequestLine, BeginsWithFieldLines, BeginsWithBadLine, HasOpenRequestLine, HasOpenField, BeginsWithHead, is_begun, message_of}
 use Rattle.tiny_http_standard_head.specs.SourceHeads.{IsNoRequestOrEmpty, LacksMemory, LacksMemoryAtStart, IsSpent, TakesText, ReadsRequest, ReadsField, ReadsStart, HasReadFields, ReadsFields, IsWithoutHead, ReadsFrom}
-use Rattle.tiny_http_standard_head.proofs.HeadsLemmas.{more-fields, whole-head, fields-stop}
+use Rattle.tiny_http_standard_head.proofs.HeadsLemmas.{more-fields, whole-head, fields-stop, is-field-line}
 
 -- bytes that don't begin with an empty line
 kept : (w : List ℕ) → ((bs : List ℕ) → w ≡ 13 ∷ 10 ∷ bs → ⊥) → behind_empty_line w ≡ w
@@ -230,6 +230,25 @@ fields-more limit mid left (Some f) at new hs h k r =
     let n = subst (λ (x : Option Feed). ReadsField mid left x new (Ok (Some h))) k.2 r in
     let t = n.1 in
     (t.rest, more-fields (take limit f.bytes) hs h (take mid k.0) n.0 (take left t.rest) k.1 t.line n.2, t.goes, omega (arith, k.3, t.spent))
+
+pub not-empty : {G : Type 0} (hs : List Header) (h : Header) → hs ++ h ∷ [] ≡ [] → G
+not-empty [] h e = cc
+not-empty (g ∷ gs) h e = cc
+
+-- memory is wanted for the first of them, or for the first line if there is none
+pub fields-lack-more : (limit left : ℕ) (old mid new : Option Feed) (held : List ℕ) (hs : List Header) (h : Header) → HasReadFields limit left old mid (hs ++ h ∷ []) → IfSome old (λ f. LacksMemory IsNoFieldLine limit f new held)
+fields-lack-more limit left None mid new held hs h k = tt
+fields-lack-more limit left (Some f) mid new held [] h k = let b = k.1 in inl (b.0, b.1, b.2, is-field-line b.0 h b.3)
+fields-lack-more limit left (Some f) mid new held (g ∷ gs) h k = let b = k.1 in inl (b.0, b.1, b.2, is-field-line b.0 g b.3)
+
+pub fields-lack : (limit left : ℕ) (old mid new : Option Feed) (held : List ℕ) (hs : List Header) → HasReadFields limit left old mid hs → (hs ≡ [] → (left ≡ limit) × (mid ≡ old))
+    → IfSome mid (λ f. LacksMemory IsNoFieldLine left f new held) → IfSome old (λ f. LacksMemory IsNoFieldLine limit f new held)
+fields-lack limit left None mid new held hs k first h = tt
+fields-lack limit left (Some f) mid new held [] k first h =
+    let P : ℕ → Option Feed → Type 0 = λ n o. IfSome o (λ x. LacksMemory IsNoFieldLine n x new held) in
+    let same = first refl in
+    subst (λ n. P n (Some f)) same.0 (subst (P left) same.1 h)
+fields-lack limit left (Some f) mid new held (g ∷ gs) k first h = let b = k.1 in inl (b.0, b.1, b.2, is-field-line b.0 g b.3)
 
 pub fields-end : (limit mid left : ℕ) (old at new : Option Feed) (hs : Vec Header) → HasReadFields limit mid old at hs.items → ReadsField mid left at new (Ok None) → ReadsFields limit left old new (Ok hs)
 fields-end limit mid left None at new hs k r = tt

@@ -1,5 +1,5 @@
 -- The parts of a head as they are read, line by line.
-use Rattle.std.specs.Prelude.{◌≡◌, ℕ, ◌+◌, ⊤, List, [], length, Ok, Err}
+use Rattle.std.specs.Prelude.{◌≡◌, ℕ, ◌+◌, List, [], length, Ok, Err}
 use Rattle.tiny_http_text.specs.Bytes.{HasNo}
 use Rattle.tiny_http_head.specs.declared.common.Header.{Header}
 use Rattle.tiny_http_head.specs.Heads.{Message}
@@ -10,7 +10,7 @@ use Rattle.tiny_http_standard_head.specs.declared.heads.NoLine.{NoLine}
 use Rattle.tiny_http_standard_head.specs.declared.heads.NoLine.TheVariants as no
 use Rattle.tiny_http_standard_head.specs.declared.heads.NoHead.{NoHead}
 use Rattle.tiny_http_standard_head.specs.declared.heads.NoHead.TheVariants as stop
-use Rattle.tiny_http_standard_head.specs.Lines.{IsNoRequestLine}
+use Rattle.tiny_http_standard_head.specs.Lines.{IsNoRequestLine, IsNoFieldLine}
 use Rattle.tiny_http_standard_head.specs.Heads.{Line, line_feed, BeginsWithBareLine, behind_empty_line}
 use Rattle.tiny_http_standard_head.specs.Heads.{BeginsWithFieldLines, BeginsWithBadLine, IsNoFieldOrEnd, HasBadLine}
 use Rattle.tiny_http_standard_head.specs.Heads.{HasOpenRequestLine, HasOpenField, BeginsWithHead, HasGoodRequestLine}
@@ -29,7 +29,11 @@ StopsRequest bytes stop.OpenRequest = HasNo line_feed (behind_empty_line bytes)
 StopsRequest bytes stop.OpenField = ⊥
 StopsRequest bytes stop.Memory = HasGoodRequestLine bytes
 
--- why they don't begin with field lines and an empty line
+-- the bytes begin with a good field line
+abbrev pub HasGoodFieldLine : List ℕ → Type 0
+HasGoodFieldLine bytes = (text : List ℕ) × (rest : List ℕ) × Line bytes text rest × (IsNoFieldLine text → ⊥)
+
+-- why they don't begin with field lines and an empty line; memory is wanted for a good field line alone
 abbrev pub StopsFields : List ℕ → NoHead → Type 0
 StopsFields bytes stop.Bad =
     (headers : List Header)
@@ -39,7 +43,7 @@ StopsFields bytes stop.Bad =
 StopsFields bytes stop.OpenRequest = ⊥
 StopsFields bytes stop.OpenField =
     (headers : List Header) × (rest : List ℕ) × BeginsWithFieldLines bytes headers rest × HasNo line_feed rest
-StopsFields bytes stop.Memory = ⊤
+StopsFields bytes stop.Memory = HasGoodFieldLine bytes
 
 -- the bytes are field lines, an empty line, and what is behind them
 abbrev pub EndsFields : List ℕ → List Header → List ℕ → Type 0

@@ -138,7 +138,8 @@ impl TextBytes {
 
     // A copy of the bytes, in place where they are few. An error where there is no memory for more of them.
     fn copied(alloc: Global, bytes: &[u8]) -> Result<TextBytes, AllocError>
-        ensures { IfOk result (λ t. text_bytes t ≡ bytes.now) }
+        ensures text { IfOk result (λ t. text_bytes t ≡ bytes.now) }
+        ensures short { length bytes.now ≤ 30 → IsOk result }
     {
         if bytes.len() <= SHORT {
             return Ok(TextBytes::Short(ShortBytes::copied(bytes)));
@@ -158,7 +159,8 @@ impl TextBytes {
 
     // A copy of the text's bytes.
     fn try_clone(&self) -> Result<TextBytes, AllocError>
-        ensures { IfOk result (λ t. text_bytes t ≡ text_bytes self.now) }
+        ensures text { IfOk result (λ t. text_bytes t ≡ text_bytes self.now) }
+        ensures short { length (text_bytes self.now) ≤ 30 → IsOk result }
     {
         match self {
             TextBytes::Short(short) => Ok(TextBytes::Short(*short)),
@@ -191,10 +193,12 @@ impl AsciiString {
         })
     }
 
-    /// A copy of bytes that are all below 128, which isn't checked again. An error where there is no memory for it.
+    /// A copy of bytes that are all below 128, which isn't checked again. An error where there is no memory for it; up
+    /// to 30 bytes none is wanted.
     pub(crate) fn copied_unchecked(alloc: Global, bytes: &[u8]) -> Result<AsciiString, AllocError>
         requires { IsAscii bytes.now }
-        ensures { IfOk result (λ s. s ≡ bytes.now) }
+        ensures text { IfOk result (λ s. s ≡ bytes.now) }
+        ensures short { length bytes.now ≤ 30 → IsOk result }
     {
         let text = TextBytes::copied(alloc, bytes)?;
         Ok(AsciiString { text })
@@ -245,9 +249,10 @@ impl AsciiString {
         self.as_ascii().eq_ignore_ascii_case(other)
     }
 
-    /// A copy of the text, or an error where there is no memory for it.
+    /// A copy of the text, or an error where there is no memory for it. Up to 30 bytes none is wanted.
     pub fn try_clone(&self) -> Result<AsciiString, AllocError>
-        ensures { IfOk result (λ s. s ≡ self.now) }
+        ensures text { IfOk result (λ s. s ≡ self.now) }
+        ensures short { length self.now ≤ 30 → IsOk result }
     {
         let text = self.text.try_clone()?;
         Ok(AsciiString { text })

@@ -1,14 +1,15 @@
 //! Texts copied.
-ghost use Rattle.std.specs.Prelude.{◌≡◌, IfOk};
+ghost use Rattle.std.specs.Prelude.{◌≡◌, ◌≤◌, length, IfOk, IsOk};
 ghost use Rattle.tiny_http_text.specs.Bytes.{AreAscii};
 
 use crate::ascii::AsciiString;
 use std::alloc::{AllocError, Global};
 
-/// A copy of the text, or an error where there is no memory for it.
+/// A copy of the text, or an error where there is no memory for it. Up to 30 bytes none is wanted.
 pub fn owned(alloc: Global, text: &[u8]) -> Result<AsciiString, AllocError>
     requires { AreAscii text.now }
-    ensures { IfOk result (λ s. s ≡ text.now) }
+    ensures text { IfOk result (λ s. s ≡ text.now) }
+    ensures short { length text.now ≤ 30 → IsOk result }
 {
     AsciiString::copied_unchecked(alloc, text)
 }

@@ -4,7 +4,7 @@ use Rattle.tiny_http_standard_head.proofs.LinesLemmas.{encoded-ascii, encoded-is
 use Rattle.tiny_http_standard_head.proofs.lines.percent_encoded.Goals as goal
 
 pub returns-then-are_ascii : goal.returns-then-are_ascii
-returns-then-are_ascii c = rw (encoded-ascii c.args.value.now (search rules)) c.owned.ensures
+returns-then-are_ascii c = rw (encoded-ascii c.args.value.now (search rules)) c.owned.ensures.text
 
 pub owned-requires-2 : goal.owned-requires-2
 owned-requires-2 c =

@@ -1,4 +1,4 @@
-use Rattle.std.proofs.Common.{◌≡◌, ◌≤◌}
+use Rattle.std.proofs.Common.{◌≡◌, ◌≤◌, []}
 use Rattle.tiny_http_io.specs.Source.{GoesOn}
 use Rattle.tiny_http_standard_head.specs.SourceHeads.{HasReadFields}
 use Rattle.tiny_http_standard_head.proofs.source_heads.read_fields.Given as goal
@@ -9,6 +9,7 @@ invariant-loop-header g l = record {
   shorter : l.left ≤ l.fn.left;
   goes_on : GoesOn l.fn.source.feed l.source.feed;
   stop : l.source.stop ≡ l.fn.source.stop;
+  first : l.headers.items ≡ [] → (l.left ≡ l.fn.left) × (l.source.feed ≡ l.fn.source.feed);
   standing : l.source.standing ≡ l.fn.source.standing;
 }
 
