@@ -190,6 +190,7 @@ fn other_data_of_unknown_length(rt: HostRuntime) -> Result<(), Fail> {
     Ok(())
 }
 
+mod calls;
 mod file;
 mod making;
 mod readable;
