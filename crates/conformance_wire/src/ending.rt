@@ -13,25 +13,27 @@ struct FailsFirst {
 }
 
 impl FailsFirst {
-    // The bytes of a call: all, or the fault of the first one.
-    fn call(&mut self, count: usize) -> io::Result<usize> {
+    // Counts a call. The first one fails.
+    fn call(&mut self) -> io::Result<()> {
         self.calls = self.calls.saturating_add(1);
         if self.calls == 1 {
             return Err(self.kind.into());
         }
-        Ok(count)
+        Ok(())
     }
 }
 
 impl Read for FailsFirst {
     fn read(&mut self, buf: &mut [u8]) -> io::Result<usize> {
-        self.call(buf.len())
+        self.call()?;
+        Ok(buf.len())
     }
 }
 
 impl Write for FailsFirst {
     fn write(&mut self, buf: &[u8]) -> io::Result<usize> {
-        self.call(buf.len())
+        self.call()?;
+        Ok(buf.len())
     }
 
     fn flush(&mut self) -> io::Result<()> {
