@@ -3,6 +3,7 @@ use crate::findings::{add, add_kind, add_shown, add_some};
 use crate::row::{Finding, Input};
 use std::alloc::{AllocError, Global};
 use tiny_http_client::answer::{Answer, AnswerFault, read_answer};
+use tiny_http_client::answer_head::read_answer_head;
 use tiny_http_wire::chunked::{ChunkRules, Decoder};
 use tiny_http_wire::common::{Header, Method};
 use tiny_http_wire::device::{ByPieces, Canned, ReadDevice, Stop};
@@ -69,6 +70,24 @@ pub fn read_answers(
         rest = rest.get(taken..).unwrap_or_default();
     }
     add(alloc, to, "rest", rest)
+}
+
+/// The head of an answer and how many bytes it took; or that it is unfinished, or why it is refused.
+pub fn read_head_alone(
+    alloc: Global,
+    bytes: &[u8],
+    to: &mut Vec<Finding>,
+) -> Result<(), AllocError> {
+    match read_answer_head(alloc, bytes) {
+        Ok(Some((head, taken))) => {
+            add_shown(alloc, to, "answer", &head.status.0)?;
+            add_shown(alloc, to, "taken", &taken)?;
+            add_shown(alloc, to, "version", &head.version)?;
+            add_headers(alloc, to, head.headers.as_slice())
+        }
+        Ok(None) => add(alloc, to, "unfinished", b""),
+        Err(fault) => add_shown(alloc, to, "refused", &fault),
+    }
 }
 
 // The most reads up to the end of some data.

@@ -89,6 +89,7 @@ fn chunk_rules(words: &str) -> Result<ChunkRules, LineFault> {
 // The call of this name that takes parts alone.
 fn bare_call(name: &str) -> Option<Call> {
     match name {
+        "read_answer_head" => Some(Call::AnswerHead),
         "put_chunk" => Some(Call::PutChunk),
         "put_chunked" => Some(Call::PutChunked),
         "asked_coding" => Some(Call::AskedCoding),

@@ -30,7 +30,7 @@ pub fn empty_input(alloc: Global) -> Input {
 // The parts that a call takes.
 fn parts_of(call: &Call) -> &'static [&'static str] {
     match call {
-        Call::Answers(_) => &["data", "series"],
+        Call::Answers(_) | Call::AnswerHead => &["data", "series"],
         Call::Decoder(_) => &["data", "series", "stop"],
         Call::PutChunk => &["data", "series"],
         Call::PutChunked => &["data", "series", "stop", "rooms"],

@@ -45,6 +45,8 @@ pub enum Call {
     Text(TextCall, String),
     /// The answers to requests of these methods are read, one after another, by `read_answer`.
     Answers(Vec<Method>),
+    /// The head of an answer is read alone, by `read_answer_head`.
+    AnswerHead,
     /// A chunked body is read by a `Decoder` of these rules.
     Decoder(ChunkRules),
     /// Bytes are written as one chunk, by `put_chunk`.

@@ -1,5 +1,5 @@
 //! Tries the calls of rows, and reports those that differ.
-use crate::bodies::{decode, read_answers};
+use crate::bodies::{decode, read_answers, read_head_alone};
 use crate::findings::{add, add_some};
 use crate::headers::add_to_answer;
 use crate::reading::RowFile;
@@ -47,6 +47,7 @@ fn make_call(
         Call::Answers(methods) => {
             read_answers(alloc, methods.as_slice(), input.bytes.as_slice(), to)
         }
+        Call::AnswerHead => read_head_alone(alloc, input.bytes.as_slice(), to),
         Call::Decoder(rules) => decode(alloc, *rules, input, piece, to),
         Call::PutChunk => write_chunk(alloc, input, to),
         Call::PutChunked => write_chunked(alloc, input, room, to),

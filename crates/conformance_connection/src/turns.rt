@@ -4,6 +4,7 @@ use std::alloc::Global;
 use std::process::Abort;
 use std::test::Fail;
 use tiny_http_core::turns::{Finishing, Leaving, Turns, TurnsError};
+use tiny_http_turns::by_number::ByNumber;
 
 fn text(alloc: Global, text: &[u8]) -> Result<Vec<u8>, Fail> {
     Ok(text.to_vec(alloc)?)
@@ -170,5 +171,17 @@ fn a_hundred_thousand_turns(rt: HostRuntime) -> Result<(), Fail> {
         assert_same(&rt, pass_one(&mut turns)?, number);
     }
     assert_same(&rt, turns.issue(), Ok(100_000));
+    Ok(())
+}
+
+// What is kept under a number, however many there are.
+#[test]
+fn many_numbers_are_kept(rt: HostRuntime) -> Result<(), Fail> {
+    let mut kept = ByNumber::new(rt.alloc());
+    for number in 0..70_000u64 {
+        kept.push(Some(number))?;
+    }
+    assert_same(&rt, kept.len(), 70_000);
+    assert_same(&rt, kept.get(69_999).copied(), Some(69_999));
     Ok(())
 }

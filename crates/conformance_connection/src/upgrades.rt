@@ -2,13 +2,14 @@
 use crate::broken_answers::{Watched, lent};
 use crate::exchanges::{assert_read, date, request, source_of};
 use crate::runs::{AMPLE, DATED, assert_joined, assert_output, output_of};
-use crate::same::assert_same;
+use crate::same::{assert_same, assert_shown};
 use std::alloc::Global;
 use std::io::ErrorKind;
 use std::process::Abort;
 use std::test::Fail;
 use tiny_http_core::exchange::Exchange;
 use tiny_http_core::outlet::Outlet;
+use tiny_http_core::upgrading::UpgradeError;
 use tiny_http_wire::common::StatusCode;
 use tiny_http_wire::device::Budget;
 use tiny_http_wire::response::Response;
@@ -157,4 +158,23 @@ fn a_writer_that_fails_in_an_upgrade(rt: HostRuntime) -> Result<(), Fail> {
     assert_unreported(&rt, rt.alloc(), &mut exchange, &mut outlet)?;
     assert_unreported(&rt, rt.alloc(), &mut exchange, &mut outlet)?;
     assert_output(&rt, rt.alloc(), outlet, &["HTTP/1.1 1"])
+}
+
+#[test]
+fn errors_say_why(rt: HostRuntime) -> Result<(), Fail> {
+    for (error, wanted) in [
+        (UpgradeError::Protocol, "the protocol's name is not ASCII"),
+        (
+            UpgradeError::NotAsked,
+            "the request does not ask for this protocol, or is the last",
+        ),
+        (UpgradeError::Status, "the status code of an upgrade is 101"),
+        (
+            UpgradeError::UnfinishedBody,
+            "the request's body is not whole",
+        ),
+    ] {
+        assert_shown(&rt, rt.alloc(), &error, wanted)?;
+    }
+    Ok(())
 }

@@ -55,6 +55,8 @@ fn takes(rt: HostRuntime) -> Result<(), Fail> {
     assert_texts(&rt, &text);
     assert_lengths(&rt, &text);
     assert_equal_without_case(&rt, &text);
+    let debugged = format!(in rt.alloc(); "{text:?}")?;
+    assert_same(&rt, debugged.as_str(), "\" Ab\\t\"");
     assert_shown(&rt, rt.alloc(), &text, " Ab\t")
 }
 

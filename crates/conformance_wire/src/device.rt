@@ -180,6 +180,16 @@ fn a_budget_takes_its_bytes_and_then_fails(rt: HostRuntime) -> Result<(), Fail> 
     Ok(())
 }
 
+// Room is all that bounds a budget.
+#[test]
+fn a_budget_takes_many_bytes(rt: HostRuntime) -> Result<(), Fail> {
+    let bytes = [b'x'; 65_537];
+    let mut budget = Budget::new(rt.alloc(), 200_000, ErrorKind::BrokenPipe);
+    put_all(&mut budget, &[&bytes, &bytes])?;
+    assert_same(&rt, budget.into_bytes().len(), 131_074);
+    Ok(())
+}
+
 // Takes at most two bytes at a call, and of `!` none. Flushing fails.
 #[derive(Drop)]
 struct Slow(Vec<u8>);

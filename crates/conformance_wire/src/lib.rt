@@ -13,6 +13,8 @@ mod device;
 #[cfg(test)]
 mod encoder;
 #[cfg(test)]
+mod ending;
+#[cfg(test)]
 mod response;
 #[cfg(test)]
 mod same;

@@ -212,6 +212,7 @@ fn other_data_of_unknown_length(rt: HostRuntime) -> Result<(), Fail> {
     Ok(())
 }
 
+mod calls;
 mod file;
 mod making;
 mod readable;
