@@ -1,7 +1,8 @@
 //! Plays a scene: line after line, and what is beside on threads of its own.
 use crate::hands::{Hands, get, take};
+use crate::links::Host;
 use crate::requests::{act_output, act_request};
-use crate::serving::{act_server, connect, first_hands, place_of};
+use crate::serving::{act_server, connect, first_hands, place_of, take_descriptors};
 use data_files::text::text_of;
 use scene_files::deed::{ClientDeed, Deed, deed_in};
 use scene_files::mishap::{Mishap, demand};
@@ -14,7 +15,6 @@ use std::thread;
 use std::thread::JoinHandle;
 use std::time::{Clock, Duration, Instant};
 use tiny_http::connection::SocketFiles;
-use tiny_http::server::Host;
 
 // How many milliseconds a thread that waits is watched.
 const WATCHED: u64 = 20;
@@ -111,6 +111,7 @@ fn act_client<R: Host>(
         ClientDeed::IsCutOff(text) => client.is_cut_off(text_of(alloc, text)?.as_slice()),
         ClientDeed::Sips(count, millis) => client.sip(rt, count, millis),
         ClientDeed::Gets(text) => client.gets(text_of(alloc, text)?.as_slice()),
+        ClientDeed::DateChanged => client.date_changed(),
         ClientDeed::Counts(least, most) => client.counts(least, most),
         ClientDeed::IsIdle(millis) => client.is_idle(rt, millis),
         ClientDeed::IsClosed => client.is_closed(),
@@ -127,6 +128,11 @@ fn act<R: Host>(rt: &R, alloc: Global, hands: &mut Hands<R>, deed: Deed<'_>) -> 
         Deed::Server(deed) => act_server(rt, alloc, hands, deed),
         Deed::Request(name, deed) => act_request(rt, alloc, hands, name, deed),
         Deed::Output(name, deed) => act_output(alloc, hands, name, deed),
+        Deed::Descriptors(Some(left)) => take_descriptors(rt, hands, left),
+        Deed::Descriptors(None) => {
+            hands.taken.clear();
+            Ok(())
+        }
         Deed::Pause(millis) => {
             thread::sleep(rt, Duration::from_millis(millis));
             Ok(())
