@@ -19,7 +19,11 @@ const BAD: &[(&str, usize, &str)] = &[
         4,
         "an earlier scene has this name",
     ),
-    ("scene a\nann connects\n", 2, "a scene begins with its server"),
+    (
+        "scene a\nann connects\n",
+        2,
+        "a scene begins with its server",
+    ),
     ("scene a\nserver lenient, quick\n", 2, "no such server"),
     ("scene a\nserver lenient,tcp\n", 2, "no such server"),
     ("scene a\nserver head_tim 5\n", 2, "no such server"),
@@ -159,25 +163,38 @@ fn lines_that_are_none_of_a_scene(rt: HostRuntime) -> Result<(), Fail> {
     Ok(())
 }
 
-const GOOD: &str = "# a\nscene a\nserver tcp\nann connects\n\nscene b\nserver standard, unix, head_time 5, both, alone, \
+const GOOD: &str =
+    "# a\nscene a\nserver tcp\nann connects\n\nscene b\nserver standard, unix, head_time 5, both, alone, \
     fails, repeat 7\nbeside bob\n  pause 1\nbob ends\n";
 
 #[test]
 fn a_file_of_two_scenes(rt: HostRuntime) -> Result<(), Fail> {
     let Ok(scenes) = read_scenes(rt.alloc(), "a.scenes", GOOD.as_bytes()) else {
-        return Err(Fail);
+        return Err("no scene".into());
     };
     assert_same(&rt, scenes.len(), 2);
     let (Some(one), Some(two)) = (scenes.first(), scenes.get(1)) else {
-        return Err(Fail);
+        return Err("no scene".into());
     };
     assert_same(&rt, (one.name.as_str(), two.name.as_str()), ("a", "b"));
     let (plain, odd) = (one.ground, two.ground);
     assert_same(&rt, plain.over == Over::Tcp && odd.over == Over::Unix, true);
-    assert_same(&rt, (plain.is_both, plain.is_alone, plain.has_to_fail), (false, false, false));
-    assert_same(&rt, (odd.is_both, odd.is_alone, odd.has_to_fail), (true, true, true));
+    assert_same(
+        &rt,
+        (plain.is_both, plain.is_alone, plain.has_to_fail),
+        (false, false, false),
+    );
+    assert_same(
+        &rt,
+        (odd.is_both, odd.is_alone, odd.has_to_fail),
+        (true, true, true),
+    );
     assert_same(&rt, (plain.repeats, odd.repeats), (1, 7));
-    assert_same(&rt, (plain.profile, odd.profile), (Profile::Lenient, Profile::Standard));
+    assert_same(
+        &rt,
+        (plain.profile, odd.profile),
+        (Profile::Lenient, Profile::Standard),
+    );
     let time = odd.limits.map(|limits| limits.head_time.as_millis());
     assert_same(&rt, (plain.limits.is_some(), time), (false, Some(5)));
     for (line, (number, text, is_inner)) in two.lines.iter().zip(&LINES) {
