@@ -100,6 +100,8 @@ const NO_LINES: &[&str] = &[
     "clock stops",
     "clock below",
     "clock above x",
+    "clock laps twice",
+    "clock shortest",
     "descriptors",
     "descriptors left",
     "descriptors back 1",

@@ -194,6 +194,10 @@ pub enum Deed<'a> {
     ClockBelow(u64),
     /// At least this many have.
     ClockAbove(u64),
+    /// The clock starts anew, and the time that it shows counts as a lap.
+    ClockLap,
+    /// The shortest lap took less than this many milliseconds.
+    ShortestLap(u64),
     /// What is indented below is done on a thread of this name.
     Beside(&'a str),
     /// That thread ends, within this many milliseconds.
@@ -478,8 +482,10 @@ fn fault_in(rest: &str) -> Option<Option<ErrorKind>> {
 fn clock_deed(text: &str) -> Option<Deed<'_>> {
     match text.split_once(' ') {
         None if text == "starts" => Some(Deed::ClockStarts),
+        None if text == "laps" => Some(Deed::ClockLap),
         Some(("below", millis)) => Some(Deed::ClockBelow(millis_in(millis)?)),
         Some(("above", millis)) => Some(Deed::ClockAbove(millis_in(millis)?)),
+        Some(("shortest", millis)) => Some(Deed::ShortestLap(millis_in(millis)?)),
         _ => None,
     }
 }

@@ -39,6 +39,8 @@ pub(crate) struct Hands<R: Net + SocketFiles + Wait + Clock + Drop> {
     pub requests: Vec<Named<ServerRequest<R>>>,
     pub outputs: Vec<Named<Output<R>>>,
     pub clock: Option<Instant>,
+    /// How many milliseconds the shortest lap took, if there was one.
+    pub shortest: Option<u64>,
     /// Descriptors that nobody else can have meanwhile.
     pub taken: Vec<OwnedFd>,
 }
@@ -144,6 +146,7 @@ impl<R: Net + SocketFiles + Wait + Clock + Drop> Hands<R> {
             requests: part_of(alloc, &mut self.requests, lines)?,
             outputs: part_of(alloc, &mut self.outputs, lines)?,
             clock: None,
+            shortest: None,
             taken: Vec::new(alloc),
         })
     }
@@ -159,6 +162,7 @@ impl<R: Net + SocketFiles + Wait + Clock + Drop> Hands<R> {
             requests,
             outputs,
             clock: _,
+            shortest: _,
             taken: _,
         } = part;
         add_all(&mut self.clients, clients)?;

@@ -70,14 +70,15 @@ fn clock_of<R: Host>(rt: &R, hands: &Hands<R>) -> Result<u64, Mishap> {
     }
 }
 
-// The clock shows less than this, or at least this.
-fn demand_clock<R: Host>(
-    rt: &R,
-    alloc: Global,
-    hands: &Hands<R>,
-    (millis, is_below): (u64, bool),
-) -> Result<(), Mishap> {
-    let gone = clock_of(rt, hands)?;
+// A lap ends, and the next one begins.
+fn end_lap<R: Host>(rt: &R, hands: &mut Hands<R>) -> Result<(), Mishap> {
+    let lap = clock_of(rt, hands)?;
+    hands.shortest = Some(hands.shortest.map_or(lap, |shortest| shortest.min(lap)));
+    start_clock(rt, hands)
+}
+
+// So many milliseconds are less than this, or at least this.
+fn demand_time(alloc: Global, gone: u64, (millis, is_below): (u64, bool)) -> Result<(), Mishap> {
     if (gone < millis) == is_below {
         return Ok(());
     }
@@ -138,8 +139,12 @@ fn act<R: Host>(rt: &R, alloc: Global, hands: &mut Hands<R>, deed: Deed<'_>) -> 
             Ok(())
         }
         Deed::ClockStarts => start_clock(rt, hands),
-        Deed::ClockBelow(millis) => demand_clock(rt, alloc, hands, (millis, true)),
-        Deed::ClockAbove(millis) => demand_clock(rt, alloc, hands, (millis, false)),
+        Deed::ClockBelow(millis) => demand_time(alloc, clock_of(rt, hands)?, (millis, true)),
+        Deed::ClockAbove(millis) => demand_time(alloc, clock_of(rt, hands)?, (millis, false)),
+        Deed::ClockLap => end_lap(rt, hands),
+        Deed::ShortestLap(millis) => {
+            demand_time(alloc, hands.shortest.unwrap_or(u64::MAX), (millis, true))
+        }
         Deed::Beside(_) | Deed::Ends(..) | Deed::Waits(_) => {
             Err(Mishap::Unplayable("a thread begins no other"))
         }

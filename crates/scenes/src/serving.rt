@@ -145,6 +145,7 @@ pub(crate) fn first_hands<R: Host>(
         requests: Vec::new(alloc),
         outputs: Vec::new(alloc),
         clock: None,
+        shortest: None,
         taken: Vec::new(alloc),
     })
 }
