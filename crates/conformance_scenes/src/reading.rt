@@ -124,6 +124,7 @@ const NO_LINES: &[&str] = &[
     "server counts 400",
     "server counts 400 from",
     "server counts 400 = x",
+    "server accept_faults = 5",
     "server rival = ok",
     "server with file = ok",
     "server followed by",

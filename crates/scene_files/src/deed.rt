@@ -73,6 +73,8 @@ pub enum ServerDeed<'a> {
     Count(&'a str, u64),
     /// In time it is this number, or above.
     CountFrom(&'a str, u64),
+    /// At least this many faults of accepting are counted now, by the call that has them alone.
+    AcceptFaults(u64),
     /// The handler that waits at its gate goes on.
     OpensGate,
     /// Whether the file of the Unix socket is there.
@@ -326,6 +328,9 @@ fn server_deed(text: &str) -> Option<ServerDeed<'_>> {
         ("counts", text) => {
             let (field, digits) = text.split_once(" from ")?;
             Some(ServerDeed::CountFrom(field, millis_in(digits)?))
+        }
+        ("accept_faults", text) => {
+            Some(ServerDeed::AcceptFaults(millis_in(text.strip_prefix("from ")?)?))
         }
         ("unblock", "") => Some(ServerDeed::Unblock),
         ("drop", "") => Some(ServerDeed::Drop),

@@ -586,6 +586,10 @@ pub(crate) fn act_server<R: Host>(
         ServerDeed::CountFrom(field, number) => {
             demand_count(rt, alloc, hands.server()?, (field, number, true))
         }
+        ServerDeed::AcceptFaults(least) => {
+            let holds = hands.server()?.accept_faults() >= least;
+            demand(alloc, "as many faults of accepting are counted", holds)
+        }
         ServerDeed::OpensGate => {
             hands.handler.gate.store(true, Ordering::SeqCst);
             Ok(())
