@@ -5,7 +5,7 @@ use std::io::ErrorKind;
 use std::net::{Net, Shutdown, TcpListener, TcpStream};
 use std::os::unix::net::UnixStream;
 use std::time::{Clock, Duration, Instant};
-use std::{io, thread};
+use std::{io, mem, thread};
 use tiny_http_socket::connection::{Connection, ListenAddr};
 
 // How many reads wait for bytes that have to come. Each waits for some milliseconds, by the clock of the system's
@@ -43,6 +43,8 @@ pub struct Client {
     socket: Connection,
     came: Vec<u8>,
     end: Option<End>,
+    // The last two texts that were looked at, the later one first.
+    seen: (Vec<u8>, Vec<u8>),
 }
 
 // The bytes, with the date of all scenes in place of each date.
@@ -61,6 +63,13 @@ fn dated(alloc: Global, bytes: &[u8]) -> Result<Vec<u8>, AllocError> {
         }
     }
     Ok(all)
+}
+
+// The last header with a date.
+fn last_date(bytes: &[u8]) -> Option<&[u8]> {
+    bytes
+        .windows(DATE_LENGTH)
+        .rfind(|part| part.starts_with(DATE))
 }
 
 // A connection to this address.
@@ -91,6 +100,7 @@ impl Client {
                 socket,
                 came: Vec::new(alloc),
                 end: None,
+                seen: (Vec::new(alloc), Vec::new(alloc)),
             }),
             Err(_) => Err(Mishap::Unplayable("it can't connect")),
         }
@@ -191,9 +201,22 @@ impl Client {
         self.read_up_to(wanted.len())?;
         let count = wanted.len().min(self.came.len());
         let rest = self.came.split_off(count)?;
-        let front = dated(self.alloc, self.came.as_slice())?;
-        self.came = rest;
-        demand_bytes(self.alloc, wanted, front.as_slice())
+        let front = mem::replace(&mut self.came, rest);
+        let text = dated(self.alloc, front.as_slice())?;
+        let before = mem::replace(&mut self.seen.0, front);
+        self.seen.1 = before;
+        demand_bytes(self.alloc, wanted, text.as_slice())
+    }
+
+    /// The last date of the last text differs from that of the text before.
+    pub fn date_changed(&mut self) -> Result<(), Mishap> {
+        let (last, before) = (
+            last_date(self.seen.0.as_slice()),
+            last_date(self.seen.1.as_slice()),
+        );
+        let has_both = last.is_some() && before.is_some();
+        demand(self.alloc, "there are two dates", has_both)?;
+        demand(self.alloc, "the date changed", last != before)
     }
 
     /// From `least` to `most` bytes come up to the end.

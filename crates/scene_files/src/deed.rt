@@ -18,6 +18,8 @@ pub enum ClientDeed<'a> {
     Sips(usize, u64),
     /// The next bytes are this text.
     Gets(&'a str),
+    /// The last date of the last text differs from that of the text before.
+    DateChanged,
     /// As many bytes come up to the end: at least the first number, and at most the second.
     Counts(usize, usize),
     /// No byte comes, and no end, for this many milliseconds.
@@ -69,12 +71,20 @@ pub enum ServerDeed<'a> {
     ClientsNow(usize),
     /// In time this count is this number.
     Count(&'a str, u64),
+    /// In time it is this number, or above.
+    CountFrom(&'a str, u64),
+    /// At least this many faults of accepting are counted now, by the call that has them alone.
+    AcceptFaults(u64),
     /// The handler that waits at its gate goes on.
     OpensGate,
     /// Whether the file of the Unix socket is there.
     File(bool),
-    /// In time nobody listens at the address.
+    /// The file of the Unix socket gets a second name.
+    LinksFile,
+    /// Nobody listens at the address: of TCP in time, and by the second name of a Unix socket's file now.
     IsFree,
+    /// A second server at the same address takes its place, and it is dropped.
+    IsFollowed,
     /// A second server at the same address is refused by this kind.
     Rival(ErrorKind),
     /// A server with limits at a path where this is already: the kind by which it is refused, if it is.
@@ -90,6 +100,8 @@ pub enum Found {
     Live,
     /// A file that is no socket.
     Plain,
+    /// A link to a socket on which nobody listens.
+    Link,
 }
 
 /// The data of an answer.
@@ -175,6 +187,8 @@ pub enum Deed<'a> {
     Server(ServerDeed<'a>),
     Request(&'a str, RequestDeed<'a>),
     Output(&'a str, OutputDeed<'a>),
+    /// All descriptors of the process are taken but this many, or all of them are given back.
+    Descriptors(Option<usize>),
     /// Nothing is done for this many milliseconds.
     Pause(u64),
     ClockStarts,
@@ -182,6 +196,10 @@ pub enum Deed<'a> {
     ClockBelow(u64),
     /// At least this many have.
     ClockAbove(u64),
+    /// The clock starts anew, and the time that it shows counts as a lap.
+    ClockLap,
+    /// The shortest lap took less than this many milliseconds.
+    ShortestLap(u64),
     /// What is indented below is done on a thread of this name.
     Beside(&'a str),
     /// That thread ends, within this many milliseconds.
@@ -228,6 +246,7 @@ fn client_deed<'a>(verb: &str, rest: &'a str) -> Option<ClientDeed<'a>> {
             Some(ClientDeed::Sips(number_in(count)?, millis_in(millis)?))
         }
         ("gets", text) => Some(ClientDeed::Gets(text)),
+        ("date-changed", "") => Some(ClientDeed::DateChanged),
         ("counts", numbers) => {
             let (least, most) = numbers.split_once(" to ")?;
             Some(ClientDeed::Counts(number_in(least)?, number_in(most)?))
@@ -285,6 +304,7 @@ fn call_of_server<'a>(call: &'a str, outcome: &'a str) -> Option<ServerDeed<'a>>
         ("rival", "") => Some(ServerDeed::Rival(kind_of(outcome)?)),
         ("with", "stale socket") => Some(ServerDeed::At(Found::Stale, served_in(outcome)?)),
         ("with", "live socket") => Some(ServerDeed::At(Found::Live, served_in(outcome)?)),
+        ("with", "link") => Some(ServerDeed::At(Found::Link, served_in(outcome)?)),
         ("with", "plain file") => Some(ServerDeed::At(Found::Plain, served_in(outcome)?)),
         _ => None,
     }
@@ -305,11 +325,20 @@ fn server_deed(text: &str) -> Option<ServerDeed<'_>> {
             let (target, name) = given.split_once(" as ")?;
             Some(ServerDeed::Keeps(target, name))
         }
+        ("counts", text) => {
+            let (field, digits) = text.split_once(" from ")?;
+            Some(ServerDeed::CountFrom(field, millis_in(digits)?))
+        }
+        ("accept_faults", text) => {
+            Some(ServerDeed::AcceptFaults(millis_in(text.strip_prefix("from ")?)?))
+        }
         ("unblock", "") => Some(ServerDeed::Unblock),
         ("drop", "") => Some(ServerDeed::Drop),
         ("opens", "its gate") => Some(ServerDeed::OpensGate),
         ("file", "there") => Some(ServerDeed::File(true)),
         ("file", "gone") => Some(ServerDeed::File(false)),
+        ("file", "linked") => Some(ServerDeed::LinksFile),
+        ("followed", "") => Some(ServerDeed::IsFollowed),
         ("address", "free") => Some(ServerDeed::IsFree),
         _ => None,
     }
@@ -458,8 +487,19 @@ fn fault_in(rest: &str) -> Option<Option<ErrorKind>> {
 fn clock_deed(text: &str) -> Option<Deed<'_>> {
     match text.split_once(' ') {
         None if text == "starts" => Some(Deed::ClockStarts),
+        None if text == "laps" => Some(Deed::ClockLap),
         Some(("below", millis)) => Some(Deed::ClockBelow(millis_in(millis)?)),
         Some(("above", millis)) => Some(Deed::ClockAbove(millis_in(millis)?)),
+        Some(("shortest", millis)) => Some(Deed::ShortestLap(millis_in(millis)?)),
+        _ => None,
+    }
+}
+
+// What is said of descriptors.
+fn descriptors_deed(text: &str) -> Option<Deed<'_>> {
+    match text.split_once(' ') {
+        None if text == "back" => Some(Deed::Descriptors(None)),
+        Some(("left", digits)) => Some(Deed::Descriptors(Some(number_in(digits)?))),
         _ => None,
     }
 }
@@ -480,6 +520,7 @@ pub fn deed_in(line: &str) -> Option<Deed<'_>> {
     match who {
         "pause" => return Some(Deed::Pause(millis_in(what)?)),
         "clock" => return clock_deed(what),
+        "descriptors" => return descriptors_deed(what),
         "beside" => return Some(Deed::Beside(what)),
         "server" => return Some(Deed::Server(server_deed(what)?)),
         _ => {}

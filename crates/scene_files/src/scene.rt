@@ -37,6 +37,10 @@ pub struct Ground {
     pub limits: Option<Limits>,
     /// Whether the scene is played a second time, by a handler.
     pub is_both: bool,
+    /// Whether no other scene is played beside it.
+    pub is_alone: bool,
+    /// Whether it has to fail.
+    pub has_to_fail: bool,
     /// How often it is played.
     pub repeats: usize,
 }
@@ -94,6 +98,8 @@ fn add_word(ground: &mut Ground, word: &str) -> Option<()> {
         "nonblocking" => ground.over = Over::Nonblocking,
         "limits" => ground.limits = Some(Limits::new()),
         "both" => ground.is_both = true,
+        "alone" => ground.is_alone = true,
+        "fails" => ground.has_to_fail = true,
         _ => {
             let (name, digits) = word.split_once(' ')?;
             let number = number_in(digits)?;
@@ -116,6 +122,8 @@ fn ground_in(words: &str) -> Option<Ground> {
         over: Over::Tcp,
         limits: None,
         is_both: false,
+        is_alone: false,
+        has_to_fail: false,
         repeats: 1,
     };
     for word in words.split(", ") {

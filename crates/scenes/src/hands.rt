@@ -6,6 +6,7 @@ use scene_files::scene::{Line, Way};
 use std::alloc::{AllocError, Global};
 use std::mem;
 use std::net::Net;
+use std::os::fd::OwnedFd;
 use std::sync::{Arc, Wait};
 use std::time::{Clock, Instant};
 use tiny_http::StreamedBody;
@@ -38,6 +39,10 @@ pub(crate) struct Hands<R: Net + SocketFiles + Wait + Clock + Drop> {
     pub requests: Vec<Named<ServerRequest<R>>>,
     pub outputs: Vec<Named<Output<R>>>,
     pub clock: Option<Instant>,
+    /// How many milliseconds the shortest lap took, if there was one.
+    pub shortest: Option<u64>,
+    /// Descriptors that nobody else can have meanwhile.
+    pub taken: Vec<OwnedFd>,
 }
 
 // The place of a name. Of two that have it the later one.
@@ -141,6 +146,8 @@ impl<R: Net + SocketFiles + Wait + Clock + Drop> Hands<R> {
             requests: part_of(alloc, &mut self.requests, lines)?,
             outputs: part_of(alloc, &mut self.outputs, lines)?,
             clock: None,
+            shortest: None,
+            taken: Vec::new(alloc),
         })
     }
 
@@ -155,6 +162,8 @@ impl<R: Net + SocketFiles + Wait + Clock + Drop> Hands<R> {
             requests,
             outputs,
             clock: _,
+            shortest: _,
+            taken: _,
         } = part;
         add_all(&mut self.clients, clients)?;
         add_all(&mut self.requests, requests)?;

@@ -1,7 +1,8 @@
 //! Plays a scene: line after line, and what is beside on threads of its own.
 use crate::hands::{Hands, get, take};
+use crate::links::Host;
 use crate::requests::{act_output, act_request};
-use crate::serving::{act_server, connect, first_hands, place_of};
+use crate::serving::{act_server, connect, first_hands, place_of, take_descriptors};
 use data_files::text::text_of;
 use scene_files::deed::{ClientDeed, Deed, deed_in};
 use scene_files::mishap::{Mishap, demand};
@@ -14,7 +15,6 @@ use std::thread;
 use std::thread::JoinHandle;
 use std::time::{Clock, Duration, Instant};
 use tiny_http::connection::SocketFiles;
-use tiny_http::server::Host;
 
 // How many milliseconds a thread that waits is watched.
 const WATCHED: u64 = 20;
@@ -70,14 +70,15 @@ fn clock_of<R: Host>(rt: &R, hands: &Hands<R>) -> Result<u64, Mishap> {
     }
 }
 
-// The clock shows less than this, or at least this.
-fn demand_clock<R: Host>(
-    rt: &R,
-    alloc: Global,
-    hands: &Hands<R>,
-    (millis, is_below): (u64, bool),
-) -> Result<(), Mishap> {
-    let gone = clock_of(rt, hands)?;
+// A lap ends, and the next one begins.
+fn end_lap<R: Host>(rt: &R, hands: &mut Hands<R>) -> Result<(), Mishap> {
+    let lap = clock_of(rt, hands)?;
+    hands.shortest = Some(hands.shortest.map_or(lap, |shortest| shortest.min(lap)));
+    start_clock(rt, hands)
+}
+
+// So many milliseconds are less than this, or at least this.
+fn demand_time(alloc: Global, gone: u64, (millis, is_below): (u64, bool)) -> Result<(), Mishap> {
     if (gone < millis) == is_below {
         return Ok(());
     }
@@ -111,6 +112,7 @@ fn act_client<R: Host>(
         ClientDeed::IsCutOff(text) => client.is_cut_off(text_of(alloc, text)?.as_slice()),
         ClientDeed::Sips(count, millis) => client.sip(rt, count, millis),
         ClientDeed::Gets(text) => client.gets(text_of(alloc, text)?.as_slice()),
+        ClientDeed::DateChanged => client.date_changed(),
         ClientDeed::Counts(least, most) => client.counts(least, most),
         ClientDeed::IsIdle(millis) => client.is_idle(rt, millis),
         ClientDeed::IsClosed => client.is_closed(),
@@ -127,13 +129,22 @@ fn act<R: Host>(rt: &R, alloc: Global, hands: &mut Hands<R>, deed: Deed<'_>) -> 
         Deed::Server(deed) => act_server(rt, alloc, hands, deed),
         Deed::Request(name, deed) => act_request(rt, alloc, hands, name, deed),
         Deed::Output(name, deed) => act_output(alloc, hands, name, deed),
+        Deed::Descriptors(Some(left)) => take_descriptors(rt, hands, left),
+        Deed::Descriptors(None) => {
+            hands.taken.clear();
+            Ok(())
+        }
         Deed::Pause(millis) => {
             thread::sleep(rt, Duration::from_millis(millis));
             Ok(())
         }
         Deed::ClockStarts => start_clock(rt, hands),
-        Deed::ClockBelow(millis) => demand_clock(rt, alloc, hands, (millis, true)),
-        Deed::ClockAbove(millis) => demand_clock(rt, alloc, hands, (millis, false)),
+        Deed::ClockBelow(millis) => demand_time(alloc, clock_of(rt, hands)?, (millis, true)),
+        Deed::ClockAbove(millis) => demand_time(alloc, clock_of(rt, hands)?, (millis, false)),
+        Deed::ClockLap => end_lap(rt, hands),
+        Deed::ShortestLap(millis) => {
+            demand_time(alloc, hands.shortest.unwrap_or(u64::MAX), (millis, true))
+        }
         Deed::Beside(_) | Deed::Ends(..) | Deed::Waits(_) => {
             Err(Mishap::Unplayable("a thread begins no other"))
         }

@@ -1,13 +1,16 @@
 //! The server of a scene: how it is made, and its calls.
 use crate::handler::ByPath;
 use crate::hands::{Hands, add};
+use crate::links::Host;
 use scene_files::client::Client;
 use scene_files::deed::{Found, Given, ServerDeed};
 use scene_files::mishap::{Mishap, demand, demand_fault, demand_number, demand_text, differs};
 use scene_files::scene::{Ground, Over, Way};
-use std::alloc::Global;
+use std::alloc::{AllocError, Global};
 use std::io::ErrorKind;
 use std::net::TcpListener;
+use std::os::fd::OwnedFd;
+use std::os::unix::net::UnixStream;
 use std::path::{Path, PathBuf};
 use std::sync::Arc;
 use std::sync::atomic::{AtomicBool, Ordering};
@@ -16,7 +19,7 @@ use std::{io, thread};
 use tiny_http::connection::{ConfigListenAddr, ListenAddr, Listener};
 use tiny_http::counts::Counts;
 use tiny_http::messages_queue::MessagesQueue;
-use tiny_http::server::{Host, Server, ServerConfig, ServerError, ServerRequest, Stopped};
+use tiny_http::server::{Server, ServerConfig, ServerError, ServerRequest, Stopped};
 use tiny_http::{Limits, Profile};
 
 // How many seconds a request may take to come that has to.
@@ -24,6 +27,9 @@ const LONGEST: u64 = 10;
 
 // How often something is looked for that has to come, a millisecond apart.
 const TURNS: u32 = 10_000;
+
+// How many descriptors are taken at most. A process has no more by the system's own bound, unless that was raised.
+const MOST_DESCRIPTORS: u32 = 1_048_576;
 
 // How many requests the queue of those that are kept has room for at first.
 const KEPT_ROOM: usize = 8;
@@ -139,7 +145,31 @@ pub(crate) fn first_hands<R: Host>(
         requests: Vec::new(alloc),
         outputs: Vec::new(alloc),
         clock: None,
+        shortest: None,
+        taken: Vec::new(alloc),
     })
+}
+
+/// Takes all descriptors of the process but so many.
+pub(crate) fn take_descriptors<R: Host>(
+    rt: &R,
+    hands: &mut Hands<R>,
+    left: usize,
+) -> Result<(), Mishap> {
+    let Ok(listener) = TcpListener::bind(rt, "127.0.0.1:0") else {
+        return Err(Mishap::Unplayable("there is no descriptor"));
+    };
+    let first = OwnedFd::from(listener);
+    for _ in 0..MOST_DESCRIPTORS {
+        let Ok(next) = first.try_clone() else {
+            break;
+        };
+        hands.taken.push(next).map_err(AllocError::from)?;
+    }
+    hands.taken.push(first).map_err(AllocError::from)?;
+    let count = hands.taken.len().saturating_sub(left);
+    hands.taken.truncate(count);
+    Ok(())
 }
 
 // What a call gave is what the line says; the request gets its name.
@@ -255,12 +285,12 @@ fn count_in(counts: &Counts, field: &str) -> Option<u64> {
     })
 }
 
-// In time this count is this number.
+// In time this count is this number, or above where it may be.
 fn demand_count<R: Host>(
     rt: &R,
     alloc: Global,
     server: &Server<R>,
-    (field, wanted): (&str, u64),
+    (field, wanted, may_be_above): (&str, u64, bool),
 ) -> Result<(), Mishap> {
     let mut came = None;
     for _ in 0..TURNS {
@@ -271,15 +301,45 @@ fn demand_count<R: Host>(
         thread::sleep(rt, Duration::from_millis(1));
     }
     match came {
+        Some(came) if may_be_above && came > wanted => Ok(()),
         Some(came) => demand_number(alloc, wanted, came),
         None => Err(Mishap::Unplayable("there is no such count")),
     }
 }
 
-// In time nobody listens at the address of the server.
+// The path of the server's Unix socket.
+fn path_in(addr: &ListenAddr) -> Result<Path<'_>, Mishap> {
+    let ListenAddr::Unix(addr) = addr else {
+        return Err(Mishap::Unplayable("only a Unix socket has a path"));
+    };
+    match addr.as_pathname() {
+        Some(path) => Ok(path),
+        None => Err(Mishap::Unplayable("the socket has no path")),
+    }
+}
+
+// A path beside that of the server's Unix socket.
+fn path_beside(alloc: Global, addr: &ListenAddr) -> Result<String, Mishap> {
+    Ok(format!(in alloc; "{}.beside", path_in(addr)?.display())?)
+}
+
+// The file of the server's Unix socket gets another name, under which the socket is met once that file is gone.
+fn link_beside<R: Host>(rt: &R, alloc: Global, addr: &ListenAddr) -> Result<(), Mishap> {
+    let link = path_beside(alloc, addr)?;
+    match rt.hard_link(path_in(addr)?, Path::new(link.as_str())) {
+        Ok(()) => Ok(()),
+        Err(_) => Err(Mishap::Unplayable("no link can be made there")),
+    }
+}
+
+// Nobody listens at the address of the server: of TCP in time, and of a Unix socket now, by the link beside its file.
 fn demand_free<R: Host>(rt: &R, alloc: Global, addr: &ListenAddr) -> Result<(), Mishap> {
     let ListenAddr::IP(addr) = addr else {
-        return Err(Mishap::Unplayable("only an address of TCP gets free"));
+        let link = path_beside(alloc, addr)?;
+        let met = UnixStream::connect(rt, Path::new(link.as_str()));
+        let _ = rt.remove_socket(Path::new(link.as_str()));
+        let kind = met.err().map(|fault| fault.kind());
+        return demand_fault(alloc, Some(ErrorKind::ConnectionRefused), kind);
     };
     for _ in 0..TURNS {
         if TcpListener::bind(rt, *addr).is_ok() {
@@ -297,39 +357,50 @@ fn demand_file<R: Host>(
     addr: &ListenAddr,
     is_there: bool,
 ) -> Result<(), Mishap> {
-    let ListenAddr::Unix(addr) = addr else {
-        return Err(Mishap::Unplayable("only a Unix socket has a file"));
-    };
-    let Some(path) = addr.as_pathname() else {
-        return Err(Mishap::Unplayable("the socket has no path"));
-    };
     let words = if is_there {
         "the file is there"
     } else {
         "the file is gone"
     };
-    demand(alloc, words, rt.is_socket(path) == is_there)
+    demand(alloc, words, rt.is_socket(path_in(addr)?) == is_there)
 }
 
-// A second server where this one listens is refused by this kind.
+// A second server where this one listens.
+fn second_server<R: Host>(
+    rt: &R,
+    alloc: Global,
+    addr: &ListenAddr,
+) -> Result<Result<Server<R>, ServerError>, Mishap> {
+    match addr {
+        ListenAddr::IP(addr) => Ok(Server::http(*rt, alloc, *addr)),
+        ListenAddr::Unix(_) => Ok(Server::http_unix(*rt, alloc, path_in(addr)?)),
+    }
+}
+
+// A second server is refused by this kind.
 fn demand_rival<R: Host>(
     rt: &R,
     alloc: Global,
     addr: &ListenAddr,
     kind: ErrorKind,
 ) -> Result<(), Mishap> {
-    let made = match addr {
-        ListenAddr::IP(addr) => Server::http(*rt, alloc, *addr),
-        ListenAddr::Unix(addr) => match addr.as_pathname() {
-            Some(path) => Server::http_unix(*rt, alloc, path),
-            None => return Err(Mishap::Unplayable("the socket has no path")),
-        },
-    };
-    match made {
+    match second_server(rt, alloc, addr)? {
         Ok(_) => Err(differs(alloc, "no second server", "a second server")),
         Err(ServerError::Io(fault)) => demand_fault(alloc, Some(kind), Some(fault.kind())),
         Err(_) => Err(differs(alloc, "a fault of the system", "another one")),
     }
+}
+
+// A second server takes the place of the first, which goes.
+fn follow<R: Host>(rt: &R, alloc: Global, hands: &mut Hands<R>) -> Result<(), Mishap> {
+    let Ok(second) = second_server(rt, alloc, &hands.addr)? else {
+        return Err(Mishap::Unplayable("there is no second server here"));
+    };
+    let Ok(second) = Arc::new(alloc, second) else {
+        return Err(Mishap::OutOfMemory);
+    };
+    drop(hands.server.replace(second));
+    Ok(())
 }
 
 // The name of a file in the folder of the program, which is no socket.
@@ -360,6 +431,25 @@ fn made_at<R: Host>(
     Ok((refusal, is_there))
 }
 
+// The same where a link is at this path, to a socket on which nobody listens.
+fn made_at_link<R: Host>(
+    rt: &R,
+    alloc: Global,
+    link: &str,
+) -> Result<(Option<ErrorKind>, bool), Mishap> {
+    let target = format!(in alloc; "{link}.target")?;
+    let (target, link_path) = (Path::new(target.as_str()), Path::new(link));
+    drop(rt.bind_unix(target).ok());
+    if rt.symlink(target, link_path).is_err() {
+        return Err(Mishap::Unplayable("no link can be made there"));
+    }
+    let refusal = refusal_at(rt, alloc, link)?;
+    let is_there = rt.is_socket(target) && rt.bind_unix(link_path).is_err();
+    let _ = rt.remove_socket(link_path);
+    let _ = rt.remove_socket(target);
+    Ok((refusal, is_there))
+}
+
 // The kind by which a server with limits at this path is refused, if it is. One that is made goes at once.
 fn refusal_at<R: Host>(rt: &R, alloc: Global, path: &str) -> Result<Option<ErrorKind>, Mishap> {
     let Ok(config) = config_of(rt, alloc, Place::Path(path)) else {
@@ -380,17 +470,11 @@ fn demand_made_at<R: Host>(
     (addr, found): (&ListenAddr, Found),
     wanted: Option<ErrorKind>,
 ) -> Result<(), Mishap> {
-    let ListenAddr::Unix(addr) = addr else {
-        return Err(Mishap::Unplayable("only a Unix socket has a path"));
-    };
-    let Some(path) = addr.as_pathname() else {
-        return Err(Mishap::Unplayable("the socket has no path"));
-    };
-    let beside = format!(in alloc; "{}.beside", path.display())?;
-    let (refusal, is_there) = if found == Found::Plain {
-        made_at(rt, alloc, PLAIN, found)?
-    } else {
-        made_at(rt, alloc, beside.as_str(), found)?
+    let beside = path_beside(alloc, addr)?;
+    let (refusal, is_there) = match found {
+        Found::Plain => made_at(rt, alloc, PLAIN, found)?,
+        Found::Link => made_at_link(rt, alloc, beside.as_str())?,
+        Found::Stale | Found::Live => made_at(rt, alloc, beside.as_str(), found)?,
     };
     demand_fault(alloc, wanted, refusal)?;
     if found == Found::Stale {
@@ -497,13 +581,22 @@ pub(crate) fn act_server<R: Host>(
             )
         }
         ServerDeed::Count(field, number) => {
-            demand_count(rt, alloc, hands.server()?, (field, number))
+            demand_count(rt, alloc, hands.server()?, (field, number, false))
+        }
+        ServerDeed::CountFrom(field, number) => {
+            demand_count(rt, alloc, hands.server()?, (field, number, true))
+        }
+        ServerDeed::AcceptFaults(least) => {
+            let holds = hands.server()?.accept_faults() >= least;
+            demand(alloc, "as many faults of accepting are counted", holds)
         }
         ServerDeed::OpensGate => {
             hands.handler.gate.store(true, Ordering::SeqCst);
             Ok(())
         }
         ServerDeed::File(is_there) => demand_file(rt, alloc, &hands.addr, is_there),
+        ServerDeed::LinksFile => link_beside(rt, alloc, &hands.addr),
+        ServerDeed::IsFollowed => follow(rt, alloc, hands),
         ServerDeed::IsFree => demand_free(rt, alloc, &hands.addr),
         ServerDeed::Rival(kind) => demand_rival(rt, alloc, &hands.addr, kind),
         ServerDeed::At(found, wanted) => { demand_made_at(rt, alloc, (&hands.addr, found), wanted) }
