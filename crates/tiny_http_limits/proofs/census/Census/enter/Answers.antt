@@ -13,6 +13,8 @@ invariant_of-self g c =
     let inside : length c.self.inside.guests.items < c.self.inside.most = subst (λ v. length v.guests < v.most) (sym c.self.view_is) room in
     let present = c.self.invariant.1 in
     let more = one-more c.self.inside.present c.enter.new.self c.enter.result c.enter.ensures (omega (arith, present, inside, c.self.ranges.0.1)) in
-    let sum : length c.push.new.self.items ≡ length c.self.inside.guests.items + 1 = ap length c.in-Ok.ensures.items ∙ length-append c.self.inside.guests.items _ in
-    (subst (λ gs. IsKept (with_guests gs)) (sym {A = List (Guest g.row.T.Denot)} c.in-Ok.ensures.items)
-    (kept-with opened c.args.address c.args.item c.self.invariant.0 (subst (λ v. length v.guests < v.most) (sym c.self.view_is) room) (subst (λ v. is_address_full v c.args.address ≡ false) (sym c.self.view_is) free)), omega (arith, sum, present, more))
+    let sum : length c.push.new.self.items ≡ length c.self.inside.guests.items + 1 = ap length c.in-Ok.ensures.items ∙ length-append c.self.inside.guests.items _ in (
+      subst (λ gs. IsKept (with_guests gs)) (sym {A = List (Guest g.row.T.Denot)} c.in-Ok.ensures.items)
+          (kept-with opened c.args.address c.args.item c.self.invariant.0 (subst (λ v. length v.guests < v.most) (sym c.self.view_is) room) (subst (λ v. is_address_full v c.args.address ≡ false) (sym c.self.view_is) free)),
+      omega (arith, sum, present, more),
+    )
