@@ -1,8 +1,8 @@
 -- The heads that `httparse` finds, and the headers that are copied from them.
-use Rattle.std.proofs.Common.{◌≡◌, sym, ap, ◌∙◌, subst, ℕ, ◌<◌, ◌≤◌, List, ◌++◌, length, map, take, slice_index_or, arith}
+use Rattle.std.proofs.Common.{◌≡◌, sym, subst, ℕ, ◌<◌, List, length, map, slice_index_or}
 use Rattle.std.specs.List.{All}
 use Rattle.std.proofs.lemmas.List.{get_or-map, length-map}
-use Rattle.httparse.specs.Spans.{header_bytes, AreFieldsAt}
+use Rattle.httparse.specs.Spans.{header_bytes}
 use Rattle.httparse.specs.Grammar.{ResponseHead, ReadsResponse}
 use Rattle.httparse.specs.declared.spans.HeaderSpan.{HeaderSpan}
 use Rattle.httparse.proofs.GrammarLemmas.{response_prefix_free}

@@ -3,7 +3,6 @@ use Rattle.std.specs.Prelude.{◌≡◌, ℕ, ◌<◌, ◌≤◌, List, ◌++◌
 use Rattle.std.specs.List.{All}
 use Rattle.httparse.specs.Grammar.{Field, field_value, ResponseHead, status_code, ReadsResponse}
 use Rattle.tiny_http_head.specs.declared.common.Header.{Header}
-use Rattle.tiny_http_head.specs.declared.common.HTTPVersion.{HTTPVersion}
 use Rattle.tiny_http_client.specs.declared.answer_head.AnswerHead.{AnswerHead}
 
 -- a header's name and value

@@ -1,9 +1,7 @@
-use Rattle.std.proofs.Common.{◌≡◌, sym, ap, ◌∙◌, Err, take}
+use Rattle.std.proofs.Common.{◌≡◌, ap, Err, take}
 use Rattle.std.proofs.lemmas.Result.{err_from_is_err_and}
-use Rattle.tiny_http_client.specs.declared.answer_head.AnswerHeadFault.{AnswerHeadFault}
 use Rattle.tiny_http_client.specs.declared.answer_head.AnswerHeadFault.TheVariants.{Malformed}
 use Rattle.tiny_http_client.specs.declared.answer_head.TheConstants.{MOST_HEADERS}
-use Rattle.httparse.specs.Outcome.{IfComplete}
 use Rattle.httparse.specs.Spans.{IsResponseOf}
 use Rattle.tiny_http_client.proofs.AnswerHeadLemmas.{never-ascii}
 use Rattle.tiny_http_client.proofs.answer_head.read_answer_head.Goals as goal
