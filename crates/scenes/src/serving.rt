@@ -76,6 +76,9 @@ fn listening_server<R: Host>(
     listener.set_nonblocking(ground.over == Over::Nonblocking)?;
     let listener = Listener::from(listener);
     match ground.limits {
+        None if ground.profile == Profile::Lenient => {
+            Server::from_listener(*rt, alloc, listener, None)
+        }
         None => Server::from_listener_with(*rt, alloc, listener, None, ground.profile),
         Some(limits) => {
             Server::from_listener_within(*rt, alloc, listener, None, ground.profile, limits)
@@ -92,6 +95,9 @@ fn server_of<R: Host>(
 ) -> Result<Server<R>, ServerError> {
     if matches!(ground.over, Over::Listener | Over::Nonblocking) {
         return listening_server(rt, alloc, ground);
+    }
+    if let (Place::Tcp(addr), None) = (place, ground.limits) {
+        return Server::http_with(*rt, alloc, addr, ground.profile);
     }
     let config = config_of(rt, alloc, place)?;
     match ground.limits {
