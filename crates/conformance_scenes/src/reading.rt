@@ -20,6 +20,11 @@ const BAD: &[(&str, usize, &str)] = &[
         "an earlier scene has this name",
     ),
     (
+        "scene a\nserver tcp, repeat 0\nserver drop\n",
+        2,
+        "no such server",
+    ),
+    (
         "scene a\nann connects\n",
         2,
         "a scene begins with its server",

@@ -104,6 +104,9 @@ fn add_word(ground: &mut Ground, word: &str) -> Option<()> {
             let (name, digits) = word.split_once(' ')?;
             let number = number_in(digits)?;
             if name == "repeat" {
+                if number == 0 {
+                    return None;
+                }
                 ground.repeats = number;
                 return Some(());
             }

@@ -393,8 +393,9 @@ fn wait_until_served<R: Host>(rt: &R, alloc: Global, hands: &mut Hands<R>) -> Re
     Ok(())
 }
 
-// Ends a scene: requests, outputs and clients go first, so that nobody waits for them. Whoever serves is unblocked.
-fn clear<R: Host>(rt: &R, stage: &mut Stage<R>) {
+// Ends a scene: requests, outputs and clients go first, so that nobody waits for them. Whoever serves is unblocked, and
+// ends without a fault. Each thread has ended by a line.
+fn clear<R: Host>(rt: &R, alloc: Global, stage: &mut Stage<R>) -> Result<(), Mishap> {
     stage.hands.requests.clear();
     stage.hands.outputs.clear();
     stage.hands.clients.clear();
@@ -402,8 +403,13 @@ fn clear<R: Host>(rt: &R, stage: &mut Stage<R>) {
         && let Some(server) = stage.hands.server.take()
     {
         let _ = server.unblock();
-        let _ = serving.join(rt);
+        demand(alloc, "serve ends without a fault", serving.join(rt))?;
     }
+    demand(
+        alloc,
+        "each thread ends by a line",
+        stage.besides.is_empty(),
+    )
 }
 
 // Plays a scene once.
@@ -432,8 +438,13 @@ fn play_once<R: Host>(
         return Some(failure_at(alloc, first, mishap));
     }
     let failure = play_all(rt, alloc, &mut stage, scene.lines.as_slice());
-    clear(rt, &mut stage);
-    failure
+    match (failure, clear(rt, alloc, &mut stage)) {
+        (None, Err(mishap)) => {
+            let last = scene.lines.last().unwrap_or(first);
+            Some(failure_at(alloc, last, mishap))
+        }
+        (failure, _) => failure,
+    }
 }
 
 /// Plays a scene as often as it says, and in each way that it names: its failure, if it fails. A Unix socket is made

@@ -424,6 +424,10 @@ fn made_at<R: Host>(
     if was.is_err() && found != Found::Plain {
         return Err(Mishap::Unplayable("no socket can be made there"));
     }
+    if was.is_ok() && found == Found::Plain {
+        let _ = rt.remove_socket(Path::new(path));
+        return Err(Mishap::Unplayable("there is no plain file"));
+    }
     if found == Found::Stale {
         drop(was.ok());
         return Ok((refusal_at(rt, alloc, path)?, rt.is_socket(Path::new(path))));
