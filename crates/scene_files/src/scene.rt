@@ -22,7 +22,7 @@ pub enum Over {
 /// How `server gives` gets its requests.
 #[derive(Clone, Copy, PartialEq, Eq)]
 pub enum Way {
-    /// By `recv`.
+    /// By `recv_timeout`.
     Recv,
     /// By a handler of `serve` that keeps each of them.
     Handler,

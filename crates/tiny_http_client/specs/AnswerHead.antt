@@ -22,7 +22,7 @@ pub record IsHeadOf (h : ResponseHead) (a : AnswerHead) : Type 0 where
 abbrev pub IsAsciiPair : List ℕ × List ℕ → Type 0
 IsAsciiPair p = IsAscii p.0 × IsAscii p.1
 
--- NO BYTES CAN FOLLOW that make it begin with a head of at most so many headers, each of them ASCII.
+-- NO BYTES CAN FOLLOW that make it begin with a head of at most `most` headers, each of them ASCII.
 abbrev pub NeverHasHead : ℕ → List ℕ → Type 0
 NeverHasHead most bytes =
     (more : List ℕ) (h : ResponseHead) (rest : List ℕ) → ReadsResponse (bytes ++ more) h rest → length h.fields ≤ most

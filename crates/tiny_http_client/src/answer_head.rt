@@ -47,7 +47,7 @@ impl From<AllocError> for AnswerHeadFault {
     }
 }
 
-// The headers that stand there. It is malformed where a byte isn't ASCII, and nowhere else.
+// Copies the headers. Reports `Malformed` only if a byte isn't ASCII.
 fn headers_at(
     alloc: Global,
     bytes: &[u8],
@@ -77,11 +77,11 @@ fn headers_at(
 /// White space is optional round a value, a line may end by LF alone, and empty lines may stand in front. What
 /// follows the head is the body, as its headers and the request's method say (section 6.3).
 ///
-/// `None` where the bytes end before the head does, and more can complete it.
+/// `None` where the bytes end before the head does, and the grammar can still complete it.
 ///
 /// # Errors
-/// `Malformed` where no bytes that follow make it a head, where a value has a byte that isn't ASCII, and where there
-/// are more than 64 headers. `Memory` where there is no memory for the headers.
+/// `Malformed` where no bytes that follow make it a head, and where there are more than 64 headers; once the head is
+/// whole, also where a value has a byte that isn't ASCII. `Memory` where there is no memory for the headers.
 pub fn read_answer_head(
     alloc: Global,
     bytes: &[u8],
@@ -89,7 +89,7 @@ pub fn read_answer_head(
     ensures head { IfOk result (λ found. IfSome found (λ a. (a.1 ≤ length bytes.now)
         × ((h : ResponseHead) × ReadsResponse bytes.now h (drop a.1 bytes.now) × IsHeadOf h a.0))) }
     ensures unfinished { result ≡ Ok None → HasNoResponse bytes.now × MayBecomeResponse bytes.now }
-    // It is refused where nothing that follows makes it a good head, and memory is wanted for a whole head alone.
+    // `Malformed`: nothing that follows makes it a good head. `Memory`: only for a whole head with headers.
     ensures malformed { result ≡ Err AnswerHeadFault.Malformed → NeverHasHead MOST_HEADERS bytes.now }
     ensures memory { result ≡ Err AnswerHeadFault.Memory → HasHeaders bytes.now }
 {

@@ -113,7 +113,7 @@ pub(crate) fn read_body(
     ensures read { IfOk result
         (λ body. BeginsWithBody (extent method.now (head_of head.now)) rest.old body.items rest.new) }
     ensures lacks { IfErr result (LacksBy (LacksBody (extent method.now (head_of head.now)) rest.old)) }
-    // No memory is wanted for a body before its bytes are there, or the first of its chunks' data.
+    // Reports `Memory` only once the bytes of the length are there, or the first of the data of chunks.
     ensures memory { result ≡ Err Fault.Memory → WantsMemory (extent method.now (head_of head.now)) rest.old }
 {
     if has_no_body(method, head.status) {

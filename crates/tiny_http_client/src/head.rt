@@ -172,7 +172,7 @@ fn read_field_lines(alloc: Global, rest: &mut Rest<'_>) -> Result<Vec<Header>, F
 pub(crate) fn read_head(alloc: Global, rest: &mut Rest<'_>) -> Result<HeadParts, Fault>
     ensures read { IfOk result (λ head. BeginsWithAnswerHead rest.old (head_of head) rest.new) }
     ensures lacks { IfErr result (LacksBy (LacksHead rest.old)) }
-    // Memory is wanted for a good field-line alone.
+    // Reports `Memory` only after a good field-line.
     ensures memory { result ≡ Err Fault.Memory → HasStartAndField rest.old }
 {
     let (version, status) = read_status_line(rest)?;

@@ -1,4 +1,4 @@
-//! How many are in.
+//! A bounded counter.
 ghost use Rattle.tiny_http_limits.specs.Headcount.{CountsIn, CountsOut};
 
 use std::marker::Model;

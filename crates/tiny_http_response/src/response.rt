@@ -585,7 +585,7 @@ fn print_as_it_is<D: ReadDevice, W: WriteDevice>(
         (if withheld then whole [] else identity_body n feed))) }
     ensures unread { withheld ≡ true → source.new ≡ source.old }
     ensures uses { CountsFaults (W.sink writer.old) (W.sink writer.new) result }
-    // The data aren't asked for on behind their end or fault, nor for more than the `n` bytes.
+    // `Ok` meets no end of the data; a fault, one end or fault of them at most.
     ensures told { D.told source.new ≤ D.told source.old + fault_count result }
 {
     put_head(writer, top, None, FramingHeader::ContentLength(n))?;
@@ -626,7 +626,7 @@ fn print_gathered<D: ReadDevice, W: WriteDevice>(
         (top_text top.now None (FramingHeader.ContentLength (length feed.bytes)))
         withheld feed) }
     ensures uses { CountsFaults (W.sink writer.old) (W.sink writer.new) result }
-    // The data aren't asked for on behind their end or fault.
+    // Reads no data after their end or fault.
     ensures told { D.told source.new ≤ D.told source.old + 1 }
 {
     let bytes = gather(alloc, source)?;
@@ -646,7 +646,7 @@ fn print_uncoded<D: ReadDevice, W: WriteDevice>(
         PrintsUncoded (W.sink writer.old) (W.sink writer.new) result data_length
         (uncoded_text data_length (λ framing. top_text top.now None framing) withheld feed)) }
     ensures uses { CountsFaults (W.sink writer.old) (W.sink writer.new) result }
-    // The data aren't asked for on behind their end or fault.
+    // Reads no data after their end or fault.
     ensures told { D.told source.new ≤ D.told source.old + 1 }
 {
     match data_length {
@@ -668,7 +668,7 @@ fn print_in_chunks<D: ReadDevice, W: WriteDevice>(
         (body_unless_withheld withheld (chunked_body feed)))) }
     ensures unread { withheld ≡ true → source.new ≡ source.old }
     ensures uses { CountsFaults (W.sink writer.old) (W.sink writer.new) result }
-    // The data aren't asked for on behind their end or fault.
+    // Reads no data after their end or fault.
     ensures told { D.told source.new ≤ D.told source.old + 1 }
 {
     put_head(writer, top, None, FramingHeader::TransferEncoding)?;

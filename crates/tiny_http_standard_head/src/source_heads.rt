@@ -192,7 +192,7 @@ fn read_fields<R: ReadDevice>(
     left: &mut usize,
 ) -> Result<Vec<Header>, NoHead>
     ensures reads { ReadsFields left.old left.new source.old.feed source.new.feed result }
-    // Memory is wanted for a good line and what stands behind it, or for a line that isn't whole in the buffer.
+    // Reports `Memory` only after a good line, or for a line that isn't whole in the buffer.
     ensures memory { result ≡ Err NoHead.Memory → IfSome source.old.feed
         (λ f. LacksMemory IsNoFieldLine left.old f source.new.feed source.new.held) }
     ensures shorter { OnOk result (left.new ≤ left.old) }

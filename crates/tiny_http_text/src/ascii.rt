@@ -194,7 +194,7 @@ impl AsciiString {
     }
 
     /// A copy of bytes that are all below 128, which isn't checked again. An error where there is no memory for it; up
-    /// to 30 bytes none is wanted.
+    /// to 30 bytes it takes none.
     pub(crate) fn copied_unchecked(alloc: Global, bytes: &[u8]) -> Result<AsciiString, AllocError>
         requires { IsAscii bytes.now }
         ensures text { IfOk result (λ s. s ≡ bytes.now) }
@@ -249,7 +249,7 @@ impl AsciiString {
         self.as_ascii().eq_ignore_ascii_case(other)
     }
 
-    /// A copy of the text, or an error where there is no memory for it. Up to 30 bytes none is wanted.
+    /// A copy of the text, or an error where there is no memory for it. Up to 30 bytes take none.
     pub fn try_clone(&self) -> Result<AsciiString, AllocError>
         ensures text { IfOk result (λ s. s ≡ self.now) }
         ensures short { length self.now ≤ 30 → IsOk result }

@@ -5,7 +5,7 @@ ghost use Rattle.tiny_http_text.specs.Bytes.{AreAscii};
 use crate::ascii::AsciiString;
 use std::alloc::{AllocError, Global};
 
-/// A copy of the text, or an error where there is no memory for it. Up to 30 bytes none is wanted.
+/// A copy of the text, or an error where there is no memory for it. Up to 30 bytes take none.
 pub fn owned(alloc: Global, text: &[u8]) -> Result<AsciiString, AllocError>
     requires { AreAscii text.now }
     ensures text { IfOk result (λ s. s ≡ text.now) }
