@@ -1,4 +1,5 @@
 //! What goes wrong in a scene.
+use data_files::fault::LineFault;
 use data_files::text::{TextFault, shown};
 use std::alloc::{AllocError, Global};
 use std::fmt;
@@ -22,10 +23,9 @@ impl From<AllocError> for Mishap {
 
 impl From<TextFault> for Mishap {
     fn from(fault: TextFault) -> Mishap {
-        match fault {
-            TextFault::NoEscape => Mishap::Unplayable("a backslash begins no escape"),
-            TextFault::NoRepeat => Mishap::Unplayable("a repeated piece is \\{COUNT TEXT}"),
-            TextFault::OutOfMemory => Mishap::OutOfMemory,
+        match LineFault::from(fault) {
+            LineFault::Bad(why) => Mishap::Unplayable(why),
+            LineFault::OutOfMemory => Mishap::OutOfMemory,
         }
     }
 }
