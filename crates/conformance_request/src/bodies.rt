@@ -1,5 +1,5 @@
-//! Bodies whose reader is interrupted, or that are too short.
-use crate::bench::{AMPLE, client, connect, gated, next, now};
+//! Bodies whose reader is interrupted.
+use crate::bench::{client, connect_to, next, now};
 use std::io::{ErrorKind, Read};
 use std::test::Fail;
 
@@ -19,7 +19,7 @@ const CUT: &[u8] = b"POST / HTTP/1.1\r\nContent-Length: 2000\r\n\r\n0123456789";
 fn an_interrupted_body_is_a_fault(rt: HostRuntime) -> Result<(), Fail> {
     let alloc = rt.alloc();
     let client = client(alloc, CUT, Some(ErrorKind::Interrupted))?;
-    let mut bench = gated(rt, alloc, client, AMPLE, ErrorKind::Other, 1)?;
+    let mut bench = connect_to(rt, alloc, client)?;
     let mut request = next(&mut bench)?;
     match request.as_reader(now()?).read_exact(&mut [0; 11]) {
         Ok(()) => return Err("no fault".into()),
@@ -29,18 +29,5 @@ fn an_interrupted_body_is_a_fault(rt: HostRuntime) -> Result<(), Fail> {
         kind_of(request.as_reader(now()?)),
         Some(ErrorKind::Interrupted)
     );
-    Ok(())
-}
-
-// A body that ends before the buffer is full.
-#[test]
-fn a_body_that_is_too_short_is_an_end_of_file(rt: HostRuntime) -> Result<(), Fail> {
-    let alloc = rt.alloc();
-    let mut bench = connect(rt, alloc, CUT)?;
-    let mut request = next(&mut bench)?;
-    match request.as_reader(now()?).read_exact(&mut [0; 11]) {
-        Ok(()) => return Err("no fault".into()),
-        Err(fault) => assert_eq!(rt; fault.kind(), ErrorKind::UnexpectedEof),
-    }
     Ok(())
 }

@@ -137,5 +137,5 @@ fn each_segment_comes_once_and_in_order(rt: HostRuntime) -> Result<(), Fail> {
     for handle in handles {
         assert_eq!(rt; handle.join(&rt), EACH);
     }
-    assert_output(&rt, alloc, &bench.output, &[wanted(alloc)?.as_str()])
+    assert_output(&rt, &bench.output, wanted(alloc)?.as_str())
 }

@@ -1,12 +1,12 @@
 //! A server and a client of it, what the client reads, and the texts of answers. What goes wrong here ends the test.
 use crate::same::assert_same;
 use std::alloc::{AllocError, Global};
+use std::io;
 use std::io::{ErrorKind, Read, Write};
 use std::net::TcpStream;
 use std::process::Abort;
 use std::sync::Wait;
 use std::time::{Clock, Duration};
-use std::{io, thread};
 use tiny_http::response::Response;
 use tiny_http::server::{Server, ServerRequest, ServerRuntime, current_date};
 
@@ -20,18 +20,6 @@ pub const DATED: &str = "Server: tiny-http (Rust)\r\nDate: \r\n";
 pub trait Host: ServerRuntime + Sync + Abort {}
 
 impl<R: ServerRuntime + Sync + Abort> Host for R {}
-
-/// A short wait.
-pub fn turn<R: Clock>(rt: &R) {
-    thread::sleep(rt, Duration::from_millis(1));
-}
-
-/// So many short waits.
-pub fn turns<R: Clock>(rt: &R, count: u8) {
-    for _ in 0..count {
-        turn(rt);
-    }
-}
 
 /// A server that listens on loopback.
 pub fn serve<R: Host>(rt: &R, alloc: Global) -> Server<R> {
@@ -47,13 +35,6 @@ pub fn connect<R: Host>(rt: &R, server: &Server<R>) -> TcpStream {
     client
 }
 
-/// A server, and a client of it.
-pub fn one_server_one_client<R: Host>(rt: &R, alloc: Global) -> (Server<R>, TcpStream) {
-    let server = serve(rt, alloc);
-    let client = connect(rt, &server);
-    (server, client)
-}
-
 /// Sends these bytes.
 pub fn send_bytes<S: Write>(rt: &impl Abort, stream: &mut S, bytes: &[u8]) {
     stream.write_all(bytes).expect(rt, "it is sent");
@@ -62,11 +43,6 @@ pub fn send_bytes<S: Write>(rt: &impl Abort, stream: &mut S, bytes: &[u8]) {
 /// Sends this text.
 pub fn send<S: Write>(rt: &impl Abort, stream: &mut S, text: &str) {
     send_bytes(rt, stream, text.as_bytes());
-}
-
-/// The next request of a server.
-pub fn receive<R: Host>(rt: &R, server: &Server<R>) -> ServerRequest<R> {
-    server.recv().expect(rt, "a request")
 }
 
 /// Reads once, for a number of turns at most.

@@ -6,6 +6,8 @@ mod asking;
 #[cfg(test)]
 mod bench;
 #[cfg(test)]
+mod dates;
+#[cfg(test)]
 mod leaving;
 #[cfg(test)]
 mod named;
@@ -13,5 +15,3 @@ mod named;
 mod roster;
 #[cfg(test)]
 mod same;
-#[cfg(test)]
-mod server;

@@ -9,5 +9,3 @@ mod messages_queue;
 mod roster;
 #[cfg(test)]
 mod same;
-#[cfg(test)]
-mod task_pool;

@@ -2,7 +2,6 @@
 use crate::same::{assert_holds, assert_same};
 use std::alloc::Global;
 use std::process::Abort;
-use std::sync::atomic::{AtomicU64, Ordering};
 use std::sync::{Arc, Wait};
 use std::test::Fail;
 use std::thread;
@@ -20,9 +19,9 @@ const VALUES: usize = 10_000;
 type Numbered = (usize, usize);
 
 // What these tests need of the system, and an end where something goes wrong.
-trait Host: Threads + Wait + Clock + Abort + Copy + Send + 'static {}
+trait Host: Threads + Wait + Abort + Copy + Send + 'static {}
 
-impl<R: Threads + Wait + Clock + Abort + Copy + Send + 'static> Host for R {}
+impl<R: Threads + Wait + Abort + Copy + Send + 'static> Host for R {}
 
 // An empty queue.
 fn empty_queue<T: Drop>(rt: &impl Abort, alloc: Global) -> Arc<MessagesQueue<T>> {
@@ -39,59 +38,9 @@ fn unblock<T: Drop, R: Wait + Abort>(rt: &R, queue: &MessagesQueue<T>) {
     queue.unblock(rt).expect(rt, "memory");
 }
 
-#[test]
-fn marks_come_in_order(rt: HostRuntime) {
-    let queue = empty_queue(&rt, rt.alloc());
-    push(&rt, &queue, 1u8);
-    unblock(&rt, &queue);
-    push(&rt, &queue, 2);
-    for wanted in [Some(1), None, Some(2), None] {
-        assert_same(&rt, queue.try_pop(&rt), wanted);
-    }
-}
-
-// One more holder of a value.
-fn clone_of(rt: &impl Abort, value: &Arc<u8>) -> Arc<u8> {
-    Arc::try_clone(value).expect(rt, "memory")
-}
-
-// Values behind a mark are dropped too.
-#[test]
-fn a_cleared_queue_is_empty(rt: HostRuntime) {
-    let queue = empty_queue(&rt, rt.alloc());
-    let value = Arc::new(rt.alloc(), 7u8).expect(&rt, "memory");
-    for _ in 0..2u8 {
-        push(&rt, &queue, clone_of(&rt, &value));
-        unblock(&rt, &queue);
-    }
-    queue.clear(&rt);
-    assert_same(&rt, Arc::strong_count(&value), 1);
-    push(&rt, &queue, clone_of(&rt, &value));
-    let first = queue.try_pop(&rt);
-    assert_holds(&rt, "the new value comes", first.is_some());
-    let second = queue.try_pop(&rt);
-    assert_holds(&rt, "no other comes", second.is_none());
-}
-
-// A value waits.
-fn assert_pushes(rt: &impl Abort, queue: &mut QueueState<usize>, value: usize) {
-    assert_same(rt, queue.push(value), Ok(()));
-}
-
 // What a pop finds.
 fn assert_pops(rt: &impl Abort, queue: &mut QueueState<usize>, wanted: Popped<usize>) {
     assert_same(rt, queue.pop(), wanted);
-}
-
-#[test]
-fn a_mark_is_no_empty_queue(rt: HostRuntime) {
-    let mut queue = QueueState::new(rt.alloc());
-    assert_pops(&rt, &mut queue, Popped::Empty);
-    queue.unblock().expect(&rt, "memory");
-    assert_pushes(&rt, &mut queue, 1);
-    assert_pops(&rt, &mut queue, Popped::Unblocked);
-    assert_pops(&rt, &mut queue, Popped::Value(1));
-    assert_pops(&rt, &mut queue, Popped::Empty);
 }
 
 #[test]
@@ -146,189 +95,9 @@ fn a_refusal_changes_nothing(rt: HostRuntime) {
     assert_pops(&rt, &mut queue, Popped::Empty);
 }
 
-// A pop that waits for so long at most comes back with this.
-fn assert_comes_within<R: Wait + Clock + Abort>(
-    rt: &R,
-    queue: &MessagesQueue<u8>,
-    micros: u64,
-    wanted: Option<u8>,
-) {
-    let found = queue.pop_timeout(rt, Duration::from_micros(micros));
-    assert_same(rt, (micros, found), (micros, wanted));
-}
-
-#[test]
-fn a_pop_waits_for_so_long_at_most(rt: HostRuntime) {
-    let queue = empty_queue(&rt, rt.alloc());
-    for micros in [0, 999, 1_000, 20_000] {
-        assert_comes_within(&rt, &queue, micros, None);
-        push(&rt, &queue, 7);
-        assert_comes_within(&rt, &queue, micros, Some(7));
-        unblock(&rt, &queue);
-        push(&rt, &queue, 8);
-        assert_comes_within(&rt, &queue, micros, None);
-        assert_comes_within(&rt, &queue, micros, Some(8));
-    }
-}
-
-// Waits until so many came, 10,000 turns of 1 ms at most.
-fn assert_come<R: Clock + Abort>(rt: &R, came: &AtomicU64, wanted: u64) {
-    for _ in 0..10_000u32 {
-        if came.load(Ordering::SeqCst) >= wanted {
-            return;
-        }
-        thread::sleep(rt, Duration::from_millis(1));
-    }
-    let came = came.load(Ordering::SeqCst);
-    assert!(rt; came >= wanted, "{came} of {wanted} came back");
-}
-
-// A count of those who came back.
-fn nobody_came(rt: &impl Abort, alloc: Global) -> Arc<AtomicU64> {
-    Arc::new(alloc, AtomicU64::new(0)).expect(rt, "memory")
-}
-
-// Waits by each call that waits, and counts those that came back.
-fn pop_three<R: Wait + Clock>(
-    rt: &R,
-    queue: &MessagesQueue<u8>,
-    came: &AtomicU64,
-) -> [Option<u8>; 3] {
-    let first = queue.pop(rt);
-    came.fetch_add(1, Ordering::SeqCst);
-    let second = queue.pop_timeout(rt, Duration::from_secs(3_600));
-    came.fetch_add(1, Ordering::SeqCst);
-    let third = queue.pop(rt);
-    came.fetch_add(1, Ordering::SeqCst);
-    [first, second, third]
-}
-
 // Another holder of a queue or a count.
 fn shared<T>(rt: &impl Abort, value: &Arc<T>) -> Arc<T> {
     Arc::try_clone(value).expect(rt, "memory")
-}
-
-// A thread that pops three times.
-fn start_three<R: Host>(
-    rt: &R,
-    queue: &Arc<MessagesQueue<u8>>,
-    came: &Arc<AtomicU64>,
-) -> JoinHandle<[Option<u8>; 3]> {
-    let (theirs, queue, came) = (*rt, shared(rt, queue), shared(rt, came));
-    let started = thread::spawn(rt, move || pop_three(&theirs, &queue, &came));
-    started.ok().expect(rt, "a thread")
-}
-
-// Each of the three wakes is looked for by itself, as the next one would make up for one that was left out.
-#[test]
-fn one_who_waits_is_woken(rt: HostRuntime) {
-    let queue = empty_queue(&rt, rt.alloc());
-    let came = nobody_came(&rt, rt.alloc());
-    let popping = start_three(&rt, &queue, &came);
-    for value in [1u8, 2] {
-        thread::sleep(&rt, Duration::from_millis(20));
-        push(&rt, &queue, value);
-        assert_come(&rt, &came, value as u64);
-    }
-    thread::sleep(&rt, Duration::from_millis(20));
-    unblock(&rt, &queue);
-    assert_come(&rt, &came, 3);
-    assert_same(&rt, popping.join(&rt), [Some(1), Some(2), None]);
-}
-
-// Pops once, and counts it.
-fn pop_one<R: Wait>(rt: &R, queue: &MessagesQueue<usize>, came: &AtomicU64) -> Option<usize> {
-    let found = queue.pop(rt);
-    came.fetch_add(1, Ordering::SeqCst);
-    found
-}
-
-// A thread that pops once.
-fn start_one<R: Host>(
-    rt: &R,
-    queue: &Arc<MessagesQueue<usize>>,
-    came: &Arc<AtomicU64>,
-) -> JoinHandle<Option<usize>> {
-    let (theirs, queue, came) = (*rt, shared(rt, queue), shared(rt, came));
-    let started = thread::spawn(rt, move || pop_one(&theirs, &queue, &came));
-    started.ok().expect(rt, "a thread")
-}
-
-// Eight threads that pop once each.
-fn start_eight<R: Host>(
-    rt: &R,
-    alloc: Global,
-    queue: &Arc<MessagesQueue<usize>>,
-    came: &Arc<AtomicU64>,
-) -> Vec<JoinHandle<Option<usize>>> {
-    let mut popping = Vec::new(alloc);
-    for _ in 0..THREADS {
-        let started = start_one(rt, queue, came);
-        popping.push(started).ok().expect(rt, "memory");
-    }
-    popping
-}
-
-// Eight wait, and eight values come at once. A push that woke only where the queue was empty would leave some of them.
-#[test]
-fn each_push_wakes_one(rt: HostRuntime) {
-    let queue = empty_queue(&rt, rt.alloc());
-    let came = nobody_came(&rt, rt.alloc());
-    let popping = start_eight(&rt, rt.alloc(), &queue, &came);
-    thread::sleep(&rt, Duration::from_millis(50));
-    for value in 0..THREADS {
-        push(&rt, &queue, value);
-    }
-    assert_come(&rt, &came, 8);
-    for popper in popping {
-        let found = popper.join(&rt);
-        assert_holds(&rt, "each gets a value", found.is_some());
-    }
-}
-
-// A value that is taken at once. One who waits is woken by it, and may find nothing.
-fn wake_for_nothing<R: Wait + Abort>(rt: &R, queue: &MessagesQueue<u8>) {
-    push(rt, queue, 1);
-    let _ = queue.try_pop(rt);
-}
-
-// Pops by a call that waits until 7 comes, or nothing. A 1 was meant for another.
-fn pop_seven<R: Wait + Clock>(rt: &R, queue: &MessagesQueue<u8>, is_timed: bool) -> Option<u8> {
-    for _ in rt.forever() {
-        let found = match is_timed {
-            true => queue.pop_timeout(rt, Duration::from_secs(30)),
-            false => queue.pop(rt),
-        };
-        if found != Some(1) {
-            return found;
-        }
-    }
-    unreachable!()
-}
-
-// A thread that pops until 7 comes.
-fn start_seven<R: Host>(
-    rt: &R,
-    queue: &Arc<MessagesQueue<u8>>,
-    is_timed: bool,
-) -> JoinHandle<Option<u8>> {
-    let (theirs, queue) = (*rt, shared(rt, queue));
-    let started = thread::spawn(rt, move || pop_seven(&theirs, &queue, is_timed));
-    started.ok().expect(rt, "a thread")
-}
-
-#[test]
-fn a_wake_for_nothing_is_no_answer(rt: HostRuntime) {
-    let queue = empty_queue(&rt, rt.alloc());
-    for is_timed in [false, true] {
-        let popping = start_seven(&rt, &queue, is_timed);
-        for _ in 0..50u8 {
-            thread::sleep(&rt, Duration::from_millis(1));
-            wake_for_nothing(&rt, &queue);
-        }
-        push(&rt, &queue, 7);
-        assert_same(&rt, (is_timed, popping.join(&rt)), (is_timed, Some(7)));
-    }
 }
 
 // The most rounds in which a value or a mark is awaited, and what a mark is answered by.

@@ -1,5 +1,6 @@
 //! A client of a scene.
 use crate::mishap::{Mishap, demand, demand_bytes, demand_fault, differs};
+use httpdate::HttpDate;
 use std::alloc::{AllocError, Global};
 use std::io::ErrorKind;
 use std::net::{Net, Shutdown, TcpListener, TcpStream};
@@ -47,8 +48,8 @@ pub struct Client {
     seen: (Vec<u8>, Vec<u8>),
 }
 
-// The bytes, with the date of all scenes in place of each date.
-fn dated(alloc: Global, bytes: &[u8]) -> Result<Vec<u8>, AllocError> {
+/// The bytes, with the date of all scenes in place of each date.
+pub fn dated(alloc: Global, bytes: &[u8]) -> Result<Vec<u8>, AllocError> {
     let mut all = Vec::new(alloc);
     let mut rest = bytes;
     for _ in 0..bytes.len() {
@@ -217,6 +218,20 @@ impl Client {
         let has_both = last.is_some() && before.is_some();
         demand(self.alloc, "there are two dates", has_both)?;
         demand(self.alloc, "the date changed", last != before)
+    }
+
+    /// The last date of the last text isn't after `now`, nor more than this many seconds before.
+    pub fn dated_within(&self, now: u64, seconds: u64) -> Result<(), Mishap> {
+        let date = last_date(self.seen.0.as_slice()).and_then(|header| header.get(DATE.len()..));
+        let Some(date) = date.and_then(|date| HttpDate::parse_ascii(date).ok()) else {
+            return Err(Mishap::Unplayable("there is no date"));
+        };
+        let gone = now.checked_sub(date.unix_secs());
+        demand(
+            self.alloc,
+            "the date is the time",
+            gone.is_some_and(|gone| gone <= seconds),
+        )
     }
 
     /// From `least` to `most` bytes come up to the end.

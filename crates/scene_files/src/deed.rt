@@ -1,4 +1,7 @@
 //! What a line of a scene says.
+use crate::grounds::{
+    MemoryDeed, QueueDeed, TurnDeed, TurnsDeed, memory_deed, queue_deed, turn_deed, turns_deed,
+};
 use data_files::kinds::kind_of;
 use data_files::text::number_in;
 use std::io::ErrorKind;
@@ -20,6 +23,8 @@ pub enum ClientDeed<'a> {
     Gets(&'a str),
     /// The last date of the last text differs from that of the text before.
     DateChanged,
+    /// The last date of the last text is now, or at most this many seconds ago.
+    DatedWithin(u64),
     /// As many bytes come up to the end: at least the first number, and at most the second.
     Counts(usize, usize),
     /// No byte comes, and no end, for this many milliseconds.
@@ -89,6 +94,14 @@ pub enum ServerDeed<'a> {
     Rival(ErrorKind),
     /// A server with limits at a path where this is already: the kind by which it is refused, if it is.
     At(Found, Option<ErrorKind>),
+    /// A server with TLS at another address is refused in these words.
+    WithTls(&'a str),
+    /// One at the same address is refused by this kind.
+    RivalWithTls(ErrorKind),
+    /// A server that is given this one's address and then any is at another one.
+    AtSecond,
+    /// The address of its Unix socket is shown by its path.
+    ShowsPath,
 }
 
 /// What is at the path of a Unix socket before a server is made there.
@@ -130,6 +143,8 @@ pub enum RequestDeed<'a> {
     Reads(&'a str),
     /// Reads of its body end by this fault.
     ReadFails(ErrorKind),
+    /// So does a read of exactly this many bytes.
+    ReadExactly(usize, ErrorKind),
     /// Its body, of at most this many bytes, is read whole.
     ReadBody(usize, Whole<'a>),
     /// Its body is asked for, and not read.
@@ -142,6 +157,16 @@ pub enum RequestDeed<'a> {
     Query(Option<&'a str>),
     /// Whether it asks for an upgrade.
     AsksUpgrade(bool),
+    /// Whether it came with TLS.
+    IsSecure(bool),
+    Version(&'a str),
+    Length(Option<u64>),
+    /// It has as many headers.
+    Headers(u64),
+    /// It is shown by this text.
+    Shown(&'a str),
+    /// Its head and its body are lent together: its path, and what is left of its body.
+    Lends(&'a str, &'a str),
     /// It is a `GET` of that client, without TLS.
     IsPlainOf(&'a str),
     /// Its raw writer gets this name.
@@ -187,6 +212,10 @@ pub enum Deed<'a> {
     Server(ServerDeed<'a>),
     Request(&'a str, RequestDeed<'a>),
     Output(&'a str, OutputDeed<'a>),
+    Queue(QueueDeed),
+    Memory(MemoryDeed<'a>),
+    Turns(TurnsDeed<'a>),
+    Turn(&'a str, TurnDeed<'a>),
     /// All descriptors of the process are taken but this many, or all of them are given back.
     Descriptors(Option<usize>),
     /// Nothing is done for this many milliseconds.
@@ -202,6 +231,8 @@ pub enum Deed<'a> {
     ShortestLap(u64),
     /// What is indented below is done on a thread of this name.
     Beside(&'a str),
+    /// The same by a job of the pool.
+    Job(&'a str),
     /// That thread ends, within this many milliseconds.
     Ends(&'a str, u64),
     /// That thread hasn't ended.
@@ -212,17 +243,17 @@ pub enum Deed<'a> {
 const LONGEST: u64 = 10_000;
 
 // A number of milliseconds.
-fn millis_in(digits: &str) -> Option<u64> {
+pub(crate) fn millis_in(digits: &str) -> Option<u64> {
     Some(number_in(digits)? as u64)
 }
 
 // The text before the last ` = `, and the text after it.
-fn sides(text: &str) -> Option<(&str, &str)> {
+pub(crate) fn sides(text: &str) -> Option<(&str, &str)> {
     text.rsplit_once(" = ")
 }
 
 // The text before ` = KIND` at the end of a line, and the kind; the whole text without one.
-fn before_kind(text: &str) -> (&str, Option<ErrorKind>) {
+pub(crate) fn before_kind(text: &str) -> (&str, Option<ErrorKind>) {
     if let Some((front, name)) = sides(text)
         && let Some(kind) = kind_of(name)
     {
@@ -247,6 +278,7 @@ fn client_deed<'a>(verb: &str, rest: &'a str) -> Option<ClientDeed<'a>> {
         }
         ("gets", text) => Some(ClientDeed::Gets(text)),
         ("date-changed", "") => Some(ClientDeed::DateChanged),
+        ("dated-within", seconds) => Some(ClientDeed::DatedWithin(millis_in(seconds)?)),
         ("counts", numbers) => {
             let (least, most) = numbers.split_once(" to ")?;
             Some(ClientDeed::Counts(number_in(least)?, number_in(most)?))
@@ -302,6 +334,8 @@ fn call_of_server<'a>(call: &'a str, outcome: &'a str) -> Option<ServerDeed<'a>>
         ("num_connections", "now") => Some(ServerDeed::ClientsNow(number_in(outcome)?)),
         ("counts", field) => Some(ServerDeed::Count(field, millis_in(outcome)?)),
         ("rival", "") => Some(ServerDeed::Rival(kind_of(outcome)?)),
+        ("rival", "with tls") => Some(ServerDeed::RivalWithTls(kind_of(outcome)?)),
+        ("with", "tls") => Some(ServerDeed::WithTls(outcome)),
         ("with", "stale socket") => Some(ServerDeed::At(Found::Stale, served_in(outcome)?)),
         ("with", "live socket") => Some(ServerDeed::At(Found::Live, served_in(outcome)?)),
         ("with", "link") => Some(ServerDeed::At(Found::Link, served_in(outcome)?)),
@@ -339,6 +373,8 @@ fn server_deed(text: &str) -> Option<ServerDeed<'_>> {
         ("file", "gone") => Some(ServerDeed::File(false)),
         ("file", "linked") => Some(ServerDeed::LinksFile),
         ("followed", "") => Some(ServerDeed::IsFollowed),
+        ("second", "address") => Some(ServerDeed::AtSecond),
+        ("shows", "its path") => Some(ServerDeed::ShowsPath),
         ("address", "free") => Some(ServerDeed::IsFree),
         _ => None,
     }
@@ -393,6 +429,8 @@ fn look_at_request<'a>(verb: &str, call: &'a str, outcome: &'a str) -> Option<Re
         "read_body" => Some(RequestDeed::ReadBody(number_in(call)?, whole_in(outcome)?)),
         "header" if outcome == "none" => Some(RequestDeed::Header(call, None)),
         "header" => Some(RequestDeed::Header(call, Some(outcome))),
+        "parts" => Some(RequestDeed::Lends(call, outcome)),
+        "read_exact" => Some(RequestDeed::ReadExactly(number_in(call)?, kind_of(outcome)?)),
         "header_lists" => {
             let (name, token) = call.split_once(' ')?;
             Some(RequestDeed::Lists(name, token, answer_in(outcome)?))
@@ -417,6 +455,12 @@ fn property_of_request<'a>(verb: &str, outcome: &'a str) -> Option<RequestDeed<'
         "query" if outcome == "none" => Some(RequestDeed::Query(None)),
         "query" => Some(RequestDeed::Query(Some(outcome.strip_prefix('?')?))),
         "is_upgrade" => Some(RequestDeed::AsksUpgrade(answer_in(outcome)?)),
+        "secure" => Some(RequestDeed::IsSecure(answer_in(outcome)?)),
+        "http_version" => Some(RequestDeed::Version(outcome)),
+        "body_length" if outcome == "none" => Some(RequestDeed::Length(None)),
+        "body_length" => Some(RequestDeed::Length(Some(millis_in(outcome)?))),
+        "headers" => Some(RequestDeed::Headers(millis_in(outcome)?)),
+        "shown" => Some(RequestDeed::Shown(outcome)),
         _ => None,
     }
 }
@@ -522,6 +566,10 @@ pub fn deed_in(line: &str) -> Option<Deed<'_>> {
         "clock" => return clock_deed(what),
         "descriptors" => return descriptors_deed(what),
         "beside" => return Some(Deed::Beside(what)),
+        "job" => return Some(Deed::Job(what)),
+        "queue" => return Some(Deed::Queue(queue_deed(what)?)),
+        "memory" => return Some(Deed::Memory(memory_deed(what)?)),
+        "turns" => return Some(Deed::Turns(turns_deed(what)?)),
         "server" => return Some(Deed::Server(server_deed(what)?)),
         _ => {}
     }
@@ -534,6 +582,9 @@ pub fn deed_in(line: &str) -> Option<Deed<'_>> {
     }
     if let Some(deed) = output_deed(verb, rest) {
         return Some(Deed::Output(who, deed));
+    }
+    if let Some(deed) = turn_deed(verb, rest) {
+        return Some(Deed::Turn(who, deed));
     }
     thread_deed(who, verb, rest)
 }

@@ -4,5 +4,6 @@
 
 pub mod client;
 pub mod deed;
+pub mod grounds;
 pub mod mishap;
 pub mod scene;

@@ -7,7 +7,7 @@ use std::time::Duration;
 use tiny_http_body::framing::Profile;
 use tiny_http_limits::limits::Limits;
 
-/// What a server listens on.
+/// What a scene is over: what its server listens on, or what stands in the place of a server.
 #[derive(Clone, Copy, PartialEq, Eq)]
 pub enum Over {
     Tcp,
@@ -17,6 +17,14 @@ pub enum Over {
     Listener,
     /// One that doesn't wait for clients.
     Nonblocking,
+    /// No server: a queue.
+    Queue,
+    /// No server: a queue, and a pool that runs jobs.
+    Pool,
+    /// No server: readers or writers in turn.
+    Turns,
+    /// No server: requests over memory.
+    Memory,
 }
 
 /// How `server gives` gets its requests.
@@ -28,7 +36,7 @@ pub enum Way {
     Handler,
 }
 
-/// The server of a scene.
+/// The server of a scene, or what stands in its place.
 #[derive(Clone, Copy)]
 pub struct Ground {
     pub profile: Profile,
@@ -85,7 +93,7 @@ fn set_limit(limits: &mut Limits, name: &str, number: usize) -> Option<()> {
     Some(())
 }
 
-// Adds one of the words after `server`: a profile, what it listens on, or a limit.
+// Adds one of the words after `server`: a profile, what it listens on or what stands in its place, or a limit.
 fn add_word(ground: &mut Ground, word: &str) -> Option<()> {
     match word {
         "lenient" => ground.profile = Profile::Lenient,
@@ -96,6 +104,10 @@ fn add_word(ground: &mut Ground, word: &str) -> Option<()> {
         "unix" => ground.over = Over::Unix,
         "listener" => ground.over = Over::Listener,
         "nonblocking" => ground.over = Over::Nonblocking,
+        "queue" => ground.over = Over::Queue,
+        "pool" => ground.over = Over::Pool,
+        "turns" => ground.over = Over::Turns,
+        "memory" => ground.over = Over::Memory,
         "limits" => ground.limits = Some(Limits::new()),
         "both" => ground.is_both = true,
         "alone" => ground.is_alone = true,
@@ -168,17 +180,18 @@ fn add_scene(scenes: &mut Vec<Scene>, begun: Option<Begun>) -> Result<(), LineFa
     Ok(())
 }
 
-// Whether an indented line may come here: below a line `beside`, or another indented one.
+// Whether an indented line may come here: below a line `beside` or `job`, or another indented one.
 fn may_be_inner(lines: &[Line]) -> bool {
-    match lines.last() {
-        None => false,
-        Some(line) => line.is_inner || line.text.as_str().starts_with("beside "),
-    }
+    lines.last().is_some_and(|line| {
+        let text = line.text.as_str();
+        line.is_inner || text.starts_with("beside ") || text.starts_with("job ")
+    })
 }
 
 // Adds a line of a scene.
 fn add_line(alloc: Global, begun: &mut Begun, number: usize, text: &str) -> Result<(), LineFault> {
-    if let Some(words) = text.strip_prefix("server ")
+    let words = text.strip_prefix("server ").or(text.strip_prefix("over "));
+    if let Some(words) = words
         && begun.ground.is_none()
     {
         begun.ground = ground_in(words);
@@ -194,13 +207,13 @@ fn add_line(alloc: Global, begun: &mut Begun, number: usize, text: &str) -> Resu
     let text = inner.unwrap_or(text);
     match deed_in(text) {
         None => return Err(LineFault::Bad("no line of a scene")),
-        Some(Deed::Beside(_)) if inner.is_some() => {
+        Some(Deed::Beside(_) | Deed::Job(_)) if inner.is_some() => {
             return Err(LineFault::Bad("a thread begins no other"));
         }
         Some(_) => {}
     }
     if inner.is_some() && !may_be_inner(begun.lines.as_slice()) {
-        return Err(LineFault::Bad("what is indented belongs to a line beside"));
+        return Err(LineFault::Bad("what is indented belongs to a thread or a job"));
     }
     let line = Line {
         number,

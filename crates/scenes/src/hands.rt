@@ -1,5 +1,7 @@
 //! What the one who acts has at hand: the server, clients, requests and outputs, by their names.
 use crate::handler::ByPath;
+use crate::in_turn::{InTurn, Turns};
+use crate::memory::{Memory, Remembered};
 use scene_files::client::Client;
 use scene_files::mishap::Mishap;
 use scene_files::scene::{Line, Way};
@@ -11,7 +13,13 @@ use std::sync::{Arc, Wait};
 use std::time::{Clock, Instant};
 use tiny_http::StreamedBody;
 use tiny_http::connection::{ListenAddr, SocketFiles};
-use tiny_http::server::{Server, ServerOutput, ServerRequest, ServerStream, ServerWriter};
+use tiny_http::custom_stream::CustomStream;
+use tiny_http::device::{ReadDevice, WriteDevice};
+use tiny_http::messages_queue::MessagesQueue;
+use tiny_http::outlet::Outlet;
+use tiny_http::request::{Body, Request};
+use tiny_http::sequential::SequentialWriter;
+use tiny_http::server::{Server, ServerReader, ServerWriter};
 
 /// What is known by a name.
 #[derive(Drop)]
@@ -22,22 +30,36 @@ pub(crate) struct Named<T> {
 
 /// What an answer is written to, piece by piece.
 #[derive(Drop)]
-pub(crate) enum Output<R: Wait + Clock + Drop> {
-    Raw(ServerOutput<R>),
-    Growing(StreamedBody<ServerWriter<R>, R>),
-    Upgraded(ServerStream<R>),
+pub(crate) enum Output<D: ReadDevice + Drop, W: WriteDevice + Drop, R: Wait + Drop> {
+    Raw(SequentialWriter<Outlet<W>, R>),
+    Growing(StreamedBody<W, R>),
+    Upgraded(CustomStream<Body<D, R>, SequentialWriter<Outlet<W>, R>>),
 }
+
+/// Requests of one kind of connection, and the outputs that they gave.
+#[derive(Drop)]
+pub(crate) struct Asked<D: ReadDevice + Drop, W: WriteDevice + Drop, R: Wait + Drop> {
+    pub requests: Vec<Named<Request<D, W, R>>>,
+    pub outputs: Vec<Named<Output<D, W, R>>>,
+}
+
+/// The requests of the server, and their outputs.
+pub(crate) type Served<R> = Asked<ServerReader<R>, ServerWriter<R>, R>;
 
 /// What is at hand.
 #[derive(Drop)]
 pub(crate) struct Hands<R: Net + SocketFiles + Wait + Clock + Drop> {
     pub server: Option<Arc<Server<R>>>,
-    pub addr: ListenAddr,
+    pub addr: Option<ListenAddr>,
     pub handler: Arc<ByPath<R>>,
     pub way: Way,
     pub clients: Vec<Named<Client>>,
-    pub requests: Vec<Named<ServerRequest<R>>>,
-    pub outputs: Vec<Named<Output<R>>>,
+    pub served: Served<R>,
+    pub memory: Option<Memory<R>>,
+    pub remembered: Remembered<R>,
+    pub queue: Option<Arc<MessagesQueue<u64>>>,
+    pub turns: Option<Turns<R>>,
+    pub in_turn: Vec<Named<InTurn<R>>>,
     pub clock: Option<Instant>,
     /// How many milliseconds the shortest lap took, if there was one.
     pub shortest: Option<u64>,
@@ -118,7 +140,63 @@ fn add_all<T: Drop>(all: &mut Vec<Named<T>>, more: Vec<Named<T>>) -> Result<(), 
     Ok(())
 }
 
+/// Whether something has this name.
+pub(crate) fn has<T>(all: &[Named<T>], name: &str) -> bool {
+    place_of(all, name).is_some()
+}
+
+impl<D: ReadDevice + Drop, W: WriteDevice + Drop, R: Wait + Drop> Asked<D, W, R> {
+    /// No requests.
+    pub(crate) fn none(alloc: Global) -> Asked<D, W, R> {
+        Asked {
+            requests: Vec::new(alloc),
+            outputs: Vec::new(alloc),
+        }
+    }
+
+    // Those that the lines name.
+    fn part(&mut self, alloc: Global, lines: &[Line]) -> Result<Asked<D, W, R>, AllocError> {
+        Ok(Asked {
+            requests: part_of(alloc, &mut self.requests, lines)?,
+            outputs: part_of(alloc, &mut self.outputs, lines)?,
+        })
+    }
+
+    // Adds all of a part.
+    fn join(&mut self, part: Asked<D, W, R>) -> Result<(), AllocError> {
+        let Asked { requests, outputs } = part;
+        add_all(&mut self.requests, requests)?;
+        add_all(&mut self.outputs, outputs)
+    }
+
+    /// Drops all of them.
+    pub(crate) fn clear(&mut self) {
+        self.requests.clear();
+        self.outputs.clear();
+    }
+}
+
 impl<R: Net + SocketFiles + Wait + Clock + Drop> Hands<R> {
+    /// Nothing but a handler.
+    pub(crate) fn empty(alloc: Global, handler: Arc<ByPath<R>>, way: Way) -> Hands<R> {
+        Hands {
+            server: None,
+            addr: None,
+            handler,
+            way,
+            clients: Vec::new(alloc),
+            served: Asked::none(alloc),
+            memory: None,
+            remembered: Asked::none(alloc),
+            queue: None,
+            turns: None,
+            in_turn: Vec::new(alloc),
+            clock: None,
+            shortest: None,
+            taken: Vec::new(alloc),
+        }
+    }
+
     /// The server.
     pub(crate) fn server(&self) -> Result<&Server<R>, Mishap> {
         match &self.server {
@@ -127,46 +205,63 @@ impl<R: Net + SocketFiles + Wait + Clock + Drop> Hands<R> {
         }
     }
 
+    /// The address of the server, also once that has gone.
+    pub(crate) fn addr(&self) -> Result<&ListenAddr, Mishap> {
+        match &self.addr {
+            Some(addr) => Ok(addr),
+            None => Err(Mishap::Unplayable("there is no server")),
+        }
+    }
+
+    /// What is over memory.
+    pub(crate) fn memory(&mut self) -> Result<&mut Memory<R>, Mishap> {
+        match &mut self.memory {
+            Some(memory) => Ok(memory),
+            None => Err(Mishap::Unplayable("nothing is over memory")),
+        }
+    }
+
+    /// The queue.
+    pub(crate) fn queue(&self) -> Result<&MessagesQueue<u64>, Mishap> {
+        match &self.queue {
+            Some(queue) => Ok(queue),
+            None => Err(Mishap::Unplayable("there is no queue")),
+        }
+    }
+
     /// What these lines need: who and what they name, and the server where they name it.
     pub(crate) fn part(&mut self, alloc: Global, lines: &[Line]) -> Result<Hands<R>, AllocError> {
-        let server = match &self.server {
-            Some(server) if is_named(lines, "server") => Some(Arc::try_clone(server)?),
-            _ => None,
-        };
-        let addr = match self.addr.clone() {
-            Ok(addr) => addr,
-            Err(_) => return Err(AllocError),
-        };
-        Ok(Hands {
-            server,
-            addr,
-            handler: Arc::try_clone(&self.handler)?,
-            way: self.way,
-            clients: part_of(alloc, &mut self.clients, lines)?,
-            requests: part_of(alloc, &mut self.requests, lines)?,
-            outputs: part_of(alloc, &mut self.outputs, lines)?,
-            clock: None,
-            shortest: None,
-            taken: Vec::new(alloc),
-        })
+        let mut theirs = Hands::empty(alloc, Arc::try_clone(&self.handler)?, self.way);
+        if let Some(server) = &self.server
+            && is_named(lines, "server")
+        {
+            theirs.server = Some(Arc::try_clone(server)?);
+        }
+        if let Some(addr) = &self.addr {
+            theirs.addr = addr.clone().ok();
+        }
+        if let Some(queue) = &self.queue {
+            theirs.queue = Some(Arc::try_clone(queue)?);
+        }
+        theirs.clients = part_of(alloc, &mut self.clients, lines)?;
+        theirs.served = self.served.part(alloc, lines)?;
+        theirs.remembered = self.remembered.part(alloc, lines)?;
+        theirs.in_turn = part_of(alloc, &mut self.in_turn, lines)?;
+        Ok(theirs)
     }
 
     /// Takes back what is left of a part.
     pub(crate) fn join(&mut self, part: Hands<R>) -> Result<(), AllocError> {
         let Hands {
-            server: _,
-            addr: _,
-            handler: _,
-            way: _,
             clients,
-            requests,
-            outputs,
-            clock: _,
-            shortest: _,
-            taken: _,
+            served,
+            remembered,
+            in_turn,
+            ..
         } = part;
         add_all(&mut self.clients, clients)?;
-        add_all(&mut self.requests, requests)?;
-        add_all(&mut self.outputs, outputs)
+        self.served.join(served)?;
+        self.remembered.join(remembered)?;
+        add_all(&mut self.in_turn, in_turn)
     }
 }

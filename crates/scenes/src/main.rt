@@ -2,11 +2,16 @@
 //! line, and what each sees. Some are played side by side. docs/CASES.md describes the files.
 #![tactic(auto)]
 
+mod besides;
 mod handler;
 mod hands;
+mod in_turn;
 mod links;
+mod memory;
 mod playing;
+mod queue;
 mod requests;
+mod rivals;
 mod serving;
 
 use crate::links::Host;

@@ -1,23 +1,24 @@
 //! Plays a scene: line after line, and what is beside on threads of its own.
+use crate::besides::{Beside, Pool, begin, end, inner_lines, pool_of, spawn_job, wait};
 use crate::hands::{Hands, get, take};
+use crate::in_turn::{act_in_turn, act_turns};
 use crate::links::Host;
+use crate::memory::act_memory;
+use crate::queue::act_queue;
 use crate::requests::{act_output, act_request};
 use crate::serving::{act_server, connect, first_hands, place_of, take_descriptors};
 use data_files::text::text_of;
 use scene_files::deed::{ClientDeed, Deed, deed_in};
 use scene_files::mishap::{Mishap, demand};
 use scene_files::scene::{Line, Scene, Way};
-use std::alloc::{AllocError, Global};
+use std::alloc::Global;
 use std::net::Net;
-use std::sync::atomic::{AtomicBool, Ordering};
 use std::sync::{Arc, Wait};
 use std::thread;
 use std::thread::JoinHandle;
 use std::time::{Clock, Duration, Instant};
 use tiny_http::connection::SocketFiles;
-
-// How many milliseconds a thread that waits is watched.
-const WATCHED: u64 = 20;
+use tiny_http::server::current_date;
 
 /// The line at which a scene failed, and why.
 #[derive(Drop)]
@@ -27,26 +28,12 @@ pub(crate) struct Failure {
     pub mishap: Mishap,
 }
 
-// What is left at hand of a thread, and the line at which it failed.
+/// A scene that is played: what is at hand, the threads and jobs, the pool, and the thread that serves.
 #[derive(Drop)]
-struct Done<R: Net + SocketFiles + Wait + Clock + Drop> {
-    hands: Hands<R>,
-    failure: Option<Failure>,
-}
-
-// A thread of a scene.
-#[derive(Drop)]
-struct Beside<R: Net + SocketFiles + Wait + Clock + Drop> {
-    name: String,
-    has_ended: Arc<AtomicBool>,
-    thread: JoinHandle<Done<R>>,
-}
-
-// A scene that is played: what is at hand, the threads, and the one that serves.
-#[derive(Drop)]
-struct Stage<R: Net + SocketFiles + Wait + Clock + Drop> {
-    hands: Hands<R>,
-    besides: Vec<Beside<R>>,
+pub(crate) struct Stage<R: Net + SocketFiles + Wait + Clock + Drop> {
+    pub hands: Hands<R>,
+    pub besides: Vec<Beside<R>>,
+    pub pool: Option<Pool<R>>,
     serving: Option<JoinHandle<bool>>,
 }
 
@@ -113,6 +100,9 @@ fn act_client<R: Host>(
         ClientDeed::Sips(count, millis) => client.sip(rt, count, millis),
         ClientDeed::Gets(text) => client.gets(text_of(alloc, text)?.as_slice()),
         ClientDeed::DateChanged => client.date_changed(),
+        ClientDeed::DatedWithin(seconds) => {
+            client.dated_within(current_date(rt).unix_secs(), seconds)
+        }
         ClientDeed::Counts(least, most) => client.counts(least, most),
         ClientDeed::IsIdle(millis) => client.is_idle(rt, millis),
         ClientDeed::IsClosed => client.is_closed(),
@@ -129,6 +119,10 @@ fn act<R: Host>(rt: &R, alloc: Global, hands: &mut Hands<R>, deed: Deed<'_>) -> 
         Deed::Server(deed) => act_server(rt, alloc, hands, deed),
         Deed::Request(name, deed) => act_request(rt, alloc, hands, name, deed),
         Deed::Output(name, deed) => act_output(alloc, hands, name, deed),
+        Deed::Queue(deed) => act_queue(rt, alloc, hands.queue()?, deed),
+        Deed::Memory(deed) => act_memory(rt, alloc, hands, deed),
+        Deed::Turns(deed) => act_turns(rt, alloc, hands, deed),
+        Deed::Turn(name, deed) => act_in_turn(alloc, hands, name, deed),
         Deed::Descriptors(Some(left)) => take_descriptors(rt, hands, left),
         Deed::Descriptors(None) => {
             hands.taken.clear();
@@ -145,7 +139,7 @@ fn act<R: Host>(rt: &R, alloc: Global, hands: &mut Hands<R>, deed: Deed<'_>) -> 
         Deed::ShortestLap(millis) => {
             demand_time(alloc, hands.shortest.unwrap_or(u64::MAX), (millis, true))
         }
-        Deed::Beside(_) | Deed::Ends(..) | Deed::Waits(_) => {
+        Deed::Beside(_) | Deed::Job(_) | Deed::Ends(..) | Deed::Waits(_) => {
             Err(Mishap::Unplayable("a thread begins no other"))
         }
     }
@@ -164,8 +158,8 @@ fn failure_at(alloc: Global, line: &Line, mishap: Mishap) -> Failure {
     }
 }
 
-// Plays the lines of a thread: the line at which it failed, if it did.
-fn play_lines<R: Host>(
+/// Plays the lines of a thread: the line at which it failed, if it did.
+pub(crate) fn play_lines<R: Host>(
     rt: &R,
     alloc: Global,
     hands: &mut Hands<R>,
@@ -182,134 +176,6 @@ fn play_lines<R: Host>(
     None
 }
 
-// Plays the lines of a thread, and says that it has ended.
-fn play_beside<R: Host>(
-    rt: &R,
-    alloc: Global,
-    hands: Hands<R>,
-    (lines, has_ended): (Vec<Line>, Arc<AtomicBool>),
-) -> Done<R> {
-    let mut hands = hands;
-    let failure = play_lines(rt, alloc, &mut hands, lines.as_slice());
-    has_ended.store(true, Ordering::SeqCst);
-    Done { hands, failure }
-}
-
-// Copies of lines.
-fn copies_of(alloc: Global, lines: &[Line]) -> Result<Vec<Line>, AllocError> {
-    let mut copies = Vec::new(alloc);
-    for line in lines {
-        let text = String::from_str(alloc, line.text.as_str())?;
-        copies.push(Line {
-            number: line.number,
-            text,
-            is_inner: line.is_inner,
-        })?;
-    }
-    Ok(copies)
-}
-
-// The lines that are indented in front.
-fn inner_lines(lines: &[Line]) -> &[Line] {
-    let count = lines.iter().position(|line| !line.is_inner);
-    lines
-        .get(..count.unwrap_or(lines.len()))
-        .unwrap_or_default()
-}
-
-// Begins a thread that plays these lines.
-fn begin<R: Host>(
-    rt: &R,
-    alloc: Global,
-    stage: &mut Stage<R>,
-    (name, lines): (&str, &[Line]),
-) -> Result<(), Mishap> {
-    let hands = stage.hands.part(alloc, lines)?;
-    let lines = copies_of(alloc, lines)?;
-    let Ok(has_ended) = Arc::new(alloc, AtomicBool::new(false)) else {
-        return Err(Mishap::OutOfMemory);
-    };
-    let ends = Arc::try_clone(&has_ended)?;
-    let name = String::from_str(alloc, name)?;
-    let theirs = *rt;
-    let Ok(thread) = thread::spawn(rt, move || {
-        play_beside(&theirs, alloc, hands, (lines, ends))
-    }) else {
-        return Err(Mishap::Unplayable("there is no thread"));
-    };
-    let beside = Beside {
-        name,
-        has_ended,
-        thread,
-    };
-    stage.besides.push(beside).map_err(AllocError::from)?;
-    Ok(())
-}
-
-// The place of the thread of this name.
-fn place_of_thread<R: Host>(stage: &Stage<R>, name: &str) -> usize {
-    let place = stage
-        .besides
-        .iter()
-        .rposition(|beside| beside.name.as_str() == name);
-    place.unwrap_or(usize::MAX)
-}
-
-// Takes back what a thread has at hand that has ended, and gives its failure.
-fn join<R: Host>(rt: &R, stage: &mut Stage<R>, beside: Beside<R>) -> Option<Failure> {
-    let Beside {
-        name: _,
-        has_ended: _,
-        thread,
-    } = beside;
-    let Done { hands, failure } = thread.join(rt);
-    let _ = stage.hands.join(hands);
-    failure
-}
-
-// Whether it is so within this many milliseconds.
-fn comes_true<R: Host>(rt: &R, is_so: &AtomicBool, millis: u64) -> bool {
-    for _ in 0..millis {
-        if is_so.load(Ordering::SeqCst) {
-            return true;
-        }
-        thread::sleep(rt, Duration::from_millis(1));
-    }
-    is_so.load(Ordering::SeqCst)
-}
-
-// The thread of this name ends within this many milliseconds.
-fn end<R: Host>(
-    rt: &R,
-    alloc: Global,
-    stage: &mut Stage<R>,
-    (name, millis): (&str, u64),
-) -> Result<Option<Failure>, Mishap> {
-    let place = place_of_thread(stage, name);
-    let has_ended = match stage.besides.get(place) {
-        Some(beside) => Arc::try_clone(&beside.has_ended)?,
-        None => return Err(Mishap::Unplayable("there is no thread of this name")),
-    };
-    let holds = comes_true(rt, &has_ended, millis);
-    demand(alloc, "the thread ends", holds)?;
-    if place >= stage.besides.len() {
-        return Ok(None);
-    }
-    let beside = stage.besides.remove(place);
-    Ok(join(rt, stage, beside))
-}
-
-// The thread of this name hasn't ended after a while.
-fn wait<R: Host>(rt: &R, alloc: Global, stage: &Stage<R>, name: &str) -> Result<(), Mishap> {
-    match stage.besides.get(place_of_thread(stage, name)) {
-        Some(beside) => {
-            let has_ended = comes_true(rt, &beside.has_ended, WATCHED);
-            demand(alloc, "the thread waits", !has_ended)
-        }
-        None => Err(Mishap::Unplayable("there is no thread of this name")),
-    }
-}
-
 // One line of a scene, with those below it.
 fn play_line<R: Host>(
     rt: &R,
@@ -322,6 +188,7 @@ fn play_line<R: Host>(
     };
     let played = match deed {
         Deed::Beside(name) => begin(rt, alloc, stage, (name, inner_lines(below))),
+        Deed::Job(name) => spawn_job(rt, alloc, stage, (name, inner_lines(below))),
         Deed::Waits(name) => wait(rt, alloc, stage, name),
         Deed::Ends(name, millis) => match end(rt, alloc, stage, (name, millis)) {
             Ok(None) => Ok(()),
@@ -396,8 +263,9 @@ fn wait_until_served<R: Host>(rt: &R, alloc: Global, hands: &mut Hands<R>) -> Re
 // Ends a scene: requests, outputs and clients go first, so that nobody waits for them. Whoever serves is unblocked, and
 // ends without a fault. Each thread has ended by a line.
 fn clear<R: Host>(rt: &R, alloc: Global, stage: &mut Stage<R>) -> Result<(), Mishap> {
-    stage.hands.requests.clear();
-    stage.hands.outputs.clear();
+    stage.hands.served.clear();
+    stage.hands.remembered.clear();
+    stage.hands.in_turn.clear();
     stage.hands.clients.clear();
     if let Some(serving) = stage.serving.take()
         && let Some(server) = stage.hands.server.take()
@@ -427,9 +295,14 @@ fn play_once<R: Host>(
         Ok(hands) => hands,
         Err(mishap) => return Some(failure_at(alloc, first, mishap)),
     };
+    let pool = match pool_of(rt, alloc, scene.ground.over) {
+        Ok(pool) => pool,
+        Err(mishap) => return Some(failure_at(alloc, first, mishap)),
+    };
     let mut stage = Stage {
         hands,
         besides: Vec::new(alloc),
+        pool,
         serving: None,
     };
     if way == Way::Handler

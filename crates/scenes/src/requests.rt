@@ -1,20 +1,22 @@
 //! What is done with the requests of a scene, and with the outputs that they give.
 use crate::handler::text_answer;
-use crate::hands::{Hands, Output, add, get, take};
+use crate::hands::{Asked, Hands, Output, add, get, has, take};
 use data_files::text::text_of;
 use scene_files::deed::{Data, OutputDeed, RequestDeed, Whole};
-use scene_files::mishap::{Mishap, demand, demand_bytes, demand_fault, demand_text, differs};
+use scene_files::mishap::{
+    Mishap, demand, demand_bytes, demand_fault, demand_number, demand_text, differs,
+};
 use std::alloc::Global;
 use std::io;
 use std::io::{ErrorKind, Read, Write};
-use std::net::Net;
+use std::net::SocketAddr;
 use std::sync::Wait;
 use std::time::Clock;
 use tiny_http::common::{Header, Method, StatusCode};
-use tiny_http::connection::SocketFiles;
-use tiny_http::device::Metered;
+use tiny_http::device::{Metered, ReadDevice, WriteDevice};
+use tiny_http::request::Request;
 use tiny_http::response::Response;
-use tiny_http::server::{Host, ServerRequest, current_date};
+use tiny_http::server::{Host, current_date};
 use tiny_http::upgrading::UpgradeError;
 use tiny_http::{BodyError, RefusedUpgrade};
 
@@ -27,10 +29,10 @@ fn kind_of_fault<T: Drop>(outcome: io::Result<T>) -> Option<ErrorKind> {
 }
 
 // Answers by a text.
-fn respond_text<R: Wait + Clock + Drop>(
+fn respond_text<D: ReadDevice + Drop, W: WriteDevice + Drop, R: Wait + Clock + Drop>(
     rt: &R,
     alloc: Global,
-    request: ServerRequest<R>,
+    request: Request<D, W, R>,
     (status, text): (u16, &str),
 ) -> Result<io::Result<()>, Mishap> {
     let bytes = text_of(alloc, text)?;
@@ -42,10 +44,10 @@ fn respond_text<R: Wait + Clock + Drop>(
 }
 
 // Answers by JSON.
-fn respond_json<R: Wait + Clock + Drop>(
+fn respond_json<D: ReadDevice + Drop, W: WriteDevice + Drop, R: Wait + Clock + Drop>(
     rt: &R,
     alloc: Global,
-    request: ServerRequest<R>,
+    request: Request<D, W, R>,
     (status, text): (u16, &str),
 ) -> Result<io::Result<()>, Mishap> {
     let Ok(header) = Header::from_str(alloc, "Content-Type: application/json") else {
@@ -64,10 +66,10 @@ fn respond_json<R: Wait + Clock + Drop>(
 }
 
 // Answers by no data.
-fn respond_empty<R: Wait + Clock + Drop>(
+fn respond_empty<D: ReadDevice + Drop, W: WriteDevice + Drop, R: Wait + Clock + Drop>(
     rt: &R,
     alloc: Global,
-    request: ServerRequest<R>,
+    request: Request<D, W, R>,
     (status, is_last): (u16, bool),
 ) -> io::Result<()> {
     let response = Response::empty(alloc, StatusCode(status));
@@ -78,10 +80,10 @@ fn respond_empty<R: Wait + Clock + Drop>(
 }
 
 // Answers by `count` bytes, whose length is stated, and then not in chunks, or left open.
-fn respond_bytes<R: Wait + Clock + Drop>(
+fn respond_bytes<D: ReadDevice + Drop, W: WriteDevice + Drop, R: Wait + Clock + Drop>(
     rt: &R,
     alloc: Global,
-    request: ServerRequest<R>,
+    request: Request<D, W, R>,
     (status, count, is_sized): (u16, usize, bool),
 ) -> io::Result<()> {
     let data = Metered::new(io::repeat(b'x').take(count as u64));
@@ -96,10 +98,10 @@ fn respond_bytes<R: Wait + Clock + Drop>(
 }
 
 // Answers a request.
-fn respond<R: Wait + Clock + Drop>(
+fn respond<D: ReadDevice + Drop, W: WriteDevice + Drop, R: Wait + Clock + Drop>(
     rt: &R,
     alloc: Global,
-    request: ServerRequest<R>,
+    request: Request<D, W, R>,
     (status, data): (u16, Data<'_>),
 ) -> Result<io::Result<()>, Mishap> {
     match data {
@@ -113,10 +115,10 @@ fn respond<R: Wait + Clock + Drop>(
 }
 
 // The whole body of a request is these bytes.
-fn demand_body<R: Wait + Clock + Drop>(
+fn demand_body<D: ReadDevice + Drop, W: WriteDevice + Drop, R: Wait + Clock + Drop>(
     rt: &R,
     alloc: Global,
-    request: &mut ServerRequest<R>,
+    request: &mut Request<D, W, R>,
     wanted: &[u8],
 ) -> Result<(), Mishap> {
     let mut body = Vec::new(alloc);
@@ -126,9 +128,9 @@ fn demand_body<R: Wait + Clock + Drop>(
 }
 
 // The fault that ends the reads of a request's body, if one does.
-fn fault_of_body<R: Wait + Clock + Drop>(
+fn fault_of_body<D: ReadDevice + Drop, W: WriteDevice + Drop, R: Wait + Clock + Drop>(
     rt: &R,
-    request: &mut ServerRequest<R>,
+    request: &mut Request<D, W, R>,
 ) -> Option<ErrorKind> {
     let mut piece = [0u8; 8];
     let body = request.as_reader(current_date(rt));
@@ -143,16 +145,28 @@ fn fault_of_body<R: Wait + Clock + Drop>(
 }
 
 // The next bytes of a request's body are these.
-fn demand_next<R: Wait + Clock + Drop>(
+fn demand_next<D: ReadDevice + Drop, W: WriteDevice + Drop, R: Wait + Clock + Drop>(
     rt: &R,
     alloc: Global,
-    request: &mut ServerRequest<R>,
+    request: &mut Request<D, W, R>,
     wanted: &[u8],
 ) -> Result<(), Mishap> {
     let mut came = vec![in alloc; 0u8; wanted.len()]?;
     let read = request.as_reader(current_date(rt)).read_exact(&mut came);
     demand_fault(alloc, None, kind_of_fault(read))?;
     demand_bytes(alloc, wanted, came.as_slice())
+}
+
+// A read of exactly `count` bytes of a request's body fails so.
+fn demand_unread<D: ReadDevice + Drop, W: WriteDevice + Drop, R: Wait + Clock + Drop>(
+    rt: &R,
+    alloc: Global,
+    request: &mut Request<D, W, R>,
+    (count, kind): (usize, ErrorKind),
+) -> Result<(), Mishap> {
+    let mut came = vec![in alloc; 0u8; count]?;
+    let read = request.as_reader(current_date(rt)).read_exact(&mut came);
+    demand_fault(alloc, Some(kind), kind_of_fault(read))
 }
 
 // What comes of a body that is read whole, in words.
@@ -168,10 +182,10 @@ fn words_of(whole: &Result<Vec<u8>, BodyError>) -> &'static str {
 }
 
 // A request's body, of at most `most` bytes, is read whole.
-fn demand_whole<R: Wait + Clock + Drop>(
+fn demand_whole<D: ReadDevice + Drop, W: WriteDevice + Drop, R: Wait + Clock + Drop>(
     rt: &R,
     alloc: Global,
-    request: &mut ServerRequest<R>,
+    request: &mut Request<D, W, R>,
     (most, wanted): (usize, Whole<'_>),
 ) -> Result<(), Mishap> {
     let came = request.read_body(alloc, most, current_date(rt));
@@ -201,9 +215,9 @@ fn demand_option(alloc: Global, wanted: Option<&str>, came: Option<&str>) -> Res
 }
 
 // What is seen of a request's head.
-fn look<R: Wait + Clock + Drop>(
+fn look<D: ReadDevice + Drop, W: WriteDevice + Drop, R: Wait + Clock + Drop>(
     alloc: Global,
-    request: &ServerRequest<R>,
+    request: &Request<D, W, R>,
     deed: RequestDeed<'_>,
 ) -> Result<(), Mishap> {
     match deed {
@@ -226,15 +240,64 @@ fn look<R: Wait + Clock + Drop>(
             };
             demand(alloc, words, request.is_upgrade() == wanted)
         }
+        RequestDeed::IsSecure(wanted) => {
+            let words = if wanted {
+                "it came with TLS"
+            } else {
+                "it came without TLS"
+            };
+            demand(alloc, words, request.secure() == wanted)
+        }
+        _ => look_whole(alloc, request, deed),
+    }
+}
+
+// What is seen of a request as a whole.
+fn look_whole<D: ReadDevice + Drop, W: WriteDevice + Drop, R: Wait + Clock + Drop>(
+    alloc: Global,
+    request: &Request<D, W, R>,
+    deed: RequestDeed<'_>,
+) -> Result<(), Mishap> {
+    match deed {
+        RequestDeed::Version(wanted) => {
+            let version = format!(in alloc; "{}", request.http_version())?;
+            demand_text(alloc, wanted, version.as_str())
+        }
+        RequestDeed::Length(wanted) => {
+            let length = request.body_length().map(|length| length as u64);
+            demand(alloc, "its body has this length", length == wanted)
+        }
+        RequestDeed::Headers(count) => {
+            demand_number(alloc, count, request.headers().len() as u64)
+        }
+        RequestDeed::Shown(wanted) => {
+            let shown = format!(in alloc; "{request:?}")?;
+            demand_text(alloc, wanted, shown.as_str())
+        }
         _ => Err(Mishap::Unplayable("a request can't do that")),
     }
 }
 
-// The request is a `GET` without TLS, from this address.
-fn demand_plain<R: Wait + Clock + Drop>(
+// Its head and its body are lent together: its path, and what is left of its body.
+fn demand_parts<D: ReadDevice + Drop, W: WriteDevice + Drop, R: Wait + Clock + Drop>(
+    rt: &R,
     alloc: Global,
-    request: &ServerRequest<R>,
-    addr: Option<std::net::SocketAddr>,
+    request: &mut Request<D, W, R>,
+    (path, wanted): (&str, &[u8]),
+) -> Result<(), Mishap> {
+    let (head, body) = request.parts(current_date(rt));
+    let mut came = Vec::new(alloc);
+    let read = body.read_to_end(&mut came);
+    demand_fault(alloc, None, kind_of_fault(read))?;
+    demand_text(alloc, path, head.target_path())?;
+    demand_bytes(alloc, wanted, came.as_slice())
+}
+
+// The request is a `GET` without TLS, from this address.
+fn demand_plain<D: ReadDevice + Drop, W: WriteDevice + Drop, R: Wait + Clock + Drop>(
+    alloc: Global,
+    request: &Request<D, W, R>,
+    addr: Option<SocketAddr>,
 ) -> Result<(), Mishap> {
     demand(alloc, "it is a GET", request.method() == &Method::Get)?;
     demand(alloc, "it comes without TLS", !request.secure())?;
@@ -242,7 +305,48 @@ fn demand_plain<R: Wait + Clock + Drop>(
     demand(alloc, "it is of this client's address", is_from)
 }
 
-/// What is done with the request of this name.
+// What is done with the request of this name.
+fn act_asked<D: ReadDevice + Drop, W: WriteDevice + Drop, R: Wait + Clock + Drop>(
+    rt: &R,
+    alloc: Global,
+    asked: &mut Asked<D, W, R>,
+    name: &str,
+    deed: RequestDeed<'_>,
+) -> Result<(), Mishap> {
+    match deed {
+        RequestDeed::Respond(status, data, wanted) => {
+            let request = take(&mut asked.requests, name)?;
+            let sent = respond(rt, alloc, request, (status, data))?;
+            demand_fault(alloc, wanted, kind_of_fault(sent))
+        }
+        RequestDeed::Drop => {
+            drop(take(&mut asked.requests, name)?);
+            Ok(())
+        }
+        RequestDeed::IntoWriter(output) => into_writer(alloc, asked, name, output),
+        RequestDeed::Streams(status, output) => {
+            respond_streaming(rt, alloc, asked, name, (status, output))
+        }
+        RequestDeed::StreamsNot(status, kind) => {
+            let request = take(&mut asked.requests, name)?;
+            let head = Response::empty(alloc, StatusCode(status));
+            let begun = request.respond_streaming(head, current_date(rt));
+            demand_fault(alloc, Some(kind), kind_of_fault(begun))
+        }
+        RequestDeed::Upgrades(protocol, output) => {
+            upgrade(rt, alloc, asked, name, (protocol, output))
+        }
+        RequestDeed::TriesUpgrade(protocol, output) => {
+            try_upgrade(rt, alloc, asked, name, (protocol, output))
+        }
+        RequestDeed::KeepsUpgrade(protocol, is_unasked) => {
+            keep_upgrade(rt, alloc, asked, name, (protocol, is_unasked))
+        }
+        _ => read_request(rt, alloc, get(&mut asked.requests, name)?, deed),
+    }
+}
+
+/// What is done with the request of this name, over memory or of the server.
 pub(crate) fn act_request<R: Host>(
     rt: &R,
     alloc: Global,
@@ -250,48 +354,21 @@ pub(crate) fn act_request<R: Host>(
     name: &str,
     deed: RequestDeed<'_>,
 ) -> Result<(), Mishap> {
-    match deed {
-        RequestDeed::Respond(status, data, wanted) => {
-            let request = take(&mut hands.requests, name)?;
-            let sent = respond(rt, alloc, request, (status, data))?;
-            demand_fault(alloc, wanted, kind_of_fault(sent))
-        }
-        RequestDeed::Drop => {
-            drop(take(&mut hands.requests, name)?);
-            Ok(())
-        }
-        RequestDeed::IsPlainOf(client) => {
-            let addr = get(&mut hands.clients, client)?.local_addr();
-            demand_plain(alloc, get(&mut hands.requests, name)?, addr)
-        }
-        RequestDeed::IntoWriter(output) => into_writer(alloc, hands, name, output),
-        RequestDeed::Streams(status, output) => {
-            respond_streaming(rt, alloc, hands, name, (status, output))
-        }
-        RequestDeed::StreamsNot(status, kind) => {
-            let request = take(&mut hands.requests, name)?;
-            let head = Response::empty(alloc, StatusCode(status));
-            let begun = request.respond_streaming(head, current_date(rt));
-            demand_fault(alloc, Some(kind), kind_of_fault(begun))
-        }
-        RequestDeed::Upgrades(protocol, output) => {
-            upgrade(rt, alloc, hands, name, (protocol, output))
-        }
-        RequestDeed::TriesUpgrade(protocol, output) => {
-            try_upgrade(rt, alloc, hands, name, (protocol, output))
-        }
-        RequestDeed::KeepsUpgrade(protocol, is_unasked) => {
-            keep_upgrade(rt, alloc, hands, name, (protocol, is_unasked))
-        }
-        _ => read_request(rt, alloc, get(&mut hands.requests, name)?, deed),
+    if let RequestDeed::IsPlainOf(client) = deed {
+        let addr = get(&mut hands.clients, client)?.local_addr();
+        return demand_plain(alloc, get(&mut hands.served.requests, name)?, addr);
     }
+    if has(hands.remembered.requests.as_slice(), name) {
+        return act_asked(rt, alloc, &mut hands.remembered, name, deed);
+    }
+    act_asked(rt, alloc, &mut hands.served, name, deed)
 }
 
 // What is read of a request, or seen of its head.
-fn read_request<R: Wait + Clock + Drop>(
+fn read_request<D: ReadDevice + Drop, W: WriteDevice + Drop, R: Wait + Clock + Drop>(
     rt: &R,
     alloc: Global,
-    request: &mut ServerRequest<R>,
+    request: &mut Request<D, W, R>,
     deed: RequestDeed<'_>,
 ) -> Result<(), Mishap> {
     match deed {
@@ -304,7 +381,11 @@ fn read_request<R: Wait + Clock + Drop>(
         RequestDeed::ReadFails(kind) => {
             demand_fault(alloc, Some(kind), fault_of_body(rt, request))
         }
+        RequestDeed::ReadExactly(count, kind) => demand_unread(rt, alloc, request, (count, kind)),
         RequestDeed::ReadBody(most, wanted) => demand_whole(rt, alloc, request, (most, wanted)),
+        RequestDeed::Lends(path, text) => {
+            demand_parts(rt, alloc, request, (path, text_of(alloc, text)?.as_slice()))
+        }
         RequestDeed::AsReader => {
             let _ = request.as_reader(current_date(rt));
             Ok(())
@@ -314,30 +395,30 @@ fn read_request<R: Wait + Clock + Drop>(
 }
 
 // Upgrades a request that asks for the protocol.
-fn try_upgrade<R: Host>(
+fn try_upgrade<D: ReadDevice + Drop, W: WriteDevice + Drop, R: Wait + Clock + Drop>(
     rt: &R,
     alloc: Global,
-    hands: &mut Hands<R>,
+    asked: &mut Asked<D, W, R>,
     name: &str,
     (protocol, output): (&str, &str),
 ) -> Result<(), Mishap> {
-    let request = take(&mut hands.requests, name)?;
+    let request = take(&mut asked.requests, name)?;
     let head = Response::empty(alloc, StatusCode(101));
     match request.try_upgrade(protocol, head, current_date(rt)) {
-        Ok(stream) => add(alloc, &mut hands.outputs, output, Output::Upgraded(stream)),
+        Ok(stream) => add(alloc, &mut asked.outputs, output, Output::Upgraded(stream)),
         Err(_) => Err(differs(alloc, "an upgrade", "it is refused")),
     }
 }
 
 // A request that may not be upgraded to the protocol is handed back.
-fn keep_upgrade<R: Host>(
+fn keep_upgrade<D: ReadDevice + Drop, W: WriteDevice + Drop, R: Wait + Clock + Drop>(
     rt: &R,
     alloc: Global,
-    hands: &mut Hands<R>,
+    asked: &mut Asked<D, W, R>,
     name: &str,
     (protocol, is_unasked): (&str, bool),
 ) -> Result<(), Mishap> {
-    let request = take(&mut hands.requests, name)?;
+    let request = take(&mut asked.requests, name)?;
     let head = Response::empty(alloc, StatusCode(101));
     match request.try_upgrade(protocol, head, current_date(rt)) {
         Ok(_) => Err(differs(alloc, "no upgrade", "an upgrade")),
@@ -348,57 +429,60 @@ fn keep_upgrade<R: Host>(
                 UpgradeError::UnfinishedBody
             };
             let holds = error == wanted;
-            add(alloc, &mut hands.requests, name, request)?;
+            add(alloc, &mut asked.requests, name, request)?;
             demand(alloc, "it is refused so", holds)
         }
     }
 }
 
 // Takes the raw writer of a request.
-fn into_writer<R: Net + SocketFiles + Wait + Clock + Drop>(
+fn into_writer<D: ReadDevice + Drop, W: WriteDevice + Drop, R: Wait + Clock + Drop>(
     alloc: Global,
-    hands: &mut Hands<R>,
+    asked: &mut Asked<D, W, R>,
     name: &str,
     output: &str,
 ) -> Result<(), Mishap> {
-    let writer = take(&mut hands.requests, name)?.into_writer();
-    add(alloc, &mut hands.outputs, output, Output::Raw(writer))
+    let writer = take(&mut asked.requests, name)?.into_writer();
+    add(alloc, &mut asked.outputs, output, Output::Raw(writer))
 }
 
 // Begins an answer that grows.
-fn respond_streaming<R: Host>(
+fn respond_streaming<D: ReadDevice + Drop, W: WriteDevice + Drop, R: Wait + Clock + Drop>(
     rt: &R,
     alloc: Global,
-    hands: &mut Hands<R>,
+    asked: &mut Asked<D, W, R>,
     name: &str,
     (status, output): (u16, &str),
 ) -> Result<(), Mishap> {
-    let request = take(&mut hands.requests, name)?;
+    let request = take(&mut asked.requests, name)?;
     let head = Response::empty(alloc, StatusCode(status));
     match request.respond_streaming(head, current_date(rt)) {
-        Ok(body) => add(alloc, &mut hands.outputs, output, Output::Growing(body)),
+        Ok(body) => add(alloc, &mut asked.outputs, output, Output::Growing(body)),
         Err(fault) => demand_fault(alloc, None, Some(fault.kind())),
     }
 }
 
 // Upgrades a request.
-fn upgrade<R: Host>(
+fn upgrade<D: ReadDevice + Drop, W: WriteDevice + Drop, R: Wait + Clock + Drop>(
     rt: &R,
     alloc: Global,
-    hands: &mut Hands<R>,
+    asked: &mut Asked<D, W, R>,
     name: &str,
     (protocol, output): (&str, &str),
 ) -> Result<(), Mishap> {
-    let request = take(&mut hands.requests, name)?;
+    let request = take(&mut asked.requests, name)?;
     let head = Response::empty(alloc, StatusCode(101));
     match request.upgrade(protocol, head, current_date(rt)) {
-        Ok(stream) => add(alloc, &mut hands.outputs, output, Output::Upgraded(stream)),
+        Ok(stream) => add(alloc, &mut asked.outputs, output, Output::Upgraded(stream)),
         Err(_) => Err(Mishap::Unplayable("the upgrade is refused")),
     }
 }
 
 // Writes all these bytes.
-fn write_to<R: Wait + Clock + Drop>(output: &mut Output<R>, bytes: &[u8]) -> io::Result<()> {
+fn write_to<D: ReadDevice + Drop, W: WriteDevice + Drop, R: Wait + Clock + Drop>(
+    output: &mut Output<D, W, R>,
+    bytes: &[u8],
+) -> io::Result<()> {
     match output {
         Output::Raw(writer) => writer.write_all(bytes),
         Output::Growing(body) => body.write_all(bytes),
@@ -407,7 +491,9 @@ fn write_to<R: Wait + Clock + Drop>(output: &mut Output<R>, bytes: &[u8]) -> io:
 }
 
 // Flushes what was written.
-fn flush<R: Wait + Clock + Drop>(output: &mut Output<R>) -> io::Result<()> {
+fn flush<D: ReadDevice + Drop, W: WriteDevice + Drop, R: Wait + Clock + Drop>(
+    output: &mut Output<D, W, R>,
+) -> io::Result<()> {
     match output {
         Output::Raw(writer) => writer.flush(),
         Output::Growing(body) => body.flush(),
@@ -416,7 +502,9 @@ fn flush<R: Wait + Clock + Drop>(output: &mut Output<R>) -> io::Result<()> {
 }
 
 // Ends what is written.
-fn close<R: Wait + Clock + Drop>(output: Output<R>) -> io::Result<()> {
+fn close<D: ReadDevice + Drop, W: WriteDevice + Drop, R: Wait + Clock + Drop>(
+    output: Output<D, W, R>,
+) -> io::Result<()> {
     match output {
         Output::Raw(writer) => writer.close(),
         Output::Growing(body) => body.finish(),
@@ -425,9 +513,9 @@ fn close<R: Wait + Clock + Drop>(output: Output<R>) -> io::Result<()> {
 }
 
 // The next bytes that an upgraded stream reads are these.
-fn demand_read<R: Wait + Clock + Drop>(
+fn demand_read<D: ReadDevice + Drop, W: WriteDevice + Drop, R: Wait + Clock + Drop>(
     alloc: Global,
-    output: &mut Output<R>,
+    output: &mut Output<D, W, R>,
     wanted: &[u8],
 ) -> Result<(), Mishap> {
     let Output::Upgraded(stream) = output else {
@@ -439,34 +527,47 @@ fn demand_read<R: Wait + Clock + Drop>(
     demand_bytes(alloc, wanted, came.as_slice())
 }
 
-/// What is done with the output of this name.
-pub(crate) fn act_output<R: Host>(
+// What is written to the output of this name.
+fn write_asked<D: ReadDevice + Drop, W: WriteDevice + Drop, R: Wait + Clock + Drop>(
     alloc: Global,
-    hands: &mut Hands<R>,
+    asked: &mut Asked<D, W, R>,
     name: &str,
     deed: OutputDeed<'_>,
 ) -> Result<(), Mishap> {
     match deed {
         OutputDeed::Write(text, wanted) => {
             let bytes = text_of(alloc, text)?;
-            let written = write_to(get(&mut hands.outputs, name)?, bytes.as_slice());
+            let written = write_to(get(&mut asked.outputs, name)?, bytes.as_slice());
             demand_fault(alloc, wanted, kind_of_fault(written))
         }
         OutputDeed::Flush(wanted) => {
-            let flushed = flush(get(&mut hands.outputs, name)?);
+            let flushed = flush(get(&mut asked.outputs, name)?);
             demand_fault(alloc, wanted, kind_of_fault(flushed))
         }
         OutputDeed::Close(wanted) => {
-            let closed = close(take(&mut hands.outputs, name)?);
+            let closed = close(take(&mut asked.outputs, name)?);
             demand_fault(alloc, wanted, kind_of_fault(closed))
         }
         OutputDeed::Read(text) => {
             let wanted = text_of(alloc, text)?;
-            demand_read(alloc, get(&mut hands.outputs, name)?, wanted.as_slice())
+            demand_read(alloc, get(&mut asked.outputs, name)?, wanted.as_slice())
         }
         OutputDeed::Discard => {
-            drop(take(&mut hands.outputs, name)?);
+            drop(take(&mut asked.outputs, name)?);
             Ok(())
         }
     }
+}
+
+/// What is done with the output of this name, over memory or of the server.
+pub(crate) fn act_output<R: Host>(
+    alloc: Global,
+    hands: &mut Hands<R>,
+    name: &str,
+    deed: OutputDeed<'_>,
+) -> Result<(), Mishap> {
+    if has(hands.remembered.outputs.as_slice(), name) {
+        return write_asked(alloc, &mut hands.remembered, name, deed);
+    }
+    write_asked(alloc, &mut hands.served, name, deed)
 }

@@ -2,8 +2,10 @@
 use crate::handler::ByPath;
 use crate::hands::{Hands, add};
 use crate::links::Host;
+use crate::memory::Memory;
+use crate::rivals::act_rival;
 use scene_files::client::Client;
-use scene_files::deed::{Found, Given, ServerDeed};
+use scene_files::deed::{Given, ServerDeed};
 use scene_files::mishap::{Mishap, demand, demand_fault, demand_number, demand_text, differs};
 use scene_files::scene::{Ground, Over, Way};
 use std::alloc::{AllocError, Global};
@@ -44,14 +46,14 @@ pub(crate) enum Place<'a> {
 /// Where it listens for which no path is needed.
 pub(crate) fn place_of(over: Over, path: &str) -> Place<'_> {
     match over {
-        Over::Tcp | Over::Listener | Over::Nonblocking => Place::Tcp("127.0.0.1:0"),
         Over::Ipv6 => Place::Tcp("[::1]:0"),
         Over::Unix => Place::Path(path),
+        _ => Place::Tcp("127.0.0.1:0"),
     }
 }
 
-// The address to listen at.
-fn config_of<R: Host>(
+/// The address to listen at.
+pub(crate) fn config_of<R: Host>(
     rt: &R,
     alloc: Global,
     place: Place<'_>,
@@ -135,25 +137,29 @@ pub(crate) fn first_hands<R: Host>(
     (ground, way): (Ground, Way),
     place: Place<'_>,
 ) -> Result<Hands<R>, Mishap> {
-    let Ok(server) = server_of(rt, alloc, ground, place) else {
-        return Err(Mishap::Unplayable("there is no such server here"));
-    };
-    let addr = server.server_addr();
-    let Ok(server) = Arc::new(alloc, server) else {
-        return Err(Mishap::OutOfMemory);
-    };
-    Ok(Hands {
-        server: Some(server),
-        addr,
-        handler: handler_of(alloc, way == Way::Handler)?,
-        way,
-        clients: Vec::new(alloc),
-        requests: Vec::new(alloc),
-        outputs: Vec::new(alloc),
-        clock: None,
-        shortest: None,
-        taken: Vec::new(alloc),
-    })
+    let handler = handler_of(alloc, way == Way::Handler)?;
+    let mut hands = Hands::empty(alloc, handler, way);
+    match ground.over {
+        Over::Queue | Over::Pool => {
+            let Ok(queue) = MessagesQueue::with_capacity(alloc, KEPT_ROOM) else {
+                return Err(Mishap::OutOfMemory);
+            };
+            hands.queue = Some(queue);
+        }
+        Over::Memory => hands.memory = Some(Memory::new(rt, alloc)?),
+        Over::Turns => {}
+        _ => {
+            let Ok(server) = server_of(rt, alloc, ground, place) else {
+                return Err(Mishap::Unplayable("there is no such server here"));
+            };
+            hands.addr = Some(server.server_addr());
+            let Ok(server) = Arc::new(alloc, server) else {
+                return Err(Mishap::OutOfMemory);
+            };
+            hands.server = Some(server);
+        }
+    }
+    Ok(hands)
 }
 
 /// Takes all descriptors of the process but so many.
@@ -188,7 +194,7 @@ fn take_given<R: Host>(
     match (given, came) {
         (Given::Request(target, name), Ok(Some(request))) => {
             demand_text(alloc, target, request.url())?;
-            add(alloc, &mut hands.requests, name, request)
+            add(alloc, &mut hands.served.requests, name, request)
         }
         (Given::Nothing, Ok(None)) => Ok(()),
         (Given::Nothing, Ok(Some(request))) => Err(differs(alloc, "no request", request.url())),
@@ -313,8 +319,8 @@ fn demand_count<R: Host>(
     }
 }
 
-// The path of the server's Unix socket.
-fn path_in(addr: &ListenAddr) -> Result<Path<'_>, Mishap> {
+/// The path of the server's Unix socket.
+pub(crate) fn path_in(addr: &ListenAddr) -> Result<Path<'_>, Mishap> {
     let ListenAddr::Unix(addr) = addr else {
         return Err(Mishap::Unplayable("only a Unix socket has a path"));
     };
@@ -324,8 +330,8 @@ fn path_in(addr: &ListenAddr) -> Result<Path<'_>, Mishap> {
     }
 }
 
-// A path beside that of the server's Unix socket.
-fn path_beside(alloc: Global, addr: &ListenAddr) -> Result<String, Mishap> {
+/// A path beside that of the server's Unix socket.
+pub(crate) fn path_beside(alloc: Global, addr: &ListenAddr) -> Result<String, Mishap> {
     Ok(format!(in alloc; "{}.beside", path_in(addr)?.display())?)
 }
 
@@ -369,128 +375,6 @@ fn demand_file<R: Host>(
         "the file is gone"
     };
     demand(alloc, words, rt.is_socket(path_in(addr)?) == is_there)
-}
-
-// A second server where this one listens.
-fn second_server<R: Host>(
-    rt: &R,
-    alloc: Global,
-    addr: &ListenAddr,
-) -> Result<Result<Server<R>, ServerError>, Mishap> {
-    match addr {
-        ListenAddr::IP(addr) => Ok(Server::http(*rt, alloc, *addr)),
-        ListenAddr::Unix(_) => Ok(Server::http_unix(*rt, alloc, path_in(addr)?)),
-    }
-}
-
-// A second server is refused by this kind.
-fn demand_rival<R: Host>(
-    rt: &R,
-    alloc: Global,
-    addr: &ListenAddr,
-    kind: ErrorKind,
-) -> Result<(), Mishap> {
-    match second_server(rt, alloc, addr)? {
-        Ok(_) => Err(differs(alloc, "no second server", "a second server")),
-        Err(ServerError::Io(fault)) => demand_fault(alloc, Some(kind), Some(fault.kind())),
-        Err(_) => Err(differs(alloc, "a fault of the system", "another one")),
-    }
-}
-
-// A second server takes the place of the first, which goes.
-fn follow<R: Host>(rt: &R, alloc: Global, hands: &mut Hands<R>) -> Result<(), Mishap> {
-    let Ok(second) = second_server(rt, alloc, &hands.addr)? else {
-        return Err(Mishap::Unplayable("there is no second server here"));
-    };
-    let Ok(second) = Arc::new(alloc, second) else {
-        return Err(Mishap::OutOfMemory);
-    };
-    drop(hands.server.replace(second));
-    Ok(())
-}
-
-// The name of a file in the folder of the program, which is no socket.
-const PLAIN: &str = "closing.scenes";
-
-// Makes a server with limits at a path where this is: the kind by which it is refused, if it is, and whether what was
-// there is still there.
-fn made_at<R: Host>(
-    rt: &R,
-    alloc: Global,
-    path: &str,
-    found: Found,
-) -> Result<(Option<ErrorKind>, bool), Mishap> {
-    let was = rt.bind_unix(Path::new(path));
-    if was.is_err() && found != Found::Plain {
-        return Err(Mishap::Unplayable("no socket can be made there"));
-    }
-    if was.is_ok() && found == Found::Plain {
-        let _ = rt.remove_socket(Path::new(path));
-        return Err(Mishap::Unplayable("there is no plain file"));
-    }
-    if found == Found::Stale {
-        drop(was.ok());
-        return Ok((refusal_at(rt, alloc, path)?, rt.is_socket(Path::new(path))));
-    }
-    let refusal = refusal_at(rt, alloc, path)?;
-    let is_there = rt.bind_unix(Path::new(path)).is_err();
-    drop(was.ok());
-    if found == Found::Live {
-        let _ = rt.remove_socket(Path::new(path));
-    }
-    Ok((refusal, is_there))
-}
-
-// The same where a link is at this path, to a socket on which nobody listens.
-fn made_at_link<R: Host>(
-    rt: &R,
-    alloc: Global,
-    link: &str,
-) -> Result<(Option<ErrorKind>, bool), Mishap> {
-    let target = format!(in alloc; "{link}.target")?;
-    let (target, link_path) = (Path::new(target.as_str()), Path::new(link));
-    drop(rt.bind_unix(target).ok());
-    if rt.symlink(target, link_path).is_err() {
-        return Err(Mishap::Unplayable("no link can be made there"));
-    }
-    let refusal = refusal_at(rt, alloc, link)?;
-    let is_there = rt.is_socket(target) && rt.bind_unix(link_path).is_err();
-    let _ = rt.remove_socket(link_path);
-    let _ = rt.remove_socket(target);
-    Ok((refusal, is_there))
-}
-
-// The kind by which a server with limits at this path is refused, if it is. One that is made goes at once.
-fn refusal_at<R: Host>(rt: &R, alloc: Global, path: &str) -> Result<Option<ErrorKind>, Mishap> {
-    let Ok(config) = config_of(rt, alloc, Place::Path(path)) else {
-        return Err(Mishap::OutOfMemory);
-    };
-    match Server::with(*rt, alloc, config, Profile::Standard, Limits::new()) {
-        Ok(_) => Ok(None),
-        Err(ServerError::Io(fault)) => Ok(Some(fault.kind())),
-        Err(_) => Err(Mishap::OutOfMemory),
-    }
-}
-
-// A server with limits at a path where this is. It takes over a stale socket, whose file goes with it; what else is
-// there stays.
-fn demand_made_at<R: Host>(
-    rt: &R,
-    alloc: Global,
-    (addr, found): (&ListenAddr, Found),
-    wanted: Option<ErrorKind>,
-) -> Result<(), Mishap> {
-    let beside = path_beside(alloc, addr)?;
-    let (refusal, is_there) = match found {
-        Found::Plain => made_at(rt, alloc, PLAIN, found)?,
-        Found::Link => made_at_link(rt, alloc, beside.as_str())?,
-        Found::Stale | Found::Live => made_at(rt, alloc, beside.as_str(), found)?,
-    };
-    demand_fault(alloc, wanted, refusal)?;
-    if found == Found::Stale {
-        return demand(alloc, "the file is gone", !is_there);
-    }
-    demand(alloc, "what was there is still there", is_there)
 }
 
 // Stops the server; whether all was answered.
@@ -559,7 +443,7 @@ fn act_giving<R: Host>(
             (given, hands.server()?.recv_timeout(most))
         }
         ServerDeed::Next(given) => (given, next_incoming(hands)?),
-        _ => return Err(Mishap::Unplayable("the server can't do that")),
+        _ => return act_rival(rt, alloc, hands, deed),
     };
     take_given(alloc, hands, given, came)
 }
@@ -604,12 +488,9 @@ pub(crate) fn act_server<R: Host>(
             hands.handler.gate.store(true, Ordering::SeqCst);
             Ok(())
         }
-        ServerDeed::File(is_there) => demand_file(rt, alloc, &hands.addr, is_there),
-        ServerDeed::LinksFile => link_beside(rt, alloc, &hands.addr),
-        ServerDeed::IsFollowed => follow(rt, alloc, hands),
-        ServerDeed::IsFree => demand_free(rt, alloc, &hands.addr),
-        ServerDeed::Rival(kind) => demand_rival(rt, alloc, &hands.addr, kind),
-        ServerDeed::At(found, wanted) => { demand_made_at(rt, alloc, (&hands.addr, found), wanted) }
+        ServerDeed::File(is_there) => demand_file(rt, alloc, hands.addr()?, is_there),
+        ServerDeed::LinksFile => link_beside(rt, alloc, hands.addr()?),
+        ServerDeed::IsFree => demand_free(rt, alloc, hands.addr()?),
         _ => act_giving(rt, alloc, hands, deed),
     }
 }
@@ -621,6 +502,6 @@ pub(crate) fn connect<R: Host>(
     hands: &mut Hands<R>,
     name: &str,
 ) -> Result<(), Mishap> {
-    let client = Client::connect(rt, alloc, &hands.addr)?;
+    let client = Client::connect(rt, alloc, hands.addr()?)?;
     add(alloc, &mut hands.clients, name, client)
 }
