@@ -11,7 +11,7 @@ fn a_connections_own_headers_stay(rt: HostRuntime) -> Result<(), Fail> {
     let mut request = TestRequest::new(alloc)?
         .with_method(Method::Post)
         .with_path(alloc, "http://host/a?b")?
-        .with_body_bytes(b"hi".to_vec(alloc)?);
+        .with_body("hi");
     for (name, value) in [
         ("Host", "host"),
         ("Connection", "keep-alive, X-Hop"),
