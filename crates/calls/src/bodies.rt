@@ -93,8 +93,8 @@ pub fn read_head_alone(
 // The most reads up to the end of some data.
 const MOST_READS: u64 = 1_000_000;
 
-// Reads the bytes that are left, and how they stop; no stop where they don't.
-fn drain<R: ReadDevice>(
+/// Reads the bytes that are left, and how they stop; no stop where they don't.
+pub fn drain<R: ReadDevice>(
     alloc: Global,
     reader: &mut R,
 ) -> Result<(Vec<u8>, Option<Stop>), AllocError> {

@@ -3,12 +3,20 @@
 #![tactic(auto)]
 
 mod bodies;
+mod conversing;
+mod deeds;
+mod devices;
+mod exchanging;
 mod findings;
 mod headers;
 mod naming;
+mod numbers;
+mod outlets;
 mod parts;
 mod reading;
+mod replies;
 mod row;
+mod sources;
 mod standard;
 mod texts;
 mod trying;

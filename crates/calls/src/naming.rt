@@ -1,8 +1,11 @@
 //! The first line of a row: which call it is.
-use crate::row::{Call, Choice, TextCall};
+use crate::row::{Call, Choice, Subject, TextCall};
 use crate::words::{coding, number, number_or_none, numbers, split, status, text, version};
 use data_files::fault::LineFault;
 use std::alloc::{AllocError, Global};
+use tiny_http_core::framing::Profile;
+use tiny_http_core::turns::TurnsError;
+use tiny_http_core::upgrading::UpgradeError;
 use tiny_http_wire::chunked::ChunkRules;
 use tiny_http_wire::common::{Method, ParseError};
 
@@ -86,6 +89,38 @@ fn chunk_rules(words: &str) -> Result<ChunkRules, LineFault> {
     }
 }
 
+// The profile that is named; the lenient one, if none is.
+fn profile(words: &str) -> Result<Profile, LineFault> {
+    match words {
+        "" => Ok(Profile::Lenient),
+        "strict" => Ok(Profile::Strict),
+        "standard" => Ok(Profile::Standard),
+        _ => Err(LineFault::Bad("a row names no profile but strict and standard")),
+    }
+}
+
+const NO_ERROR: LineFault = LineFault::Bad("no error has this name");
+
+// An error of an upgrade by its name.
+fn upgrade_error(name: &str) -> Result<UpgradeError, LineFault> {
+    match name {
+        "Protocol" => Ok(UpgradeError::Protocol),
+        "NotAsked" => Ok(UpgradeError::NotAsked),
+        "Status" => Ok(UpgradeError::Status),
+        "UnfinishedBody" => Ok(UpgradeError::UnfinishedBody),
+        _ => Err(NO_ERROR),
+    }
+}
+
+// An error of turns by its name.
+fn turns_error(name: &str) -> Result<TurnsError, LineFault> {
+    match name {
+        "Memory" => Ok(TurnsError::Memory),
+        "Exhausted" => Ok(TurnsError::Exhausted),
+        _ => Err(NO_ERROR),
+    }
+}
+
 // The call of this name that takes parts alone.
 fn bare_call(name: &str) -> Option<Call> {
     match name {
@@ -97,6 +132,12 @@ fn bare_call(name: &str) -> Option<Call> {
         "lines::parse_request_line" => Some(Call::StandardRequestLine),
         "lines::parse_field_line" => Some(Call::StandardFieldLine),
         "hosts" => Some(Call::Host),
+        "greeter" => Some(Call::Greeter),
+        "Source" => Some(Call::Each(Subject::Source)),
+        "FusedReader" => Some(Call::Each(Subject::FusedReader)),
+        "Outlet" => Some(Call::Each(Subject::Outlet)),
+        "CustomStream" => Some(Call::Each(Subject::CustomStream)),
+        "Turns" => Some(Call::Each(Subject::Turns)),
         _ => None,
     }
 }
@@ -114,6 +155,13 @@ fn worded_call(alloc: Global, name: &str, words: &str) -> Result<Call, LineFault
         "judge" => judged(alloc, words),
         "heads::read_head" => Ok(Call::ReadHead(number(words)?)),
         "Numeral" => Ok(Call::Numeral(number(words)? as u64)),
+        "print" => Ok(Call::Print(status(words)?)),
+        "EqualReader" => Ok(Call::Each(Subject::EqualReader(number(words)?))),
+        "Exchange" => Ok(Call::Each(Subject::Exchange(profile(words)?))),
+        "Connection" => Ok(Call::Each(Subject::Connection(profile(words)?))),
+        "ByNumber" => Ok(Call::ByNumber(number(words)? as u64)),
+        "UpgradeError" => Ok(Call::UpgradeError(upgrade_error(words)?)),
+        "TurnsError" => Ok(Call::TurnsError(turns_error(words)?)),
         _ => Err(LineFault::Bad("no call has this name")),
     }
 }

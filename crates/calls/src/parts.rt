@@ -1,10 +1,11 @@
 //! What goes into a call, part by part.
-use crate::row::{Call, Input, Rooms};
+use crate::deeds::deed_in;
+use crate::row::{Call, Failing, Input, Rooms};
 use crate::words::{add_series, header, header_line, number, numbers, split, text, version};
 use case_files::case::Room;
 use data_files::fault::LineFault;
 use data_files::kinds::kind_of;
-use data_files::text::add_text;
+use data_files::text::{add_text, text_of};
 use std::alloc::{AllocError, Global};
 use std::io::ErrorKind;
 
@@ -24,6 +25,11 @@ pub fn empty_input(alloc: Global) -> Input {
         is_open: false,
         room: None,
         rooms: None,
+        pieces: Vec::new(alloc),
+        failing_read: None,
+        failing_write: None,
+        is_stuck: false,
+        deeds: Vec::new(alloc),
     }
 }
 
@@ -53,6 +59,17 @@ fn parts_of(call: &Call) -> &'static [&'static str] {
             "rooms",
         ],
         Call::AddHeader => &["header"],
+        Call::Print(_) | Call::Greeter => &["data", "series"],
+        Call::Each(_) => &[
+            "data",
+            "series",
+            "stop",
+            "takes",
+            "pieces",
+            "fails",
+            "writer-fails",
+            "stuck",
+        ],
         _ => &[],
     }
 }
@@ -160,6 +177,52 @@ fn add_of_writing(
     }
 }
 
+// The call that fails, and its kind.
+fn failing(words: &str) -> Result<Failing, LineFault> {
+    let (digits, name) = split(words);
+    Ok(Failing {
+        call: number(digits)? as u64,
+        kind: kind(name)?,
+    })
+}
+
+// Adds so many pieces of the same bytes.
+fn add_pieces(alloc: Global, words: &str, pieces: &mut Vec<Vec<u8>>) -> Result<(), LineFault> {
+    let (count, piece) = split(words);
+    let piece = text_of(alloc, piece)?;
+    for _ in 0..number(count)? {
+        pieces
+            .push(piece.as_slice().to_vec(alloc)?)
+            .map_err(AllocError::from)?;
+    }
+    Ok(())
+}
+
+// Adds a part that says of a reader or a writer how its calls go.
+fn add_of_devices(
+    alloc: Global,
+    input: &mut Input,
+    word: &str,
+    words: &str,
+) -> Result<(), LineFault> {
+    match word {
+        "pieces" => add_pieces(alloc, words, &mut input.pieces),
+        "fails" => put(&mut input.failing_read, failing(words)?),
+        "writer-fails" => put(&mut input.failing_write, failing(words)?),
+        _ => mark(&mut input.is_stuck, words),
+    }
+}
+
+// Adds one of the calls that a row makes one after another.
+fn add_deed(alloc: Global, call: &Call, input: &mut Input, part: &str) -> Result<(), LineFault> {
+    let Call::Each(subject) = call else {
+        return Err(LineFault::Bad("the call takes no such part"));
+    };
+    let deed = deed_in(alloc, *subject, part)?;
+    input.deeds.push(deed).map_err(AllocError::from)?;
+    Ok(())
+}
+
 /// Adds what a line says of a call's input.
 pub fn add_part(
     alloc: Global,
@@ -169,13 +232,16 @@ pub fn add_part(
 ) -> Result<(), LineFault> {
     let (word, words) = split(part);
     if !parts_of(call).iter().any(|known| *known == word) {
-        return Err(LineFault::Bad("the call takes no such part"));
+        return add_deed(alloc, call, input, part);
     }
     match word {
         "version" | "upgrade" | "withheld" | "request" => {
             add_of_request(alloc, input, word, words)
         }
         "flushes" | "open" | "takes" | "rooms" => add_of_writing(alloc, input, word, words),
+        "pieces" | "fails" | "writer-fails" | "stuck" => {
+            add_of_devices(alloc, input, word, words)
+        }
         _ => add_of_answer(alloc, input, word, words),
     }
 }

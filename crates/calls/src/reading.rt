@@ -1,7 +1,7 @@
 //! Reads a file of rows, line by line.
 use crate::naming::call_in;
 use crate::parts::{add_part, empty_input};
-use crate::row::{Finding, Row, is_long, word_of};
+use crate::row::{Call, Finding, Row, is_long, word_of};
 use crate::words::{add_series, split};
 use data_files::fault::{FilesFault, LineFault, line_text};
 use data_files::program::NamedFile;
@@ -32,12 +32,13 @@ fn begin(alloc: Global, rows: &mut Vec<Row>, line: usize, text: &str) -> Result<
     Ok(())
 }
 
-// Adds a part of what goes into the last row's call.
+// Adds a part of what goes into the last row's call. Calls that are made one after another stand each in front of what
+// comes of it.
 fn add_to_input(alloc: Global, rows: &mut Vec<Row>, part: &str) -> Result<(), LineFault> {
     let Some(row) = rows.last_mut() else {
         return Err(NO_ROW);
     };
-    if !row.wanted.is_empty() {
+    if !row.wanted.is_empty() && !matches!(row.call, Call::Each(_)) {
         return Err(LineFault::Bad("what goes in stands in front of what comes"));
     }
     add_part(alloc, &row.call, &mut row.input, part)

@@ -1,6 +1,10 @@
 //! A row: a call, what goes into it, and what has to come of it.
+use crate::deeds::Deed;
 use case_files::case::Room;
 use std::io::ErrorKind;
+use tiny_http_core::framing::Profile;
+use tiny_http_core::turns::TurnsError;
+use tiny_http_core::upgrading::UpgradeError;
 use tiny_http_wire::chunked::ChunkRules;
 use tiny_http_wire::coding::Coding;
 use tiny_http_wire::common::{HTTPVersion, Header, Method, StatusCode};
@@ -36,6 +40,27 @@ pub struct Choice {
     /// The length of the data, if it is known.
     pub length: Option<usize>,
     pub threshold: usize,
+}
+
+/// A value whose calls a row makes one after another.
+#[derive(Clone, Copy, Debug, PartialEq, Eq)]
+pub enum Subject {
+    /// A `Source`.
+    Source,
+    /// An `EqualReader` of so many bytes of a source.
+    EqualReader(usize),
+    /// A `FusedReader`.
+    FusedReader,
+    /// An `Outlet`.
+    Outlet,
+    /// A `CustomStream`.
+    CustomStream,
+    /// `Turns`, whose item is 7.
+    Turns,
+    /// A source, an outlet, and each `Exchange` that is read, under this profile.
+    Exchange(Profile),
+    /// A `Connection` of this profile.
+    Connection(Profile),
 }
 
 /// A call, and what the first line of its row says of it.
@@ -79,6 +104,26 @@ pub enum Call {
     Judge(HTTPVersion, Method),
     /// The head at the front of bytes is read by the standard, where one has at most so many bytes.
     ReadHead(usize),
+    /// An answer of this status is printed by the standard, by `print`.
+    Print(StatusCode),
+    /// The calls of a value, one after another.
+    Each(Subject),
+    /// A client is served by `greeter`.
+    Greeter,
+    /// So many numbers are kept in a `ByNumber`.
+    ByNumber(u64),
+    /// An error of an upgrade is shown.
+    UpgradeError(UpgradeError),
+    /// An error of turns is shown.
+    TurnsError(TurnsError),
+}
+
+/// A call of a reader or a writer that fails once.
+#[derive(Clone, Copy, Debug, PartialEq, Eq)]
+pub struct Failing {
+    /// Which one, counted from 1.
+    pub call: u64,
+    pub kind: ErrorKind,
 }
 
 /// Writers with too little room.
@@ -118,6 +163,16 @@ pub struct Input {
     pub room: Option<Room>,
     /// The writers with too little room that the call is tried with too.
     pub rooms: Option<Rooms>,
+    /// What further calls of the reader give, a piece a call.
+    pub pieces: Vec<Vec<u8>>,
+    /// The call of the reader that fails.
+    pub failing_read: Option<Failing>,
+    /// The call of the writer that fails.
+    pub failing_write: Option<Failing>,
+    /// Whether the writer takes no byte, and reports no fault.
+    pub is_stuck: bool,
+    /// The calls that are made, one after another.
+    pub deeds: Vec<Deed>,
 }
 
 /// Something that comes of a call: what it is, and its text.
@@ -139,7 +194,7 @@ pub struct Row {
 }
 
 // What a finding is, where a row has to say so if it is there.
-const STATED: [&str; 31] = [
+const STATED: [&str; 34] = [
     "answer",
     "asks-upgrade",
     "authority",
@@ -151,8 +206,10 @@ const STATED: [&str; 31] = [
     "decimal",
     "element",
     "end",
+    "ended",
     "failed",
     "fault",
+    "held",
     "hexadecimal",
     "host",
     "host-value",
@@ -167,6 +224,7 @@ const STATED: [&str; 31] = [
     "output",
     "phrase",
     "refused",
+    "reply",
     "served",
     "target",
     "unfinished",
@@ -174,10 +232,12 @@ const STATED: [&str; 31] = [
 ];
 
 // What a finding is that counts where the row says something of it.
-const ASKED: [&str; 6] = ["header", "headers", "left", "rest", "taken", "version"];
+const ASKED: [&str; 10] = [
+    "called", "header", "headers", "left", "reads", "rest", "sent", "sizes", "taken", "version",
+];
 
 // What a finding is whose text may be written in several lines.
-const LONG: [&str; 5] = ["body", "data", "left", "output", "rest"];
+const LONG: [&str; 6] = ["body", "data", "held", "left", "output", "rest"];
 
 // The word of a list that is this one.
 fn known(words: &[&'static str], word: &str) -> Option<&'static str> {

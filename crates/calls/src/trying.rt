@@ -1,14 +1,19 @@
 //! Tries the calls of rows, and reports those that differ.
 use crate::bodies::{decode, read_answers, read_head_alone};
-use crate::findings::{add, add_some};
+use crate::conversing::{call_connections, greet};
+use crate::exchanging::call_exchanges;
+use crate::findings::{add, add_shown, add_some};
 use crate::headers::add_to_answer;
+use crate::numbers::{call_turns, keep_numbers};
+use crate::outlets::{call_outlets, call_streams};
 use crate::reading::RowFile;
-use crate::row::{Call, Finding, Rooms, Row, is_asked};
+use crate::row::{Call, Finding, Input, Rooms, Row, Subject, is_asked};
+use crate::sources::{call_sources, read_fused, read_parts};
 use crate::standard::{
     judge_head, judge_host, read_field_line, read_first_head, read_request_line,
 };
 use crate::texts::{ask, choose_by, phrase, read_text, show, write_number};
-use crate::written::{encode, print, write_chunk, write_chunked};
+use crate::written::{encode, print, print_by_standard, write_chunk, write_chunked};
 use case_files::case::Room;
 use case_files::devices::PIECES;
 use data_files::fault::FilesFault;
@@ -31,6 +36,26 @@ struct Difference {
     how: String,
     found: String,
     wanted: String,
+}
+
+// Makes the calls of a value, one after another.
+fn make_each(
+    alloc: Global,
+    subject: Subject,
+    input: &Input,
+    piece: usize,
+    to: &mut Vec<Finding>,
+) -> Result<(), AllocError> {
+    match subject {
+        Subject::Source => call_sources(alloc, input, piece, to),
+        Subject::EqualReader(size) => read_parts(alloc, input, (size, piece), to),
+        Subject::FusedReader => read_fused(alloc, input, piece, to),
+        Subject::Outlet => call_outlets(alloc, input, to),
+        Subject::CustomStream => call_streams(alloc, input, piece, to),
+        Subject::Turns => call_turns(alloc, input, to),
+        Subject::Exchange(profile) => call_exchanges(alloc, profile, input, piece, to),
+        Subject::Connection(profile) => call_connections(alloc, profile, input, piece, to),
+    }
 }
 
 // Makes the call of a row.
@@ -63,6 +88,12 @@ fn make_call(
         Call::StandardFieldLine => read_field_line(alloc, input.bytes.as_slice(), to),
         Call::ReadHead(limit) => read_first_head(alloc, *limit, input.bytes.as_slice(), to),
         Call::Host => judge_host(alloc, input.bytes.as_slice(), to),
+        Call::Print(status) => print_by_standard(alloc, *status, input, to),
+        Call::Each(subject) => make_each(alloc, *subject, input, piece, to),
+        Call::Greeter => greet(alloc, input, piece, to),
+        Call::ByNumber(count) => keep_numbers(alloc, *count, to),
+        Call::UpgradeError(error) => add_shown(alloc, to, "phrase", error),
+        Call::TurnsError(error) => add_shown(alloc, to, "phrase", error),
         Call::Judge(version, method) => {
             judge_head(alloc, *version, method, input.request.as_slice(), to)
         }
@@ -152,7 +183,8 @@ fn try_once(
 // Tries a call by each number of bytes at a time that it is tried with.
 fn try_pieces(alloc: Global, row: &Row) -> Result<Option<Difference>, AllocError> {
     let pieces = match &row.call {
-        Call::Decoder(_) => PIECES.as_slice(),
+        Call::Decoder(_) | Call::Greeter => PIECES.as_slice(),
+        Call::Each(_) if !row.input.bytes.is_empty() => PIECES.as_slice(),
         Call::Encoder(sizes) => sizes.as_slice(),
         _ => &[0],
     };

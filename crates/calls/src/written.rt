@@ -1,6 +1,7 @@
 //! Answers and bodies that are written.
 use crate::bodies::add_left;
-use crate::findings::{add_kind, add_shown, add_some};
+use crate::devices::Watched;
+use crate::findings::{add, add_kind, add_shown, add_some};
 use crate::row::{Finding, Input};
 use case_files::case::Room;
 use case_files::devices::Trier;
@@ -9,6 +10,7 @@ use std::alloc::{AllocError, Global};
 use std::io;
 use std::io::{ErrorKind, Write};
 use tiny_http_body::chunks::{put_chunk, put_chunked};
+use tiny_http_wire::answer_context::{AnswerContext, Persistence};
 use tiny_http_wire::common::{HTTPVersion, StatusCode};
 use tiny_http_wire::device::{Canned, Metered, WriteDevice};
 use tiny_http_wire::encoder::Encoder;
@@ -178,4 +180,26 @@ pub fn print(
     let outcome = print_to(alloc, answer, input, &mut writer);
     add_written(alloc, to, writer, outcome)?;
     add_left(alloc, &mut data, to)
+}
+
+const BY_THE_STANDARD: AnswerContext = AnswerContext {
+    version: HTTPVersion(1, 1),
+    asked_coding: None,
+    no_body: false,
+    persistence: Some(Persistence::Persistent),
+};
+
+/// What comes of an answer that is printed by the standard, and how much is read of its data, whose length isn't known.
+pub fn print_by_standard(
+    alloc: Global,
+    status: StatusCode,
+    input: &Input,
+    to: &mut Vec<Finding>,
+) -> Result<(), AllocError> {
+    let mut data = Watched::new(alloc, input.bytes.as_slice(), None)?;
+    let mut writer = writer_of(alloc, None);
+    let answer = Response::empty(alloc, status).with_data(&mut data, None);
+    let outcome = answer.print(alloc, &mut writer, BY_THE_STANDARD, None, first_date());
+    add_written(alloc, to, writer, outcome)?;
+    add(alloc, to, "reads", data.reads().as_bytes())
 }
