@@ -4,8 +4,7 @@ use std::io;
 use std::io::{ErrorKind, Write};
 use std::sync::Wait;
 use tiny_http::device::{ReadDevice, WriteDevice};
-use tiny_http::framing::value_of;
-use tiny_http::{Header, Request, Response};
+use tiny_http::{Header, HeaderField, Request, Response};
 use tiny_http_client::answer_head::AnswerHead;
 use tiny_http_standard_head::lists::has_element;
 
@@ -22,16 +21,70 @@ const HOP: [&str; 9] = [
     "Upgrade",
 ];
 
-// Whether a header isn't handed on: it is one of these, or `Connection` names it.
+// Whether a header has this name, `_` taken for `-`: a backend may take both for one.
+fn is_like(field: &HeaderField, name: &str) -> bool {
+    let field = field.as_str().as_str();
+    let mut pairs = field.bytes().zip(name.bytes());
+    field.len() == name.len()
+        && pairs.all(|(one, other)| {
+            one.eq_ignore_ascii_case(&other) || (one == b'_' && other == b'-')
+        })
+}
+
+// Whether a header isn't handed on: it is one of these, or `Connection` names it. The host always is.
 fn is_hop(header: &Header, headers: &[Header]) -> bool {
-    HOP.iter().any(|name| header.field.equiv(name))
+    if header.field.equiv("Host") {
+        return false;
+    }
+    HOP.iter().any(|name| is_like(&header.field, name))
         || has_element(headers, "Connection", header.field.as_str().as_str())
 }
 
-/// The head that the backend is sent.
+// The host in an absolute target, without a user's name (RFC 9112, section 3.2.2).
+fn host_in(target: &str) -> Option<&str> {
+    let (scheme, rest) = target.split_once("://")?;
+    if scheme.is_empty() || !scheme.bytes().all(|b| b.is_ascii_alphanumeric()) {
+        return None;
+    }
+    let end = rest.find(|letter| matches!(letter, '/' | '?' | '#'));
+    let authority = rest.get(..end.unwrap_or(rest.len())).unwrap_or(rest);
+    Some(match authority.rsplit_once('@') {
+        Some((_, host)) => host,
+        None => authority,
+    })
+}
+
+// The name of this gateway in `Via`.
+const NAME: &str = "tiny-http-gateway";
+
+// Adds the headers that a gateway writes: the host, whom the request is from, and which way it came (RFC 9110,
+// sections 7.2 and 7.6.3).
+fn add_own<R: ReadDevice + Drop, W: WriteDevice + Drop, Rt: Wait + Drop>(
+    head: &mut String,
+    request: &Request<R, W, Rt>,
+    backend: &str,
+) -> io::Result<()> {
+    let host = host_in(request.url()).or(request.header("Host"));
+    write!(head, "Host: {}\r\n", host.unwrap_or(backend))?;
+    head.push_str("X-Forwarded-For: ")?;
+    for header in request.headers() {
+        if header.field.equiv("X-Forwarded-For") {
+            write!(head, "{}, ", header.value)?;
+        }
+    }
+    match request.remote_addr() {
+        Some(address) => write!(head, "{}\r\n", address.ip())?,
+        None => head.push_str("unknown\r\n")?,
+    }
+    write!(head, "Via: {} {NAME}\r\n", request.http_version())?;
+    Ok(())
+}
+
+/// The head that the backend is sent. Where the client names no host, it is the backend's address.
 pub(crate) fn head_of<R: ReadDevice + Drop, W: WriteDevice + Drop, Rt: Wait + Drop>(
     alloc: Global,
     request: &Request<R, W, Rt>,
+    backend: &str,
 ) -> io::Result<String> {
     let mut head = format!(in alloc; "{} {}", request.method(), request.path())?;
     if let Some(query) = request.query() {
@@ -39,10 +92,12 @@ pub(crate) fn head_of<R: ReadDevice + Drop, W: WriteDevice + Drop, Rt: Wait + Dr
     }
     head.push_str(" HTTP/1.1\r\n")?;
     for header in request.headers() {
-        if !is_hop(header, request.headers()) {
+        let is_own = header.field.equiv("Host") || is_like(&header.field, "X-Forwarded-For");
+        if !is_own && !is_hop(header, request.headers()) {
             write!(head, "{header}\r\n")?;
         }
     }
+    add_own(&mut head, request, backend)?;
     match request.body_length() {
         Some(length) => write!(head, "Content-Length: {length}\r\n")?,
         None if request.header("Transfer-Encoding").is_some() => {
@@ -64,11 +119,12 @@ pub(crate) enum Ending {
 
 /// How the body ends behind these headers; none where they say more than one thing, or what isn't understood.
 pub(crate) fn ending_of(headers: &[Header]) -> Option<Ending> {
-    if let Some(coding) = value_of(headers, "Transfer-Encoding") {
-        return coding
-            .as_str()
-            .eq_ignore_ascii_case("chunked")
-            .then_some(Ending::Chunks);
+    let mut codings = headers
+        .iter()
+        .filter(|header| header.field.equiv("Transfer-Encoding"));
+    if let Some(coding) = codings.next() {
+        let is_chunked = coding.value.as_str().eq_ignore_ascii_case("chunked");
+        return (is_chunked && codings.next().is_none()).then_some(Ending::Chunks);
     }
     let mut ending = Ending::Close;
     for header in headers

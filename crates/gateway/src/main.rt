@@ -1,44 +1,35 @@
 //! Hands each request to another HTTP server, and its answer back: `gateway ADDRESS BACKEND`.
 //!
 //! The answer is 502 where the request can't be handed on, or the backend's answer isn't one that is understood, and
-//! 504 where a read or a write takes ten seconds. The program shows a head that is looked at while its body is read
+//! 504 where the backend takes or gives nothing for ten seconds. An answer that comes before the request was sent whole
+//! is handed back, too (module `backend`). `CONNECT` is answered 501. The program shows a head that is looked at while its body is read
 //! (`parts`), the head of an answer (`read_answer_head`), a body of known length that is handed on (`Response::of`),
 //! and one that is sent as it comes (`respond_streaming`). Each message is framed anew, so that a body is never taken
 //! for a request behind it. The headers of one connection, and those that its `Connection` names, aren't handed on
 //! (RFC 9110, section 7.6.1).
 #![tactic(auto)]
 
+mod backend;
 mod heads;
 #[cfg(test)]
 mod tests;
 
+use crate::backend::{Backend, PIECE, Rest};
 use crate::heads::{Ending, answer_with, ending_of, head_of};
 use std::alloc::Global;
-use std::io::{Chain, Cursor, ErrorKind, Read, Write};
+use std::io::{ErrorKind, Read, Write};
 use std::net::{Net, TcpStream};
-use std::sync::Wait;
-use std::time::{Clock, Duration};
+use std::sync::{Arc, Wait};
+use std::time::Clock;
 use std::{env, io};
 use tiny_http::chunked::Decoder;
 use tiny_http::device::{Metered, ReadDevice, WriteDevice};
 use tiny_http::encoder::Encoder;
 use tiny_http::{
-    ConfigListenAddr, Handler, Host, Limits, Profile, Request, Response, Server, ServerConfig,
-    StatusCode, StreamedForm, current_date,
+    ConfigListenAddr, Handler, Host, Limits, Method, Profile, Request, Response, Server,
+    ServerConfig, StatusCode, StreamedForm, current_date,
 };
-use tiny_http_client::answer_head::{AnswerHead, read_answer_head};
-
-// So many threads answer.
-const THREADS: usize = 8;
-
-// So many bytes are handed on at once.
-const PIECE: usize = 8192;
-
-// So many reads the head of an answer may take, with the interim heads in front of it.
-const MOST_READS: usize = 64;
-
-// So many seconds a read or a write at the backend may take.
-const PATIENCE: u64 = 10;
+use tiny_http_client::answer_head::AnswerHead;
 
 /// Answers by another server.
 #[derive(Drop)]
@@ -63,11 +54,11 @@ fn pipe<F: Read, T: Write>(from: &mut F, to: &mut T) -> io::Result<()> {
 // Sends the backend a request with its body. By the standard a body that is cut is a fault.
 fn send_request<R: ReadDevice + Drop, W: WriteDevice + Drop, Rt: Clock + Wait + Drop>(
     rt: &Rt,
-    alloc: Global,
-    mut backend: &TcpStream,
+    backend: &mut Backend<'_, Rt>,
+    head: &str,
     request: &mut Request<R, W, Rt>,
 ) -> io::Result<()> {
-    backend.write_all(head_of(alloc, request)?.as_bytes())?;
+    backend.write_all(head.as_bytes())?;
     let (head, body) = request.parts(current_date(rt));
     if head.body_length.is_none() && head.header("Transfer-Encoding").is_some() {
         let mut chunks = Encoder::new(Metered::new(backend));
@@ -75,32 +66,7 @@ fn send_request<R: ReadDevice + Drop, W: WriteDevice + Drop, Rt: Clock + Wait + 
         let _ = chunks.finish()?;
         return Ok(());
     }
-    pipe(body, &mut backend)
-}
-
-// The head of the backend's answer, and what came behind it. Heads of the status 100 to 199 are passed over.
-fn read_head(alloc: Global, mut backend: &TcpStream) -> io::Result<(AnswerHead, Vec<u8>)> {
-    let mut front = Vec::new(alloc);
-    let mut piece = [0u8; PIECE];
-    for _ in 0..MOST_READS {
-        match read_answer_head(alloc, front.as_slice()) {
-            Ok(Some((head, length))) => {
-                front = front.split_off(length)?;
-                if head.status.0 >= 200 {
-                    return Ok((head, front));
-                }
-                continue;
-            }
-            Ok(None) => {}
-            Err(_) => return Err(ErrorKind::InvalidData.into()),
-        }
-        let n = backend.read(&mut piece)?;
-        if n == 0 {
-            return Err(ErrorKind::UnexpectedEof.into());
-        }
-        front.extend_from_slice(&piece[..n])?;
-    }
-    Err(ErrorKind::InvalidData.into())
+    pipe(body, backend)
 }
 
 // Hands on an answer whose length isn't said, as it comes. One without content is finished at once.
@@ -128,26 +94,27 @@ where
 }
 
 impl Gateway {
-    // Asks the backend, and reads the head of its answer.
+    // Asks the backend, and reads the head of its answer, which may come before the whole request was sent.
     fn ask<R: ReadDevice + Drop, W: WriteDevice + Drop, Rt>(
         &self,
         rt: &Rt,
         alloc: Global,
         request: &mut Request<R, W, Rt>,
-    ) -> io::Result<(AnswerHead, Ending, Chain<Cursor<Vec<u8>>, TcpStream>)>
+    ) -> io::Result<(AnswerHead, Ending, Rest)>
     where
         Rt: Net<Stream = TcpStream> + Clock + Wait + Drop,
     {
-        let backend = TcpStream::connect(rt, self.backend.as_str())?;
-        let patience = Some(Duration::from_secs(PATIENCE));
-        backend.set_read_timeout(patience)?;
-        backend.set_write_timeout(patience)?;
-        send_request(rt, alloc, &backend, request)?;
-        let (head, front) = read_head(alloc, &backend)?;
+        let head = head_of(alloc, request, self.backend.as_str())?;
+        let mut backend = Backend::connect(rt, alloc, self.backend.as_str())?;
+        let sent = send_request(rt, &mut backend, head.as_str(), request);
+        if !backend.is_answered() {
+            sent?;
+        }
+        let (head, rest) = backend.into_answer()?;
         let Some(ending) = ending_of(head.headers.as_slice()) else {
             return Err(ErrorKind::InvalidData.into());
         };
-        Ok((head, ending, Cursor::new(front).chain(backend)))
+        Ok((head, ending, rest))
     }
 }
 
@@ -160,6 +127,10 @@ where
     /// Answers by what the backend answers.
     fn handle(&self, rt: &Rt, alloc: Global, request: Request<R, W, Rt>) -> io::Result<()> {
         let mut request = request;
+        if request.method() == &Method::Connect {
+            let answer = Response::status(alloc, StatusCode(501))?;
+            return request.respond(answer, current_date(rt));
+        }
         let (head, ending, data) = match self.ask(rt, alloc, &mut request) {
             Ok(asked) => asked,
             Err(fault) => {
@@ -184,7 +155,7 @@ fn serve<Rt: Host, O: Write>(
     rt: Rt,
     alloc: Global,
     address: &str,
-    gateway: &Gateway,
+    gateway: Gateway,
     out: &mut O,
 ) -> io::Result<()> {
     let addr = ConfigListenAddr::from_socket_addrs(&rt, alloc, address)?;
@@ -192,7 +163,10 @@ fn serve<Rt: Host, O: Write>(
     let server = Server::with(rt, alloc, config, Profile::Standard, Limits::new())?;
     writeln!(out, "listening on {}", server.server_addr())?;
     out.flush()?;
-    server.serve_by(alloc, THREADS, gateway)
+    match Arc::new(alloc, gateway) {
+        Ok(gateway) => server.serve(alloc, &gateway),
+        Err(_) => Err(ErrorKind::OutOfMemory.into()),
+    }
 }
 
 fn main(rt: HostRuntime) -> io::Result<()> {
@@ -206,7 +180,7 @@ fn main(rt: HostRuntime) -> io::Result<()> {
         rt,
         alloc,
         address.as_str(),
-        &Gateway { backend },
+        Gateway { backend },
         &mut rt.stdout(),
     )
 }

@@ -13,8 +13,10 @@ fn a_connections_own_headers_stay(rt: HostRuntime) -> Result<(), Fail> {
         .with_path(alloc, "http://host/a?b")?
         .with_body("hi");
     for (name, value) in [
-        ("Host", "host"),
-        ("Connection", "keep-alive, X-Hop"),
+        ("Host", "other"),
+        ("Connection", "keep-alive, X-Hop, Host"),
+        ("Content_Length", "5"),
+        ("X-Forwarded-For", "192.0.2.1"),
         ("X-Hop", "1"),
         ("X-End", "2"),
         ("TE", "trailers"),
@@ -22,9 +24,10 @@ fn a_connections_own_headers_stay(rt: HostRuntime) -> Result<(), Fail> {
         request = request.with_header(Header::new(alloc, name, value)?)?;
     }
     let request = request.into_request(rt, alloc, current_date(&rt))?;
-    let head = head_of(alloc, &request)?;
+    let head = head_of(alloc, &request, "backend:80")?;
     let wanted =
-        "POST /a?b HTTP/1.1\r\nHost: host\r\nX-End: 2\r\nContent-Length: 2\r\nConnection: close\r\n\r\n";
+        "POST /a?b HTTP/1.1\r\nX-End: 2\r\nHost: host\r\nX-Forwarded-For: 192.0.2.1, 127.0.0.1\r\n\
+        Via: 1.1 tiny-http-gateway\r\nContent-Length: 2\r\nConnection: close\r\n\r\n";
     assert_eq!(rt; head.as_str(), wanted);
     Ok(())
 }
@@ -62,6 +65,10 @@ fn a_backends_body_ends_in_one_way(rt: HostRuntime) -> Result<(), Fail> {
             Some(Ending::Chunks),
         ),
         ("Transfer-Encoding: gzip, chunked\r\n", None),
+        (
+            "Transfer-Encoding: chunked\r\nTransfer-Encoding: gzip\r\n",
+            None,
+        ),
         ("Content-Length: 5\r\nContent-Length: 6\r\n", None),
         ("Content-Length: 5, 5\r\n", None),
         ("Content-Length: +5\r\n", None),
