@@ -171,8 +171,8 @@ pub enum RequestDeed<'a> {
     IsPlainOf(&'a str),
     /// Its raw writer gets this name.
     IntoWriter(&'a str),
-    /// An answer of this status grows by this name.
-    Streams(u16, &'a str),
+    /// An answer of this status grows by this name; whether the connection is to end.
+    Streams(u16, &'a str, bool),
     /// An answer of this status can't begin, by this fault.
     StreamsNot(u16, ErrorKind),
     /// It is upgraded to this protocol, and the stream gets this name.
@@ -202,6 +202,8 @@ pub enum OutputDeed<'a> {
     Close(Option<ErrorKind>),
     /// A read of an upgraded stream gives this text.
     Read(&'a str),
+    /// An answer that grows is sent in this form.
+    Form(&'a str),
     Discard,
 }
 
@@ -489,8 +491,12 @@ fn request_deed<'a>(verb: &str, rest: &'a str) -> Option<RequestDeed<'a>> {
         ("is-plain-of", client) => Some(RequestDeed::IsPlainOf(client)),
         ("into_writer", name) => Some(RequestDeed::IntoWriter(name.strip_prefix("as ")?)),
         ("respond_streaming", text) => {
-            let (status, name) = status_in(text)?;
-            Some(RequestDeed::Streams(status, name.strip_prefix("as ")?))
+            let (status, words) = status_in(text)?;
+            let (is_last, words) = match words.strip_prefix("closing ") {
+                Some(words) => (true, words),
+                None => (false, words),
+            };
+            Some(RequestDeed::Streams(status, words.strip_prefix("as ")?, is_last))
         }
         ("upgrade", text) => {
             let (protocol, name) = text.split_once(" as ")?;
@@ -514,6 +520,7 @@ fn output_deed<'a>(verb: &str, rest: &'a str) -> Option<OutputDeed<'a>> {
         "flush" => Some(OutputDeed::Flush(fault_in(rest)?)),
         "close" => Some(OutputDeed::Close(fault_in(rest)?)),
         "gets-back" => Some(OutputDeed::Read(rest)),
+        "form" => Some(OutputDeed::Form(rest.strip_prefix("= ")?)),
         "discard" if rest.is_empty() => Some(OutputDeed::Discard),
         _ => None,
     }

@@ -211,11 +211,14 @@ fn make<R: Host>(
 // The headers and the body among the further parts of a request.
 fn headers_and_body(alloc: Global, more: &str) -> Result<(Vec<Header>, Vec<u8>), Mishap> {
     let (mut headers, mut body) = (Vec::new(alloc), Vec::new(alloc));
-    for part in more.split(" + ") {
+    for part in more.split(" + ").filter(|part| !part.is_empty()) {
         if let Some(text) = part.strip_prefix("body ") {
             body = text_of(alloc, text)?;
-        } else if let Ok(header) = Header::from_str(alloc, part) {
-            headers.push(header).map_err(AllocError::from)?;
+            continue;
+        }
+        match Header::from_str(alloc, part) {
+            Ok(header) => headers.push(header).map_err(AllocError::from)?,
+            Err(_) => return Err(Mishap::Unplayable("no header")),
         }
     }
     Ok((headers, body))

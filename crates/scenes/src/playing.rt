@@ -9,7 +9,7 @@ use crate::requests::{act_output, act_request};
 use crate::serving::{act_server, connect, first_hands, place_of, take_descriptors};
 use data_files::text::text_of;
 use scene_files::deed::{ClientDeed, Deed, deed_in};
-use scene_files::mishap::{Mishap, demand};
+use scene_files::mishap::{Mishap, demand, differs};
 use scene_files::scene::{Line, Scene, Way};
 use std::alloc::Global;
 use std::net::Net;
@@ -64,15 +64,15 @@ fn end_lap<R: Host>(rt: &R, hands: &mut Hands<R>) -> Result<(), Mishap> {
     start_clock(rt, hands)
 }
 
-// So many milliseconds are less than this, or at least this.
+// So many milliseconds are less than this, or at least this. How many isn't reported, so that a scene that has to fail
+// prints the same each time.
 fn demand_time(alloc: Global, gone: u64, (millis, is_below): (u64, bool)) -> Result<(), Mishap> {
     if (gone < millis) == is_below {
         return Ok(());
     }
     let bound = if is_below { "below" } else { "at least" };
     let wanted = format!(in alloc; "{bound} {millis} ms")?;
-    let came = format!(in alloc; "{gone} ms")?;
-    Err(Mishap::Differs { wanted, came })
+    Err(differs(alloc, wanted.as_str(), "not so"))
 }
 
 // What a client does, and what comes to it.

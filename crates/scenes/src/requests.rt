@@ -324,8 +324,8 @@ fn act_asked<D: ReadDevice + Drop, W: WriteDevice + Drop, R: Wait + Clock + Drop
             Ok(())
         }
         RequestDeed::IntoWriter(output) => into_writer(alloc, asked, name, output),
-        RequestDeed::Streams(status, output) => {
-            respond_streaming(rt, alloc, asked, name, (status, output))
+        RequestDeed::Streams(status, output, is_last) => {
+            respond_streaming(rt, alloc, asked, name, (status, output, is_last))
         }
         RequestDeed::StreamsNot(status, kind) => {
             let request = take(&mut asked.requests, name)?;
@@ -452,10 +452,11 @@ fn respond_streaming<D: ReadDevice + Drop, W: WriteDevice + Drop, R: Wait + Cloc
     alloc: Global,
     asked: &mut Asked<D, W, R>,
     name: &str,
-    (status, output): (u16, &str),
+    (status, output, is_last): (u16, &str, bool),
 ) -> Result<(), Mishap> {
     let request = take(&mut asked.requests, name)?;
     let head = Response::empty(alloc, StatusCode(status));
+    let head = if is_last { head.with_close() } else { head };
     match request.respond_streaming(head, current_date(rt)) {
         Ok(body) => add(alloc, &mut asked.outputs, output, Output::Growing(body)),
         Err(fault) => demand_fault(alloc, None, Some(fault.kind())),
@@ -551,6 +552,13 @@ fn write_asked<D: ReadDevice + Drop, W: WriteDevice + Drop, R: Wait + Clock + Dr
         OutputDeed::Read(text) => {
             let wanted = text_of(alloc, text)?;
             demand_read(alloc, get(&mut asked.outputs, name)?, wanted.as_slice())
+        }
+        OutputDeed::Form(wanted) => {
+            let Output::Growing(body) = get(&mut asked.outputs, name)? else {
+                return Err(Mishap::Unplayable("only an answer that grows has a form"));
+            };
+            let came = format!(in alloc; "{:?}", body.form())?;
+            demand_text(alloc, wanted, came.as_str())
         }
         OutputDeed::Discard => {
             drop(take(&mut asked.outputs, name)?);
