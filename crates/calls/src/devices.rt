@@ -4,7 +4,7 @@ use case_files::devices::Trier;
 use std::alloc::{AllocError, Global};
 use std::io;
 use std::io::{ErrorKind, Write};
-use tiny_http_wire::device::{Canned, Metered, ReadDevice};
+use tiny_http_wire::device::{Canned, Metered, ReadDevice, copy_front};
 
 /// A client's bytes as they come: piece by piece, at most so many bytes a call.
 #[derive(Drop)]
@@ -49,16 +49,12 @@ impl Client {
         self.calls
     }
 
-    // Copies the next bytes to the front of the buffer. How many, and whether the piece is given whole by them.
-    fn copy_next(&self, buf: &mut [u8]) -> (usize, bool) {
-        let piece = self
-            .pieces
-            .get(self.place)
-            .map_or(b"".as_slice(), Vec::as_slice);
-        let rest = piece.get(self.given..).unwrap_or_default();
-        let n = rest.len().min(self.most).min(buf.len());
-        buf[..n].copy_from_slice(&rest[..n]);
-        (n, n == rest.len())
+    // What is left of the piece that is being given.
+    fn rest(&self) -> &[u8] {
+        match self.pieces.get(self.place) {
+            Some(piece) => piece.as_slice().get(self.given..).unwrap_or_default(),
+            None => b"",
+        }
     }
 }
 
@@ -78,11 +74,13 @@ impl ReadDevice for Client {
         {
             return Err(kind.into());
         }
-        let (n, is_whole) = self.copy_next(buf);
-        self.given = self.given.saturating_add(n);
-        if is_whole {
+        let rest = self.rest();
+        let n = copy_front(rest.get(..self.most).unwrap_or(rest), buf);
+        if n == rest.len() {
             self.place = self.place.saturating_add(1);
             self.given = 0;
+        } else {
+            self.given = self.given.saturating_add(n);
         }
         Ok(n)
     }
