@@ -105,6 +105,7 @@ impl<Rt: Clock> Backend<'_, Rt> {
             let Some((head, length)) = self.next_head()? else {
                 break;
             };
+            let length = length.min(self.front.len());
             self.front = self.front.split_off(length)?;
             self.passed = self.passed.saturating_add(length);
             match head.status.0 {
