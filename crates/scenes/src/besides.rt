@@ -1,7 +1,9 @@
 //! What plays beside the lines of a scene: threads of its own, and jobs of a pool.
 use crate::hands::Hands;
 use crate::links::Host;
-use crate::playing::{Failure, Stage, play_lines};
+use crate::playing::{Failure, Stage, failure_at, play_lines};
+use crate::queue::act_queue;
+use scene_files::deed::{Deed, deed_in};
 use scene_files::mishap::{Mishap, demand};
 use scene_files::scene::{Line, Over};
 use std::alloc::{AllocError, Global};
@@ -29,8 +31,8 @@ pub(crate) struct Done<R: Net + SocketFiles + Wait + Clock + Drop> {
 #[derive(Drop)]
 enum Player<R: Net + SocketFiles + Wait + Clock + Drop> {
     Thread(JoinHandle<Done<R>>),
-    /// A job of the pool, which puts here what is left once it is done.
-    Job(Arc<MessagesQueue<Done<R>>>),
+    /// A job of the pool, which puts its failure here once it is done, or none.
+    Job(Arc<MessagesQueue<Option<Failure>>>),
 }
 
 /// A thread or a job of a scene.
@@ -41,28 +43,46 @@ pub(crate) struct Beside<R: Net + SocketFiles + Wait + Clock + Drop> {
     player: Player<R>,
 }
 
-/// A job that plays lines.
+/// A job that plays lines of the queue.
 #[derive(Drop)]
-pub(crate) struct LinesJob<R: Net + SocketFiles + Wait + Clock + Drop> {
+pub(crate) struct QueueJob<R: Wait + Clock + Drop> {
     rt: R,
     alloc: Global,
-    hands: Option<Hands<R>>,
+    queue: Arc<MessagesQueue<u64>>,
     lines: Vec<Line>,
     has_ended: Arc<AtomicBool>,
-    done: Arc<MessagesQueue<Done<R>>>,
+    done: Arc<MessagesQueue<Option<Failure>>>,
 }
 
 /// The pool of a scene.
-pub(crate) type Pool<R> = TaskPool<LinesJob<R>, R>;
+pub(crate) type Pool<R> = TaskPool<QueueJob<R>, R>;
 
-impl<R: Host> Job for LinesJob<R> {
-    /// Plays the lines, and hands back what is left.
-    fn run(&mut self) {
-        if let Some(hands) = self.hands.take() {
-            let lines = self.lines.as_slice();
-            let done = play_beside(&self.rt, self.alloc, hands, (lines, &self.has_ended));
-            let _ = self.done.push(&self.rt, done);
+// Plays lines of the queue: the one at which it failed, if it did.
+fn play_queue<R: Wait + Clock>(
+    rt: &R,
+    alloc: Global,
+    queue: &MessagesQueue<u64>,
+    lines: &[Line],
+) -> Option<Failure> {
+    for line in lines {
+        let played = match deed_in(line.text.as_str()) {
+            Some(Deed::Queue(deed)) => act_queue(rt, alloc, queue, deed),
+            _ => Err(Mishap::Unplayable("a job has the queue alone")),
+        };
+        if let Err(mishap) = played {
+            return Some(failure_at(alloc, line, mishap));
         }
+    }
+    None
+}
+
+impl<R: Wait + Clock + Drop> Job for QueueJob<R> {
+    /// Plays the lines, and hands back the failure.
+    fn run(&mut self) {
+        let lines = self.lines.as_slice();
+        let failure = play_queue(&self.rt, self.alloc, &self.queue, lines);
+        self.has_ended.store(true, Ordering::SeqCst);
+        let _ = self.done.push(&self.rt, failure);
     }
 }
 
@@ -71,10 +91,10 @@ fn play_beside<R: Host>(
     rt: &R,
     alloc: Global,
     hands: Hands<R>,
-    (lines, has_ended): (&[Line], &AtomicBool),
+    (lines, has_ended): (Vec<Line>, Arc<AtomicBool>),
 ) -> Done<R> {
     let mut hands = hands;
-    let failure = play_lines(rt, alloc, &mut hands, lines);
+    let failure = play_lines(rt, alloc, &mut hands, lines.as_slice());
     has_ended.store(true, Ordering::SeqCst);
     Done { hands, failure }
 }
@@ -131,11 +151,34 @@ pub(crate) fn begin<R: Host>(
     let ends = Arc::try_clone(&has_ended)?;
     let theirs = *rt;
     let Ok(thread) = thread::spawn(rt, move || {
-        play_beside(&theirs, alloc, hands, (lines.as_slice(), &ends))
+        play_beside(&theirs, alloc, hands, (lines, ends))
     }) else {
         return Err(Mishap::Unplayable("there is no thread"));
     };
     add_beside(alloc, stage, (name, has_ended), Player::Thread(thread))
+}
+
+// A job that plays these lines, which says by the mark that it has ended.
+fn job_of<R: Host>(
+    rt: &R,
+    alloc: Global,
+    stage: &Stage<R>,
+    (lines, has_ended): (&[Line], &Arc<AtomicBool>),
+) -> Result<QueueJob<R>, Mishap> {
+    let Some(queue) = &stage.hands.queue else {
+        return Err(Mishap::Unplayable("there is no queue"));
+    };
+    let Ok(done) = MessagesQueue::with_capacity(alloc, 1) else {
+        return Err(Mishap::OutOfMemory);
+    };
+    Ok(QueueJob {
+        rt: *rt,
+        alloc,
+        queue: Arc::try_clone(queue)?,
+        lines: copies_of(alloc, lines)?,
+        has_ended: Arc::try_clone(has_ended)?,
+        done,
+    })
 }
 
 /// Has the pool run a job that plays these lines.
@@ -145,22 +188,11 @@ pub(crate) fn spawn_job<R: Host>(
     stage: &mut Stage<R>,
     (name, lines): (&str, &[Line]),
 ) -> Result<(), Mishap> {
-    let hands = stage.hands.part(alloc, lines)?;
-    let lines = copies_of(alloc, lines)?;
     let Ok(has_ended) = Arc::new(alloc, AtomicBool::new(false)) else {
         return Err(Mishap::OutOfMemory);
     };
-    let Ok(done) = MessagesQueue::with_capacity(alloc, 1) else {
-        return Err(Mishap::OutOfMemory);
-    };
-    let job = LinesJob {
-        rt: *rt,
-        alloc,
-        hands: Some(hands),
-        lines,
-        has_ended: Arc::try_clone(&has_ended)?,
-        done: Arc::try_clone(&done)?,
-    };
+    let job = job_of(rt, alloc, stage, (lines, &has_ended))?;
+    let done = Arc::try_clone(&job.done)?;
     let Some(pool) = &stage.pool else {
         return Err(Mishap::Unplayable("there is no pool"));
     };
@@ -201,13 +233,14 @@ fn join<R: Host>(rt: &R, stage: &mut Stage<R>, beside: Beside<R>) -> Option<Fail
         has_ended: _,
         player,
     } = beside;
-    let done = match player {
-        Player::Thread(thread) => Some(thread.join(rt)),
-        Player::Job(done) => done.pop(rt),
-    };
-    let Done { hands, failure } = done?;
-    let _ = stage.hands.join(hands);
-    failure
+    match player {
+        Player::Thread(thread) => {
+            let Done { hands, failure } = thread.join(rt);
+            let _ = stage.hands.join(hands);
+            failure
+        }
+        Player::Job(done) => done.pop(rt).flatten(),
+    }
 }
 
 // Whether it is so within this many milliseconds.

@@ -145,8 +145,8 @@ fn act<R: Host>(rt: &R, alloc: Global, hands: &mut Hands<R>, deed: Deed<'_>) -> 
     }
 }
 
-// The failure at this line.
-fn failure_at(alloc: Global, line: &Line, mishap: Mishap) -> Failure {
+/// The failure at this line.
+pub(crate) fn failure_at(alloc: Global, line: &Line, mishap: Mishap) -> Failure {
     let text = match String::from_str(alloc, line.text.as_str()) {
         Ok(text) => text,
         Err(_) => String::new(alloc),

@@ -1,9 +1,9 @@
 //! The queue of a scene.
-use crate::links::Host;
 use scene_files::grounds::{Popped, QueueDeed};
 use scene_files::mishap::{Mishap, differs};
 use std::alloc::Global;
-use std::time::Duration;
+use std::sync::Wait;
+use std::time::{Clock, Duration};
 use tiny_http::messages_queue::MessagesQueue;
 
 // How often a value that doesn't count may come.
@@ -30,7 +30,7 @@ fn demand_popped(alloc: Global, wanted: Popped, came: Option<u64>) -> Result<(),
 }
 
 // Pops until another value comes than this, or none. Each wait is for this time, if there is one.
-fn pop_past<R: Host>(
+fn pop_past<R: Wait + Clock>(
     rt: &R,
     queue: &MessagesQueue<u64>,
     passed: u64,
@@ -49,7 +49,7 @@ fn pop_past<R: Host>(
 }
 
 /// A call of the queue.
-pub(crate) fn act_queue<R: Host>(
+pub(crate) fn act_queue<R: Wait + Clock>(
     rt: &R,
     alloc: Global,
     queue: &MessagesQueue<u64>,
