@@ -176,7 +176,7 @@ fn call_front(
 }
 
 /// What calls of a connection are answered, how often the client was called up to each and what was sent on; and what
-/// is left in the end. A connection doesn't show its reader and writer, so each call is made again behind those
+/// is left in the end. A connection doesn't show its reader and writer, so each call is made again after those
 /// before it.
 pub fn call_connections(
     alloc: Global,

@@ -6,7 +6,7 @@ use std::io;
 use std::io::{ErrorKind, Write};
 use tiny_http_wire::device::{Canned, Metered, ReadDevice, copy_front};
 
-/// A client's bytes as they come: piece by piece, at most so many bytes a call.
+/// A client's bytes as they come: piece by piece, at most `most` bytes a call.
 #[derive(Drop)]
 pub struct Client {
     pieces: Vec<Vec<u8>>,

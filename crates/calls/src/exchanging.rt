@@ -97,7 +97,7 @@ fn read_once(
     }
 }
 
-// Reads a body until so many bytes came, or no more follow. The bytes, or the fault where there are none.
+// Reads a body until `count` bytes came, or no more follow. The bytes, or the fault where there are none.
 fn read_up_to(
     alloc: Global,
     (exchange, source): (&mut Exchange, &mut Source<Client>),

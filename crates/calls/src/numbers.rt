@@ -65,7 +65,7 @@ fn pass_one(turns: &mut Turns<u8>) -> Option<u64> {
     }
 }
 
-// So many turns pass, each of the number behind the one before, from 0 on.
+// `count` turns pass, each of the number after the one before, from 0 on.
 fn pass(alloc: Global, turns: &mut Turns<u8>, count: u64) -> Result<Vec<u8>, AllocError> {
     for wanted in 0..count {
         if pass_one(turns) != Some(wanted) {
@@ -107,7 +107,7 @@ pub fn call_turns(alloc: Global, input: &Input, to: &mut Vec<Finding>) -> Result
     }
 }
 
-/// How many numbers are kept of so many, each under itself, and what is kept under the last.
+/// How many of `count` numbers are kept, each under itself, and what is kept under the last.
 pub fn keep_numbers(alloc: Global, count: u64, to: &mut Vec<Finding>) -> Result<(), AllocError> {
     let mut kept = ByNumber::new(alloc);
     for number in 0..count {

@@ -186,7 +186,7 @@ fn failing(words: &str) -> Result<Failing, LineFault> {
     })
 }
 
-// Adds so many pieces of the same bytes.
+// Adds a number of pieces of the same bytes.
 fn add_pieces(alloc: Global, words: &str, pieces: &mut Vec<Vec<u8>>) -> Result<(), LineFault> {
     let (count, piece) = split(words);
     let piece = text_of(alloc, piece)?;

@@ -47,7 +47,7 @@ pub struct Choice {
 pub enum Subject {
     /// A `Source`.
     Source,
-    /// An `EqualReader` of so many bytes of a source.
+    /// An `EqualReader` of N bytes of a source.
     EqualReader(usize),
     /// A `FusedReader`.
     FusedReader,
@@ -110,7 +110,7 @@ pub enum Call {
     Each(Subject),
     /// A client is served by `greeter`.
     Greeter,
-    /// So many numbers are kept in a `ByNumber`.
+    /// N numbers are kept in a `ByNumber`.
     ByNumber(u64),
     /// An error of an upgrade is shown.
     UpgradeError(UpgradeError),

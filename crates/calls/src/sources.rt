@@ -120,7 +120,7 @@ fn call_front(
 }
 
 /// What calls of a source are answered, how often each makes it call the client up to there, and what the source
-/// still gives. A source doesn't show its client, so each call is made again behind those before it.
+/// still gives. A source doesn't show its client, so each call is made again after those before it.
 pub fn call_sources(
     alloc: Global,
     input: &Input,
@@ -148,7 +148,7 @@ fn read_part(
     Ok(())
 }
 
-// What a source gives behind a part of it that is finished unread.
+// What a source gives after a part of it that is finished unread.
 fn finish_part(
     alloc: Global,
     input: &Input,
@@ -161,8 +161,8 @@ fn finish_part(
     add(alloc, to, "left", left.as_slice())
 }
 
-/// What reads of a part of a source give, what the source gives behind the part that was dropped, and what it gives
-/// behind one that is finished unread.
+/// What reads of a part of a source give, what the source gives after the part that was dropped, and what it gives
+/// after one that is finished unread.
 pub fn read_parts(
     alloc: Global,
     input: &Input,

@@ -24,7 +24,7 @@ impl Clock for Standing {
     }
 }
 
-// By a clock that stands at so many milliseconds the date is that of so many seconds.
+// A clock at `millis` milliseconds gives the date of `wanted` seconds.
 fn assert_seconds(rt: &impl Abort, millis: Option<u64>, wanted: u64) {
     let found = current_date(&Standing(millis));
     let wanted = HttpDate::from_unix_secs(wanted).expect(rt, "a date");

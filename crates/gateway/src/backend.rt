@@ -34,7 +34,7 @@ pub(crate) struct Backend<'a, Rt: Clock> {
     head: Option<AnswerHead>,
 }
 
-// The place behind the first empty line.
+// The place after the first empty line.
 fn end_of_head(bytes: &[u8]) -> Option<usize> {
     let mut line_is_empty = false;
     for (at, byte) in bytes.iter().enumerate() {

@@ -64,7 +64,7 @@ fn end_lap<R: Host>(rt: &R, hands: &mut Hands<R>) -> Result<(), Mishap> {
     start_clock(rt, hands)
 }
 
-// So many milliseconds are less than this, or at least this. How many isn't reported, so that a scene that has to fail
+// `gone` milliseconds are less than this, or at least this. The number isn't reported, so that a scene that has to fail
 // prints the same each time.
 fn demand_time(alloc: Global, gone: u64, (millis, is_below): (u64, bool)) -> Result<(), Mishap> {
     if (gone < millis) == is_below {
