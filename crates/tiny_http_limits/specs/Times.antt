@@ -1,5 +1,5 @@
 -- When a time is over. Lengths of time are in nanoseconds.
-use Rattle.std.specs.Prelude.{◌≡◌, ℕ, ◌+◌, ◌-◌, ◌<◌, ◌≤◌, min, Option, Some, None}
+use Rattle.std.specs.Prelude.{◌≡◌, ℕ, ◌+◌, ◌-◌, ◌*◌, ◌/◌, ◌^◌, ◌<◌, ◌≤◌, min, Option, Some, None}
 use Rattle.std.specs.Duration.{as_nanos, max_nanos}
 use Rattle.std.specs.declared.time.Duration.{Duration}
 use Rattle.tiny_http_limits.specs.declared.times.Stall.{Stall}
@@ -18,3 +18,12 @@ IsFresh stall = (as_nanos stall.waited ≡ 0) × (stall.moved ≡ 0)
 abbrev pub AddsCall : Stall → ℕ → ℕ → Stall → Type 0
 AddsCall old waited moved new =
     (as_nanos new.waited ≡ min (as_nanos old.waited + waited) max_nanos) × (new.moved ≡ old.moved + moved)
+
+-- the nanoseconds that so many bytes take at this rate, in bytes a second
+abbrev pub nanos_of_bytes : ℕ → ℕ → ℕ
+nanos_of_bytes bytes rate = min (bytes * 1_000_000_000) (2 ^ 64 - 1) / rate
+
+-- A CALL COUNTS at a least rate: its wait, less the time that its bytes take
+abbrev pub GivesBack : Stall → ℕ → ℕ → ℕ → Stall → Type 0
+GivesBack old waited moved rate new =
+    as_nanos new.waited ≡ min (as_nanos old.waited + waited) max_nanos - nanos_of_bytes moved rate

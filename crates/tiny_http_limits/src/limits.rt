@@ -1,5 +1,5 @@
 //! The limits of a server on an open port.
-ghost use Rattle.std.specs.Prelude.{◌≡◌};
+ghost use Rattle.std.specs.Prelude.{◌≡◌, IfSome, IsSome};
 ghost use Rattle.std.specs.Duration.{as_nanos};
 
 use std::time::Duration;
@@ -21,12 +21,23 @@ pub struct Limits {
     /// The longest time for which a connection is kept on which no byte of a head comes: 60 seconds. It is closed
     /// without an answer. Where a request is open as the time ends, or was open as it began, the time begins anew.
     pub idle_time: Duration,
-    /// The longest time that reads of a body may wait for the next 4,096 bytes, or for its end: 60 seconds. Then a
-    /// read reports `TimedOut`, as each later one does, and the connection ends behind the answer.
+    /// The longest time for which reads of a body may wait: 60 seconds. Its bytes give time back, as `least_rate`
+    /// says. Then a read reports `TimedOut`, as each later one does, and the connection ends after the answer.
     pub body_time: Duration,
-    /// The longest time that writes of answers may wait until 4,096 bytes more have gone: 60 seconds. Then the output
-    /// ends, and the connection is closed.
+    /// The longest time for which writes of answers may wait: 60 seconds. Their bytes give time back, as `least_rate`
+    /// says. Then the output ends, and the connection is closed.
     pub write_time: Duration,
+    /// How many bytes of a body, or of answers, give back a second for which they were waited for: 500. The reads of a
+    /// body of N bytes so wait for `body_time` and N / `least_rate` seconds at most, and writes likewise. No more is
+    /// given back than was waited for. At 0 no rate is asked for: 4,096 bytes give back the whole time.
+    pub least_rate: usize,
+    /// The longest time without a byte either way for which the reads of an upgraded stream wait: 10 minutes; without
+    /// end where it is `None`. Then a read reports `TimedOut`, and the connection is closed. The time begins with each
+    /// read, and anew where bytes were written meanwhile.
+    pub stream_time: Option<Duration>,
+    /// The most connections that are upgraded at once: 750. A further upgrade is refused by `UpgradeError::TooMany`.
+    /// One counts until its connection is closed.
+    pub upgrades: usize,
     /// The most requests and refused heads of one connection that are open: 64. At it the next head isn't read. A
     /// request is open until it is answered or dropped, and so are those before it. Below 2 the number counts as 2.
     pub open_requests: usize,
@@ -41,6 +52,10 @@ impl Limits {
         ensures idle { as_nanos result.idle_time ≡ 60_000_000_000 }
         ensures body { as_nanos result.body_time ≡ 60_000_000_000 }
         ensures write { as_nanos result.write_time ≡ 60_000_000_000 }
+        ensures rate { result.least_rate ≡ 500 }
+        ensures stream { IfSome result.stream_time (λ time. as_nanos time ≡ 600_000_000_000) }
+        ensures ends { IsSome result.stream_time }
+        ensures upgrades { result.upgrades ≡ 750 }
         ensures open_requests { result.open_requests ≡ 64 }
     {
         Limits {
@@ -50,6 +65,9 @@ impl Limits {
             idle_time: Duration::from_secs(60),
             body_time: Duration::from_secs(60),
             write_time: Duration::from_secs(60),
+            least_rate: 500,
+            stream_time: Some(Duration::from_secs(600)),
+            upgrades: 750,
             open_requests: 64,
         }
     }

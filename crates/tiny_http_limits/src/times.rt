@@ -1,12 +1,15 @@
 //! When a time is over.
 ghost use Rattle.std.specs.Prelude.{◌≡◌, ◌+◌, ◌-◌, ◌<◌, ◌≤◌, ◌↔◌, IsTrue, false};
 ghost use Rattle.std.specs.Duration.{as_nanos};
-ghost use Rattle.tiny_http_limits.specs.Times.{LeavesTime, IsFresh, AddsCall};
+ghost use Rattle.tiny_http_limits.specs.Times.{LeavesTime, IsFresh, AddsCall, GivesBack, nanos_of_bytes};
 
 use std::time::Duration;
 
-/// So many bytes have to move within the time for a body or for a write.
+/// So many bytes give all time back, where no rate is asked for.
 pub const PIECE: usize = 4_096;
+
+// So many nanoseconds a second has.
+const NANOS: u64 = 1_000_000_000;
 
 /// What is left at `now` of a time that began at `begun`; none once it is over. The two are times of one clock; where
 /// it went back the whole time is left.
@@ -21,10 +24,21 @@ pub fn time_left(begun: Duration, now: Duration, time: Duration) -> Option<Durat
     Some(left)
 }
 
-/// How long a peer has been waited for, and how many bytes have moved, since the last whole piece of 4,096 bytes.
+// The time that so many bytes take at this rate, in bytes a second. What the bytes take at one byte a second is
+// counted up to 2^64 - 1 nanoseconds.
+fn time_of_bytes(bytes: usize, rate: usize) -> Duration
+    requires { 0 < rate }
+    ensures { as_nanos result ≡ nanos_of_bytes bytes rate }
+{
+    let nanos = (bytes as u64).saturating_mul(NANOS);
+    Duration::from_nanos(nanos / rate as u64)
+}
+
+/// How long a peer has been waited for, less the time that its bytes gave back.
 #[derive(Clone, Copy, Debug, PartialEq, Eq)]
 pub struct Stall {
     waited: Duration,
+    // So many bytes have moved since time was given back, where no rate is asked for.
     moved: usize,
 }
 
@@ -39,9 +53,41 @@ impl Stall {
         }
     }
 
-    /// Counts a call that waited so long, and moved so many bytes. Whether the time is over: so long at least was
-    /// waited since the last whole piece. Where a piece is whole now it isn't, and the next one begins.
-    pub fn count(&mut self, waited: Duration, moved: usize, time: Duration) -> bool
+    /// What is left of this time.
+    pub fn left(&self, time: Duration) -> Duration
+        ensures { as_nanos result ≡ as_nanos time - as_nanos self.now.waited }
+    {
+        time.saturating_sub(self.waited)
+    }
+
+    /// Counts a call that waited so long, and moved so many bytes. They give back the time that they take at the
+    /// least rate, in bytes a second, but no more than was waited for. At a rate of 0 each piece of 4,096 bytes gives
+    /// all time back. Whether the time is over: so long at least was waited for, and a piece isn't whole now.
+    pub fn count(
+        &mut self,
+        waited: Duration,
+        moved: usize,
+        time: Duration,
+        least_rate: usize,
+    ) -> bool
+        ensures rate { 0 < least_rate → GivesBack self.old (as_nanos waited) moved least_rate self.new }
+        ensures late { 0 < least_rate → (IsTrue result ↔ (as_nanos time ≤ as_nanos self.new.waited)) }
+        ensures whole { least_rate ≡ 0 → 4_096 ≤ self.old.moved + moved → (result ≡ false) × IsFresh self.new }
+        ensures part { least_rate ≡ 0 → self.old.moved + moved < 4_096
+            → AddsCall self.old (as_nanos waited) moved self.new }
+        ensures over { least_rate ≡ 0 → self.old.moved + moved < 4_096
+            → (IsTrue result ↔ (as_nanos time ≤ as_nanos self.new.waited)) }
+    {
+        if least_rate == 0 {
+            return self.count_piece(waited, moved, time);
+        }
+        let waited = self.waited.saturating_add(waited);
+        self.waited = waited.saturating_sub(time_of_bytes(moved, least_rate));
+        self.waited.as_nanos() >= time.as_nanos()
+    }
+
+    // The same, where each piece of 4,096 bytes gives all time back.
+    fn count_piece(&mut self, waited: Duration, moved: usize, time: Duration) -> bool
         ensures whole { 4_096 ≤ self.old.moved + moved → (result ≡ false) × IsFresh self.new }
         ensures part { self.old.moved + moved < 4_096 → AddsCall self.old (as_nanos waited) moved self.new }
         ensures over { self.old.moved + moved < 4_096 → (IsTrue result ↔ (as_nanos time ≤ as_nanos self.new.waited)) }
