@@ -260,6 +260,8 @@ fn share<T: Drop>(alloc: Global, queue: Queue<T>) -> Result<Arc<Line<T>>, AllocE
         queue: Mutex::new(queue),
         finished: Condvar::new(),
         is_closed: AtomicBool::new(false),
+        closes_when_broken: AtomicBool::new(false),
+        is_broken: AtomicBool::new(false),
     };
     Ok(Arc::new(alloc, line)?)
 }
@@ -273,6 +275,10 @@ pub(crate) struct Line<T> {
     finished: Condvar,
     // Set under the lock alone.
     is_closed: AtomicBool,
+    // It is closed where its item breaks.
+    closes_when_broken: AtomicBool,
+    // It was closed since its item broke or was ended: what numbers do with the item now is lost.
+    is_broken: AtomicBool,
 }
 
 impl<T: Drop> Line<T> {
@@ -327,6 +333,27 @@ impl<T: Drop> Line<T> {
         let queue = self.queue.lock(rt);
         self.is_closed.store(true, Ordering::SeqCst);
         drop(queue);
+    }
+
+    /// From now on the line is closed where its item breaks.
+    pub fn close_when_broken(&self) {
+        self.closes_when_broken.store(true, Ordering::SeqCst);
+    }
+
+    /// Whether the line is closed where its item breaks.
+    pub fn closes_when_broken(&self) -> bool {
+        self.closes_when_broken.load(Ordering::SeqCst)
+    }
+
+    /// Closes the line, whose item is broken or has ended.
+    pub fn end<R: Wait>(&self, rt: &R) {
+        self.is_broken.store(true, Ordering::SeqCst);
+        self.close(rt);
+    }
+
+    /// Whether it was closed since its item is broken or has ended.
+    pub fn is_broken(&self) -> bool {
+        self.is_broken.load(Ordering::SeqCst)
     }
 
     /// Whether the line was closed, and this number is the last that `issue_unless_closed` issued.
@@ -437,6 +464,28 @@ impl<T: Drop, R: Wait + Drop> Turn<T, R> {
     /// Closes the line: `new_unless_closed` issues no number any more.
     pub fn close_line(&self) {
         self.line.close(&self.rt);
+    }
+
+    /// Closes the line, whose item has ended.
+    pub fn end_line(&self) {
+        self.line.end(&self.rt);
+    }
+
+    /// Whether the line is closed where its item breaks.
+    pub fn closes_when_broken(&self) -> bool {
+        self.line.closes_when_broken()
+    }
+
+    /// Closes the line, whose item is broken, if it is closed then.
+    pub fn break_line(&self) {
+        if self.line.closes_when_broken() {
+            self.line.end(&self.rt);
+        }
+    }
+
+    /// Whether the line was closed since its item is broken or has ended.
+    pub fn is_broken(&self) -> bool {
+        self.line.is_broken()
     }
 
     /// Whether the line was closed, and this number is the last that `new_unless_closed` issued.
@@ -552,6 +601,13 @@ impl<T: Drop, R: Wait + Drop> Held<T, R> {
     /// Whether the line was closed, and this number is the last that `issue_unless_closed` issued.
     pub fn is_last(&self) -> bool {
         self.line.is_last(&self.rt, self.number)
+    }
+
+    /// Closes the line, whose item is broken, if it is closed then.
+    pub fn break_line(&self) {
+        if self.line.closes_when_broken() {
+            self.line.end(&self.rt);
+        }
     }
 
     /// Finishes the number. If the next one was left, that one is held, with the same item and the text that it was

@@ -126,6 +126,11 @@ impl<W: Write + Drop, R: Wait + Copy> SequentialWriterBuilder<W, R> {
         self.line.is_closed()
     }
 
+    /// From now on the line is closed where the writer breaks.
+    pub(crate) fn close_when_broken(&self) {
+        self.line.close_when_broken();
+    }
+
     /// Has the numbers counted here from now on that were issued and aren't finished.
     pub(crate) fn set_open(&self, open: Arc<AtomicU64>) {
         self.line.set_open(&self.rt, open);
@@ -202,14 +207,22 @@ impl<W: Write + WriteDevice + Drop, R: Wait + Drop> HeldTurn<(), ()> for EndingW
 
     fn write_text(&mut self, _output: &mut (), text: &[u8]) {
         if let Some(held) = &mut self.held {
-            let _ = held.item.write_all(text);
-            let _ = held.item.flush();
+            write_and_flush(held, text);
             end_if_last(held);
         }
     }
 
     fn finish(&mut self, _numbers: &mut ()) -> Option<Vec<u8>> {
         finish_held(&mut self.held)
+    }
+}
+
+// Writes a text and flushes it. A fault breaks the writer.
+fn write_and_flush<W: Write + Drop, R: Wait + Drop>(held: &mut Held<W, R>, text: &[u8]) {
+    let written = held.item.write_all(text);
+    let flushed = held.item.flush();
+    if written.is_err() || flushed.is_err() {
+        held.break_line();
     }
 }
 
@@ -244,6 +257,18 @@ impl<W: Write + Drop, R: Wait + Drop> SequentialWriter<W, R> {
     /// Closes the line: `next_unless_closed` gives out no further writer.
     pub(crate) fn close_line(&self) {
         self.turn.close_line();
+    }
+
+    /// Whether what is written is lost: the writer broke, in a line that is closed then, or was ended by `close`.
+    pub(crate) fn is_broken(&self) -> bool {
+        self.turn.is_broken()
+    }
+
+    // A fault of the writer breaks it.
+    fn note<T>(&self, outcome: &io::Result<T>) {
+        if outcome.is_err() {
+            self.turn.break_line();
+        }
     }
 
     /// Whether the line was closed, and this writer is the last that `next_unless_closed` gave out.
@@ -295,29 +320,48 @@ impl<W: WriteDevice + Drop, R: Wait + Drop> SequentialWriter<Outlet<W>, R> {
     /// well.
     pub fn close(self) -> io::Result<()> {
         let mut writer = self;
-        writer.turn.close_line();
+        writer.turn.end_line();
         let outlet = writer.turn.hold();
         let sent = outlet.end();
         outlet.end_out();
         drop(writer);
         sent
     }
+
+    /// Waits for its turn. Where the output has ended, in a line that is closed then, the writer says that no byte
+    /// follows, and the line is closed.
+    pub(crate) fn close_if_broken(&mut self) {
+        if !self.turn.closes_when_broken() {
+            return;
+        }
+        let outlet = self.turn.hold();
+        if outlet.is_ended() {
+            outlet.end_out();
+            self.turn.end_line();
+        }
+    }
 }
 
 impl<W: Write + Drop, R: Wait + Drop> Write for SequentialWriter<W, R> {
     /// Waits for its turn, and writes once.
     fn write(&mut self, buf: &[u8]) -> io::Result<usize> {
-        self.turn.hold().write(buf)
+        let written = self.turn.hold().write(buf);
+        self.note(&written);
+        written
     }
 
     /// Waits for its turn, and flushes.
     fn flush(&mut self) -> io::Result<()> {
-        self.turn.hold().flush()
+        let flushed = self.turn.hold().flush();
+        self.note(&flushed);
+        flushed
     }
 
     /// Waits for its turn, and writes all the bytes as the writer itself does.
     fn write_all(&mut self, buf: &[u8]) -> io::Result<()> {
-        self.turn.hold().write_all(buf)
+        let written = self.turn.hold().write_all(buf);
+        self.note(&written);
+        written
     }
 }
 
@@ -340,6 +384,7 @@ impl<W: Write + Drop, R: Wait + Drop> WriteDevice for SequentialWriter<W, R> {
         if written.is_err() {
             self.failures = self.failures.saturating_add(1);
         }
+        self.note(&written);
         written
     }
 
@@ -349,6 +394,7 @@ impl<W: Write + Drop, R: Wait + Drop> WriteDevice for SequentialWriter<W, R> {
         if flushed.is_err() {
             self.failures = self.failures.saturating_add(1);
         }
+        self.note(&flushed);
         flushed
     }
 }

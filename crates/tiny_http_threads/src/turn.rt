@@ -12,6 +12,7 @@ use std::io::{Read, Write};
 use std::sync::atomic::AtomicU64;
 use std::sync::{Arc, Wait};
 use tiny_http_io::device::WriteDevice;
+use tiny_http_io::outlet::Outlet;
 use tiny_http_turns::passing::{HeldTurn, pass_on};
 
 /// A reader whose turn has come, with what it reads from. Dropping it finishes its turn: that waits for nobody's turn.
@@ -80,6 +81,26 @@ pub fn wait_for_room<W: Write + Drop, R: Wait + Copy>(
 /// Has `next_writer` give out no further writer.
 pub fn end_behind_writer<W: Write + Drop, R: Wait + Drop>(writer: &SequentialWriter<W, R>) {
     writer.close_line();
+}
+
+/// From now on `next_writer` gives out no further writer once one of them met a fault, or `close_if_broken` found the
+/// output ended.
+pub fn close_when_broken<W: Write + Drop, R: Wait + Copy>(builder: &SequentialWriterBuilder<W, R>) {
+    builder.close_when_broken();
+}
+
+/// Waits for the turn of this writer. Where the output has ended, and `close_when_broken` was called, the connection
+/// ends after what was sent: `end_out` says that no byte follows, and `next_writer` gives out no further writer.
+pub fn close_if_broken<W: WriteDevice + Drop, R: Wait + Drop>(
+    writer: &mut SequentialWriter<Outlet<W>, R>,
+) {
+    writer.close_if_broken();
+}
+
+/// Whether what is written is lost: `SequentialWriter::close` was called for one of the writers, or, where
+/// `close_when_broken` was called, the output broke.
+pub fn is_broken_writer<W: Write + Drop, R: Wait + Drop>(writer: &SequentialWriter<W, R>) -> bool {
+    writer.is_broken()
 }
 
 /// Whether `end_behind_writer` was called, and this writer is the last that `next_writer` gave out.
