@@ -2,6 +2,7 @@
 ghost use Rattle.std.specs.Prelude.{◌≡◌, IfSome, IsSome};
 ghost use Rattle.std.specs.Duration.{as_nanos};
 
+use crate::times::Patience;
 use std::time::Duration;
 
 /// What a server on an open port allows its clients. `Limits::new()` has a value for each, that suits a process that
@@ -69,6 +70,26 @@ impl Limits {
             stream_time: Some(Duration::from_secs(600)),
             upgrades: 750,
             open_requests: 64,
+        }
+    }
+
+    /// How long the reads of a body may wait.
+    pub fn body_patience(&self) -> Patience
+        ensures { result ≡ record { time = self.now.body_time; least_rate = self.now.least_rate } }
+    {
+        Patience {
+            time: self.body_time,
+            least_rate: self.least_rate,
+        }
+    }
+
+    /// How long writes of answers may wait.
+    pub fn write_patience(&self) -> Patience
+        ensures { result ≡ record { time = self.now.write_time; least_rate = self.now.least_rate } }
+    {
+        Patience {
+            time: self.write_time,
+            least_rate: self.least_rate,
         }
     }
 }

@@ -34,6 +34,16 @@ fn time_of_bytes(bytes: usize, rate: usize) -> Duration
     Duration::from_nanos(nanos / rate as u64)
 }
 
+/// How long a peer may be waited for.
+#[derive(Clone, Copy, Debug, PartialEq, Eq)]
+pub struct Patience {
+    /// So long in all, less the time that its bytes give back.
+    pub time: Duration,
+    /// They give back the time that they take at this rate, in bytes a second; at 0 each piece of 4,096 bytes gives
+    /// all time back.
+    pub least_rate: usize,
+}
+
 /// How long a peer has been waited for, less the time that its bytes gave back.
 #[derive(Clone, Copy, Debug, PartialEq, Eq)]
 pub struct Stall {
@@ -60,24 +70,21 @@ impl Stall {
         time.saturating_sub(self.waited)
     }
 
-    /// Counts a call that waited so long, and moved so many bytes. They give back the time that they take at the
-    /// least rate, in bytes a second, but no more than was waited for. At a rate of 0 each piece of 4,096 bytes gives
-    /// all time back. Whether the time is over: so long at least was waited for, and a piece isn't whole now.
-    pub fn count(
-        &mut self,
-        waited: Duration,
-        moved: usize,
-        time: Duration,
-        least_rate: usize,
-    ) -> bool
-        ensures rate { 0 < least_rate → GivesBack self.old (as_nanos waited) moved least_rate self.new }
-        ensures late { 0 < least_rate → (IsTrue result ↔ (as_nanos time ≤ as_nanos self.new.waited)) }
-        ensures whole { least_rate ≡ 0 → 4_096 ≤ self.old.moved + moved → (result ≡ false) × IsFresh self.new }
-        ensures part { least_rate ≡ 0 → self.old.moved + moved < 4_096
+    /// Counts a call that waited so long, and moved so many bytes. They give time back, but no more than was waited
+    /// for. Whether the time is over: so long at least was waited for, and a piece isn't whole now.
+    pub fn count(&mut self, waited: Duration, moved: usize, patience: Patience) -> bool
+        ensures rate { 0 < patience.least_rate
+            → GivesBack self.old (as_nanos waited) moved patience.least_rate self.new }
+        ensures late { 0 < patience.least_rate
+            → (IsTrue result ↔ (as_nanos patience.time ≤ as_nanos self.new.waited)) }
+        ensures whole { patience.least_rate ≡ 0 → 4_096 ≤ self.old.moved + moved
+            → (result ≡ false) × IsFresh self.new }
+        ensures part { patience.least_rate ≡ 0 → self.old.moved + moved < 4_096
             → AddsCall self.old (as_nanos waited) moved self.new }
-        ensures over { least_rate ≡ 0 → self.old.moved + moved < 4_096
-            → (IsTrue result ↔ (as_nanos time ≤ as_nanos self.new.waited)) }
+        ensures over { patience.least_rate ≡ 0 → self.old.moved + moved < 4_096
+            → (IsTrue result ↔ (as_nanos patience.time ≤ as_nanos self.new.waited)) }
     {
+        let (time, least_rate) = (patience.time, patience.least_rate);
         if least_rate == 0 {
             return self.count_piece(waited, moved, time);
         }

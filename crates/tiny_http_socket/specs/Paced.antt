@@ -25,10 +25,10 @@ IsLate (Ok n) = ⊥
 IsLate (Err e) = error_kind e ≡ TimedOut
 
 -- what it states: its failures and the kind of the last one, and no bytes
-abbrev pub paced_sink : PacedWriter → Sink
+abbrev pub paced_sink : {Rt : Type 0} → PacedWriter Rt → Sink
 paced_sink w = record { taken = None; sent = []; failures = w.failures; last_kind = w.last; has_ended = false }
 
 -- the same after one more failure, of this kind
-abbrev pub failed_sink : PacedWriter → ErrorKind → Sink
+abbrev pub failed_sink : {Rt : Type 0} → PacedWriter Rt → ErrorKind → Sink
 failed_sink w kind =
     record { taken = None; sent = []; failures = next_count w.failures; last_kind = Some kind; has_ended = false }

@@ -34,7 +34,7 @@ pub enum Phase {
     Head,
     /// For bytes of a body, where somebody reads it.
     Body,
-    /// For bytes of an upgraded stream, which has no time.
+    /// For bytes of an upgraded stream.
     Stream,
     /// For nothing more.
     Stopped,
@@ -96,14 +96,25 @@ pub struct Pace {
     requests: AtomicU64,
     // So many requests and refused heads aren't answered yet.
     open: Arc<AtomicU64>,
+    // So many connections are upgraded, of those that share this count.
+    upgraded: Arc<AtomicU64>,
+    // This one counts among them.
+    is_upgraded: AtomicBool,
+    // Bytes of an upgraded stream were written since `take_written` was last called.
+    has_written: AtomicBool,
     // 0 for none.
     refusal: AtomicU16,
     closing: AtomicU8,
 }
 
 impl Pace {
-    /// Nothing was read yet. Without limits the client is waited for without end. An error where memory was refused.
-    pub fn new(alloc: Global, limits: Option<Limits>) -> Result<Arc<Pace>, AllocError> {
+    /// Nothing was read yet. Without limits the client is waited for without end. `upgraded` counts the connections
+    /// that are upgraded; those that share it share the limit of upgrades. An error where memory was refused.
+    pub fn new(
+        alloc: Global,
+        limits: Option<Limits>,
+        upgraded: Arc<AtomicU64>,
+    ) -> Result<Arc<Pace>, AllocError> {
         let open = Arc::new(alloc, AtomicU64::new(0))?;
         let pace = Pace {
             limits,
@@ -111,6 +122,9 @@ impl Pace {
             is_stopped: AtomicBool::new(false),
             requests: AtomicU64::new(0),
             open,
+            upgraded,
+            is_upgraded: AtomicBool::new(false),
+            has_written: AtomicBool::new(false),
             refusal: AtomicU16::new(0),
             closing: AtomicU8::new(0),
         };
@@ -173,9 +187,44 @@ impl Pace {
         self.requests.fetch_add(1, Ordering::SeqCst);
     }
 
-    /// What is read from now on is an upgraded stream, which has no time.
+    /// The connection is to be upgraded: it counts as that until `end_stream`. False where as many are as may be.
+    pub fn enter_stream(&self) -> bool {
+        let Some(limits) = &self.limits else {
+            return true;
+        };
+        if self.is_upgraded.swap(true, Ordering::SeqCst) {
+            return true;
+        }
+        let before = self.upgraded.fetch_add(1, Ordering::SeqCst);
+        if before < limits.upgrades as u64 {
+            return true;
+        }
+        self.end_stream();
+        false
+    }
+
+    /// The connection counts as upgraded no more, if it did.
+    pub fn end_stream(&self) {
+        if self.is_upgraded.swap(false, Ordering::SeqCst) {
+            self.upgraded.fetch_sub(1, Ordering::SeqCst);
+        }
+    }
+
+    /// What is read from now on is an upgraded stream.
     pub fn begin_stream(&self) {
         self.phase.store(Phase::Stream.number(), Ordering::SeqCst);
+    }
+
+    /// Bytes were written to the client. It is noted of an upgraded stream alone.
+    pub fn wrote(&self) {
+        if self.phase() == Phase::Stream {
+            self.has_written.store(true, Ordering::SeqCst);
+        }
+    }
+
+    /// Whether bytes of an upgraded stream were written since this was last asked.
+    pub fn take_written(&self) -> bool {
+        self.has_written.swap(false, Ordering::SeqCst)
     }
 
     /// Has no further head read. Whether the connection waits for a head now: then nothing is read any more, and the

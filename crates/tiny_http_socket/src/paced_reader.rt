@@ -6,18 +6,19 @@ use crate::connection::Connection;
 use crate::pace::{Pace, Phase, fault_in_time};
 use std::io;
 use std::io::ErrorKind;
+use std::net::Shutdown;
 use std::sync::Arc;
 use std::time::{Clock, Duration};
 use tiny_http_io::device::ReadDevice;
 use tiny_http_limits::counts::Closing;
-use tiny_http_limits::times::{Stall, time_left};
+use tiny_http_limits::times::{Patience, Stall, time_left};
 
 // The milliseconds that a socket is told to wait at least, since 0 stands for no end.
 const LEAST_MILLIS: u64 = 1;
 
 /// A reader over the socket of a client, whose reads end in time where its connection has limits. The end of the time
-/// for a head's first byte counts as the client's end. That of a head or a body is a fault of kind `TimedOut`. It
-/// states no feed.
+/// for a head's first byte counts as the client's end. That of a head, a body or an upgraded stream is a fault of kind
+/// `TimedOut`. It states no feed.
 #[derive(Drop)]
 pub struct PacedReader<R: ReadDevice + Drop, Rt: Clock> {
     rt: Rt,
@@ -121,23 +122,23 @@ impl<R: ReadDevice + Drop, Rt: Clock> PacedReader<R, Rt> {
         Err(ErrorKind::TimedOut.into())
     }
 
-    // Reads where a body is read.
-    fn read_body(&mut self, time: Duration, buf: &mut [u8]) -> io::Result<usize>
+    // Reads where a body is read, which may wait for what is left of its time.
+    fn read_body(&mut self, patience: Patience, buf: &mut [u8]) -> io::Result<usize>
         ensures { IfOk result (λ n. n ≤ length buf.new) }
     {
         if self.is_late {
             return self.body_is_late();
         }
-        self.wait_for(Some(time));
+        self.wait_for(Some(self.stall.left(patience.time)));
         let begun = self.now();
         let read = self.inner.read_in(buf);
-        self.judge_body(time, begun, read)
+        self.judge_body(patience, begun, read)
     }
 
     // What a read of a body that began then is reported as.
     fn judge_body(
         &mut self,
-        time: Duration,
+        patience: Patience,
         begun: Duration,
         read: io::Result<usize>,
     ) -> io::Result<usize>
@@ -147,7 +148,7 @@ impl<R: ReadDevice + Drop, Rt: Clock> PacedReader<R, Rt> {
             Ok(n) => {
                 if n > 0 {
                     let waited = self.now().saturating_sub(begun);
-                    self.is_late = self.stall.count(waited, n, time);
+                    self.is_late = self.stall.count(waited, n, patience);
                 }
                 Ok(n)
             }
@@ -166,6 +167,34 @@ impl<R: ReadDevice + Drop, Rt: Clock> PacedReader<R, Rt> {
     {
         self.pace.closed_by(Closing::Body);
         self.is_late = true;
+        Err(ErrorKind::TimedOut.into())
+    }
+
+    // Reads where an upgraded stream is read. Its time begins anew where bytes were written meanwhile.
+    fn read_stream(&mut self, time: Option<Duration>, buf: &mut [u8]) -> io::Result<usize>
+        ensures { IfOk result (λ n. n ≤ length buf.new) }
+    {
+        self.wait_for(time);
+        self.pace.take_written();
+        for _ in 0..u64::MAX {
+            match self.inner.read_in(buf) {
+                Err(fault) if fault.kind() == ErrorKind::WouldBlock => {
+                    if !self.pace.take_written() {
+                        break;
+                    }
+                }
+                read => return read,
+            }
+        }
+        self.stream_is_late()
+    }
+
+    // The time for the stream is over: the connection is shut down.
+    fn stream_is_late(&mut self) -> io::Result<usize>
+        ensures { IsLate result }
+    {
+        self.pace.closed_by(Closing::Idle);
+        let _ = self.socket.shutdown(Shutdown::Both);
         Err(ErrorKind::TimedOut.into())
     }
 
@@ -189,17 +218,15 @@ impl<R: ReadDevice + Drop, Rt: Clock> ReadDevice for PacedReader<R, Rt> {
         let Some(limits) = self.pace.limits() else {
             return self.inner.read_in(buf);
         };
-        let (first, head, body) = (limits.idle_time, limits.head_time, limits.body_time);
+        let (first, head) = (limits.idle_time, limits.head_time);
+        let (body, stream) = (limits.body_patience(), limits.stream_time);
         let request = self.pace.requests();
         self.go_to(request);
         match self.pace.phase() {
             Phase::Between => self.read_first(first, buf),
             Phase::Head => self.read_head(head, buf),
             Phase::Body => self.read_body(body, buf),
-            Phase::Stream => {
-                self.wait_for(None);
-                self.inner.read_in(buf)
-            }
+            Phase::Stream => self.read_stream(stream, buf),
             Phase::Stopped => Ok(0),
         }
     }

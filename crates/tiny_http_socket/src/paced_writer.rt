@@ -1,7 +1,6 @@
 //! A writer whose client has to take its bytes in time.
 ghost use Rattle.std.specs.Prelude.{◌≡◌, ◌++◌, Ok, IfOk, IfErr};
 ghost use Rattle.std.specs.IoError.{error_kind};
-ghost use Rattle.tiny_http_socket.specs.Paced.{paced_sink, failed_sink, IsReportOf};
 
 use crate::pace::{Pace, fault_in_time};
 use crate::refined_tcp_stream::RefinedTcpStream;
@@ -10,24 +9,26 @@ use std::io;
 use std::io::ErrorKind;
 use std::net::Shutdown;
 use std::sync::Arc;
-use std::time::Duration;
+use std::time::{Clock, Duration};
 use tiny_http_io::device::WriteDevice;
 use tiny_http_limits::counts::Closing;
-use tiny_http_limits::times::Stall;
+use tiny_http_limits::limits::Limits;
+use tiny_http_limits::times::{Patience, Stall};
 
 // So many milliseconds one call of the system waits at most, and less where a write may take less. It reports that it
 // timed out also where there is some room by then, which the next call finds.
 const STEP_MILLIS: u64 = 1_000;
 
 /// A writer to the socket of a client, whose writes end in time where its connection has limits, by a fault of kind
-/// `TimedOut`. The connection is shut down then. No clock is read: a call of the system that takes less than it is
-/// given has waited for a second. As a `WriteDevice` it counts its failures and states no bytes.
+/// `TimedOut`. The connection is shut down then. The clock is read once a call of the system took less than it was
+/// given, and from then on. As a `WriteDevice` it counts its failures and states no bytes.
 #[derive(Drop)]
-pub struct PacedWriter {
+pub struct PacedWriter<Rt: Clock> {
+    rt: Rt,
     socket: RefinedTcpStream,
     pace: Arc<Pace>,
-    // The time for a write, where the connection has limits.
-    time: Option<Duration>,
+    // How long writes may wait, where the connection has limits.
+    patience: Option<Patience>,
     // The client was waited for; before that nothing has to be counted.
     has_waited: bool,
     stall: Stall,
@@ -37,18 +38,28 @@ pub struct PacedWriter {
     last: Option<ErrorKind>,
 }
 
-impl PacedWriter {
+// A call of the system that writes: when it began, if its time counts, and for how many bytes it asked.
+#[derive(Clone, Copy)]
+struct Asked {
+    begun: Option<Duration>,
+    bytes: usize,
+}
+
+impl<Rt: Clock> PacedWriter<Rt> {
+    ghost use Rattle.tiny_http_socket.specs.Paced.{paced_sink, failed_sink, IsReportOf};
+
     /// A writer to this half of a socket.
-    pub fn new(socket: RefinedTcpStream, pace: Arc<Pace>) -> PacedWriter {
-        let time = pace.limits().map(|limits| limits.write_time);
-        if let Some(time) = time {
-            let wait = step(time).max(Duration::from_millis(1));
+    pub fn new(rt: Rt, socket: RefinedTcpStream, pace: Arc<Pace>) -> PacedWriter<Rt> {
+        let patience = pace.limits().map(Limits::write_patience);
+        if let Some(patience) = patience {
+            let wait = step(patience.time).max(Duration::from_millis(1));
             let _ = socket.connection().set_write_timeout(wait);
         }
         PacedWriter {
+            rt,
             socket,
             pace,
-            time,
+            patience,
             has_waited: false,
             stall: Stall::new(),
             is_late: false,
@@ -57,13 +68,28 @@ impl PacedWriter {
         }
     }
 
-    // What a write of so many bytes is reported as, and counted if it is a fault. Under limits its time is counted.
-    fn report(&mut self, asked: usize, written: io::Result<usize>) -> io::Result<usize>
+    // The time of the clock; 0 where it can't be read.
+    fn now(&self) -> Duration {
+        self.rt.monotonic().unwrap_or(Duration::from_secs(0))
+    }
+
+    // A call that is to write so many bytes.
+    fn ask(&self, bytes: usize) -> Asked {
+        let begun = if self.has_waited {
+            Some(self.now())
+        } else {
+            None
+        };
+        Asked { begun, bytes }
+    }
+
+    // What such a call is reported as, and counted if it is a fault. Under limits its time is counted.
+    fn report(&mut self, asked: Asked, written: io::Result<usize>) -> io::Result<usize>
         ensures taken { IfOk result (λ n. (written ≡ Ok n) × (paced_sink self.new ≡ paced_sink self.old)) }
         ensures fault { IfErr result (λ e. paced_sink self.new ≡ failed_sink self.old (error_kind e)) }
     {
-        let written = match self.time {
-            Some(time) => self.in_time(time, asked, written),
+        let written = match self.patience {
+            Some(patience) => self.in_time(patience, asked, written),
             None => written,
         };
         self.count(&written);
@@ -74,8 +100,8 @@ impl PacedWriter {
     // system's.
     fn in_time(
         &mut self,
-        time: Duration,
-        asked: usize,
+        patience: Patience,
+        asked: Asked,
         written: io::Result<usize>,
     ) -> io::Result<usize>
         ensures report { IsReportOf written result }
@@ -83,7 +109,8 @@ impl PacedWriter {
     {
         match written {
             Ok(n) => {
-                if self.is_over(time, asked, n) {
+                self.pace.wrote();
+                if self.is_over(patience, asked, n) {
                     self.end_late();
                 }
                 Ok(n)
@@ -92,31 +119,34 @@ impl PacedWriter {
         }
     }
 
-    // Counts a call that wrote so many of so many bytes. Whether the time for a write is over.
-    fn is_over(&mut self, time: Duration, asked: usize, written: usize) -> bool
+    // Counts a call that wrote so many bytes. Whether the time for a write is over. Of the first call that took less
+    // than it was given it isn't known how long it waited, but for one that took nothing.
+    fn is_over(&mut self, patience: Patience, asked: Asked, written: usize) -> bool
         ensures { paced_sink self.new ≡ paced_sink self.old }
     {
-        if written < asked {
-            self.has_waited = true;
-            return self.stall.count(step(time), written, time);
-        }
-        self.has_waited && self.stall.count(Duration::from_secs(0), written, time)
+        let waited = match asked.begun {
+            Some(begun) => self.now().saturating_sub(begun),
+            None if written == 0 => step(patience.time),
+            None => Duration::from_secs(0),
+        };
+        self.has_waited = self.has_waited || written < asked.bytes;
+        self.has_waited && self.stall.count(waited, written, patience)
     }
 
-    // Whether a write of so many bytes is to be made again: the system timed out, and the time for a write isn't over.
-    fn tries_again(&mut self, asked: usize, written: &io::Result<usize>) -> bool
+    // Whether a write is to be made again: the system timed out, and the time for a write isn't over.
+    fn tries_again(&mut self, asked: Asked, written: &io::Result<usize>) -> bool
         ensures { paced_sink self.new ≡ paced_sink self.old }
     {
         let Err(fault) = written else {
             return false;
         };
-        let Some(time) = self.time else {
+        let Some(patience) = self.patience else {
             return false;
         };
         if fault.kind() != ErrorKind::WouldBlock {
             return false;
         }
-        if self.is_over(time, asked, 0) {
+        if self.is_over(patience, asked, 0) {
             self.end_late();
             return false;
         }
@@ -149,7 +179,7 @@ fn step(time: Duration) -> Duration {
     time.min(Duration::from_millis(STEP_MILLIS))
 }
 
-impl WriteDevice for PacedWriter {
+impl<Rt: Clock> WriteDevice for PacedWriter<Rt> {
     ghost use Rattle.tiny_http_socket.specs.Paced.{paced_sink};
 
     ghost sink = { paced_sink };
@@ -159,23 +189,24 @@ impl WriteDevice for PacedWriter {
         self.failures
     }
 
-    /// Writes once to the client, and not at all from an empty buffer. Under limits it ends in time, which is counted
-    /// in steps of a second.
+    /// Writes once to the client, and not at all from an empty buffer. Under limits it ends in time, by a second or
+    /// less.
     fn write_out(&mut self, buf: &[u8]) -> Result<usize, io::Error> {
         if buf.is_empty() {
             return Ok(0);
         }
-        let asked = buf.len();
+        let bytes = buf.len();
         if self.is_late {
-            return self.report(asked, Err(ErrorKind::TimedOut.into()));
+            return self.report(self.ask(bytes), Err(ErrorKind::TimedOut.into()));
         }
         for _ in 0..u64::MAX {
+            let asked = self.ask(bytes);
             let written = self.socket.write_out(buf);
             if !self.tries_again(asked, &written) {
                 return self.report(asked, written);
             }
         }
-        self.report(asked, Err(ErrorKind::TimedOut.into()))
+        self.report(self.ask(bytes), Err(ErrorKind::TimedOut.into()))
     }
 
     /// Nothing is held back.
@@ -189,23 +220,24 @@ impl WriteDevice for PacedWriter {
     }
 }
 
-impl WriteBoth for PacedWriter {
+impl<Rt: Clock> WriteBoth for PacedWriter<Rt> {
     /// Writes once to the client, by one call of the system, and not at all where both texts are empty. Else as
     /// `write_out`.
     fn write_both(&mut self, front: &[u8], back: &[u8]) -> Result<usize, io::Error> {
         if front.is_empty() && back.is_empty() {
             return Ok(0);
         }
-        let asked = front.len().saturating_add(back.len());
+        let bytes = front.len().saturating_add(back.len());
         if self.is_late {
-            return self.report(asked, Err(ErrorKind::TimedOut.into()));
+            return self.report(self.ask(bytes), Err(ErrorKind::TimedOut.into()));
         }
         for _ in 0..u64::MAX {
+            let asked = self.ask(bytes);
             let written = self.socket.write_both(front, back);
             if !self.tries_again(asked, &written) {
                 return self.report(asked, written);
             }
         }
-        self.report(asked, Err(ErrorKind::TimedOut.into()))
+        self.report(self.ask(bytes), Err(ErrorKind::TimedOut.into()))
     }
 }
