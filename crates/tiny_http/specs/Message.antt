@@ -13,7 +13,7 @@ use Rattle.tiny_http.specs.declared.accepting.Message.TheVariants.{Error, NewReq
 -- the request or the fault that was popped; nothing of a mark, of an empty queue, or of a client that is to be served
 abbrev pub received : {R : Type 0} → Option (Message R)
     → Result
-    (Option (Request (PacedReader (CorkedReader RefinedTcpStream PacedWriter) R) (CorkedWriter PacedWriter R) R))
+    (Option (Request (PacedReader (CorkedReader RefinedTcpStream (PacedWriter R)) R) (CorkedWriter (PacedWriter R) R) R))
     IoError
 received (Some (Error fault)) = Err fault
 received (Some (NewRequest request)) = Ok (Some request)

@@ -117,7 +117,7 @@ pub(crate) struct Client<R: Wait + Clock + Drop> {
     ending: Arc<Ending>,
     connection: ClientConnection<ServerReader<R>, ServerWriter<R>, R>,
     // What its two halves share.
-    cork: Arc<Cork<PacedWriter>>,
+    cork: Arc<Cork<PacedWriter<R>>>,
     // To close it by.
     socket: Arc<Connection>,
     has_limits: bool,
@@ -206,7 +206,9 @@ impl<R: Wait + Clock + Copy> Arrival<R> {
             // A request that is held would be waited for.
             drop(next);
         } else {
-            if let Some(request) = next {
+            if let Some(request) = next
+                && !request.is_lost()
+            {
                 let _ = handler.handle(&self.client.rt, alloc, request);
             }
             self.client.answer_requests(alloc, handler);
@@ -327,14 +329,15 @@ impl<R: Wait + Clock + Threads + Copy + Send + 'static> Accepting<R> {
         let (reader, writer) = RefinedTcpStream::new(alloc, connection).ok()?;
         let socket = Arc::try_clone(reader.connection()).ok()?;
         let ending = Arc::try_clone(&self.ending).ok()?;
-        let pace = Pace::new(alloc, self.limits).ok()?;
+        let upgraded = Arc::try_clone(self.lobby.upgraded()).ok()?;
+        let pace = Pace::new(alloc, self.limits, upgraded).ok()?;
         let presence = self.enter(remote_addr, &socket, &pace)?;
         if self.ending.is_closed() {
             // The server was stopped before the client was there.
             return None;
         }
         let secure = reader.secure();
-        let writer = PacedWriter::new(writer, Arc::try_clone(&pace).ok()?);
+        let writer = PacedWriter::new(rt, writer, Arc::try_clone(&pace).ok()?);
         let (reader, writer) = halves(rt, alloc, reader, writer).ok()?;
         let reader = PacedReader::new(
             rt,

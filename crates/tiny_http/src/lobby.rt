@@ -2,6 +2,7 @@
 use crate::ending::Ending;
 use std::alloc::{AllocError, Global};
 use std::net::{Shutdown, SocketAddr};
+use std::sync::atomic::AtomicU64;
 use std::sync::{Arc, Condvar, Mutex, Wait};
 use std::time::{Clock, Duration};
 use tiny_http_limits::census::{Census, Refusal};
@@ -31,6 +32,8 @@ pub(crate) struct Lobby {
     guests: Mutex<Guests>,
     // A client has gone, or the server is closed.
     changed: Condvar,
+    // So many connections are upgraded.
+    upgraded: Arc<AtomicU64>,
 }
 
 impl Lobby {
@@ -47,8 +50,14 @@ impl Lobby {
         let lobby = Lobby {
             guests: Mutex::new(guests),
             changed: Condvar::new(),
+            upgraded: Arc::new(alloc, AtomicU64::new(0))?,
         };
         Ok(Arc::new(alloc, lobby)?)
+    }
+
+    /// Where the connections are counted that are upgraded.
+    pub fn upgraded(&self) -> &Arc<AtomicU64> {
+        &self.upgraded
     }
 
     /// How many clients are connected.
@@ -116,6 +125,7 @@ impl Lobby {
         let left = guests.census.leave(number);
         if let Some(link) = &left {
             guests.counts.count_end(link.pace.summary());
+            link.pace.end_stream();
         }
         drop(guests);
         // Its connection ends here, before others hear of it.

@@ -70,10 +70,10 @@ pub trait Host: ServerRuntime + Sync {}
 impl<R: ServerRuntime + Sync> Host for R {}
 
 /// What a server reads a client by.
-pub type ServerReader<R> = PacedReader<CorkedReader<RefinedTcpStream, PacedWriter>, R>;
+pub type ServerReader<R> = PacedReader<CorkedReader<RefinedTcpStream, PacedWriter<R>>, R>;
 
 /// What a server writes to a client by.
-pub type ServerWriter<R> = CorkedWriter<PacedWriter, R>;
+pub type ServerWriter<R> = CorkedWriter<PacedWriter<R>, R>;
 
 /// A request of a server's client.
 pub type ServerRequest<R> = Request<ServerReader<R>, ServerWriter<R>, R>;
@@ -437,20 +437,31 @@ impl<R: Net + SocketFiles + Wait + Clock + Drop> Server<R> {
     /// A server that serves by a handler has none to give, but those of clients that came before. Where a client
     /// waits for `serve` to be called again the error is at once of kind `Other`, as if `unblock` had been called.
     ///
-    /// Once the server was stopped the error is of kind `Other` at each call.
+    /// Once the server was stopped the error is of kind `Other` at each call. On a server with limits a request isn't
+    /// handed out once an answer before it broke: its own would be lost.
     pub fn recv(&self) -> io::Result<ServerRequest<R>> {
-        let popped = self.messages.pop(&self.rt);
-        match self.received(popped)? {
-            Some(request) => Ok(request),
-            None => Err(ErrorKind::Other.into()),
+        for _ in self.rt.forever() {
+            let popped = self.messages.pop(&self.rt);
+            match self.received(popped)? {
+                Some(request) if request.is_lost() => drop(request),
+                Some(request) => return Ok(request),
+                None => break,
+            }
         }
+        Err(ErrorKind::Other.into())
     }
 
     /// A request, if one has come; it waits for none. None too where `recv` reports an error of kind `Other`. An
     /// error is the fault by which accepting ended, which one call reports.
     pub fn try_recv(&self) -> io::Result<Option<ServerRequest<R>>> {
-        let popped = self.messages.try_pop(&self.rt);
-        self.received(popped)
+        for _ in self.rt.forever() {
+            let popped = self.messages.try_pop(&self.rt);
+            match self.received(popped)? {
+                Some(request) if request.is_lost() => drop(request),
+                received => return Ok(received),
+            }
+        }
+        Ok(None)
     }
 
     // What a pop of the queue is reported as. Once the server was stopped it is nothing, and another call that waits
@@ -500,8 +511,17 @@ impl<R: Net + SocketFiles + Wait + Clock + Drop> Server<R> {
     /// Waits for a request, for so long at most, and then reports none; less than a millisecond counts as nothing.
     /// Else as `try_recv`.
     pub fn recv_timeout(&self, timeout: Duration) -> io::Result<Option<ServerRequest<R>>> {
-        let popped = self.messages.pop_timeout(&self.rt, timeout);
-        self.received(popped)
+        let begun = time_of(&self.rt);
+        let mut left = timeout;
+        for _ in self.rt.forever() {
+            let popped = self.messages.pop_timeout(&self.rt, left);
+            match self.received(popped)? {
+                Some(request) if request.is_lost() => drop(request),
+                received => return Ok(received),
+            }
+            left = timeout.saturating_sub(time_of(&self.rt).saturating_sub(begun));
+        }
+        Ok(None)
     }
 }
 

@@ -56,7 +56,9 @@ impl<H: Handler<R, ServerRequest<R>> + Drop, R: Wait + Clock + Copy> Job for Ser
         match &mut self.work {
             Work::Client(arrival) => arrival.answer_by(self.alloc, handler),
             Work::Request(rt, request) => {
-                if let Some(request) = request.take() {
+                if let Some(request) = request.take()
+                    && !request.is_lost()
+                {
                     let _ = handler.handle(rt, self.alloc, request);
                 }
             }
@@ -123,10 +125,11 @@ impl<R: Host> Server<R> {
     /// request may be kept and answered later. An error of the handler is passed over. With no thread nothing is
     /// answered.
     ///
-    /// A thread waits for the turn of its answer, and for a client that takes no more. So one client that sends as
-    /// many requests as there are threads, and reads nothing, holds all of them: for the write time of the limits,
-    /// and without limits (`Server::with`) for ever. By `serve` a client holds its own worker alone, and a request
-    /// takes fewer instructions.
+    /// A thread waits for the turn of its answer, for a client that takes no more, and for bytes of a body. So one
+    /// client that sends as many requests as there are threads, and reads slowly, holds all of them: under limits
+    /// (`Server::with`) for as long as `least_rate` lets an answer of that length take, and without them for ever. By
+    /// `serve` a client holds its own worker alone, and a request takes fewer instructions. So this call is for short
+    /// answers to trusted clients.
     pub fn serve_by<H: Handler<R, ServerRequest<R>> + Sync>(
         &self,
         alloc: Global,

@@ -34,6 +34,9 @@ pub enum UpgradeError {
     /// By the standard: the request's body wasn't read to its end, or it was cut or is broken.
     #[error("the request's body is not whole")]
     UnfinishedBody,
+    /// On a server with limits: as many connections are upgraded as may be.
+    #[error("too many connections are upgraded")]
+    TooMany,
 }
 
 /// Whether a connection can be upgraded to a protocol of this name by an answer with this code: the first error that

@@ -24,6 +24,8 @@ use Rattle.tiny_http_body.specs.FramingReading.{framing}
 use Rattle.tiny_http_open_request.specs.HeadReads.{Begins, IsFramedBy}
 use Rattle.tiny_http_open_request.specs.Pipeline.{IsCutWithHead, body_length_or_0}
 use Rattle.tiny_http_open_request.specs.declared.open_request.OpenRequest.{OpenRequest}
+use Rattle.tiny_http_open_request.specs.declared.upgrading.UpgradeError.{UpgradeError}
+use Rattle.tiny_http_open_request.specs.declared.upgrading.UpgradeError.TheVariants.{TooMany}
 use Rattle.tiny_http_request.specs.Body.{BodyState, KeepsLeft, upgraded_body}
 use Rattle.tiny_http_request.specs.declared.request.Request.{Request}
 use Rattle.tiny_http_request.specs.declared.request.RequestCreationError.{RequestCreationError}
@@ -125,3 +127,8 @@ asks_for h protocol = is_upgrade h && has_element (codes "Upgrade") protocol h.h
 -- body holds the input
 abbrev pub ReadsStream : {R : Type 0} → {W : Type 0} → {Rt : Type 0} → Request R W Rt → BodyState → Type 0
 ReadsStream r body = KeepsLeft (upgraded_body (request_open r).by_standard (request_body r)) body
+
+-- why an upgrade was refused: by what was found wrong; or nothing was, and as many connections are upgraded as may be
+abbrev pub RefusesUpgrade : Result ⊤ UpgradeError → UpgradeError → Type 0
+RefusesUpgrade (Ok u) error = error ≡ TooMany
+RefusesUpgrade (Err found) error = found ≡ error

@@ -26,8 +26,8 @@ use tiny_http_threads::sequential::{
     SequentialReader, SequentialReaderBuilder, SequentialWriter, SequentialWriterBuilder,
 };
 use tiny_http_threads::turn::{
-    HeldReader, begin_readers, count_open_writers, hold_reader, hold_writer, is_closed,
-    is_next_writer, leave_writer, next_writer, wait_for_room,
+    HeldReader, begin_readers, close_when_broken, count_open_writers, hold_reader, hold_writer,
+    is_closed, is_next_writer, leave_writer, next_writer, wait_for_room,
 };
 
 /// A connection, whose requests are handed out one after another. Any thread may hold one, also while the next is read.
@@ -203,7 +203,9 @@ impl<R: ReadDevice + Drop, W: WriteDevice + Drop, Rt: Wait + Copy> ClientConnect
     /// Has `next` say here when it waits for a head and when it hands out a request. It keeps the limit of open
     /// requests from now on, 2 at least: in front of a head, and of the answer to a refused one, it waits until fewer
     /// are open. Once this was stopped, `next` answers `None`. A `PacedReader` and a `PacedWriter` keep the other
-    /// limits. An error where no handle is left.
+    /// limits. With limits `next` answers `None`, too, once an answer ended the output without being whole: its data
+    /// were too short or failed, or the writer did. The client of a socket sees the end then. An error where no
+    /// handle is left.
     pub fn set_pace(&mut self, pace: Arc<Pace>) -> Result<(), AllocError>
         ensures over { IsOver self.new ↔ IsOver self.old }
         ensures input { client_source self.new ≡ client_source self.old }
@@ -212,6 +214,9 @@ impl<R: ReadDevice + Drop, W: WriteDevice + Drop, Rt: Wait + Copy> ClientConnect
             × (client_profile self.new ≡ client_profile self.old) }
     {
         count_open_writers(&self.sink, Arc::try_clone(pace.open())?);
+        if pace.limits().is_some() {
+            close_when_broken(&self.sink);
+        }
         self.pace = Some(pace);
         Ok(())
     }

@@ -21,7 +21,7 @@ ghost use Rattle.tiny_http_open_request.specs.HeadReads.{head_framing, Begins};
 ghost use Rattle.tiny_http_request.specs.Request.{IsInvalidInput, asks_for, request_head, request_secure};
 ghost use Rattle.tiny_http_request.specs.Request.{request_address, request_open, is_expectation_failed, IfCreationIo};
 ghost use Rattle.tiny_http_request.specs.Request.{cut_kind, IsCutShort, BeginsWith, Says, IsFramed, FailsBy};
-ghost use Rattle.tiny_http_request.specs.Request.{request_body, ReadsStream};
+ghost use Rattle.tiny_http_request.specs.Request.{request_body, ReadsStream, RefusesUpgrade};
 ghost use Rattle.tiny_http_io.specs.CustomStream.{custom_reader};
 ghost use Rattle.tiny_http_request.specs.Body.{body_left, input_of, KeepsLeft, upgraded_body};
 ghost use Rattle.tiny_http_request.specs.WholeBody.{FailsWhole, IsWholeOf};
@@ -57,8 +57,8 @@ use tiny_http_socket::pace::Pace;
 use tiny_http_text::ascii::AsciiString;
 use tiny_http_threads::sequential::{SequentialWriter, SequentialWriterBuilder};
 use tiny_http_threads::turn::{
-    HeldReader, begin_readers, end_behind_writer, hold_writer, is_last_writer, leave_writer,
-    pass_writer,
+    HeldReader, begin_readers, close_if_broken, end_behind_writer, hold_writer, is_broken_writer,
+    is_last_writer, leave_writer, pass_writer,
 };
 
 /// Why no request is made of its parts.
@@ -412,8 +412,9 @@ impl<R: ReadDevice + Drop, W: WriteDevice + Drop, Rt: Wait + Drop> Request<R, W,
 
     /// Sends the answer, dated `now`, in the turn of the request, and then gives the body up. It waits until the
     /// requests before are finished. The first fault is the error: the data's, or the writer's; after it nothing more
-    /// is sent on the connection. One of kind `BrokenPipe`, `ConnectionAborted`, `ConnectionRefused` or
-    /// `ConnectionReset` isn't reported, also one of the data. Under `Standard` a code below 200 or above 999, or a
+    /// is sent on the connection, and on a server with limits the connection ends: no further request is handed out.
+    /// One of kind `BrokenPipe`, `ConnectionAborted`, `ConnectionRefused` or `ConnectionReset` isn't reported, also
+    /// one of the data. Under `Standard` a code below 200 or above 999, or a
     /// 2xx to `CONNECT`, is an error of kind `InvalidInput`, and the request is dropped.
     ///
     /// Under `Standard` no request follows one that is answered or dropped while its 100 is owed, or while more than
@@ -444,6 +445,7 @@ impl<R: ReadDevice + Drop, W: WriteDevice + Drop, Rt: Wait + Drop> Request<R, W,
         let (mut open_request, mut writer) = self.into_parts();
         let left = begin_answer(&mut open_request, &mut writer, response.closes());
         let sent = open_request.respond(alloc, hold_writer(&mut writer), response, left, now);
+        close_if_broken(&mut writer);
         pass_writer(writer);
         drop(open_request);
         reported(sent)
@@ -482,7 +484,10 @@ impl<R: ReadDevice + Drop, W: WriteDevice + Drop, Rt: Wait + Drop> Request<R, W,
         if outlet.is_ended() {
             return Err(ErrorKind::BrokenPipe.into());
         }
-        open_request.begin_streaming(outlet, &response, left, now)?;
+        if let Err(fault) = open_request.begin_streaming(outlet, &response, left, now) {
+            close_if_broken(&mut writer);
+            return Err(fault);
+        }
         Ok(StreamedBody::new(writer, form))
     }
 
@@ -510,7 +515,8 @@ impl<R: ReadDevice + Drop, W: WriteDevice + Drop, Rt: Wait + Drop> Request<R, W,
     /// It is an error where the protocol isn't ASCII, and the request is dropped. Under `Standard` it is one, too,
     /// where the request doesn't ask for this protocol or is its connection's last, where the code isn't 101, and
     /// where the body wasn't read until a read answered 0, or was cut or is broken. A body without bytes or of up to
-    /// 1024 bytes that came with its head needn't be read, and a counted one only to its last byte.
+    /// 1024 bytes that came with its head needn't be read, and a counted one only to its last byte. On a server with
+    /// limits it is `TooMany` where as many connections are upgraded as may be.
     pub fn upgrade<D: Drop>(
         self,
         protocol: &str,
@@ -521,13 +527,16 @@ impl<R: ReadDevice + Drop, W: WriteDevice + Drop, Rt: Wait + Drop> Request<R, W,
             (request_check (request_open self) protocol.now response.answer.status
             (is_whole (request_open self).body) ≡ Ok tt) }
         ensures refused { IfErr result
-            (λ e. request_check (request_open self) protocol.now response.answer.status
-            (is_whole (request_open self).body) ≡ Err e) }
+            (λ e. RefusesUpgrade (request_check (request_open self) protocol.now response.answer.status
+            (is_whole (request_open self).body)) e) }
         ensures stream { IfOk result (λ s. ReadsStream self (custom_reader s)) }
     {
         let status = response.status_code();
         let is_whole = self.open_request.body.is_whole();
         self.open_request.check_upgrade(protocol, status, is_whole)?;
+        if !self.enters_stream(is_whole) {
+            return Err(UpgradeError::TooMany);
+        }
         Ok(self.begin_stream(protocol, response, is_whole, now))
     }
 
@@ -551,8 +560,8 @@ impl<R: ReadDevice + Drop, W: WriteDevice + Drop, Rt: Wait + Drop> Request<R, W,
         ensures handed_back { IfErr result (λ e. e.request ≡ self) }
         ensures refused { IfErr result
             (λ e.
-            (request_check (request_open self) protocol.now response.answer.status
-            (is_whole (request_open self).body) ≡ Err e.error)
+            RefusesUpgrade (request_check (request_open self) protocol.now response.answer.status
+            (is_whole (request_open self).body)) e.error
             ⊎ ((asks_for (request_head self) protocol.now ≡ false) × (e.error ≡ UpgradeError.NotAsked))) }
     {
         let status = response.status_code();
@@ -570,7 +579,36 @@ impl<R: ReadDevice + Drop, W: WriteDevice + Drop, Rt: Wait + Drop> Request<R, W,
                 request: self,
             });
         }
+        if !self.enters_stream(is_whole) {
+            let error = UpgradeError::TooMany;
+            return Err(RefusedUpgrade {
+                error,
+                request: self,
+            });
+        }
         Ok(self.begin_stream(protocol, response, is_whole, now))
+    }
+
+    // What the reads of its stream are told, where that still reads from the connection.
+    fn stream_pace(&self, is_whole: bool) -> Option<&Arc<Pace>> {
+        if !self.open_request.by_standard && is_whole {
+            return None;
+        }
+        self.pace.as_ref()
+    }
+
+    // The connection is to be upgraded. False where as many are as may be.
+    fn enters_stream(&self, is_whole: bool) -> bool {
+        match self.stream_pace(is_whole) {
+            Some(pace) => pace.enter_stream(),
+            None => true,
+        }
+    }
+
+    /// Whether its answer would be lost: the output of its connection has ended with an answer before it, which broke
+    /// (on a server with limits) or was closed.
+    pub fn is_lost(&self) -> bool {
+        is_broken_writer(&self.writer)
     }
 
     // Sends the answer that upgrades, and gives the stream.
@@ -585,16 +623,14 @@ impl<R: ReadDevice + Drop, W: WriteDevice + Drop, Rt: Wait + Drop> Request<R, W,
         ensures stream { ReadsStream self (custom_reader result) }
     {
         self.send_at_flush();
-        if let Some(pace) = &self.pace
-            && (self.open_request.by_standard || !is_whole)
-        {
-            // The stream still reads from the connection.
+        if let Some(pace) = self.stream_pace(is_whole) {
             pace.begin_stream();
         }
         let alloc = self.alloc;
         let (mut open_request, mut writer) = self.into_parts();
         read_stream(&mut open_request);
         open_request.upgrade(alloc, hold_writer(&mut writer), protocol, response, now);
+        close_if_broken(&mut writer);
         CustomStream::new(open_request.body, writer)
     }
 
