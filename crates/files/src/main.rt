@@ -19,7 +19,7 @@ use percent_encoding::percent_decode_str;
 use std::alloc::Global;
 use std::io::{ErrorKind, Write};
 use std::path::Path;
-use std::sync::Wait;
+use std::sync::{Arc, Wait};
 use std::time::Clock;
 use std::{env, io};
 use tiny_http::device::{ReadDevice, WriteDevice};
@@ -30,9 +30,6 @@ use tiny_http::{
 use tiny_http_files::dates::is_not_modified;
 use tiny_http_files::paths::below_folder;
 use tiny_http_files::types::type_of;
-
-// So many threads answer.
-const THREADS: usize = 4;
 
 /// The folder whose files are served, by its real path.
 #[derive(Drop)]
@@ -155,15 +152,19 @@ fn serve<Rt: Host + Disk, O: Write>(
     rt: Rt,
     alloc: Global,
     address: &str,
-    folder: &Folder,
+    folder: Folder,
     out: &mut O,
 ) -> io::Result<()> {
+    let Ok(handler) = Arc::new(alloc, folder) else {
+        return Err(ErrorKind::OutOfMemory.into());
+    };
     let addr = ConfigListenAddr::from_socket_addrs(&rt, alloc, address)?;
     let config = ServerConfig { addr, ssl: None };
     let server = Server::with(rt, alloc, config, Profile::Standard, Limits::new())?;
     writeln!(out, "listening on {}", server.server_addr())?;
     out.flush()?;
-    server.serve_by(alloc, THREADS, folder)
+    // By threads that all clients share a few of them would hold all, as long as their files last.
+    server.serve(alloc, &handler)
 }
 
 fn main(rt: HostRuntime) -> io::Result<()> {
@@ -179,7 +180,7 @@ fn main(rt: HostRuntime) -> io::Result<()> {
         rt,
         alloc,
         address.as_str(),
-        &Folder { path },
+        Folder { path },
         &mut rt.stdout(),
     )
 }

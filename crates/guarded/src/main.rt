@@ -1,8 +1,8 @@
 //! Answers every request by `hello world`, as a server on an open port: `guarded [--lenient|--strict|--standard]
 //! ADDRESS`. It answers as `hello`, by a handler: each connection's worker answers that connection's requests itself.
 //! Heads are read under the profile that is named, or else under `Standard`, and clients have the default limits.
-//! Once a minute, and when it stops, it prints what it has counted. It stops once a line `stop` comes on standard
-//! input, and waits then for what is open, for 10 seconds at most.
+//! Once a minute, and when it stops, it prints what it has counted. It serves and stops on, where nobody reads that.
+//! It stops once a line `stop` comes on standard input, and waits then for what is open, for 10 seconds at most.
 #![tactic(auto)]
 
 ghost use Rattle.std.specs.Prelude.{◌≡◌};
@@ -28,6 +28,9 @@ const REPORT_SECS: u64 = 60;
 
 // So many seconds a stop waits for what is open.
 const STOP_SECS: u64 = 10;
+
+// So many tenths of a second the last line is waited for, which nobody may read.
+const PRINT_TENTHS: u32 = 30;
 
 /// Why nothing is served, or no longer.
 #[derive(Debug, Drop, Error)]
@@ -151,17 +154,26 @@ fn print_counts<R: ServerRuntime, O: Write>(server: &Server<R>, out: &mut O) {
     let _ = out.flush();
 }
 
-// Prints once a minute what the server has counted, until it has ended.
+// How far serving and its reports have come.
+#[derive(Drop)]
+struct Progress {
+    // No request is answered any more.
+    has_ended: AtomicBool,
+    // The last line was printed.
+    has_printed: AtomicBool,
+}
+
+// Prints once a minute what the server has counted, and once more when it has ended.
 fn report_counts<R: ServerRuntime, O: Write>(
     rt: &R,
     server: &Server<R>,
-    has_ended: &AtomicBool,
+    progress: &Progress,
     out: &mut O,
 ) {
     let mut seconds = 0u64;
     for _ in rt.forever() {
-        if has_ended.load(Ordering::SeqCst) {
-            return;
+        if progress.has_ended.load(Ordering::SeqCst) {
+            break;
         }
         thread::sleep(rt, Duration::from_secs(1));
         seconds = seconds.saturating_add(1);
@@ -170,47 +182,61 @@ fn report_counts<R: ServerRuntime, O: Write>(
             print_counts(server, out);
         }
     }
+    print_counts(server, out);
+    progress.has_printed.store(true, Ordering::SeqCst);
+}
+
+// Waits for the last line. Where nobody reads what is printed the thread that prints may wait for ever.
+fn wait_for_report<R: Wait + Clock>(rt: &R, progress: &Progress) {
+    for _ in 0..PRINT_TENTHS {
+        if progress.has_printed.load(Ordering::SeqCst) {
+            return;
+        }
+        thread::sleep(rt, Duration::from_millis(100));
+    }
 }
 
 // Answers all requests, until the server is stopped or fails.
-fn answer_all<R: ServerRuntime>(
-    alloc: Global,
-    server: &Server<R>,
-    has_ended: &AtomicBool,
-) -> Result<(), GuardedFault> {
-    let served = match Arc::new(alloc, Hello) {
-        Ok(handler) => server.serve(alloc, &handler).map_err(GuardedFault::from),
-        Err(_) => Err(GuardedFault::OutOfMemory),
-    };
-    has_ended.store(true, Ordering::SeqCst);
-    served
+fn answer_all<R: ServerRuntime>(alloc: Global, server: &Server<R>) -> Result<(), GuardedFault> {
+    let handler = Arc::new(alloc, Hello).map_err(|_| AllocError)?;
+    server.serve(alloc, &handler)?;
+    Ok(())
 }
 
-// Listens at the address that the words name, and answers all requests. The input is a value of its own: a thread
-// can't be given a bound whose associated type isn't `Send`.
-fn serve<R: ServerRuntime + Sync, I: BufRead + Send + Drop + 'static, O: Write>(
+// Listens at the address that the words name, and answers all requests. Another thread prints. The input and the
+// output are values of their own: a thread can't be given a bound whose associated type isn't `Send`.
+fn serve<R, I, O>(
     rt: R,
     alloc: Global,
     words: &[String],
     input: I,
-    out: &mut O,
-) -> Result<(), GuardedFault> {
+    out: O,
+) -> Result<(), GuardedFault>
+where
+    R: ServerRuntime + Sync,
+    I: BufRead + Send + Drop + 'static,
+    O: Write + Send + Drop + 'static,
+{
     let server = listen(rt, alloc, words)?;
-    let listens_at = server.server_addr();
-    let told = Arc::try_clone(&server)?;
+    let mut out = out;
+    let _ = writeln!(out, "listening on {}", server.server_addr());
+    let _ = out.flush();
+    let (told, counted) = (Arc::try_clone(&server)?, Arc::try_clone(&server)?);
     if thread::spawn(&rt, move || stop_when_told(&rt, alloc, &told, input)).is_err() {
         return Err(GuardedFault::OutOfMemory);
     }
-    let has_ended = Arc::new(alloc, AtomicBool::new(false)).map_err(|_| AllocError)?;
-    let (serves, ends) = (Arc::try_clone(&server)?, Arc::try_clone(&has_ended)?);
-    let Ok(serving) = thread::spawn(&rt, move || answer_all(alloc, &serves, &ends)) else {
-        return Err(GuardedFault::OutOfMemory);
+    let progress = Progress {
+        has_ended: AtomicBool::new(false),
+        has_printed: AtomicBool::new(false),
     };
-    let _ = writeln!(out, "listening on {listens_at}");
-    let _ = out.flush();
-    report_counts(&rt, &server, &has_ended, out);
-    let served = serving.join(&rt);
-    print_counts(&server, out);
+    let progress = Arc::new(alloc, progress).map_err(|_| AllocError)?;
+    let shown = Arc::try_clone(&progress)?;
+    if thread::spawn(&rt, move || report_counts(&rt, &counted, &shown, &mut out)).is_err() {
+        return Err(GuardedFault::OutOfMemory);
+    }
+    let served = answer_all(alloc, &server);
+    progress.has_ended.store(true, Ordering::SeqCst);
+    wait_for_report(&rt, &progress);
     served
 }
 
@@ -224,18 +250,23 @@ fn report<E: Write>(fault: &GuardedFault, err: &mut E) -> u8 {
     1
 }
 
-/// Listens at the address that the words name, says so on `out`, and answers every request by `hello world` until a
+/// Listens at the address that the words name, says so on `out`, on which another thread prints then, and answers every request by `hello world` until a
 /// line `stop` comes on `input`, or there are no more. Gives the exit status: 0; or 2 where the words aren't
 /// `[--lenient|--strict|--standard] ADDRESS`, and 1 where it can't listen there or serving ends by a fault, which a
 /// line on `err` says.
-pub fn guarded_on<R: ServerRuntime + Sync, I: BufRead + Send + Drop + 'static, O: Write, E: Write>(
+pub fn guarded_on<R, I, O, E: Write>(
     rt: R,
     alloc: Global,
     words: &[String],
     input: I,
-    out: &mut O,
+    out: O,
     err: &mut E,
-) -> u8 {
+) -> u8
+where
+    R: ServerRuntime + Sync,
+    I: BufRead + Send + Drop + 'static,
+    O: Write + Send + Drop + 'static,
+{
     match serve(rt, alloc, words, input, out) {
         Ok(()) => 0,
         Err(fault) => report(&fault, err),
@@ -252,12 +283,11 @@ fn words<R: Env + AllocGlobal>(rt: &R) -> Result<Vec<String>, GuardedFault> {
 }
 
 fn main(rt: HostRuntime) -> ExitCode {
-    let mut out = rt.stdout();
     let mut err = rt.stderr();
     let words = match words(&rt) {
         Ok(words) => words,
         Err(fault) => return ExitCode::from(report(&fault, &mut err)),
     };
     let words = words.as_slice().get(1..).unwrap_or(&[]);
-    ExitCode::from(guarded_on(rt, rt.alloc(), words, rt.reader(), &mut out, &mut err))
+    ExitCode::from(guarded_on(rt, rt.alloc(), words, rt.reader(), rt.stdout(), &mut err))
 }

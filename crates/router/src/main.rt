@@ -15,7 +15,7 @@ mod tests;
 use crate::notes::{Notebook, fault};
 use std::alloc::Global;
 use std::io::{ErrorKind, Write};
-use std::sync::Wait;
+use std::sync::{Arc, Wait};
 use std::time::Clock;
 use std::{env, io};
 use tiny_http::device::{ReadDevice, WriteDevice};
@@ -23,9 +23,6 @@ use tiny_http::{
     BodyError, ConfigListenAddr, Handler, Host, Limits, Method, Profile, Request, Response, Server,
     ServerConfig, StatusCode, current_date,
 };
-
-// So many threads answer.
-const THREADS: usize = 4;
 
 // So many bytes a body may have.
 const MOST: usize = 1 << 16;
@@ -77,13 +74,16 @@ fn serve<Rt: Host, O: Write>(rt: Rt, alloc: Global, address: &str, out: &mut O) 
     let Ok(notebook) = Notebook::new(alloc) else {
         return Err(ErrorKind::OutOfMemory.into());
     };
+    let Ok(handler) = Arc::new(alloc, notebook) else {
+        return Err(ErrorKind::OutOfMemory.into());
+    };
     let addr = ConfigListenAddr::from_socket_addrs(&rt, alloc, address)?;
     let config = ServerConfig { addr, ssl: None };
     // By the standard a body that is refused unread ends its connection.
     let server = Server::with(rt, alloc, config, Profile::Standard, Limits::new())?;
     writeln!(out, "listening on {}", server.server_addr())?;
     out.flush()?;
-    server.serve_by(alloc, THREADS, &notebook)
+    server.serve(alloc, &handler)
 }
 
 fn main(rt: HostRuntime) -> io::Result<()> {

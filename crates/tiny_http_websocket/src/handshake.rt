@@ -1,8 +1,8 @@
 //! The handshake by which a connection becomes a WebSocket (RFC 6455, section 4.2).
-ghost use Rattle.std.specs.Prelude.{◌≡◌, ℕ, List, IfSome, IfNone};
+ghost use Rattle.std.specs.Prelude.{◌≡◌, ℕ, List, count_by, IfSome, IfNone};
 ghost use Rattle.websocket.specs.Handshake.{accept_key_of};
 ghost use Rattle.tiny_http_request.specs.Request.{request_head};
-ghost use Rattle.tiny_http_websocket.specs.Handshake.{AsksForWebSocket};
+ghost use Rattle.tiny_http_websocket.specs.Handshake.{AsksForWebSocket, has_name};
 
 use httpdate::HttpDate;
 use std::alloc::Global;
@@ -15,7 +15,7 @@ use tiny_http::device::{ReadDevice, WriteDevice};
 use tiny_http::outlet::Outlet;
 use tiny_http::request::{Body, UpgradeError};
 use tiny_http::sequential::SequentialWriter;
-use tiny_http::{HTTPVersion, Method, RefusedUpgrade, Request, Response, StatusCode};
+use tiny_http::{HTTPVersion, Header, Method, RefusedUpgrade, Request, Response, StatusCode};
 use websocket::handshake::server::accept_key;
 
 /// What became of a request.
@@ -23,14 +23,25 @@ use websocket::handshake::server::accept_key;
 pub enum Handshake<R: ReadDevice + Drop, W: WriteDevice + Drop, Rt: Wait + Drop> {
     /// It is a WebSocket now, whose frames this stream reads and writes.
     Accepted(CustomStream<Body<R, Rt>, SequentialWriter<Outlet<W>, Rt>>),
-    /// It doesn't ask for a WebSocket, or its body isn't whole; the request can be answered, as by `upgrade_required`.
+    /// It doesn't ask for a WebSocket, its body isn't whole, or as many connections are upgraded as may be; the request
+    /// can be answered, as by `refusal`.
     Refused(RefusedUpgrade<R, W, Rt>),
+}
+
+// How many headers have this name.
+fn count_named(headers: &[Header], name: &str) -> usize
+    ensures { result ≡ count_by (has_name name.now) headers.now }
+{
+    headers
+        .iter()
+        .filter(|header| header.field.equiv(name))
+        .count()
 }
 
 /// The key that accepts a request for a WebSocket: the value of `Sec-WebSocket-Accept` (RFC 6455, section 4.2.2).
 /// None for any other request. One that asks is a `GET` in version 1.1 that asks for an upgrade to `websocket`
 /// (`Request::is_upgrade`, and the list of its `Upgrade` headers), whose `Sec-WebSocket-Version` is 13, and whose
-/// `Sec-WebSocket-Key` is one (RFC 6455, section 4.2.1).
+/// one `Sec-WebSocket-Key` is a key (RFC 6455, sections 4.2.1 and 11.3.1).
 pub fn accepting_key<R: ReadDevice + Drop, W: WriteDevice + Drop, Rt: Wait + Drop>(
     request: &Request<R, W, Rt>,
 ) -> Option<[u8; 28]>
@@ -43,7 +54,8 @@ pub fn accepting_key<R: ReadDevice + Drop, W: WriteDevice + Drop, Rt: Wait + Dro
         && *request.http_version() == HTTPVersion(1, 1)
         && request.is_upgrade()
         && request.header_lists("Upgrade", "websocket")
-        && request.header("Sec-WebSocket-Version") == Some("13");
+        && request.header("Sec-WebSocket-Version") == Some("13")
+        && count_named(request.headers(), "Sec-WebSocket-Key") == 1;
     if !asks {
         return None;
     }
@@ -71,6 +83,15 @@ pub fn accept<R: ReadDevice + Drop, W: WriteDevice + Drop, Rt: Wait + Drop>(
         Ok(stream) => Ok(Handshake::Accepted(stream)),
         Err(refused) => Ok(Handshake::Refused(refused)),
     }
+}
+
+/// The answer to a request that was refused: 503 with its phrase as its text where as many connections are upgraded as
+/// may be, and else that of `upgrade_required`. An error where memory was refused.
+pub fn refusal(alloc: Global, error: UpgradeError) -> io::Result<Response<Cursor<Vec<u8>>>> {
+    if error == UpgradeError::TooMany {
+        return Ok(Response::status(alloc, StatusCode(503))?);
+    }
+    upgrade_required(alloc)
 }
 
 /// An answer to a request that isn't for a WebSocket of version 13: 426 with its phrase as its text, that says the

@@ -13,8 +13,10 @@ use tiny_http::device::{ReadDevice, WriteDevice};
 use tiny_http::{
     ConfigListenAddr, Handler, Host, Limits, Profile, Request, Server, ServerConfig, current_date,
 };
-use tiny_http_websocket::handshake::{Handshake, accept, upgrade_required};
-use tungstenite::{Error, NoMask, Role, WebSocket, WebSocketConfig};
+use tiny_http_websocket::handshake::{Handshake, accept, refusal};
+use tungstenite::{
+    CloseCode, CloseFrame, Error, NoMask, Role, Utf8Bytes, WebSocket, WebSocketConfig,
+};
 
 #[cfg(test)]
 mod tests;
@@ -22,12 +24,19 @@ mod tests;
 // So many bytes a message may have.
 const MOST: usize = 1 << 20;
 
+// The code by which a WebSocket is closed that its client broke so (RFC 6455, sections 7.1.7 and 7.4.1): a frame that
+// breaks the protocol, a text that isn't UTF-8, or a message that is too long. None where nothing can be sent.
+fn close_code(fault: &Error) -> Option<CloseCode> {
+    match fault {
+        Error::Protocol(_) => Some(CloseCode::Protocol),
+        Error::Utf8 => Some(CloseCode::Invalid),
+        Error::Capacity(_) => Some(CloseCode::Size),
+        _ => None,
+    }
+}
+
 // Sends each message back, until the client closes.
-fn talk<S: Read + Write + Drop>(alloc: Global, stream: S) -> Result<(), Error> {
-    let config = WebSocketConfig::default()
-        .max_message_size(Some(MOST))
-        .max_frame_size(Some(MOST));
-    let mut socket = WebSocket::from_raw_socket(alloc, stream, NoMask, Role::Server, Some(config));
+fn send_back<S: Read + Write + Drop>(socket: &mut WebSocket<S, NoMask>) -> Result<(), Error> {
     for _ in 0..u64::MAX {
         match socket.read() {
             Ok(message) if message.is_text() || message.is_binary() => socket.send(message)?,
@@ -37,6 +46,22 @@ fn talk<S: Read + Write + Drop>(alloc: Global, stream: S) -> Result<(), Error> {
         }
     }
     Ok(())
+}
+
+// Sends each message back. A client that breaks the WebSocket is told so by a Close frame.
+fn talk<S: Read + Write + Drop>(alloc: Global, stream: S) -> Result<(), Error> {
+    let config = WebSocketConfig::default()
+        .max_message_size(Some(MOST))
+        .max_frame_size(Some(MOST));
+    let mut socket = WebSocket::from_raw_socket(alloc, stream, NoMask, Role::Server, Some(config));
+    let Err(fault) = send_back(&mut socket) else {
+        return Ok(());
+    };
+    if let Some(code) = close_code(&fault) {
+        let reason = Utf8Bytes::copy_from_str(alloc, "")?;
+        socket.close(Some(CloseFrame { code, reason }))?;
+    }
+    Err(fault)
 }
 
 /// Echoes on each WebSocket.
@@ -55,7 +80,7 @@ impl<R: ReadDevice + Drop, W: WriteDevice + Drop, Rt: Clock + Wait + Drop> Handl
                 Ok(())
             }
             Handshake::Refused(refused) => {
-                let response = upgrade_required(alloc)?;
+                let response = refusal(alloc, refused.error)?;
                 refused.request.respond(response, current_date(rt))
             }
         }
