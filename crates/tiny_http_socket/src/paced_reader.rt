@@ -129,7 +129,8 @@ impl<R: ReadDevice + Drop, Rt: Clock> PacedReader<R, Rt> {
         if self.is_late {
             return self.body_is_late();
         }
-        self.wait_for(Some(self.stall.left(patience.time)));
+        let left = self.stall.left(patience.time);
+        self.wait_for(Some(left));
         let begun = self.now();
         let read = self.inner.read_in(buf);
         self.judge_body(patience, begun, read)
