@@ -1,5 +1,5 @@
 -- Each text is a line or isn't, and each head has a judgement.
-use Rattle.std.proofs.Common.{◌≡◌, ◌≢◌, refl, sym, ap, ◌∙◌, subst, ℕ, suc, ◌+◌, ◌-◌, ◌<◌, ◌≤◌, ◌⊎◌, Bool, true, false, ◌||◌, List, [], ◌∷◌, ◌++◌, length, get_or, inl, inr, eqb-true, length-append, arith}
+use Rattle.std.proofs.Common.{◌≡◌, ◌≢◌, refl, sym, ap, ◌∙◌, subst, ℕ, suc, ◌+◌, ◌-◌, ◌<◌, ◌≤◌, ◌⊎◌, Bool, true, false, ◌||◌, List, [], ◌∷◌, ◌++◌, length, take, drop, get_or, inl, inr, eqb-true, length-append, arith}
 use Rattle.std.specs.Prelude.{◌==◌, IsTrue, MatchBool, codes}
 use Rattle.std.specs.List.{list_all}
 use Rattle.std.specs.Str.{bytes_eq}
@@ -10,12 +10,13 @@ use Rattle.std.proofs.Math.Seq.{get_or-append_seam}
 use Rattle.httparse.specs.Grammar.{is_token, is_value_byte, is_ows}
 use Rattle.tiny_http_text.specs.Bytes.{HasNo, is_ascii, trimmed, colon}
 use Rattle.tiny_http_text.proofs.BytesLemmas.{trims-is}
+use Rattle.tiny_http_head.specs.Common.{same_name}
 use Rattle.tiny_http_head.specs.Heads.{length_of}
 use Rattle.tiny_http_head.specs.declared.common.HTTPVersion.{HTTPVersion}
 use Rattle.tiny_http_head.proofs.FirstByte.{contrary}
-use Rattle.tiny_http_standard_head.specs.Hosts.{IsBracketedAddress, is_registered_name, is_address_byte, IsHost, IsHostValue, IsAuthority, is_port_number}
-use Rattle.tiny_http_standard_head.specs.Lines.{IsVersion, IsTarget, is_origin_form, is_asterisk_form, is_absolute_form, RequestLine, IsNoRequestLine, must_be_ascii, FieldLine, IsNoFieldLine}
-use Rattle.tiny_http_standard_head.proofs.HostsLemmas.{inside, literal-is, no-port, value-port, authority-port, number-digits}
+use Rattle.tiny_http_standard_head.specs.Hosts.{IsBracketedAddress, is_registered_name, is_address_byte, IsHost, IsHostWithPort, IsHostValue, IsAuthority, is_port_number}
+use Rattle.tiny_http_standard_head.specs.Lines.{IsVersion, authority_in, HasScheme, IsAbsoluteForm, IsTarget, is_origin_form, is_asterisk_form, RequestLine, IsNoRequestLine, must_be_ascii, FieldLine, IsNoFieldLine}
+use Rattle.tiny_http_standard_head.proofs.HostsLemmas.{inside, literal-is, no-port, host-port, authority-port, number-digits}
 use Rattle.tiny_http_standard_head.proofs.LinesLemmas.{version-is, no-space, one-space, line-parts, no-colon, field-parts}
 
 abbrev pub Decided : Type 0 → Type 0
@@ -106,20 +107,20 @@ dec-empty (x ∷ xs) = inr (λ e. nothing x xs e)
     nothing : (x : ℕ) (xs : List ℕ) → x ∷ xs ≡ [] → ⊥
     nothing x xs e = cc
 
-pub dec-host_value : (text : List ℕ) → Decided (IsHostValue text)
-dec-host_value text = elim (dec-empty text) [
-  | inl empty ↦ inl (inl empty)
-  | inr some ↦ elim (dec-host text) [
-    | inl host ↦ inl (inr (inl host))
-    | inr unlike ↦ elim (cut-last colon text) [
-      | inl none ↦ inr (λ v. elim v [ inl e ↦ some e | inr r ↦ elim r [ inl h ↦ unlike h | inr w ↦ no-port text none w.0 w.1 w.2 ] ])
-      | inr w ↦ elim (dec-both (dec-host w.0) (dec-true (list_all is_ascii_digit w.1))) [
-        | inl good ↦ inl (inr (inr (w.0, w.1, record { joins = w.2; is_host = good.0; digits = good.1 })))
-        | inr bad ↦ inr (λ v. bad (value-port text w.0 w.1 some unlike w.2 w.3 v))
-      ]
+dec-host_with_port : (text : List ℕ) → Decided (IsHostWithPort text)
+dec-host_with_port text = elim (dec-host text) [
+  | inl host ↦ inl (inl host)
+  | inr unlike ↦ elim (cut-last colon text) [
+    | inl none ↦ inr (λ v. elim v [ inl h ↦ unlike h | inr w ↦ no-port text none w.0 w.1 w.2 ])
+    | inr w ↦ elim (dec-both (dec-host w.0) (dec-true (list_all is_ascii_digit w.1))) [
+      | inl good ↦ inl (inr (w.0, w.1, record { joins = w.2; is_host = good.0; digits = good.1 }))
+      | inr bad ↦ inr (λ v. bad (host-port text w.0 w.1 unlike w.2 w.3 v))
     ]
   ]
 ]
+
+pub dec-host_value : (text : List ℕ) → Decided (IsHostValue text)
+dec-host_value text = dec-either (dec-empty text) (dec-host_with_port text)
 
 pub dec-authority : (text : List ℕ) → Decided (IsAuthority text)
 dec-authority text = elim (cut-last colon text) [
@@ -134,10 +135,19 @@ dec-match : {A B : Type 0} (b : Bool) → Decided A → Decided B → Decided (M
 dec-match true a b = a
 dec-match false a b = b
 
+dec-scheme : (scheme target : List ℕ) → Decided (HasScheme scheme target)
+dec-scheme scheme target = elim (dec-both (dec-true (same_name (take (length scheme) target) scheme)) (dec-host_with_port (authority_in (drop (length scheme) target)))) [
+  | inl good ↦ inl (record { front = good.0; authority = good.1 })
+  | inr bad ↦ inr (λ h. bad (h.front, h.authority))
+]
+
+dec-absolute : (target : List ℕ) → Decided (IsAbsoluteForm target)
+dec-absolute target = dec-either (dec-scheme (codes "http://") target) (dec-scheme (codes "https://") target)
+
 pub dec-target : (method target : List ℕ) → Decided (IsTarget method target)
 dec-target method target =
     dec-both (dec-true (list_all is_ascii_graphic target))
-    (dec-match (bytes_eq method (codes "CONNECT")) (dec-authority target) (dec-true (is_origin_form target || (is_asterisk_form method target || is_absolute_form target))))
+    (dec-match (bytes_eq method (codes "CONNECT")) (dec-authority target) (dec-either (dec-true (is_origin_form target || is_asterisk_form method target)) (dec-absolute target)))
 
 -- the bytes of a version
 abbrev AreVersionBytes : List ℕ → Type 0

@@ -1,8 +1,8 @@
 -- All bytes have a reading, and each head a judgement.
-use Rattle.std.proofs.Common.{◌≡◌, refl, sym, ap, ◌∙◌, subst, ℕ, zero, suc, ◌≤◌, ◌⊎◌, Bool, true, false, not, List, [], ◌∷◌, ◌++◌, length, inl, inr, Result, Ok, Err, Option, eqb-true, append_assoc, arith}
+use Rattle.std.proofs.Common.{◌≡◌, refl, sym, ap, ◌∙◌, subst, ℕ, zero, suc, ◌+◌, ◌≤◌, ◌⊎◌, Bool, true, false, not, List, [], ◌∷◌, ◌++◌, length, inl, inr, Result, Ok, Err, Option, eqb-true, append_assoc, arith}
 use Rattle.std.specs.Prelude.{◌==◌, codes}
 use Rattle.std.specs.List.{list_all}
-use Rattle.std.proofs.lemmas.Bool.{and_parts}
+use Rattle.std.proofs.lemmas.Bool.{and_parts, cases_lt}
 use Rattle.std.proofs.lemmas.List.Folds.{list_all-append}
 use Rattle.tiny_http_text.specs.Bytes.{HasNo, has_bare_end}
 use Rattle.tiny_http_head.specs.declared.common.Method.{Method}
@@ -10,13 +10,14 @@ use Rattle.tiny_http_head.specs.declared.common.HTTPVersion.{HTTPVersion}
 use Rattle.tiny_http_head.specs.declared.common.Header.{Header}
 use Rattle.tiny_http_head.specs.Heads.{Message, method_of}
 use Rattle.tiny_http_head.proofs.FirstByte.{contrary}
+use Rattle.tiny_http_standard_head.specs.declared.heads.TheConstants.{MOST_HEADERS}
 use Rattle.tiny_http_standard_head.specs.declared.judging.HeadSummary.{HeadSummary}
 use Rattle.tiny_http_standard_head.specs.declared.judging.Judgement.{Judgement}
 use Rattle.tiny_http_standard_head.specs.declared.judging.Judgement.TheVariants.{UnsupportedVersion, InvalidHead, UnknownExpectation}
 use Rattle.tiny_http_standard_head.specs.Lines.{percent_encoded, ReadsFieldLine}
 use Rattle.tiny_http_standard_head.specs.Lists.{values_of, has_element_that}
 use Rattle.tiny_http_standard_head.specs.Judging.{is_1_0, HasValidHost, Judges, owes_continue, asks_upgrade, is_last, is_unknown_expectation}
-use Rattle.tiny_http_standard_head.specs.Heads.{line_feed, is_carriage_return, Line, BeginsWithBareLine, behind_empty_line, BeginsWithRequestLine, BeginsWithFieldLines, BeginsWithHead, ComesToField, HasBadLine, HasOpenRequestLine, HasOpenField, Reading, ReadWhole, ReadBad, ReadOpen, AreReadAs}
+use Rattle.tiny_http_standard_head.specs.Heads.{line_feed, is_carriage_return, Line, BeginsWithBareLine, behind_empty_line, BeginsWithRequestLine, BeginsWithFieldLines, BeginsWithHead, ComesToField, HasBadLine, HasOpenRequestLine, HasOpenField, HasTooManyFields, Reading, ReadWhole, ReadBad, ReadTooMany, ReadOpen, AreReadAs}
 use Rattle.tiny_http_standard_head.proofs.HeadsLemmas.{line-shorter}
 use Rattle.tiny_http_standard_head.proofs.JudgeLemmas.{body_read, judge-served, judge-fails}
 use Rattle.tiny_http_standard_head.proofs.ReadingLemmas.{Ending, Finished, Bad, Open, EndsAs, AreFields}
@@ -87,26 +88,37 @@ find-fields (suc n) bytes le = elim (step bytes) [
   | Goes text rest l h reads ↦ let short = line-shorter bytes text rest l in joined bytes text rest l h reads (find-fields n rest (omega (arith, short, le)))
 ]
 
--- EACH LIST OF BYTES begins with a head, or has a bad line, or one that hasn't ended
-abbrev IsSomeHead : List ℕ → Type 0
-IsSomeHead bytes = ((m : Message) × (after : List ℕ) × BeginsWithHead bytes m after) ⊎ (HasBadLine bytes ⊎ (HasOpenRequestLine bytes ⊎ HasOpenField bytes))
+-- the first of the field lines
+first-fields : (n : ℕ) (bytes : List ℕ) (hs : List Header) (rest : List ℕ) → BeginsWithFieldLines bytes hs rest → n ≤ length hs → (ks : List Header) × (r : List ℕ) × BeginsWithFieldLines bytes ks r × (length ks ≡ n)
+first-fields zero bytes hs rest b le = ([], bytes, refl, refl)
+first-fields (suc n) bytes [] rest b le = absurd (omega (arith, le))
+first-fields (suc n) bytes (h ∷ hs) rest b le =
+    let more = first-fields n b.1 hs rest b.4 (omega (arith, le)) in
+    (h ∷ more.0, more.1, (b.0, b.1, b.2, b.3, more.2), ap suc more.3)
 
-comes : (bytes : List ℕ) (method : Method) (target : List ℕ) (v : HTTPVersion) (fields : List ℕ) (hs : List Header) (rest : List ℕ) → BeginsWithRequestLine bytes method target v fields → BeginsWithFieldLines fields hs rest → ComesToField bytes rest
-comes bytes method target v fields hs rest r b = record { method = method; target = target; version = v; fields = fields; headers = hs; request = r; lines = b }
+-- EACH LIST OF BYTES begins with a head, or has a bad line, or a field line too many, or a line that hasn't ended
+abbrev IsSomeHead : List ℕ → Type 0
+IsSomeHead bytes = ((m : Message) × (after : List ℕ) × BeginsWithHead bytes m after) ⊎ (HasBadLine bytes ⊎ (HasTooManyFields bytes ⊎ (HasOpenRequestLine bytes ⊎ HasOpenField bytes)))
+
+comes : (bytes : List ℕ) (method : Method) (target : List ℕ) (v : HTTPVersion) (fields : List ℕ) (hs : List Header) (rest : List ℕ) → BeginsWithRequestLine bytes method target v fields → BeginsWithFieldLines fields hs rest → length hs ≤ MOST_HEADERS → ComesToField bytes rest
+comes bytes method target v fields hs rest r b few = record { method = method; target = target; version = v; fields = fields; headers = hs; request = r; lines = b; few = few }
 
 with-fields : (bytes : List ℕ) (method : Method) (target : List ℕ) (v : HTTPVersion) (fields : List ℕ) → BeginsWithRequestLine bytes method target v fields → HasFields fields → IsSomeHead bytes
-with-fields bytes method target v fields r f = by f.1 f.2
+with-fields bytes method target v fields r f = elim (cases_lt MOST_HEADERS (length f.0)) [
+  | inl lt ↦ (let t = first-fields (MOST_HEADERS + 1) fields f.0 f.2.0 f.2.1 (omega (arith, lt)) in inr (inr (inl (record { method = method; target = target; version = v; fields = fields; headers = t.0; rest = t.1; request = r; lines = t.2; many = t.3 }))))
+  | inr few ↦ by few f.1 f.2
+]
   where
-    by : (e : Ending) → AreFields fields f.0 e → IsSomeHead bytes
-    by (Finished after) a = inl (record { method = method; path = target; version = v; headers = f.0 }, after, record { fields = fields; empty = a.0; request = r; headers = a.1; end = a.2 })
-    by Bad a = inr (inl (inr (a.0, comes bytes method target v fields f.0 a.0 r a.1, a.2)))
-    by Open a = inr (inr (inr (a.0, comes bytes method target v fields f.0 a.0 r a.1, a.2)))
+    by : length f.0 ≤ MOST_HEADERS → (e : Ending) → AreFields fields f.0 e → IsSomeHead bytes
+    by few (Finished after) a = inl (record { method = method; path = target; version = v; headers = f.0 }, after, record { fields = fields; empty = a.0; request = r; headers = a.1; few = few; end = a.2 })
+    by few Bad a = inr (inl (inr (a.0, comes bytes method target v fields f.0 a.0 r a.1 few, a.2)))
+    by few Open a = inr (inr (inr (inr (a.0, comes bytes method target v fields f.0 a.0 r a.1 few, a.2))))
 
 pub some-head : (bytes : List ℕ) → IsSomeHead bytes
 some-head bytes = elim (find-line (behind_empty_line bytes)) [
   | inr no_line ↦ elim no_line [
     | inl bare ↦ inr (inl (inl (inl bare)))
-    | inr open_ ↦ inr (inr (inl open_))
+    | inr open_ ↦ inr (inr (inr (inl open_)))
   ]
   | inl l ↦ elim (dec-request_line l.0) [
     | inr none ↦ inr (inl (inl (inr (l.0, l.1, l.2, none))))
@@ -153,9 +165,12 @@ some-reading bytes = elim (some-head bytes) [
   | inl h ↦ (let m : Message = h.0 in let j = some-judgement m.version m.method m.headers in (ReadWhole m h.1 j.0, (h.2, j.1)))
   | inr none ↦ elim none [
     | inl bad ↦ (ReadBad, bad)
-    | inr open_ ↦ elim open_ [
-      | inl request ↦ (ReadOpen false, request)
-      | inr field ↦ (ReadOpen true, field)
+    | inr more ↦ elim more [
+      | inl many ↦ (ReadTooMany, many)
+      | inr open_ ↦ elim open_ [
+        | inl request ↦ (ReadOpen false, request)
+        | inr field ↦ (ReadOpen true, field)
+      ]
     ]
   ]
 ]

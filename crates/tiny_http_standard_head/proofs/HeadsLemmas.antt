@@ -11,7 +11,8 @@ use Rattle.tiny_http_head.specs.declared.common.Method.{Method}
 use Rattle.tiny_http_head.specs.declared.common.HTTPVersion.{HTTPVersion}
 use Rattle.tiny_http_head.specs.declared.common.Header.{Header}
 use Rattle.tiny_http_head.specs.Heads.{Message}
-use Rattle.tiny_http_standard_head.specs.declared.heads.StandardFault.TheVariants.{BadLine, RequestLineTooLong, HeaderFieldsTooLarge, Judged}
+use Rattle.tiny_http_standard_head.specs.declared.heads.StandardFault.TheVariants.{BadLine, RequestLineTooLong, HeaderFieldsTooLarge, TooManyFields, Judged}
+use Rattle.tiny_http_standard_head.specs.declared.heads.TheConstants.{MOST_HEADERS}
 use Rattle.tiny_http_standard_head.specs.declared.heads.StandardRead.{StandardRead}
 use Rattle.tiny_http_standard_head.specs.declared.heads.StandardRead.TheVariants.{Whole, Refused, Unfinished}
 use Rattle.tiny_http_standard_head.specs.declared.heads.NoHead.{NoHead}
@@ -68,6 +69,10 @@ pub first-field : (bytes rest : List ℕ) (hs : List Header) → BeginsWithField
 first-field bytes rest [] b g = subst HasGoodFieldLine b g
 first-field bytes rest (h ∷ hs) b g = (b.0, b.1, b.2, is-field-line b.0 h b.3)
 
+-- one line more than may come
+pub one-more : (hs : List Header) (h : Header) → length (hs ++ h ∷ []) ≡ length hs + 1
+one-more hs h = length-append hs (h ∷ [])
+
 -- what follows a line is shorter
 pub line-shorter : (bytes text rest : List ℕ) → Line bytes text rest → length rest < length bytes
 line-shorter bytes text rest l =
@@ -96,7 +101,7 @@ head-shorter bytes method target v fields hs after r e =
     let start = behind-shorter bytes in
     let line = line-shorter (behind_empty_line bytes) r.text fields r.line in
     let lines = fields-shorter fields hs e.0 e.1 in
-    let end = line-shorter e.0 [] after e.2 in
+    let end = line-shorter e.0 [] after e.3 in
     omega (arith, start, line, lines, end)
 
 pub whole-shorter : (bytes : List ℕ) (m : Message) (after : List ℕ) → BeginsWithHead bytes m after → length after < length bytes
@@ -109,16 +114,17 @@ whole-shorter bytes m after h =
 
 pub whole-head : (bytes : List ℕ) (method : Method) (target : List ℕ) (v : HTTPVersion) (fields : List ℕ) (hs : List Header) (after : List ℕ) → BeginsWithRequestLine bytes method target v fields → EndsFields fields hs after
     → BeginsWithHead bytes (record { method = method; path = target; version = v; headers = hs }) after
-whole-head bytes method target v fields hs after r e = record { fields = fields; empty = e.0; request = r; headers = e.1; end = e.2 }
+whole-head bytes method target v fields hs after r e = record { fields = fields; empty = e.0; request = r; headers = e.1; few = e.2; end = e.3 }
 
-comes : (bytes : List ℕ) (method : Method) (target : List ℕ) (v : HTTPVersion) (fields : List ℕ) (hs : List Header) (rest : List ℕ) → BeginsWithRequestLine bytes method target v fields → BeginsWithFieldLines fields hs rest → ComesToField bytes rest
-comes bytes method target v fields hs rest r b = record { method = method; target = target; version = v; fields = fields; headers = hs; request = r; lines = b }
+comes : (bytes : List ℕ) (method : Method) (target : List ℕ) (v : HTTPVersion) (fields : List ℕ) (hs : List Header) (rest : List ℕ) → BeginsWithRequestLine bytes method target v fields → BeginsWithFieldLines fields hs rest → length hs ≤ MOST_HEADERS → ComesToField bytes rest
+comes bytes method target v fields hs rest r b few = record { method = method; target = target; version = v; fields = fields; headers = hs; request = r; lines = b; few = few }
 
 -- a head that stops behind its request line
 pub fields-stop : (bytes : List ℕ) (method : Method) (target : List ℕ) (v : HTTPVersion) (fields : List ℕ) (why : NoHead) → BeginsWithRequestLine bytes method target v fields → StopsFields fields why → StopsHead bytes why
-fields-stop bytes method target v fields stop.Bad r s = inr (s.1, comes bytes method target v fields s.0 s.1 r s.2, s.3)
+fields-stop bytes method target v fields stop.Bad r s = inr (s.1, comes bytes method target v fields s.0 s.1 r s.2 s.3, s.4)
 fields-stop bytes method target v fields stop.OpenRequest r s = absurd s
-fields-stop bytes method target v fields stop.OpenField r s = (s.1, comes bytes method target v fields s.0 s.1 r s.2, s.3)
+fields-stop bytes method target v fields stop.OpenField r s = (s.1, comes bytes method target v fields s.0 s.1 r s.2 s.3, s.4)
+fields-stop bytes method target v fields stop.TooMany r s = record { method = method; target = target; version = v; fields = fields; headers = s.0; rest = s.1; request = r; lines = s.2; many = s.3 }
 fields-stop bytes method target v fields stop.Memory r s = record { text = r.text; rest = fields; line = r.line; good = λ none. none r.reads.0 target v r.reads.1 }
 
 -- WHERE A HEAD HASN'T ENDED
@@ -141,6 +147,7 @@ reads-whole limit bytes (Refused (Judged e)) w = w
 reads-whole limit bytes (Refused BadLine) w = absurd w
 reads-whole limit bytes (Refused RequestLineTooLong) w = absurd w
 reads-whole limit bytes (Refused HeaderFieldsTooLarge) w = absurd w
+reads-whole limit bytes (Refused TooManyFields) w = absurd w
 reads-whole limit bytes (Unfinished b) w = absurd w
 
 -- the bytes that count

@@ -1,17 +1,16 @@
 -- Where the port stands in a host with one.
-use Rattle.std.proofs.Common.{◌≡◌, refl, sym, ap, ◌∙◌, subst, ℕ, suc, Bool, true, false, not, ◌&&◌, List, [], ◌∷◌, ◌++◌, length, take, drop, inl, inr, arith, get_or, length-append, ◌+◌, ◌-◌, ◌≤◌}
-use Rattle.std.specs.Prelude.{◌==◌, nat_lt, slice_range, IsTrue}
+use Rattle.std.proofs.Common.{◌≡◌, refl, sym, ap, ◌∙◌, subst, ℕ, suc, Bool, true, false, ◌&&◌, List, [], ◌∷◌, ◌++◌, length, take, drop, inl, inr, arith, get_or, length-append, ◌+◌, ◌-◌, ◌≤◌}
+use Rattle.std.specs.Prelude.{nat_lt, slice_range, IsTrue}
 use Rattle.std.specs.List.{list_all}
 use Rattle.std.specs.Char.{is_ascii_digit}
 use Rattle.std.specs.Str.{all_ascii_digits}
 use Rattle.tiny_http_head.specs.Heads.{length_of}
 use Rattle.tiny_http_head.proofs.FirstByte.{contrary, not-without}
-use Rattle.std.proofs.lemmas.Bool.{and_parts}
 use Rattle.tiny_http_text.specs.Bytes.{HasNo, colon}
 use Rattle.std.proofs.lemmas.List.{drop_all}
 use Rattle.std.proofs.Math.Seq.{take-append_seam}
 use Rattle.tiny_http_text.proofs.BytesTrimming.{cut-at}
-use Rattle.tiny_http_standard_head.specs.Hosts.{is_address_byte, IsBracketedAddress, IsHost, HostAndPort, IsHostValue, IsAuthority, is_port_number}
+use Rattle.tiny_http_standard_head.specs.Hosts.{is_address_byte, IsBracketedAddress, IsHost, HostAndPort, IsHostWithPort, IsAuthority, is_port_number}
 
 -- the last such byte stands at one place
 pub one-last : (c : ℕ) (a b x y : List ℕ) → HasNo c x → HasNo c y → a ++ c ∷ x ≡ b ++ c ∷ y → (a ≡ b) × (x ≡ y)
@@ -74,14 +73,25 @@ one-port text host port joins last h p hp =
     let same = one-last colon h host p port (digits-no_colon p hp.digits) last (sym hp.joins ∙ joins) in
     (subst IsHost same.0 hp.is_host, subst (λ (x : List ℕ). IsTrue (list_all is_ascii_digit x)) same.1 hp.digits, same.1)
 
-pub value-port : (text host port : List ℕ) → (text ≡ [] → ⊥) → (IsHost text → ⊥) → text ≡ host ++ colon ∷ port → HasNo colon port → IsHostValue text → IsHost host × IsTrue (list_all is_ascii_digit port)
-value-port text host port some unlike joins last v = elim v [
-  | inl empty ↦ absurd (some empty)
-  | inr rest ↦ elim rest [
-    | inl is ↦ absurd (unlike is)
-    | inr w ↦ let r = one-port text host port joins last w.0 w.1 w.2 in (r.0, r.1)
-  ]
+pub host-port : (text host port : List ℕ) → (IsHost text → ⊥) → text ≡ host ++ colon ∷ port → HasNo colon port → IsHostWithPort text → IsHost host × IsTrue (list_all is_ascii_digit port)
+host-port text host port unlike joins last v = elim v [
+  | inl is ↦ absurd (unlike is)
+  | inr w ↦ let r = one-port text host port joins last w.0 w.1 w.2 in (r.0, r.1)
 ]
+
+-- nothing is no host
+pub no-empty_host : IsHostWithPort [] → ⊥
+no-empty_host v = elim v [
+  | inl host ↦ elim host [ inl a ↦ by a.address a.joins | inr name ↦ name.0 refl ]
+  | inr w ↦ cut w.0 w.1 w.2.joins
+]
+  where
+    by : (address : List ℕ) → [] ≡ 91 ∷ (address ++ 93 ∷ []) → ⊥
+    by address e = cc
+
+    cut : (host port : List ℕ) → [] ≡ host ++ colon ∷ port → ⊥
+    cut [] port e = cc
+    cut (h ∷ hs) port e = cc
 
 -- without a colon there is no port
 pub no-port : (text : List ℕ) → HasNo colon text → (h p : List ℕ) → HostAndPort text h p → ⊥

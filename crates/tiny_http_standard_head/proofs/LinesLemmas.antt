@@ -1,6 +1,7 @@
 -- What lines are handed out as.
-use Rattle.std.proofs.Common.{◌≡◌, refl, sym, ap, ◌∙◌, subst, ℕ, suc, not, eqb-true, ◌+◌, ◌/◌, ◌%◌, ◌-◌, ◌<◌, ◌≤◌, Bool, true, false, List, [], ◌∷◌, ◌++◌, length, drop, get_or, append-nil, arith}
-use Rattle.std.specs.Prelude.{◌==◌, nat_lt, IsTrue, if◌then◌else◌}
+use Rattle.std.proofs.Common.{◌≡◌, refl, sym, ap, ◌∙◌, subst, ℕ, suc, inl, inr, ◌||◌, ◌+◌, ◌/◌, ◌%◌, ◌-◌, ◌<◌, ◌≤◌, Bool, true, false, List, [], ◌∷◌, ◌++◌, length, drop, get_or, append-nil, arith}
+use Rattle.std.specs.Prelude.{nat_lt, IsTrue, codes, if◌then◌else◌}
+use Rattle.std.specs.Str.{bytes_eq}
 use Rattle.std.specs.Char.{is_ascii_digit, is_ascii_graphic}
 use Rattle.httparse.specs.Grammar.{is_token_byte, is_token, is_value_byte, is_ows}
 use Rattle.std.proofs.lemmas.Bool.Decides.{nat_tests}
@@ -13,7 +14,7 @@ use Rattle.tiny_http_text.proofs.BytesLemmas.{trims-one}
 use Rattle.tiny_http_head.specs.declared.common.HTTPVersion.{HTTPVersion}
 use Rattle.tiny_http_head.proofs.HeaderTextsLemmas.{token-bytes}
 use Rattle.tiny_http_head.proofs.FirstByte.{all-without, contrary, not-without, one-first}
-use Rattle.tiny_http_standard_head.specs.Lines.{IsVersion, IsTarget, RequestLine, IsNoRequestLine, must_be_ascii, FieldLine, IsNoFieldLine, uppercase_hexadecimal_digit, percent_encoded_byte, percent_encoded}
+use Rattle.tiny_http_standard_head.specs.Lines.{IsVersion, is_origin_form, is_asterisk_form, IsAbsoluteForm, IsTarget, RequestLine, IsNoRequestLine, must_be_ascii, FieldLine, IsNoFieldLine, uppercase_hexadecimal_digit, percent_encoded_byte, percent_encoded}
 use Rattle.tiny_http_standard_head.specs.Hosts.{percent}
 
 -- a text of ASCII bytes is handed out as it is
@@ -121,6 +122,14 @@ field-parts text f padded joins without field value l =
       subst (λ (x : List ℕ). IsTrue (list_all is_value_byte x)) a.1 l.bytes,
       λ judged. subst AreAscii same (l.ascii (subst (λ (x : List ℕ). IsTrue (must_be_ascii x)) (sym a.0) judged)),
     )
+
+-- a target that can be in absolute-form alone
+pub absolute-target : (method target : List ℕ) → list_all is_ascii_graphic target ≡ true → bytes_eq method (codes "CONNECT") ≡ false → (is_origin_form target || is_asterisk_form method target) ≡ false → (r : Bool)
+    → (IsTrue r → IsAbsoluteForm target) × (IsAbsoluteForm target → IsTrue r) → (IsTrue r → IsTarget method target) × (IsTarget method target → IsTrue r)
+absolute-target method target visible other neither r form = (
+  (λ good. (visible, rw other (inr (form.0 good)))),
+  (λ t. elim (rw other at t.1) [ inl e ↦ contrary (is_origin_form target || is_asterisk_form method target) e neither | inr absolute ↦ form.1 absolute ]),
+)
 
 -- visible bytes are ASCII
 pub visible-ascii : (text : List ℕ) → list_all is_ascii_graphic text ≡ true → AreAscii text

@@ -11,12 +11,13 @@ use Rattle.tiny_http_head.specs.Heads.{Message, method_of}
 use Rattle.tiny_http_head.proofs.FirstByte.{contrary, not-without, one-first}
 use Rattle.tiny_http_standard_head.specs.declared.judging.HeadSummary.{HeadSummary}
 use Rattle.tiny_http_standard_head.specs.declared.judging.Judgement.{Judgement}
-use Rattle.tiny_http_standard_head.specs.declared.heads.StandardFault.TheVariants.{BadLine, RequestLineTooLong, HeaderFieldsTooLarge, Judged}
+use Rattle.tiny_http_standard_head.specs.declared.heads.StandardFault.TheVariants.{BadLine, RequestLineTooLong, HeaderFieldsTooLarge, TooManyFields, Judged}
+use Rattle.tiny_http_standard_head.specs.declared.heads.TheConstants.{MOST_HEADERS}
 use Rattle.tiny_http_standard_head.specs.declared.heads.StandardRead.{StandardRead}
 use Rattle.tiny_http_standard_head.specs.declared.heads.StandardRead.TheVariants.{Whole, Refused, Unfinished}
 use Rattle.tiny_http_standard_head.specs.Lines.{percent_encoded, ReadsFieldLine, ReadsRequestLine, IsNoRequestLine}
 use Rattle.tiny_http_standard_head.specs.Judging.{Judges}
-use Rattle.tiny_http_standard_head.specs.Heads.{line_feed, is_carriage_return, Line, BeginsWithBareLine, behind_empty_line, BeginsWithRequestLine, BeginsWithFieldLines, BeginsWithHead, BeginsWithBadLine, IsNoFieldOrEnd, ComesToField, HasOpenRequestLine, HasOpenField, message_of, is_begun, Reads, IsSameRead, Reading, ReadWhole, ReadBad, ReadOpen, AreReadAs}
+use Rattle.tiny_http_standard_head.specs.Heads.{line_feed, is_carriage_return, Line, BeginsWithBareLine, behind_empty_line, BeginsWithRequestLine, BeginsWithFieldLines, BeginsWithHead, BeginsWithBadLine, IsNoFieldOrEnd, ComesToField, HasOpenRequestLine, HasOpenField, HasTooManyFields, message_of, is_begun, Reads, IsSameRead, Reading, ReadWhole, ReadBad, ReadTooMany, ReadOpen, AreReadAs}
 use Rattle.tiny_http_standard_head.proofs.HostsLemmas.{one-last}
 use Rattle.tiny_http_standard_head.proofs.LawsLemmas.{request-line-once, field-line-once, judged-once}
 
@@ -123,16 +124,26 @@ fields-once bytes (h ∷ hs) (k ∷ ks) e f a b =
     let more = fields-once a.1.1 hs ks e f (a.0, a.1.4, a.2) (b.0, subst (λ (x : List ℕ). BeginsWithFieldLines x ks b.0) (sym line.1) b.1.4, b.2) in
     (ap (λ (x : Header). x ∷ hs) header ∙ ap (λ (x : List Header). k ∷ x) more.0, more.1)
 
+-- where more field lines stand, none of these ends
+many-no_few : (bytes : List ℕ) (hs ks : List Header) (rest : List ℕ) (e : Ending) → BeginsWithFieldLines bytes hs rest → AreFields bytes ks e → length ks < length hs → ⊥
+many-no_few bytes [] ks rest e a b lt = absurd (omega (arith, lt))
+many-no_few bytes (h ∷ hs) [] rest e a b lt = field-no_end bytes a.0 a.1 h e a.2 a.3 (subst (λ (x : List ℕ). EndsAs x e) b.1 b.2)
+many-no_few bytes (h ∷ hs) (k ∷ ks) rest e a b lt =
+    let line = line-once bytes a.0 a.1 b.1.0 b.1.1 a.2 b.1.2 in
+    many-no_few a.1 hs ks rest e a.4 (b.0, subst (λ (x : List ℕ). BeginsWithFieldLines x ks b.0) (sym line.1) b.1.4, b.2) (omega (arith, lt))
+
 -- where the reading of a head comes to its end
 data Point : Type 0 where
   AtBad : Point
   AtOpen : Point
+  AtMany : Point
   Behind : (m : Message) → Ending → Point
 
 abbrev IsPoint : List ℕ → Point → Type 0
 IsPoint bytes AtBad = BeginsWithBadLine IsNoRequestLine (behind_empty_line bytes)
 IsPoint bytes AtOpen = HasNo line_feed (behind_empty_line bytes)
-IsPoint bytes (Behind m e) = (fields : List ℕ) × BeginsWithRequestLine bytes m.method m.path m.version fields × AreFields fields m.headers e
+IsPoint bytes AtMany = HasTooManyFields bytes
+IsPoint bytes (Behind m e) = (fields : List ℕ) × BeginsWithRequestLine bytes m.method m.path m.version fields × AreFields fields m.headers e × (length m.headers ≤ MOST_HEADERS)
 
 same-message : (m n : Message) → m.method ≡ n.method → m.path ≡ n.path → m.version ≡ n.version → m.headers ≡ n.headers → m ≡ n
 same-message m n a b c d =
@@ -147,15 +158,27 @@ request-no_bad bytes m t v fields r bad = good-no_bad IsNoRequestLine (behind_em
 request-no_open : (bytes : List ℕ) (m : Method) (t : List ℕ) (v : HTTPVersion) (fields : List ℕ) → BeginsWithRequestLine bytes m t v fields → HasNo line_feed (behind_empty_line bytes) → ⊥
 request-no_open bytes m t v fields r open_ = line-no_open (behind_empty_line bytes) r.text fields r.line open_
 
+many-no_end : (bytes : List ℕ) (m : Message) (e : Ending) → HasTooManyFields bytes → IsPoint bytes (Behind m e) → ⊥
+many-no_end bytes m e t b =
+    let line = line-once (behind_empty_line bytes) t.request.text t.fields b.1.text b.0 t.request.line b.1.line in
+    many-no_few t.fields t.headers m.headers t.rest e t.lines (subst (λ (x : List ℕ). AreFields x m.headers e) (sym line.1) b.2) (omega (arith, t.many, b.3))
+
 point-once : (bytes : List ℕ) (p q : Point) → IsPoint bytes p → IsPoint bytes q → p ≡ q
 point-once bytes AtBad AtBad a b = refl
 point-once bytes AtBad AtOpen a b = absurd (bad-no_open IsNoRequestLine (behind_empty_line bytes) a b)
+point-once bytes AtBad AtMany a b = absurd (request-no_bad bytes b.method b.target b.version b.fields b.request a)
 point-once bytes AtBad (Behind m e) a b = absurd (request-no_bad bytes m.method m.path m.version b.0 b.1 a)
 point-once bytes AtOpen AtBad a b = absurd (bad-no_open IsNoRequestLine (behind_empty_line bytes) b a)
 point-once bytes AtOpen AtOpen a b = refl
+point-once bytes AtOpen AtMany a b = absurd (request-no_open bytes b.method b.target b.version b.fields b.request a)
 point-once bytes AtOpen (Behind m e) a b = absurd (request-no_open bytes m.method m.path m.version b.0 b.1 a)
+point-once bytes AtMany AtBad a b = absurd (request-no_bad bytes a.method a.target a.version a.fields a.request b)
+point-once bytes AtMany AtOpen a b = absurd (request-no_open bytes a.method a.target a.version a.fields a.request b)
+point-once bytes AtMany AtMany a b = refl
+point-once bytes AtMany (Behind m e) a b = absurd (many-no_end bytes m e a b)
 point-once bytes (Behind m e) AtBad a b = absurd (request-no_bad bytes m.method m.path m.version a.0 a.1 b)
 point-once bytes (Behind m e) AtOpen a b = absurd (request-no_open bytes m.method m.path m.version a.0 a.1 b)
+point-once bytes (Behind m e) AtMany a b = absurd (many-no_end bytes m e b a)
 point-once bytes (Behind m e) (Behind n f) a b =
     let line = line-once (behind_empty_line bytes) a.1.text a.0 b.1.text b.0 a.1.line b.1.line in
     let start = reads-request-once a.1.text m.method n.method m.path n.path m.version n.version a.1.reads (subst (λ (x : List ℕ). ReadsRequestLine x n.method n.path n.version) (sym line.0) b.1.reads) in
@@ -174,6 +197,7 @@ IsOpenAs limit bytes refused r = ((limit ≤ length bytes) × (r ≡ refused)) �
 abbrev Matches : ℕ → List ℕ → Point → StandardRead → Type 0
 Matches limit bytes AtBad r = r ≡ Refused BadLine
 Matches limit bytes AtOpen r = IsOpenAs limit bytes (Refused RequestLineTooLong) r
+Matches limit bytes AtMany r = r ≡ Refused TooManyFields
 Matches limit bytes (Behind m (Finished after)) r = IsJudged limit bytes m after r
 Matches limit bytes (Behind m Bad) r = r ≡ Refused BadLine
 Matches limit bytes (Behind m Open) r = IsOpenAs limit bytes (Refused HeaderFieldsTooLarge) r
@@ -182,15 +206,16 @@ abbrev View : ℕ → List ℕ → StandardRead → Type 0
 View limit bytes r = (p : Point) × IsPoint (take limit bytes) p × Matches limit bytes p r
 
 of-head : (bytes : List ℕ) (m : Message) (after : List ℕ) → BeginsWithHead bytes m after → IsPoint bytes (Behind m (Finished after))
-of-head bytes m after b = (b.fields, b.request, (b.empty, b.headers, b.end))
+of-head bytes m after b = (b.fields, b.request, (b.empty, b.headers, b.end), b.few)
 
 of-field : (bytes rest : List ℕ) (e : Ending) (c : ComesToField bytes rest) → EndsAs rest e → IsPoint bytes (Behind (record { method = c.method; path = c.target; version = c.version; headers = c.headers }) e)
-of-field bytes rest e c x = (c.fields, c.request, (rest, c.lines, x))
+of-field bytes rest e c x = (c.fields, c.request, (rest, c.lines, x), c.few)
 
 view : (limit : ℕ) (bytes : List ℕ) (r : StandardRead) → Reads limit bytes r → View limit bytes r
 view limit bytes (Whole h) w = (Behind (message_of h) (Finished w.0), of-head (take limit bytes) (message_of h) w.0 w.1, (refl, w.2, w.3))
 view limit bytes (Refused BadLine) (inl bad) = (AtBad, bad, refl)
 view limit bytes (Refused BadLine) (inr w) = (Behind (record { method = w.1.method; path = w.1.target; version = w.1.version; headers = w.1.headers }) Bad, of-field (take limit bytes) w.0 Bad w.1 w.2, refl)
+view limit bytes (Refused TooManyFields) w = (AtMany, w, refl)
 view limit bytes (Refused (Judged e)) w = (Behind w.0 (Finished w.1), of-head (take limit bytes) w.0 w.1 w.2, w.3)
 view limit bytes (Refused RequestLineTooLong) w = (AtOpen, w.1, inl (w.0, refl))
 view limit bytes (Refused HeaderFieldsTooLarge) w = (Behind (record { method = w.1.1.method; path = w.1.1.target; version = w.1.1.version; headers = w.1.1.headers }) Open, of-field (take limit bytes) w.1.0 Open w.1.1 w.1.2, inl (w.0, refl))
@@ -229,21 +254,25 @@ same-judged limit bytes m after (Whole h) (Refused (Judged e)) a b = ok-no_err h
 same-judged limit bytes m after (Whole h) (Refused BadLine) a b = absurd b
 same-judged limit bytes m after (Whole h) (Refused RequestLineTooLong) a b = absurd b
 same-judged limit bytes m after (Whole h) (Refused HeaderFieldsTooLarge) a b = absurd b
+same-judged limit bytes m after (Whole h) (Refused TooManyFields) a b = absurd b
 same-judged limit bytes m after (Whole h) (Unfinished x) a b = absurd b
 same-judged limit bytes m after (Refused (Judged e)) (Whole k) a b = ok-no_err k.summary e (judged-once m.version m.method m.headers (Ok k.summary) (Err e) b.2 a)
 same-judged limit bytes m after (Refused (Judged d)) (Refused (Judged e)) a b = ap Judged (err-refusal d e (judged-once m.version m.method m.headers (Err d) (Err e) a b))
 same-judged limit bytes m after (Refused (Judged d)) (Refused BadLine) a b = absurd b
 same-judged limit bytes m after (Refused (Judged d)) (Refused RequestLineTooLong) a b = absurd b
 same-judged limit bytes m after (Refused (Judged d)) (Refused HeaderFieldsTooLarge) a b = absurd b
+same-judged limit bytes m after (Refused (Judged d)) (Refused TooManyFields) a b = absurd b
 same-judged limit bytes m after (Refused (Judged d)) (Unfinished x) a b = absurd b
 same-judged limit bytes m after (Refused BadLine) s a b = absurd a
 same-judged limit bytes m after (Refused RequestLineTooLong) s a b = absurd a
 same-judged limit bytes m after (Refused HeaderFieldsTooLarge) s a b = absurd a
+same-judged limit bytes m after (Refused TooManyFields) s a b = absurd a
 same-judged limit bytes m after (Unfinished x) s a b = absurd a
 
 same-at : (limit : ℕ) (bytes : List ℕ) (p : Point) (r s : StandardRead) → Matches limit bytes p r → Matches limit bytes p s → IsSameRead r s
 same-at limit bytes AtBad r s a b = same-self r s (Refused BadLine) a b refl
 same-at limit bytes AtOpen r s a b = same-open limit bytes (Refused RequestLineTooLong) r s refl a b
+same-at limit bytes AtMany r s a b = same-self r s (Refused TooManyFields) a b refl
 same-at limit bytes (Behind m (Finished after)) r s a b = same-judged limit bytes m after r s a b
 same-at limit bytes (Behind m Bad) r s a b = same-self r s (Refused BadLine) a b refl
 same-at limit bytes (Behind m Open) r s a b = same-open limit bytes (Refused HeaderFieldsTooLarge) r s refl a b
@@ -259,6 +288,7 @@ reading-once limit bytes r s a b =
 abbrev Shows : Point → Reading → Type 0
 Shows AtBad r = r ≡ ReadBad
 Shows AtOpen r = r ≡ ReadOpen false
+Shows AtMany r = r ≡ ReadTooMany
 Shows (Behind m (Finished after)) r = (j : Result HeadSummary Judgement) × (r ≡ ReadWhole m after j) × Judges m.version m.method m.headers j
 Shows (Behind m Bad) r = r ≡ ReadBad
 Shows (Behind m Open) r = r ≡ ReadOpen true
@@ -267,12 +297,14 @@ shown : (bytes : List ℕ) (r : Reading) → AreReadAs bytes r → (p : Point) �
 shown bytes (ReadWhole m after j) a = (Behind m (Finished after), of-head bytes m after a.0, (j, refl, a.1))
 shown bytes ReadBad (inl bad) = (AtBad, bad, refl)
 shown bytes ReadBad (inr w) = (Behind (record { method = w.1.method; path = w.1.target; version = w.1.version; headers = w.1.headers }) Bad, of-field bytes w.0 Bad w.1 w.2, refl)
+shown bytes ReadTooMany a = (AtMany, a, refl)
 shown bytes (ReadOpen false) a = (AtOpen, a, refl)
 shown bytes (ReadOpen true) a = (Behind (record { method = a.1.method; path = a.1.target; version = a.1.version; headers = a.1.headers }) Open, of-field bytes a.0 Open a.1 a.2, refl)
 
 shows-once : (p : Point) (r s : Reading) → Shows p r → Shows p s → r ≡ s
 shows-once AtBad r s a b = a ∙ sym b
 shows-once AtOpen r s a b = a ∙ sym b
+shows-once AtMany r s a b = a ∙ sym b
 shows-once (Behind m (Finished after)) r s a b = a.1 ∙ ap (ReadWhole m after) (judged-once m.version m.method m.headers a.0 b.0 a.2 b.2) ∙ sym b.1
 shows-once (Behind m Bad) r s a b = a ∙ sym b
 shows-once (Behind m Open) r s a b = a ∙ sym b

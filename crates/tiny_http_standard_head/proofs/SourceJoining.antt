@@ -12,8 +12,9 @@ use Rattle.tiny_http_head.specs.declared.common.Method.{Method}
 use Rattle.tiny_http_head.specs.declared.common.HTTPVersion.{HTTPVersion}
 use Rattle.tiny_http_head.specs.declared.common.Header.{Header}
 use Rattle.tiny_http_head.specs.Heads.{Message, method_of}
+use Rattle.tiny_http_standard_head.specs.declared.heads.TheConstants.{MOST_HEADERS}
 use Rattle.tiny_http_standard_head.specs.declared.heads.StandardHead.{StandardHead}
-use Rattle.tiny_http_standard_head.specs.declared.heads.StandardFault.TheVariants.{BadLine, RequestLineTooLong, HeaderFieldsTooLarge, Judged}
+use Rattle.tiny_http_standard_head.specs.declared.heads.StandardFault.TheVariants.{BadLine, RequestLineTooLong, HeaderFieldsTooLarge, TooManyFields, Judged}
 use Rattle.tiny_http_standard_head.specs.declared.heads.StandardRead.{StandardRead}
 use Rattle.tiny_http_standard_head.specs.declared.heads.StandardRead.TheVariants as read
 use Rattle.tiny_http_standard_head.specs.declared.judging.Judgement.{Judgement}
@@ -24,7 +25,7 @@ use Rattle.tiny_http_standard_head.specs.Lines.{ReadsRequestLine, IsNoRequestLin
 use Rattle.tiny_http_standard_head.specs.Judging.{Judges}
 use Rattle.tiny_http_standard_head.specs.Heads.{line_feed, carriage_return, is_carriage_return, Line, BeginsWithBareLine, behind_empty_line, BeginsWithRequestLine, BeginsWithFieldLines, BeginsWithBadLine, HasOpenRequestLine, HasOpenField, BeginsWithHead, is_begun, message_of}
 use Rattle.tiny_http_standard_head.specs.SourceHeads.{IsNoRequestOrEmpty, LacksMemory, LacksMemoryAtStart, IsSpent, TakesText, ReadsRequest, ReadsField, ReadsStart, HasReadFields, ReadsFields, IsWithoutHead, ReadsFrom}
-use Rattle.tiny_http_standard_head.proofs.HeadsLemmas.{more-fields, whole-head, fields-stop, is-field-line}
+use Rattle.tiny_http_standard_head.proofs.HeadsLemmas.{more-fields, one-more, whole-head, fields-stop, is-field-line}
 
 -- bytes that don't begin with an empty line
 kept : (w : List ℕ) → ((bs : List ℕ) → w ≡ 13 ∷ 10 ∷ bs → ⊥) → behind_empty_line w ≡ w
@@ -104,6 +105,7 @@ first-err limit left None new e h = tt
 first-err limit left (Some f) new (Refused BadLine) h = subst (BeginsWithBadLine IsNoRequestLine) (sym (bad-kept (take limit f.bytes) h)) (weaker (take limit f.bytes) h)
 first-err limit left (Some f) new (Refused RequestLineTooLong) h = (subst (HasNo line_feed) (sym (open-kept (take limit f.bytes) h.0)) h.0, h.1)
 first-err limit left (Some f) new (Refused HeaderFieldsTooLarge) h = absurd h
+first-err limit left (Some f) new (Refused TooManyFields) h = absurd h
 first-err limit left (Some f) new (Refused (Judged x)) h = absurd h
 first-err limit left (Some f) new (Unfinished b) h =
     let same = open-kept f.bytes h.0.0 in
@@ -176,6 +178,7 @@ second-err : (limit mid left : ℕ) (f : Feed) (new : Option Feed) (rest : List 
 second-err limit mid left f new rest (Refused BadLine) l spent h = subst (BeginsWithBadLine IsNoRequestLine) (sym (empty-passed (take limit f.bytes) (take mid rest) l)) (weaker (take mid rest) h)
 second-err limit mid left f new rest (Refused RequestLineTooLong) l spent h = (subst (HasNo line_feed) (sym (empty-passed (take limit f.bytes) (take mid rest) l)) h.0, omega (arith, spent, h.1))
 second-err limit mid left f new rest (Refused HeaderFieldsTooLarge) l spent h = absurd h
+second-err limit mid left f new rest (Refused TooManyFields) l spent h = absurd h
 second-err limit mid left f new rest (Refused (Judged x)) l spent h = absurd h
 second-err limit mid left f new rest (Unfinished b) l spent h =
     let short : length f.bytes < limit = omega (arith, spent, h.0.1) in
@@ -250,26 +253,32 @@ fields-lack limit left (Some f) mid new held [] k first h =
     subst (λ n. P n (Some f)) same.0 (subst (P left) same.1 h)
 fields-lack limit left (Some f) mid new held (g ∷ gs) k first h = let b = k.1 in inl (b.0, b.1, b.2, is-field-line b.0 g b.3)
 
-pub fields-end : (limit mid left : ℕ) (old at new : Option Feed) (hs : Vec Header) → HasReadFields limit mid old at hs.items → ReadsField mid left at new (Ok None) → ReadsFields limit left old new (Ok hs)
-fields-end limit mid left None at new hs k r = tt
-fields-end limit mid left (Some f) at new hs k r =
+pub fields-end : (limit mid left : ℕ) (old at new : Option Feed) (hs : Vec Header) → HasReadFields limit mid old at hs.items → length hs.items ≤ MOST_HEADERS → ReadsField mid left at new (Ok None) → ReadsFields limit left old new (Ok hs)
+fields-end limit mid left None at new hs k few r = tt
+fields-end limit mid left (Some f) at new hs k few r =
     let t = subst (λ (x : Option Feed). ReadsField mid left x new (Ok None)) k.2 r in
-    (t.rest, (take mid k.0, k.1, t.line), t.goes, omega (arith, k.3, t.spent))
+    (t.rest, (take mid k.0, k.1, few, t.line), t.goes, omega (arith, k.3, t.spent))
 
-fields-err-at : (limit mid left : ℕ) (f : Feed) (new : Option Feed) (hs : List Header) (rest : List ℕ) (e : NoHead) → BeginsWithFieldLines (take limit f.bytes) hs (take mid rest) → IsSpent limit f.bytes mid rest
+fields-err-at : (limit mid left : ℕ) (f : Feed) (new : Option Feed) (hs : List Header) (rest : List ℕ) (e : NoHead) → BeginsWithFieldLines (take limit f.bytes) hs (take mid rest) → length hs ≤ MOST_HEADERS → IsSpent limit f.bytes mid rest
     → ReadsField mid left (feed_from f rest) new (Err e) → ReadsFields limit left (Some f) new (Err e)
-fields-err-at limit mid left f new hs rest (Refused BadLine) b spent h = (hs, take mid rest, b, h)
-fields-err-at limit mid left f new hs rest (Refused HeaderFieldsTooLarge) b spent h = ((hs, take mid rest, b, h.0), omega (arith, spent, h.1))
-fields-err-at limit mid left f new hs rest (Refused RequestLineTooLong) b spent h = absurd h
-fields-err-at limit mid left f new hs rest (Refused (Judged x)) b spent h = absurd h
-fields-err-at limit mid left f new hs rest (Unfinished begun) b spent h =
+fields-err-at limit mid left f new hs rest (Refused BadLine) b few spent h = (hs, take mid rest, b, few, h)
+fields-err-at limit mid left f new hs rest (Refused HeaderFieldsTooLarge) b few spent h = ((hs, take mid rest, b, few, h.0), omega (arith, spent, h.1))
+fields-err-at limit mid left f new hs rest (Refused RequestLineTooLong) b few spent h = absurd h
+fields-err-at limit mid left f new hs rest (Refused TooManyFields) b few spent h = absurd h
+fields-err-at limit mid left f new hs rest (Refused (Judged x)) b few spent h = absurd h
+fields-err-at limit mid left f new hs rest (Unfinished begun) b few spent h =
     let all : take mid rest ≡ rest = take_all mid rest (omega (arith, h.0.1)) in
-    ((hs, take mid rest, b, subst (HasNo line_feed) (sym all) h.0.0), omega (arith, spent, h.0.1), h.1)
-fields-err-at limit mid left f new hs rest Memory b spent h = tt
+    ((hs, take mid rest, b, few, subst (HasNo line_feed) (sym all) h.0.0), omega (arith, spent, h.0.1), h.1)
+fields-err-at limit mid left f new hs rest Memory b few spent h = tt
 
-pub fields-err : (limit mid left : ℕ) (old at new : Option Feed) (hs : List Header) (e : NoHead) → HasReadFields limit mid old at hs → ReadsField mid left at new (Err e) → ReadsFields limit left old new (Err e)
-fields-err limit mid left None at new hs e k r = tt
-fields-err limit mid left (Some f) at new hs e k r = fields-err-at limit mid left f new hs k.0 e k.1 k.3 (subst (λ (x : Option Feed). ReadsField mid left x new (Err e)) k.2 r)
+pub fields-err : (limit mid left : ℕ) (old at new : Option Feed) (hs : List Header) (e : NoHead) → HasReadFields limit mid old at hs → length hs ≤ MOST_HEADERS → ReadsField mid left at new (Err e) → ReadsFields limit left old new (Err e)
+fields-err limit mid left None at new hs e k few r = tt
+fields-err limit mid left (Some f) at new hs e k few r = fields-err-at limit mid left f new hs k.0 e k.1 few k.3 (subst (λ (x : Option Feed). ReadsField mid left x new (Err e)) k.2 r)
+
+-- as many headers as may be, and one more
+pub fields-many : (limit left : ℕ) (old new : Option Feed) (hs : List Header) (h : Header) → HasReadFields limit left old new (hs ++ h ∷ []) → length hs ≡ MOST_HEADERS → ReadsFields limit left old new (Err (Refused TooManyFields))
+fields-many limit left None new hs h k full = tt
+fields-many limit left (Some f) new hs h k full = (hs ++ h ∷ [], take left k.0, k.1, one-more hs h ∙ ap (λ (n : ℕ). n + 1) full)
 
 pub fields-memory : (limit left : ℕ) (old new : Option Feed) → ReadsFields limit left old new (Err Memory)
 fields-memory limit left None new = tt
@@ -284,6 +293,7 @@ reads-start_err limit left None new e r h k = tt
 reads-start_err limit left (Some f) new (Refused BadLine) r h k = subst (ReadsFrom limit (Some f) new) (ok-read r (read.Refused BadLine) k) (inl h, tt)
 reads-start_err limit left (Some f) new (Refused RequestLineTooLong) r h k = subst (ReadsFrom limit (Some f) new) (ok-read r (read.Refused RequestLineTooLong) k) ((h.1, h.0), tt)
 reads-start_err limit left (Some f) new (Refused HeaderFieldsTooLarge) r h k = absurd h
+reads-start_err limit left (Some f) new (Refused TooManyFields) r h k = absurd h
 reads-start_err limit left (Some f) new (Refused (Judged x)) r h k = absurd h
 reads-start_err limit left (Some f) new (Unfinished b) r h k =
     let all : take limit f.bytes ≡ f.bytes = take_all limit f.bytes (omega (arith, h.1)) in
@@ -305,6 +315,8 @@ fields-err-from limit mid left f new start rest (Refused BadLine) r request spen
     subst (ReadsFrom limit (Some f) new) (ok-read r (read.Refused BadLine) k) (fields-stop (take limit f.bytes) start.0 start.1 start.2 (take mid rest) stop.Bad request h, tt)
 fields-err-from limit mid left f new start rest (Refused HeaderFieldsTooLarge) r request spent h k =
     subst (ReadsFrom limit (Some f) new) (ok-read r (read.Refused HeaderFieldsTooLarge) k) ((omega (arith, spent, h.1), fields-stop (take limit f.bytes) start.0 start.1 start.2 (take mid rest) stop.OpenField request h.0), tt)
+fields-err-from limit mid left f new start rest (Refused TooManyFields) r request spent h k =
+    subst (ReadsFrom limit (Some f) new) (ok-read r (read.Refused TooManyFields) k) (fields-stop (take limit f.bytes) start.0 start.1 start.2 (take mid rest) stop.TooMany request h, tt)
 fields-err-from limit mid left f new start rest (Refused RequestLineTooLong) r request spent h k = absurd h
 fields-err-from limit mid left f new start rest (Refused (Judged x)) r request spent h k = absurd h
 fields-err-from limit mid left f new start rest (Unfinished b) r request spent h k =

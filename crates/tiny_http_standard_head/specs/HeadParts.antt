@@ -1,8 +1,9 @@
 -- The parts of a head as they are read, line by line.
-use Rattle.std.specs.Prelude.{◌≡◌, ℕ, ◌+◌, List, [], length, Ok, Err}
+use Rattle.std.specs.Prelude.{◌≡◌, ℕ, ◌+◌, ◌≤◌, List, [], length, Ok, Err}
 use Rattle.tiny_http_text.specs.Bytes.{HasNo}
 use Rattle.tiny_http_head.specs.declared.common.Header.{Header}
 use Rattle.tiny_http_head.specs.Heads.{Message}
+use Rattle.tiny_http_standard_head.specs.declared.heads.TheConstants.{MOST_HEADERS}
 use Rattle.tiny_http_standard_head.specs.declared.heads.StandardFault.TheVariants.{Judged}
 use Rattle.tiny_http_standard_head.specs.declared.heads.StandardRead.{StandardRead}
 use Rattle.tiny_http_standard_head.specs.declared.heads.StandardRead.TheVariants.{Whole, Refused}
@@ -13,8 +14,8 @@ use Rattle.tiny_http_standard_head.specs.declared.heads.NoHead.TheVariants as st
 use Rattle.tiny_http_standard_head.specs.Lines.{IsNoRequestLine, IsNoFieldLine}
 use Rattle.tiny_http_standard_head.specs.Heads.{Line, line_feed, BeginsWithBareLine, behind_empty_line}
 use Rattle.tiny_http_standard_head.specs.Heads.{BeginsWithFieldLines, BeginsWithBadLine, IsNoFieldOrEnd, HasBadLine}
-use Rattle.tiny_http_standard_head.specs.Heads.{HasOpenRequestLine, HasOpenField, BeginsWithHead, HasGoodRequestLine}
-use Rattle.tiny_http_standard_head.specs.Heads.{message_of}
+use Rattle.tiny_http_standard_head.specs.Heads.{HasOpenRequestLine, HasOpenField, HasTooManyFields, BeginsWithHead}
+use Rattle.tiny_http_standard_head.specs.Heads.{HasGoodRequestLine, message_of}
 use Rattle.tiny_http_standard_head.specs.Judging.{Judges}
 
 -- why the bytes don't begin with a line
@@ -27,33 +28,49 @@ abbrev pub StopsRequest : List ℕ → NoHead → Type 0
 StopsRequest bytes stop.Bad = BeginsWithBadLine IsNoRequestLine (behind_empty_line bytes)
 StopsRequest bytes stop.OpenRequest = HasNo line_feed (behind_empty_line bytes)
 StopsRequest bytes stop.OpenField = ⊥
+StopsRequest bytes stop.TooMany = ⊥
 StopsRequest bytes stop.Memory = HasGoodRequestLine bytes
 
 -- the bytes begin with a good field line
 abbrev pub HasGoodFieldLine : List ℕ → Type 0
 HasGoodFieldLine bytes = (text : List ℕ) × (rest : List ℕ) × Line bytes text rest × (IsNoFieldLine text → ⊥)
 
--- why they don't begin with field lines and an empty line; memory is wanted for a good field line alone
+-- why they don't begin with field lines, not too many, and an empty line; memory is wanted for a good field line alone
 abbrev pub StopsFields : List ℕ → NoHead → Type 0
 StopsFields bytes stop.Bad =
     (headers : List Header)
     × (rest : List ℕ)
     × BeginsWithFieldLines bytes headers rest
+    × (length headers ≤ MOST_HEADERS)
     × BeginsWithBadLine IsNoFieldOrEnd rest
 StopsFields bytes stop.OpenRequest = ⊥
 StopsFields bytes stop.OpenField =
-    (headers : List Header) × (rest : List ℕ) × BeginsWithFieldLines bytes headers rest × HasNo line_feed rest
+    (headers : List Header)
+    × (rest : List ℕ)
+    × BeginsWithFieldLines bytes headers rest
+    × (length headers ≤ MOST_HEADERS)
+    × HasNo line_feed rest
+StopsFields bytes stop.TooMany =
+    (headers : List Header)
+    × (rest : List ℕ)
+    × BeginsWithFieldLines bytes headers rest
+    × (length headers ≡ MOST_HEADERS + 1)
 StopsFields bytes stop.Memory = HasGoodFieldLine bytes
 
--- the bytes are field lines, an empty line, and what is behind them
+-- the bytes are field lines, which are not too many, an empty line, and what is behind them
 abbrev pub EndsFields : List ℕ → List Header → List ℕ → Type 0
-EndsFields bytes headers after = (empty : List ℕ) × BeginsWithFieldLines bytes headers empty × Line empty [] after
+EndsFields bytes headers after =
+    (empty : List ℕ)
+    × BeginsWithFieldLines bytes headers empty
+    × (length headers ≤ MOST_HEADERS)
+    × Line empty [] after
 
 -- why a head isn't read to its end
 abbrev pub StopsHead : List ℕ → NoHead → Type 0
 StopsHead bytes stop.Bad = HasBadLine bytes
 StopsHead bytes stop.OpenRequest = HasOpenRequestLine bytes
 StopsHead bytes stop.OpenField = HasOpenField bytes
+StopsHead bytes stop.TooMany = HasTooManyFields bytes
 StopsHead bytes stop.Memory = HasGoodRequestLine bytes
 
 -- a head that has come whole: how many bytes it has, and how it is judged

@@ -7,10 +7,12 @@ use Rattle.tiny_http_head.specs.declared.common.Method.{Method}
 use Rattle.tiny_http_head.specs.declared.common.HTTPVersion.{HTTPVersion}
 use Rattle.tiny_http_head.specs.declared.common.Header.{Header}
 use Rattle.tiny_http_head.specs.Heads.{Message}
+use Rattle.tiny_http_standard_head.specs.declared.heads.TheConstants.{MOST_HEADERS}
 use Rattle.tiny_http_standard_head.specs.declared.heads.StandardHead.{StandardHead}
 use Rattle.tiny_http_standard_head.specs.declared.heads.StandardFault.{StandardFault}
 use Rattle.tiny_http_standard_head.specs.declared.heads.StandardFault.TheVariants.{BadLine, RequestLineTooLong}
-use Rattle.tiny_http_standard_head.specs.declared.heads.StandardFault.TheVariants.{HeaderFieldsTooLarge, Judged}
+use Rattle.tiny_http_standard_head.specs.declared.heads.StandardFault.TheVariants.{HeaderFieldsTooLarge, TooManyFields}
+use Rattle.tiny_http_standard_head.specs.declared.heads.StandardFault.TheVariants.{Judged}
 use Rattle.tiny_http_standard_head.specs.declared.heads.StandardRead.{StandardRead}
 use Rattle.tiny_http_standard_head.specs.declared.heads.StandardRead.TheVariants.{Whole, Refused, Unfinished}
 use Rattle.tiny_http_standard_head.specs.declared.judging.HeadSummary.{HeadSummary}
@@ -65,12 +67,13 @@ BeginsWithFieldLines bytes (h ∷ hs) rest =
     × ReadsFieldLine text h
     × BeginsWithFieldLines next hs rest
 
--- A HEAD: a request line, field lines and an empty line
+-- A HEAD: a request line, field lines, which are not too many, and an empty line
 pub record BeginsWithHead (bytes : List ℕ) (m : Message) (after : List ℕ) : Type 0 where
   pub fields : List ℕ
   pub empty : List ℕ
   pub request : BeginsWithRequestLine bytes m.method m.path m.version fields
   pub headers : BeginsWithFieldLines fields m.headers empty
+  pub few : length m.headers ≤ MOST_HEADERS
   pub end : Line empty [] after
 
 -- a good request line has ended, behind an empty line if there is one
@@ -89,7 +92,7 @@ BeginsWithBadLine IsBad bytes =
 abbrev pub IsNoFieldOrEnd : List ℕ → Type 0
 IsNoFieldOrEnd text = (text ≢ []) × IsNoFieldLine text
 
--- behind a request line and field lines, these bytes follow
+-- behind a request line and field lines, which are not too many, these bytes follow
 pub record ComesToField (bytes rest : List ℕ) : Type 0 where
   pub method : Method
   pub target : List ℕ
@@ -98,6 +101,19 @@ pub record ComesToField (bytes rest : List ℕ) : Type 0 where
   pub headers : List Header
   pub request : BeginsWithRequestLine bytes method target version fields
   pub lines : BeginsWithFieldLines fields headers rest
+  pub few : length headers ≤ MOST_HEADERS
+
+-- behind a request line stands one field line more than a head may have
+pub record HasTooManyFields (bytes : List ℕ) : Type 0 where
+  pub method : Method
+  pub target : List ℕ
+  pub version : HTTPVersion
+  pub fields : List ℕ
+  pub headers : List Header
+  pub rest : List ℕ
+  pub request : BeginsWithRequestLine bytes method target version fields
+  pub lines : BeginsWithFieldLines fields headers rest
+  pub many : length headers ≡ MOST_HEADERS + 1
 
 -- the first bad line of a head
 abbrev pub HasBadLine : List ℕ → Type 0
@@ -112,17 +128,19 @@ HasOpenRequestLine bytes = HasNo line_feed (behind_empty_line bytes)
 abbrev pub HasOpenField : List ℕ → Type 0
 HasOpenField bytes = (rest : List ℕ) × ComesToField bytes rest × HasNo line_feed rest
 
--- what bytes are read as: a whole head, with what follows it and how it is judged; a bad line; or a line that hasn't
--- ended, the request line or one behind it
+-- what bytes are read as: a whole head, with what follows it and how it is judged; a bad line; a field line too many;
+-- or a line that hasn't ended, the request line or one behind it
 pub data Reading : Type 0 where
   ReadWhole : (message : Message) (after : List ℕ) (judged : Result HeadSummary Judgement) → Reading
   ReadBad : Reading
+  ReadTooMany : Reading
   ReadOpen : (behind_request_line : Bool) → Reading
 
 -- WHAT BYTES ARE READ AS
 abbrev pub AreReadAs : List ℕ → Reading → Type 0
 AreReadAs bytes (ReadWhole m after judged) = BeginsWithHead bytes m after × Judges m.version m.method m.headers judged
 AreReadAs bytes ReadBad = HasBadLine bytes
+AreReadAs bytes ReadTooMany = HasTooManyFields bytes
 AreReadAs bytes (ReadOpen false) = HasOpenRequestLine bytes
 AreReadAs bytes (ReadOpen true) = HasOpenField bytes
 
@@ -131,6 +149,7 @@ abbrev pub status_of : StandardFault → ℕ
 status_of BadLine = 400
 status_of RequestLineTooLong = 414
 status_of HeaderFieldsTooLarge = 431
+status_of TooManyFields = 431
 status_of (Judged UnsupportedVersion) = 505
 status_of (Judged InvalidHead) = 400
 status_of (Judged UnknownCoding) = 501
@@ -158,6 +177,7 @@ Reads limit bytes (Refused (Judged refusal)) =
     × Judges m.version m.method m.headers (Err refusal)
 Reads limit bytes (Refused RequestLineTooLong) = (limit ≤ length bytes) × HasOpenRequestLine (take limit bytes)
 Reads limit bytes (Refused HeaderFieldsTooLarge) = (limit ≤ length bytes) × HasOpenField (take limit bytes)
+Reads limit bytes (Refused TooManyFields) = HasTooManyFields (take limit bytes)
 Reads limit bytes (Unfinished has_begun) =
     (length bytes < limit) × (HasOpenRequestLine bytes ⊎ HasOpenField bytes) × (has_begun ≡ is_begun bytes)
 

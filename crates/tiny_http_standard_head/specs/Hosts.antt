@@ -49,9 +49,13 @@ pub record HostAndPort (text host port : List ℕ) : Type 0 where
   pub is_host : IsHost host
   pub digits : IsTrue (list_all is_ascii_digit port)
 
+-- uri-host [ ":" port ]: a host with or without a port
+abbrev pub IsHostWithPort : List ℕ → Type 0
+IsHostWithPort text = IsHost text ⊎ ((host : List ℕ) × (port : List ℕ) × HostAndPort text host port)
+
 -- the value of a Host header: empty, or a host with or without a port
 abbrev pub IsHostValue : List ℕ → Type 0
-IsHostValue value = (value ≡ []) ⊎ (IsHost value ⊎ ((host : List ℕ) × (port : List ℕ) × HostAndPort value host port))
+IsHostValue value = (value ≡ []) ⊎ IsHostWithPort value
 
 -- a number is there, and is 1 to 65535
 abbrev pub is_port_number : Option ℕ → Bool

@@ -1,6 +1,6 @@
 -- The lines of a head by the standard (RFC 9112, sections 2.3, 3 and 5; RFC 9110, sections 5.5 and 5.6.2), each a
 -- joining of named parts. A token, a byte of a value and optional white space are those of the crate `httparse`.
-use Rattle.std.specs.Prelude.{◌≡◌, ℕ, ◌+◌, ◌-◌, ◌<◌, Bool, false, not, ◌&&◌, ◌||◌, ◌==◌, nat_lt, ◌/◌, ◌%◌, List, []}
+use Rattle.std.specs.Prelude.{◌≡◌, ℕ, ◌+◌, ◌-◌, ◌<◌, ◌⊎◌, Bool, ◌&&◌, ◌||◌, ◌==◌, nat_lt, ◌/◌, ◌%◌, List, []}
 use Rattle.std.specs.Prelude.{◌∷◌, ◌++◌, length, take, drop, IsTrue, codes, MatchBool, if◌then◌else◌}
 use Rattle.std.specs.List.{list_all, flat_map, starts_with}
 use Rattle.std.specs.Str.{bytes_eq}
@@ -12,13 +12,10 @@ use Rattle.tiny_http_head.specs.declared.common.Method.{Method}
 use Rattle.tiny_http_head.specs.declared.common.Header.{Header}
 use Rattle.tiny_http_head.specs.Common.{same_name}
 use Rattle.tiny_http_head.specs.Heads.{method_of}
-use Rattle.tiny_http_standard_head.specs.Hosts.{percent, slash, IsAuthority}
+use Rattle.tiny_http_standard_head.specs.Hosts.{percent, slash, IsHostWithPort, IsAuthority}
 
 abbrev pub question_mark : ℕ
 question_mark = 63
-
-abbrev pub number_sign : ℕ
-number_sign = 35
 
 abbrev pub digit_zero : ℕ
 digit_zero = 48
@@ -36,19 +33,19 @@ pub record IsVersion (text : List ℕ) (v : HTTPVersion) : Type 0 where
 abbrev pub IsNoVersion : List ℕ → Type 0
 IsNoVersion text = (v : HTTPVersion) → IsVersion text v → ⊥
 
--- an authority begins here: by a byte that ends none
-abbrev pub begins_authority : List ℕ → Bool
-begins_authority [] = false
-begins_authority (b ∷ bs) = not (b == slash || (b == question_mark || b == number_sign))
+-- the bytes up to the first slash or question mark
+abbrev pub authority_in : List ℕ → List ℕ
+authority_in [] = []
+authority_in (b ∷ bs) = if (b == slash || b == question_mark) then [] else b ∷ authority_in bs
 
--- the scheme stands in front, without case, and an authority begins behind it
-abbrev pub has_scheme : List ℕ → List ℕ → Bool
-has_scheme scheme target =
-    same_name (take (length scheme) target) scheme && begins_authority (drop (length scheme) target)
+-- the scheme stands in front, without case, and the authority behind it is a host with or without a port
+pub record HasScheme (scheme target : List ℕ) : Type 0 where
+  pub front : IsTrue (same_name (take (length scheme) target) scheme)
+  pub authority : IsHostWithPort (authority_in (drop (length scheme) target))
 
--- In place of absolute-form: http:// or https://, and a byte that begins an authority, which isn't judged.
-abbrev pub is_absolute_form : List ℕ → Bool
-is_absolute_form target = has_scheme (codes "http://") target || has_scheme (codes "https://") target
+-- In place of absolute-form: http:// or https://, and a host with or without a port. What follows isn't judged.
+abbrev pub IsAbsoluteForm : List ℕ → Type 0
+IsAbsoluteForm target = HasScheme (codes "http://") target ⊎ HasScheme (codes "https://") target
 
 -- In place of origin-form: it begins with a slash. What follows isn't judged.
 abbrev pub is_origin_form : List ℕ → Bool
@@ -64,7 +61,7 @@ abbrev pub IsTarget : List ℕ → List ℕ → Type 0
 IsTarget method target =
     IsTrue (list_all is_ascii_graphic target)
     × MatchBool (bytes_eq method (codes "CONNECT")) (IsAuthority target)
-    (IsTrue (is_origin_form target || (is_asterisk_form method target || is_absolute_form target)))
+    (IsTrue (is_origin_form target || is_asterisk_form method target) ⊎ IsAbsoluteForm target)
 
 -- request-line = method SP request-target SP HTTP-version
 pub record RequestLine (text method target : List ℕ) (v : HTTPVersion) : Type 0 where

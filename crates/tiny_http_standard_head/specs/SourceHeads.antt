@@ -12,7 +12,7 @@ use Rattle.tiny_http_head.specs.declared.common.HTTPVersion.{HTTPVersion}
 use Rattle.tiny_http_head.specs.declared.common.Header.{Header}
 use Rattle.tiny_http_standard_head.specs.declared.heads.StandardFault.{StandardFault}
 use Rattle.tiny_http_standard_head.specs.declared.heads.StandardFault.TheVariants.{BadLine, RequestLineTooLong}
-use Rattle.tiny_http_standard_head.specs.declared.heads.StandardFault.TheVariants.{HeaderFieldsTooLarge}
+use Rattle.tiny_http_standard_head.specs.declared.heads.StandardFault.TheVariants.{HeaderFieldsTooLarge, TooManyFields}
 use Rattle.tiny_http_standard_head.specs.declared.heads.StandardRead.{StandardRead}
 use Rattle.tiny_http_standard_head.specs.declared.heads.StandardRead.TheVariants as read
 use Rattle.tiny_http_standard_head.specs.declared.source_lines.NoLine.{NoLine}
@@ -175,6 +175,7 @@ ReadsFields limit left (Some f) new (Ok headers) =
 ReadsFields limit left (Some f) new (Err (Refused BadLine)) = StopsFields (take limit f.bytes) stop.Bad
 ReadsFields limit left (Some f) new (Err (Refused HeaderFieldsTooLarge)) =
     StopsFields (take limit f.bytes) stop.OpenField × (limit ≤ length f.bytes)
+ReadsFields limit left (Some f) new (Err (Refused TooManyFields)) = StopsFields (take limit f.bytes) stop.TooMany
 ReadsFields limit left (Some f) new (Err (Unfinished has_begun)) =
     StopsFields (take limit f.bytes) stop.OpenField × (length f.bytes < limit) × (has_begun ≡ true)
 ReadsFields limit left (Some f) new (Err Memory) = ⊤

@@ -12,6 +12,9 @@ use tiny_http_head::common::{HTTPVersion, Header, Method};
 use tiny_http_text::ascii::AsciiString;
 use tiny_http_text::bytes::cut;
 
+/// Maximum number of header lines in a head; 431 answers one more (RFC 6585, section 5).
+pub const MOST_HEADERS: usize = 256;
+
 /// A head, and how it is judged.
 #[derive(Drop)]
 pub struct StandardHead {
@@ -38,6 +41,8 @@ pub enum StandardFault {
     RequestLineTooLong,
     /// As many bytes came as a head may have, and it hasn't ended behind its request line.
     HeaderFieldsTooLarge,
+    /// A good header line came after `MOST_HEADERS` others.
+    TooManyFields,
     /// Its lines are good, and it is refused.
     Judged(Judgement),
 }
@@ -50,7 +55,7 @@ impl StandardFault {
         match self {
             StandardFault::BadLine | StandardFault::Judged(Judgement::InvalidHead) => 400,
             StandardFault::RequestLineTooLong => 414,
-            StandardFault::HeaderFieldsTooLarge => 431,
+            StandardFault::HeaderFieldsTooLarge | StandardFault::TooManyFields => 431,
             StandardFault::Judged(Judgement::UnsupportedVersion) => 505,
             StandardFault::Judged(Judgement::UnknownCoding) => 501,
             StandardFault::Judged(Judgement::UnknownExpectation) => 417,
@@ -89,6 +94,8 @@ enum NoHead {
     OpenRequest,
     // A line behind it hasn't.
     OpenField,
+    // A field line came after as many as a head may have.
+    TooMany,
     // Memory was refused.
     Memory,
 }
@@ -159,6 +166,9 @@ fn read_fields(alloc: Global, bytes: &[u8]) -> Result<(Vec<Header>, &[u8]), NoHe
             Ok(None) => return Err(NoHead::Bad),
             Err(_) => return Err(NoHead::Memory),
         };
+        if headers.len() >= MOST_HEADERS {
+            return Err(NoHead::TooMany);
+        }
         if headers.push(header).is_err() {
             return Err(NoHead::Memory);
         }
@@ -205,15 +215,16 @@ fn not_ended(bytes: &[u8], limit: usize, fault: StandardFault) -> StandardRead
     }
 }
 
-/// Reads the head that begins where `bytes` do. A head has at most `limit` bytes, its empty lines included.
+/// Reads the head that begins where `bytes` do. A head has at most `limit` bytes, its empty lines included, and at
+/// most `MOST_HEADERS` header lines.
 ///
 /// A line ends at its first LF, in front of which a CR has to stand. One empty line in front of the request line is
-/// passed over. The first bad line is refused, whatever follows. Where `limit` bytes have come and the head hasn't
-/// ended, the fault is `RequestLineTooLong` in its request line, and else `HeaderFieldsTooLarge`; a limit below 3 so
-/// refuses where no byte of a head has come. A whole head is judged by `judging::judge`. While fewer bytes have come,
-/// more are needed: call again with the same bytes and those that came since. Each call reads them from the start, so
-/// a head that comes byte by byte wants a reader that keeps its lines. An error where there is no memory for what is
-/// read, which is so only behind a good request line.
+/// passed over. The first bad line is refused, whatever follows, and so is the first good header line that is one too
+/// many. Where `limit` bytes have come and the head hasn't ended, the fault is `RequestLineTooLong` in its request
+/// line, and else `HeaderFieldsTooLarge`; a limit below 3 so refuses where no byte of a head has come. A whole head is
+/// judged by `judging::judge`. While fewer bytes have come, more are needed: call again with the same bytes and those
+/// that came since. Each call reads them from the start, so a head that comes byte by byte wants a reader that keeps
+/// its lines. An error where there is no memory for what is read, which is so only behind a good request line.
 pub fn read_head(alloc: Global, bytes: &[u8], limit: usize) -> Result<StandardRead, AllocError>
     ensures reads { IfOk result (λ read. Reads limit bytes.now read) }
     ensures begun { OnErr result (HasGoodRequestLine (take limit bytes.now)) }
@@ -224,6 +235,7 @@ pub fn read_head(alloc: Global, bytes: &[u8], limit: usize) -> Result<StandardRe
         Err(NoHead::Bad) => Ok(StandardRead::Refused(StandardFault::BadLine)),
         Err(NoHead::OpenRequest) => Ok(not_ended(bytes, limit, StandardFault::RequestLineTooLong)),
         Err(NoHead::OpenField) => Ok(not_ended(bytes, limit, StandardFault::HeaderFieldsTooLarge)),
+        Err(NoHead::TooMany) => Ok(StandardRead::Refused(StandardFault::TooManyFields)),
         Err(NoHead::Memory) => Err(AllocError),
     }
 }

@@ -6,7 +6,8 @@ ghost use Rattle.std.specs.Char.{is_ascii_digit};
 ghost use Rattle.tiny_http_text.specs.Bytes.{HasNo};
 ghost use Rattle.tiny_http_standard_head.specs.Hosts.{begins_with_two_hexadecimal_digits, is_registered_name_byte};
 ghost use Rattle.tiny_http_standard_head.specs.Hosts.{is_registered_name, is_address_byte, IsBracketedAddress};
-ghost use Rattle.tiny_http_standard_head.specs.Hosts.{IsHost, IsHostValue, IsAuthority, is_port_number};
+ghost use Rattle.tiny_http_standard_head.specs.Hosts.{IsHost, IsHostWithPort, IsHostValue, IsAuthority};
+ghost use Rattle.tiny_http_standard_head.specs.Hosts.{is_port_number};
 
 use crate::numbers::number_in;
 
@@ -100,18 +101,26 @@ fn are_digits(text: &[u8]) -> bool
     text.iter().all(|b| b.is_ascii_digit())
 }
 
-/// Whether the text may be the value of a `Host` header: empty, or a host, which may be followed by a colon and any
-/// number of digits, also none (RFC 9110, section 7.2; RFC 9112, section 3.2). `:80` alone isn't one.
-pub fn is_host_value(text: &[u8]) -> bool
-    ensures { IsTrue result ↔ IsHostValue text.now }
+/// Whether the text is a host, which may be followed by a colon and any number of digits, also none (RFC 3986,
+/// section 3.2). `:80` alone isn't one, nor is a host after user information, as in `user@host`.
+pub fn is_host_with_port(text: &[u8]) -> bool
+    ensures { IsTrue result ↔ IsHostWithPort text.now }
 {
-    if text.is_empty() || is_host(text) {
+    if is_host(text) {
         return true;
     }
     match cut_last(text, b':') {
         Some((host, port)) => is_host(host) && are_digits(port),
         None => false,
     }
+}
+
+/// Whether the text may be the value of a `Host` header: empty, or a host with or without a port (RFC 9110, section
+/// 7.2; RFC 9112, section 3.2).
+pub fn is_host_value(text: &[u8]) -> bool
+    ensures { IsTrue result ↔ IsHostValue text.now }
+{
+    text.is_empty() || is_host_with_port(text)
 }
 
 // Whether a number is there, and is 1 to 65535.

@@ -4,13 +4,13 @@ ghost use Rattle.std.specs.List.{list_all};
 ghost use Rattle.std.specs.Char.{is_ascii_graphic};
 ghost use Rattle.httparse.specs.Grammar.{is_ows};
 ghost use Rattle.tiny_http_text.specs.Bytes.{skip_while, skip_end_while};
-ghost use Rattle.tiny_http_standard_head.specs.Lines.{IsVersion, IsNoVersion, begins_authority, has_scheme};
-ghost use Rattle.tiny_http_standard_head.specs.Lines.{is_absolute_form, is_asterisk_form, IsTarget, RequestLine};
+ghost use Rattle.tiny_http_standard_head.specs.Lines.{IsVersion, IsNoVersion, authority_in, HasScheme};
+ghost use Rattle.tiny_http_standard_head.specs.Lines.{IsAbsoluteForm, is_asterisk_form, IsTarget, RequestLine};
 ghost use Rattle.tiny_http_standard_head.specs.Lines.{ReadsRequestLine, IsNoRequestLine, must_be_ascii};
 ghost use Rattle.tiny_http_standard_head.specs.Lines.{uppercase_hexadecimal_digit, percent_encoded_byte};
 ghost use Rattle.tiny_http_standard_head.specs.Lines.{percent_encoded, FieldLine, ReadsFieldLine, IsNoFieldLine};
 
-use crate::hosts::is_authority;
+use crate::hosts::{is_authority, is_host_with_port};
 use httparse::{is_header_value, is_space_or_tab, is_token};
 use std::alloc::{AllocError, Global};
 use tiny_http_head::common::{HTTPVersion, Header, HeaderField, Method, method_of};
@@ -32,30 +32,31 @@ fn version_in(text: &[u8]) -> Option<HTTPVersion>
     Some(HTTPVersion(*major - b'0', *minor - b'0'))
 }
 
-// Whether an authority begins here.
-fn begins_authority(text: &[u8]) -> bool
-    ensures { result ≡ begins_authority text.now }
+// The bytes up to the first slash or question mark.
+fn authority_in(text: &[u8]) -> &[u8]
+    ensures { result.now ≡ authority_in text.now }
 {
-    match text.first() {
-        Some(b) => *b != b'/' && *b != b'?' && *b != b'#',
-        None => false,
+    let mut end = 0;
+    while end < text.len() && text[end] != b'/' && text[end] != b'?' {
+        end += 1;
     }
+    &text[..end]
 }
 
 // Whether the target is in absolute-form under this scheme.
 fn has_scheme(scheme: &[u8], target: &[u8]) -> bool
-    ensures { result ≡ has_scheme scheme.now target.now }
+    ensures { IsTrue result ↔ HasScheme scheme.now target.now }
 {
     let n = scheme.len();
-    if target.len() <= n {
+    if target.len() < n || !target[..n].eq_ignore_ascii_case(scheme) {
         return false;
     }
-    target[..n].eq_ignore_ascii_case(scheme) && begins_authority(&target[n..])
+    is_host_with_port(authority_in(&target[n..]))
 }
 
 // Whether the target stands for absolute-form.
 fn is_absolute_form(target: &[u8]) -> bool
-    ensures { result ≡ is_absolute_form target.now }
+    ensures { IsTrue result ↔ IsAbsoluteForm target.now }
 {
     has_scheme(b"http://", target) || has_scheme(b"https://", target)
 }
@@ -109,10 +110,11 @@ fn split_request_line(text: &[u8]) -> Option<(&[u8], &[u8], HTTPVersion)>
 
 /// Reads a request line: a token, a space, the target, a space and the version, and nothing else (RFC 9112, section
 /// 3). The target has the bytes 33 to 126 alone. That of a `CONNECT` is a host with a port. Another begins with a
-/// slash, or is `*` with `OPTIONS`, or begins with `http://` or `https://`, without case, and a byte that isn't `/`,
-/// `?` or `#`: the host itself isn't judged there. The version is `HTTP/`, a digit, a point and a digit:
-/// `judging::judge` says whether it is served. `None` for any other text. An error where the text is a request line
-/// and there is no memory for the answer.
+/// slash, or is `*` with `OPTIONS`, or begins with `http://` or `https://`, without case, and a host with or without a
+/// port, which ends at the first `/` or `?` or with the target (`hosts::is_host_with_port`): the host is judged as in
+/// a `Host` header, but mustn't be empty. The version is `HTTP/`, a digit, a point and a digit: `judging::judge` says
+/// whether it is served. `None` for any other text. An error where the text is a request line and there is no memory
+/// for the answer.
 pub fn parse_request_line(
     alloc: Global,
     text: &[u8],

@@ -11,7 +11,7 @@ ghost use Rattle.tiny_http_standard_head.specs.SourceHeads.{IsUnfinished, IsUnfi
 ghost use Rattle.tiny_http_standard_head.specs.SourceHeads.{LacksMemoryAtStart};
 ghost use Rattle.tiny_http_standard_head.specs.Lines.{IsNoRequestLine, IsNoFieldLine};
 
-use crate::heads::{StandardFault, StandardHead, StandardRead};
+use crate::heads::{MOST_HEADERS, StandardFault, StandardHead, StandardRead};
 use crate::judging::judge;
 use crate::lines::{parse_field_line, parse_request_line};
 use crate::source_lines::{FoundLine, NoLine, find_line};
@@ -206,6 +206,9 @@ fn read_fields<R: ReadDevice>(
     loop {
         match read_field(alloc, source, left) {
             Ok(Some(header)) => {
+                if headers.len() >= MOST_HEADERS {
+                    return Err(NoHead::Refused(StandardFault::TooManyFields));
+                }
                 if headers.push(header).is_err() {
                     return Err(NoHead::Memory);
                 }
@@ -227,11 +230,12 @@ fn without_head(why: NoHead) -> Result<StandardRead, AllocError>
     }
 }
 
-/// Reads the next head of a source. A head has at most `limit` bytes, its empty lines included. What is read is what
-/// `heads::read_head` makes of all the bytes that the source still gives. No byte behind the head is taken off, and
-/// none is read ahead but what one call of the reader gives. A line that lies whole in the buffer of the source is
-/// parsed there. A bad line is refused as soon as its LF has come. `Unfinished` says that the source has stopped,
-/// which then is over. An error where memory was refused; then the source may stand within the head.
+/// Reads the next head of a source. A head has at most `limit` bytes, its empty lines included, and at most
+/// `MOST_HEADERS` header lines. What is read is what `heads::read_head` makes of all the bytes that the source still
+/// gives. No byte behind the head is taken off, and none is read ahead but what one call of the reader gives. A line
+/// that lies whole in the buffer of the source is parsed there. A bad line, or a header line too many, is refused as
+/// soon as its LF has come. `Unfinished` says that the source has stopped, which then is over. An error where memory
+/// was refused; then the source may stand within the head.
 pub fn read_head_from<R: ReadDevice>(
     alloc: Global,
     source: &mut Source<R>,

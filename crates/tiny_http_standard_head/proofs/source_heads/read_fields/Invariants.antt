@@ -1,4 +1,5 @@
-use Rattle.std.proofs.Common.{◌≡◌, ◌≤◌, []}
+use Rattle.std.proofs.Common.{◌≡◌, ◌≤◌, [], length}
+use Rattle.tiny_http_standard_head.specs.declared.heads.TheConstants.{MOST_HEADERS}
 use Rattle.tiny_http_io.specs.Source.{GoesOn}
 use Rattle.tiny_http_standard_head.specs.SourceHeads.{HasReadFields}
 use Rattle.tiny_http_standard_head.proofs.source_heads.read_fields.Given as goal
@@ -6,6 +7,7 @@ use Rattle.tiny_http_standard_head.proofs.source_heads.read_fields.Given as goal
 abbrev pub invariant-loop-header : goal.invariant-loop-header
 invariant-loop-header g l = record {
   reads : HasReadFields l.fn.left l.left l.fn.source.feed l.source.feed l.headers.items;
+  few : length l.headers.items ≤ MOST_HEADERS;
   shorter : l.left ≤ l.fn.left;
   goes_on : GoesOn l.fn.source.feed l.source.feed;
   stop : l.source.stop ≡ l.fn.source.stop;
