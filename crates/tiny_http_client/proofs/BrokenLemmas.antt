@@ -3,6 +3,7 @@ use Rattle.std.proofs.Common.{◌≡◌, refl, sym, ap, ◌∙◌, subst, ℕ, �
 use Rattle.std.specs.Prelude.{if◌then◌else◌, nat_le, codes, replicate}
 use Rattle.std.specs.List.{AllByRecursion}
 use Rattle.std.specs.declared.io.ErrorKind.{ErrorKind}
+use Rattle.std.specs.declared.io.ErrorKind.TheVariants.{UnexpectedEof}
 use Rattle.std.proofs.Math.ListN.{length-replicate}
 use Rattle.std.proofs.lemmas.Bool.{leb-false, le-leb}
 use Rattle.std.proofs.lemmas.List.{take_all}
@@ -17,8 +18,10 @@ use Rattle.tiny_http_response.specs.declared.coding.FramingHeader.TheVariants.{N
 use Rattle.tiny_http_io.specs.declared.device.Stop.{Stop}
 use Rattle.tiny_http_io.specs.declared.device.Stop.TheVariants.{End, Fault}
 use Rattle.tiny_http_io.specs.Device.{Feed, fault_of}
-use Rattle.tiny_http_body.specs.ChunkedPrinting.{left_over, short_chunk}
+use Rattle.tiny_http_body.specs.ChunkedPrinting.{full_chunks, left_over, short_chunk, chunked}
 use Rattle.tiny_http_body.specs.Text.{Text, Ending, Whole, Broken, prepend_text, identity_body, chunked_until, chunked_body}
+use Rattle.tiny_http_body.proofs.ChunkedPrintingLemmas.{full_chunks-append}
+use Rattle.tiny_http_response.specs.Owing.{owed, owing}
 use Rattle.tiny_http_response.specs.Answer.{Answer, Printing, listed_with, answer_head_text, status_line, is_withheld, body_unless_withheld, gathered_body, coded_text, text_by_code, with_upgrade, answer_coding, text_of}
 use Rattle.tiny_http_response.specs.ByStandard.{status_version, listed_headers}
 use Rattle.tiny_http_response.specs.declared.answer_context.Persistence.{Persistence}
@@ -47,7 +50,7 @@ identity-completes n top feed false kind lt e =
     let gap = n - length feed.bytes in
     let pad : List ℕ = replicate gap 0 in
     let padded = feed.bytes ++ pad in
-    let len : length padded ≡ n = length-append feed.bytes pad ∙ (ap (λ k. length feed.bytes + k) (length-replicate gap 0) ∙ omega arith) in
+    let len : length padded ≡ n = length-append feed.bytes pad ∙ (ap (λ k. length feed.bytes + k) (length-replicate {A = ℕ} gap 0) ∙ omega arith) in
     let all : take n padded ≡ padded = take_all n padded (omega arith) in
     let old : take n feed.bytes ≡ feed.bytes = take_all n feed.bytes (omega arith) in (
       record { bytes = padded; stop = End },
@@ -68,40 +71,60 @@ gathered-completes End top bytes t kind p e = cc
 gathered-completes (Fault k) top bytes t kind p e =
     (record { bytes = []; stop = End }, top (ContentLength 0) ++ (if t then [] else []), omega arith, refl, refl, omega (arith, length-append (top (ContentLength 0)) (if t then [] else [])))
 
-until-completes : (len : Option ℕ) (stop : Stop) (top bytes : List ℕ) (kind : ErrorKind) → stated_length len (record { bytes = bytes; stop = End }) < 2 ^ 64 → (prepend_text top (chunked_until stop bytes)).ending ≡ Broken kind
-    → Completes len (λ f. prepend_text top (chunked_until f.stop f.bytes)) (prepend_text top (chunked_until stop bytes))
-until-completes len End top bytes kind lt e = cc
-until-completes len (Fault k) top bytes kind lt e = (
-  record { bytes = bytes; stop = End },
-  short_chunk (left_over bytes) ++ codes "0\r\n\r\n",
-  lt,
-  refl,
-  (simp append_assoc),
-  omega (arith, length-append (short_chunk (left_over bytes)) (codes "0\r\n\r\n")),
-)
+-- the data that are missing, and what the text goes on with behind its full chunks
+until-front : (s : Stop) (bytes : List ℕ) (kind : ErrorKind) → (chunked_until s bytes).ending ≡ Broken kind → (chunked_until s bytes).bytes ≡ full_chunks bytes
+until-front End bytes kind e = cc
+until-front (Fault k) bytes kind e = refl
 
-chunked-completes : (len : Option ℕ) (top : List ℕ) (feed : Feed) (t : Bool) (kind : ErrorKind) → stated_length len (record { bytes = feed.bytes; stop = End }) < 2 ^ 64 → (prepend_text top (body_unless_withheld t (chunked_body feed))).ending ≡ Broken kind
-    → Completes len (λ f. prepend_text top (body_unless_withheld t (chunked_body f))) (prepend_text top (body_unless_withheld t (chunked_body feed)))
-chunked-completes len top feed true kind lt e = cc
-chunked-completes len top feed false kind lt e = until-completes len feed.stop top feed.bytes kind lt e
+owed-none : (says : Option Persistence) → owed says None ≡ 0
+owed-none None = refl
+owed-none (Some says) = refl
 
-told-same : (len : Option ℕ) (feed : Feed) → stated_length len feed < 2 ^ 64 → stated_length len (record { bytes = feed.bytes; stop = End }) < 2 ^ 64
-told-same None feed h = h
-told-same (Some n) feed h = h
+padded-fits : (says : Option Persistence) (len : Option ℕ) (feed : Feed) → stated_length len feed < 2 ^ 64
+    → stated_length len (record { bytes = feed.bytes ++ replicate (owed says len - length feed.bytes) 0; stop = End }) < 2 ^ 64
+padded-fits says (Some n) feed h = h
+padded-fits says None feed h =
+    let gap = owed says None - length feed.bytes in
+    omega (arith, owed-none says, length-append feed.bytes (replicate gap 0), length-replicate {A = ℕ} gap 0)
 
-coding-completes : (coding : Coding) (len : Option ℕ) (top : FramingHeader → List ℕ) (w : Bool) (feed : Feed) (kind : ErrorKind) → 0 < length (top (ContentLength 0)) → stated_length len feed < 2 ^ 64
-    → (coded_text coding len top w feed).ending ≡ Broken kind → Completes len (λ f. coded_text coding len top w f) (coded_text coding len top w feed)
-coding-completes Chunked len top w feed kind p lt e = chunked-completes len (top TransferEncoding) feed w kind (told-same len feed lt) e
-coding-completes Identity None top w feed kind p lt e = gathered-completes feed.stop top feed.bytes w kind p e
-coding-completes Identity (Some n) top w feed kind p lt e = identity-completes n (top (ContentLength n)) feed w kind lt e
+chunked-completes : (says : Option Persistence) (len : Option ℕ) (top : List ℕ) (feed : Feed) (t : Bool) (kind : ErrorKind) → stated_length len feed < 2 ^ 64
+    → (prepend_text top (body_unless_withheld t (chunked_body (owing (owed says len) feed)))).ending ≡ Broken kind
+    → Completes len (λ f. prepend_text top (body_unless_withheld t (chunked_body (owing (owed says len) f)))) (prepend_text top (body_unless_withheld t (chunked_body (owing (owed says len) feed))))
+chunked-completes says len top feed true kind lt e = cc
+chunked-completes says len top feed false kind lt e =
+    let owe = owed says len in
+    let gap = owe - length feed.bytes in
+    let pad : List ℕ = replicate gap 0 in
+    let padded = feed.bytes ++ pad in
+    let enough : owe ≤ length padded = omega (arith, length-append feed.bytes pad, length-replicate {A = ℕ} gap 0) in
+    let over : List ℕ = short_chunk (left_over padded) ++ codes "0\r\n\r\n" in
+    let more = full_chunks (left_over feed.bytes ++ pad) ++ over in
+    let front = until-front (owing owe feed).stop feed.bytes kind e in
+    let body : chunked padded ≡ full_chunks feed.bytes ++ more = append_assoc (full_chunks padded) (short_chunk (left_over padded)) (codes "0\r\n\r\n") ∙ ap (λ x. x ++ over) (full_chunks-append feed.bytes pad) ∙ append_assoc (full_chunks feed.bytes) (full_chunks (left_over feed.bytes ++ pad)) over in
+    let W : Bool → Type 0 = λ x. (chunked_until (if x then End else Fault UnexpectedEof) padded).ending ≡ Whole in
+    let B : Bool → Type 0 = λ x. top ++ (chunked_until (if x then End else Fault UnexpectedEof) padded).bytes ≡ (top ++ (chunked_until (owing owe feed).stop feed.bytes).bytes) ++ more in
+    let all : nat_le owe (length padded) ≡ true = le-leb owe (length padded) enough in (
+      record { bytes = padded; stop = End },
+      more,
+      padded-fits says len feed lt,
+      subst W (sym all) refl,
+      subst B (sym all) (ap (λ x. top ++ x) (body ∙ ap (λ x. x ++ more) (sym front)) ∙ sym (append_assoc top (chunked_until (owing owe feed).stop feed.bytes).bytes more)),
+      omega (arith, length-append (full_chunks (left_over feed.bytes ++ pad)) over, length-append (short_chunk (left_over padded)) (codes "0\r\n\r\n")),
+    )
+
+coding-completes : (coding : Coding) (says : Option Persistence) (len : Option ℕ) (top : FramingHeader → List ℕ) (w : Bool) (feed : Feed) (kind : ErrorKind) → 0 < length (top (ContentLength 0)) → stated_length len feed < 2 ^ 64
+    → (coded_text coding says len top w feed).ending ≡ Broken kind → Completes len (λ f. coded_text coding says len top w f) (coded_text coding says len top w feed)
+coding-completes Chunked says len top w feed kind p lt e = chunked-completes says len (top TransferEncoding) feed w kind lt e
+coding-completes Identity says None top w feed kind p lt e = gathered-completes feed.stop top feed.bytes w kind p e
+coding-completes Identity says (Some n) top w feed kind p lt e = identity-completes n (top (ContentLength n)) feed w kind lt e
 
 upgrade-completes : (a : Answer) (feed : Feed) (p : Printing) (u : Option (List ℕ)) (kind : ErrorKind) → u ≡ None → stated_length a.data_length feed < 2 ^ 64
-    → (coded_text (answer_coding a p) a.data_length (λ framing. answer_head_text (status_version p.persistence p.version) a.status u a.headers (listed_with u p.persistence p.version a) p.date framing) (is_withheld p.no_body a.status) feed).ending ≡ Broken kind
-    → Completes a.data_length (λ f. coded_text (answer_coding a p) a.data_length (λ framing. answer_head_text (status_version p.persistence p.version) a.status u a.headers (listed_with u p.persistence p.version a) p.date framing) (is_withheld p.no_body a.status) f)
-    (coded_text (answer_coding a p) a.data_length (λ framing. answer_head_text (status_version p.persistence p.version) a.status u a.headers (listed_with u p.persistence p.version a) p.date framing) (is_withheld p.no_body a.status) feed)
+    → (coded_text (answer_coding a p) p.persistence a.data_length (λ framing. answer_head_text (status_version p.persistence p.version) a.status u a.headers (listed_with u p.persistence p.version a) p.date framing) (is_withheld p.no_body a.status) feed).ending ≡ Broken kind
+    → Completes a.data_length (λ f. coded_text (answer_coding a p) p.persistence a.data_length (λ framing. answer_head_text (status_version p.persistence p.version) a.status u a.headers (listed_with u p.persistence p.version a) p.date framing) (is_withheld p.no_body a.status) f)
+    (coded_text (answer_coding a p) p.persistence a.data_length (λ framing. answer_head_text (status_version p.persistence p.version) a.status u a.headers (listed_with u p.persistence p.version a) p.date framing) (is_withheld p.no_body a.status) feed)
 upgrade-completes a feed p (Some x) kind e lt h = cc
 upgrade-completes a feed p None kind e lt h =
-    coding-completes (answer_coding a p) a.data_length (λ framing. answer_head_text (status_version p.persistence p.version) a.status None a.headers (listed_of a p) p.date framing) (is_withheld p.no_body a.status) feed kind (long-head (status_version p.persistence p.version) a.status a.headers (listed_of a p) p.date (ContentLength 0)) lt h
+    coding-completes (answer_coding a p) p.persistence a.data_length (λ framing. answer_head_text (status_version p.persistence p.version) a.status None a.headers (listed_of a p) p.date framing) (is_withheld p.no_body a.status) feed kind (long-head (status_version p.persistence p.version) a.status a.headers (listed_of a p) p.date (ContentLength 0)) lt h
 
 -- a head alone never breaks off
 content-completes : (a : Answer) (feed : Feed) (p : Printing) (o : Option FramingHeader) (kind : ErrorKind) → p.upgrade ≡ None → stated_length a.data_length feed < 2 ^ 64 → (text_by_code o a feed p).ending ≡ Broken kind

@@ -24,6 +24,7 @@ use Rattle.tiny_http_io.specs.Device.{Feed, fault_of}
 use Rattle.tiny_http_body.specs.ChunkedPrinting.{chunked}
 use Rattle.tiny_http_head.specs.Common.{same_name}
 use Rattle.tiny_http_body.specs.Text.{Text, Whole, Broken, whole, prepend_text, identity_body, chunked_until, chunked_body}
+use Rattle.tiny_http_response.specs.Owing.{owed, owing}
 use Rattle.tiny_http_response.specs.Answer.{Answer, Printing, listed_with, has_header, answer_head_text, is_withheld, body_unless_withheld, gathered_body, coded_text, text_by_code, with_upgrade, answer_coding, text_of}
 use Rattle.tiny_http_response.specs.ByStandard.{status_version, persistence_option, connection_headers, safe_value, safe_headers, listed_headers, framing_of_304, contentless_framing, framing_by_standard, has_no_content}
 use Rattle.tiny_http_response.specs.declared.answer_context.Persistence.{Persistence}
@@ -199,11 +200,11 @@ module _ (m : Method) (v : HTTPVersion) (status : ℕ) (headers listed : List He
   chunked-back feed true e h = put-together TransferEncoding [] [] tt (withheld-body TransferEncoding e)
   chunked-back feed false e h = until-back feed.stop feed.bytes e h
 
-  coding-back : (coding : Coding) (len : Option ℕ) (feed : Feed) → stated_length len feed < 2 ^ 64
-      → Back (coded_text coding len top w feed) (framing_of coding len feed) (sent_body coding len feed w)
-  coding-back Chunked len feed lt = chunked-back feed w refl
-  coding-back Identity None feed lt = gathered-back feed.stop feed.bytes w refl lt
-  coding-back Identity (Some n) feed lt = identity-back n feed w refl lt
+  coding-back : (coding : Coding) (says : Option Persistence) (len : Option ℕ) (feed : Feed) → stated_length len feed < 2 ^ 64
+      → Back (coded_text coding says len top w feed) (framing_of coding len feed) (sent_body coding len feed w)
+  coding-back Chunked says len feed lt = chunked-back (owing (owed says len) feed) w refl
+  coding-back Identity says None feed lt = gathered-back feed.stop feed.bytes w refl lt
+  coding-back Identity says (Some n) feed lt = identity-back n feed w refl lt
 
   -- a 204, a 205 and a 304 are heads alone by the standard
   of-204 : (status == 204) ≡ true → w ≡ true
@@ -307,12 +308,12 @@ abbrev top_with : Answer → Printing → Option (List ℕ) → FramingHeader �
 top_with a p u framing = answer_head_text (version_of p) a.status u a.headers (listed_with u p.persistence p.version a) p.date framing
 
 upgrade-back : (m : Method) (a : Answer) (feed : Feed) (p : Printing) (rest : List ℕ) (u : Option (List ℕ)) → u ≡ None → IsReadableAnswer m a feed p
-    → (coded_text (answer_coding a p) a.data_length (top_with a p u) (is_withheld p.no_body a.status) feed).ending ≡ Whole
-    → ReadsAnswer m ((coded_text (answer_coding a p) a.data_length (top_with a p u) (is_withheld p.no_body a.status) feed).bytes ++ rest)
+    → (coded_text (answer_coding a p) p.persistence a.data_length (top_with a p u) (is_withheld p.no_body a.status) feed).ending ≡ Whole
+    → ReadsAnswer m ((coded_text (answer_coding a p) p.persistence a.data_length (top_with a p u) (is_withheld p.no_body a.status) feed).bytes ++ rest)
     (record { head = head_read a p (framing_of (answer_coding a p) a.data_length feed); body = sent_body (answer_coding a p) a.data_length feed (is_withheld p.no_body a.status) }) rest
 upgrade-back m a feed p rest (Some x) e r h = cc
 upgrade-back m a feed p rest None e r h =
-    coding-back m (version_of p) a.status a.headers (listed_of a p) p.date (is_withheld p.no_body a.status) (known-of m a feed p r) rest (answer_coding a p) a.data_length feed r.length_fits h
+    coding-back m (version_of p) a.status a.headers (listed_of a p) p.date (is_withheld p.no_body a.status) (known-of m a feed p r) rest (answer_coding a p) p.persistence a.data_length feed r.length_fits h
 
 head-back : (m : Method) (a : Answer) (feed : Feed) (p : Printing) (rest : List ℕ) (framing : FramingHeader) (u : Option (List ℕ)) → u ≡ None → IsReadableAnswer m a feed p → IsAlone m (head_read a p) rest (Some framing)
     → ReadsAnswer m (top_with a p u framing ++ rest) (record { head = head_read a p framing; body = [] }) rest

@@ -1,6 +1,7 @@
 -- From the parts of an answer to its text.
 use Rattle.std.proofs.Common.{◌≡◌, ℕ, ◌<◌, ◌^◌, Bool, List, [], ◌++◌, length, Option, Some, None, Result, Err, IfSome, refl, sym, ◌∙◌, subst, inl, inr, ◌⊎◌, ⊎_elim, append-nil, Ok, if◌then◌else◌}
 use Rattle.std.specs.List.{list_all}
+use Rattle.std.specs.Option.{option_map}
 use Rattle.tiny_http_text.specs.Bytes.{is_ascii}
 use Rattle.tiny_http_response.specs.Coding.{chosen_coding}
 use Rattle.tiny_http_head.specs.declared.common.Header.{Header}
@@ -22,6 +23,9 @@ use Rattle.tiny_http_response.specs.Answer.{Answer, PrintsText, LacksMemory, Pri
 use Rattle.tiny_http_response.specs.declared.answer_head.Top.{Top}
 use Rattle.tiny_http_response.specs.Top.{top_text, top_listed}
 use Rattle.tiny_http_response.specs.ByStandard.{status_version, contentless_framing}
+use Rattle.tiny_http_response.specs.Owing.{owed, owing, owing_feed}
+use Rattle.tiny_http_response.specs.declared.owing.OwingReader.{OwingReader}
+use Rattle.tiny_http_response.specs.declared.answer_context.Persistence.{Persistence}
 use Rattle.tiny_http_body.specs.Text.{Text, Whole, Broken, Prints, whole, nothing_sent, prepend_text, identity_body, chunked_body}
 
 -- a head has bytes
@@ -58,28 +62,37 @@ Answered-contentless {T = T} (Some f) a b r ans p framing u e h = λ few.
     let some : head_text_of ans p framing ≡ [] → ⊥ = head-alone (status_version p.persistence p.version) ans.status p.upgrade ans.headers (listed_with p.upgrade p.persistence p.version ans) p.date framing in
     inl (subst U (sym u) (subst C e (Prints-from_puts a b r (head_text_of ans p framing) h, λ none. absurd (some none))))
 
--- any other answer: in chunks, or not coded
-abbrev pub PrintsIn : {T : Type 0} → Option Feed → Sink → Sink → Result T Error → Coding → Option ℕ → (FramingHeader → List ℕ) → Bool → Type 0
-PrintsIn o a b r Identity known top withheld = IfSome o (λ f. length f.bytes < 2 ^ 63 → PrintsUncoded a b r known (uncoded_text known top withheld f))
-PrintsIn o a b r Chunked known top withheld = IfSome o (λ f. length f.bytes < 2 ^ 63 → Prints a b r (prepend_text (top TransferEncoding) (body_unless_withheld withheld (chunked_body f))))
+-- any other answer: in chunks, from data that owe their length by the standard; or not coded
+abbrev pub PrintsIn : {T : Type 0} → Option Feed → Sink → Sink → Result T Error → Coding → Option Persistence → Option ℕ → (FramingHeader → List ℕ) → Bool → Type 0
+PrintsIn o a b r Identity says known top withheld = IfSome o (λ f. length f.bytes < 2 ^ 63 → PrintsUncoded a b r known (uncoded_text known top withheld f))
+PrintsIn o a b r Chunked says known top withheld = IfSome (option_map (owing (owed says known)) o) (λ f. length f.bytes < 2 ^ 63 → Prints a b r (prepend_text (top TransferEncoding) (body_unless_withheld withheld (chunked_body f))))
 
-coded : {T : Type 0} (f : Feed) (a b : Sink) (r : Result T Error) (coding : Coding) (known : Option ℕ) (top : FramingHeader → List ℕ) (withheld : Bool) → length f.bytes < 2 ^ 63 → PrintsIn (Some f) a b r coding known top withheld
-    → ((framing : FramingHeader) (rest : List ℕ) → top framing ++ rest ≡ [] → ⊥) → PrintsText a b r (coded_text coding known top withheld f) ⊎ ((coding ≡ Identity) × (known ≡ None) × LacksMemory a b r)
-coded f a b r Identity known top withheld few h some = ⊎_elim (λ x. inl x) (λ x. inr (refl, x.0, x.1)) (h few)
-coded f a b r Chunked known top withheld few h some = inl (h few, λ e. absurd (some TransferEncoding (body_unless_withheld withheld (chunked_body f)).bytes e))
+-- what is printed of a reader of data that owe
+pub Printed-owing : {R T : Type 0} (feed : R → Option Feed) (source : OwingReader R) (inner : R) (k : ℕ) (a b : Sink) (r : Result T Error) (says : Option Persistence) (known : Option ℕ) (top : FramingHeader → List ℕ) (withheld : Bool) → source ≡ record { inner = inner; left = k } → k ≡ owed says known
+    → IfSome (owing_feed feed source) (λ f. length f.bytes < 2 ^ 63 → Prints a b r (prepend_text (top TransferEncoding) (body_unless_withheld withheld (chunked_body f)))) → PrintsIn (feed inner) a b r Chunked says known top withheld
+Printed-owing {R} {T} feed source inner k a b r says known top withheld e l h =
+    let P : Feed → Type 0 = λ f. length f.bytes < 2 ^ 63 → Prints a b r (prepend_text (top TransferEncoding) (body_unless_withheld withheld (chunked_body f))) in
+    let Q : OwingReader R → Type 0 = λ x. IfSome (owing_feed feed x) P in
+    let L : ℕ → Type 0 = λ n. IfSome (option_map (owing n) (feed inner)) P in
+    subst L l (subst Q e h)
+
+coded : {T : Type 0} (f : Feed) (a b : Sink) (r : Result T Error) (coding : Coding) (says : Option Persistence) (known : Option ℕ) (top : FramingHeader → List ℕ) (withheld : Bool) → length f.bytes < 2 ^ 63 → PrintsIn (Some f) a b r coding says known top withheld
+    → ((framing : FramingHeader) (rest : List ℕ) → top framing ++ rest ≡ [] → ⊥) → PrintsText a b r (coded_text coding says known top withheld f) ⊎ ((coding ≡ Identity) × (known ≡ None) × LacksMemory a b r)
+coded f a b r Identity says known top withheld few h some = ⊎_elim (λ x. inl x) (λ x. inr (refl, x.0, x.1)) (h few)
+coded f a b r Chunked says known top withheld few h some = inl (h few, λ e. absurd (some TransferEncoding (body_unless_withheld withheld (chunked_body (owing (owed says known) f))).bytes e))
 
 pub Answered-coded : {T : Type 0} (o : Option Feed) (a b : Sink) (r : Result T Error) (ans : Answer) (p : Printing) (coding : Coding) (withheld : Bool) → p.upgrade ≡ None → contentless_framing p.persistence ans.contentless ans.status ans.data_length ≡ None → coding ≡ chosen_coding p.version p.asked_coding ans.status ans.threshold ans.data_length → withheld ≡ is_withheld p.no_body ans.status
-    → PrintsIn o a b r coding ans.data_length (λ framing. head_text_of ans p framing) withheld
+    → PrintsIn o a b r coding p.persistence ans.data_length (λ framing. head_text_of ans p framing) withheld
     → IfSome o (λ f. length f.bytes < 2 ^ 63 → PrintsAnswer a b r ans f p)
 unfolding text_of answer_coding
 Answered-coded None a b r ans p coding withheld u k e w h = tt
 Answered-coded {T = T} (Some f) a b r ans p coding withheld u k e w h = λ few.
     let top : FramingHeader → List ℕ = λ framing. head_text_of ans p framing in
-    let W : Bool → Type 0 = λ x. PrintsIn (Some f) a b r coding ans.data_length top x in
+    let W : Bool → Type 0 = λ x. PrintsIn (Some f) a b r coding p.persistence ans.data_length top x in
     let U : Option (List ℕ) → Type 0 = λ x. PrintsText a b r (with_upgrade x ans f p) in
     let K : Option FramingHeader → Type 0 = λ x. PrintsText a b r (text_by_code x ans f p) in
-    let P : Coding → Type 0 = λ x. PrintsText a b r (coded_text x ans.data_length top (is_withheld p.no_body ans.status) f) ⊎ ((x ≡ Identity) × (ans.data_length ≡ None) × LacksMemory a b r) in
-    ⊎_elim (λ x. inl (subst U (sym u) (subst K (sym k) x))) (λ x. inr ((u, k, x.0, x.1), x.2)) (subst P e (coded f a b r coding ans.data_length top (is_withheld p.no_body ans.status) few (subst W w h) (λ framing. head-some (status_version p.persistence p.version) ans.status p.upgrade ans.headers (listed_with p.upgrade p.persistence p.version ans) p.date framing)))
+    let P : Coding → Type 0 = λ x. PrintsText a b r (coded_text x p.persistence ans.data_length top (is_withheld p.no_body ans.status) f) ⊎ ((x ≡ Identity) × (ans.data_length ≡ None) × LacksMemory a b r) in
+    ⊎_elim (λ x. inl (subst U (sym u) (subst K (sym k) x))) (λ x. inr ((u, k, x.0, x.1), x.2)) (subst P e (coded f a b r coding p.persistence ans.data_length top (is_withheld p.no_body ans.status) few (subst W w h) (λ framing. head-some (status_version p.persistence p.version) ans.status p.upgrade ans.headers (listed_with p.upgrade p.persistence p.version ans) p.date framing)))
 
 pub few-failed : (o : Option Feed) (a b : Sink) (front : List ℕ) (e : Error) (body : Feed → Text) → Failed a b front (error_kind e) → IfSome o (λ f. length f.bytes < 2 ^ 63 → Prints {T = Unit {0}} a b (Err e) (prepend_text front (body f)))
 few-failed None a b front e body h = tt
@@ -124,10 +137,10 @@ Uncoded-gathered None a b r front withheld h = tt
 Uncoded-gathered (Some f) a b r front withheld h = λ few. ⊎_elim (λ x. inl x) (λ x. inr (refl, x)) (h few)
 
 -- an answer whose text was sent has bytes
-coded-some : (coding : Coding) (known : Option ℕ) (top : FramingHeader → List ℕ) (withheld : Bool) (f : Feed) → ((framing : FramingHeader) (rest : List ℕ) → top framing ++ rest ≡ [] → ⊥) → (coded_text coding known top withheld f).ending ≡ Whole → (coded_text coding known top withheld f).bytes ≡ [] → ⊥
-coded-some Chunked known top withheld f some e none = some TransferEncoding (body_unless_withheld withheld (chunked_body f)).bytes none
-coded-some Identity (Some n) top withheld f some e none = some (ContentLength n) (body_unless_withheld withheld (identity_body n f)).bytes none
-coded-some Identity None top withheld f some e none = by f.stop e none
+coded-some : (coding : Coding) (says : Option Persistence) (known : Option ℕ) (top : FramingHeader → List ℕ) (withheld : Bool) (f : Feed) → ((framing : FramingHeader) (rest : List ℕ) → top framing ++ rest ≡ [] → ⊥) → (coded_text coding says known top withheld f).ending ≡ Whole → (coded_text coding says known top withheld f).bytes ≡ [] → ⊥
+coded-some Chunked says known top withheld f some e none = some TransferEncoding (body_unless_withheld withheld (chunked_body (owing (owed says known) f))).bytes none
+coded-some Identity says (Some n) top withheld f some e none = some (ContentLength n) (body_unless_withheld withheld (identity_body n f)).bytes none
+coded-some Identity says None top withheld f some e none = by f.stop e none
   where
     by : (s : Stop) → (gathered_body s (top (ContentLength (length f.bytes))) withheld f.bytes).ending ≡ Whole → (gathered_body s (top (ContentLength (length f.bytes))) withheld f.bytes).bytes ≡ [] → ⊥
     by End e none = some (ContentLength (length f.bytes)) (if withheld then [] else f.bytes) none
@@ -136,7 +149,7 @@ coded-some Identity None top withheld f some e none = by f.stop e none
 content-some : (a : Answer) (f : Feed) (p : Printing) (k : Option FramingHeader) → (text_by_code k a f p).ending ≡ Whole → (text_by_code k a f p).bytes ≡ [] → ⊥
 content-some a f p (Some framing) whole none = head-alone (status_version p.persistence p.version) a.status p.upgrade a.headers (listed_with p.upgrade p.persistence p.version a) p.date framing none
 content-some a f p None whole none =
-    coded-some (answer_coding a p) a.data_length (head_text_of a p) (is_withheld p.no_body a.status) f (λ framing. head-some (status_version p.persistence p.version) a.status p.upgrade a.headers (listed_with p.upgrade p.persistence p.version a) p.date framing) whole none
+    coded-some (answer_coding a p) p.persistence a.data_length (head_text_of a p) (is_withheld p.no_body a.status) f (λ framing. head-some (status_version p.persistence p.version) a.status p.upgrade a.headers (listed_with p.upgrade p.persistence p.version a) p.date framing) whole none
 
 pub text-some : (a : Answer) (f : Feed) (p : Printing) → p.upgrade ≡ None → (text_of a f p).ending ≡ Whole → (text_of a f p).bytes ≡ [] → ⊥
 unfolding text_of

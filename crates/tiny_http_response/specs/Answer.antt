@@ -1,6 +1,6 @@
 -- Answers, and the text that is sent for one (RFC 9112, sections 4, 5 and 6).
-use Rattle.std.specs.Prelude.{◌≡◌, ℕ, Bool, ◌||◌, ◌&&◌, List, [], ◌++◌, length, Option, Some, None, Result, Ok, Err}
-use Rattle.std.specs.Prelude.{codes, decimal, ◌==◌, if◌then◌else◌, ◌⊎◌, true, false}
+use Rattle.std.specs.Prelude.{◌≡◌, ℕ, Bool, ◌||◌, List, [], ◌++◌, length, Option, Some, None, Result, Ok, Err}
+use Rattle.std.specs.Prelude.{codes, decimal, if◌then◌else◌, ◌⊎◌, true, false}
 use Rattle.std.specs.List.{flat_map, list_any, list_all}
 use Rattle.std.specs.IoError.{error_kind}
 use Rattle.std.specs.declared.io.Error.{Error}
@@ -22,6 +22,7 @@ use Rattle.tiny_http_io.specs.declared.device.Stop.TheVariants.{End, Fault}
 use Rattle.tiny_http_response.specs.declared.answer_context.Persistence.{Persistence}
 use Rattle.tiny_http_response.specs.ByStandard.{status_version, own_headers, listed_headers, has_no_content}
 use Rattle.tiny_http_response.specs.ByStandard.{contentless_framing}
+use Rattle.tiny_http_response.specs.Owing.{owed, owing}
 use Rattle.tiny_http_response.specs.declared.response.TheConstants.{THRESHOLD}
 use Rattle.tiny_http_body.specs.Text.{Text, prepend_text, whole, nothing_sent, identity_body, chunked_body, Prints}
 
@@ -150,10 +151,11 @@ uncoded_text (Some n) top withheld feed =
 uncoded_text None top withheld feed =
     gathered_body feed.stop (top (ContentLength (length feed.bytes))) withheld feed.bytes
 
-abbrev pub coded_text : Coding → Option ℕ → (FramingHeader → List ℕ) → Bool → Feed → Text
-coded_text Identity length top withheld feed = uncoded_text length top withheld feed
-coded_text Chunked length top withheld feed =
-    prepend_text (top TransferEncoding) (body_unless_withheld withheld (chunked_body feed))
+-- In chunks an end of the data before the length that they owe is a fault: no last chunk follows.
+abbrev pub coded_text : Coding → Option Persistence → Option ℕ → (FramingHeader → List ℕ) → Bool → Feed → Text
+coded_text Identity says length top withheld feed = uncoded_text length top withheld feed
+coded_text Chunked says length top withheld feed =
+    prepend_text (top TransferEncoding) (body_unless_withheld withheld (chunked_body (owing (owed says length) feed)))
 
 -- the headers behind the date: an upgrade says nothing more of its connection
 abbrev pub listed_with : Option (List ℕ) → Option Persistence → HTTPVersion → Answer → List Header
@@ -174,7 +176,7 @@ answer_coding a p = chosen_coding p.version p.asked_coding a.status a.threshold 
 abbrev pub text_by_code : Option FramingHeader → Answer → Feed → Printing → Text
 text_by_code (Some framing) a feed p = whole (head_text_of a p framing)
 text_by_code None a feed p =
-    coded_text (answer_coding a p) a.data_length (head_text_of a p) (is_withheld p.no_body a.status) feed
+    coded_text (answer_coding a p) p.persistence a.data_length (head_text_of a p) (is_withheld p.no_body a.status) feed
 
 -- an upgrade is a head alone, and its protocol is ASCII
 abbrev pub with_upgrade : Option (List ℕ) → Answer → Feed → Printing → Text

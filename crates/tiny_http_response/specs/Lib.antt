@@ -1,6 +1,7 @@
 pub mod Coding
 pub mod Asked
 pub mod ByStandard
+pub mod Owing
 pub mod Answer
 pub mod Streaming
 pub mod AddHeader

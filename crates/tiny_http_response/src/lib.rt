@@ -10,6 +10,7 @@ mod by_standard;
 pub mod coding;
 pub mod laws;
 mod making;
+mod owing;
 mod page;
 mod readable;
 pub mod response;

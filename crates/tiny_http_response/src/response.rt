@@ -25,6 +25,7 @@ use crate::answer_context::AnswerContext;
 use crate::answer_head::{Top, put_head};
 use crate::by_standard::{contentless_framing, has_no_content};
 use crate::coding::{Coding, FramingHeader, asked_coding, choose};
+use crate::owing::{OwingReader, owed};
 use crate::readable::are_readable;
 use httpdate::HttpDate;
 use std::alloc::{AllocError, Global};
@@ -97,7 +98,8 @@ fn text_plain(alloc: Global) -> Result<Header, AllocError>
 impl<F: Read + OpenFile> Response<Metered<F>> {
     /// An answer 200 with an open file as its data, and no headers (as tiny_http). The length is the file's, by its
     /// metadata, and unknown where that can't be read. A file of `THRESHOLD` bytes or more is sent in chunks, and its
-    /// length isn't said; after `with_chunked_threshold(usize::MAX)` it is. It takes no memory.
+    /// length isn't said; after `with_chunked_threshold(usize::MAX)` it is. One that shrinks meanwhile is a fault of
+    /// kind `UnexpectedEof`, in chunks by the standard alone. It takes no memory.
     pub fn from_file(alloc: Global, file: F) -> Response<Metered<F>>
         ensures status { result.answer.status ≡ 200 }
         ensures headers { result.answer.headers ≡ [] }
@@ -430,9 +432,9 @@ impl<R> Response<R> {
     /// 304. What the request's `TE` header asks for decides how the body is coded, as `coding::choose` says.
     ///
     /// The first fault, of the writer or of the data, is reported, and nothing is written after it. Data that end
-    /// before their length are UnexpectedEof. Data of unknown length that aren't sent in chunks are read whole first:
-    /// a fault of them, or OutOfMemory, leaves nothing written, as InvalidInput does for a protocol that isn't ASCII.
-    /// It doesn't flush.
+    /// before their length are UnexpectedEof, unless they are sent in chunks. Data of unknown length that aren't sent
+    /// in chunks are read whole first: a fault of them, or OutOfMemory, leaves nothing written, as InvalidInput does
+    /// for a protocol that isn't ASCII. It doesn't flush.
     pub fn raw_print<W: WriteDevice>(
         self,
         alloc: Global,
@@ -470,7 +472,9 @@ impl<R> Response<R> {
     /// Prints head and body as `raw_print` does, for a request of which `context` has what the answer needs. Where
     /// the context says what becomes of the connection it is printed by the standard: the status line in version 1.1;
     /// `Connection` behind the date where there is something to say, but for an upgrade and a code below 200; no
-    /// header of more than one line. No data are read for a code below 200, a 204, a 205 and a 304.
+    /// header of more than one line. No data are read for a code below 200, a 204, a 205 and a 304. In chunks, too,
+    /// data that end before their length are UnexpectedEof: no last chunk is sent, by which a client sees that the
+    /// answer is incomplete (RFC 9112, section 8).
     pub fn print<W: WriteDevice>(
         self,
         alloc: Global,
@@ -507,12 +511,12 @@ impl<R> Response<R> {
         if let Some(protocol) = upgrade {
             return print_upgrade(writer, &top, protocol);
         }
-        let (data_length, threshold) = (self.data_length, self.threshold);
+        let (length, threshold) = (self.data_length, self.threshold);
         if let Some(framing) = contentless_framing(
             context.persistence,
             self.contentless,
             self.status,
-            data_length,
+            length,
         ) {
             return put_head(writer, &top, None, framing);
         }
@@ -520,15 +524,16 @@ impl<R> Response<R> {
             context.version,
             context.asked_coding,
             self.status,
-            data_length,
+            length,
             threshold,
         );
         let withheld = is_withheld(context.no_body, self.status);
         match coding {
-            Coding::Chunked => print_in_chunks(&mut data, writer, &top, withheld),
-            Coding::Identity => {
-                print_uncoded(alloc, &mut data, writer, &top, data_length, withheld)
+            Coding::Chunked => {
+                let mut data = OwingReader::new(data, owed(context.persistence, length));
+                print_in_chunks(&mut data, writer, &top, withheld)
             }
+            Coding::Identity => print_uncoded(alloc, &mut data, writer, &top, length, withheld),
         }
     }
 
