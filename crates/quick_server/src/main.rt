@@ -6,6 +6,7 @@ mod tests;
 
 use std::alloc::Global;
 use std::io::ErrorKind;
+use std::sync::Arc;
 use std::{env, io};
 use tiny_http::device::{ReadDevice, WriteDevice};
 use tiny_http::{
@@ -14,6 +15,7 @@ use tiny_http::{
 };
 
 /// Answers a request by its path. The request may be a server's, or a test's.
+#[derive(Drop)]
 struct ByPath;
 
 impl<R: ReadDevice + Drop, W: WriteDevice + Drop, Rt: Host> Handler<Rt, Request<R, W, Rt>>
@@ -33,5 +35,5 @@ fn main(rt: HostRuntime) -> io::Result<()> {
     let addr = ConfigListenAddr::from_socket_addrs(&rt, rt.alloc(), address.as_str())?;
     let config = ServerConfig { addr, ssl: None };
     let server = Server::with(rt, rt.alloc(), config, Profile::Standard, Limits::new())?;
-    server.serve_by(rt.alloc(), 4, &ByPath)
+    server.serve(rt.alloc(), &Arc::new(rt.alloc(), ByPath)?)
 }
