@@ -163,13 +163,15 @@ struct Progress {
     has_printed: AtomicBool,
 }
 
-// Prints once a minute what the server has counted, and once more when it has ended.
-fn report_counts<R: ServerRuntime, O: Write>(
+// Prints where the server listens, then once a minute what it has counted, and once more when it has ended.
+fn report_progress<R: ServerRuntime, O: Write>(
     rt: &R,
     server: &Server<R>,
     progress: &Progress,
     out: &mut O,
 ) {
+    let _ = writeln!(out, "listening on {}", server.server_addr());
+    let _ = out.flush();
     let mut seconds = 0u64;
     for _ in rt.forever() {
         if progress.has_ended.load(Ordering::SeqCst) {
@@ -219,8 +221,6 @@ where
 {
     let server = listen(rt, alloc, words)?;
     let mut out = out;
-    let _ = writeln!(out, "listening on {}", server.server_addr());
-    let _ = out.flush();
     let (told, counted) = (Arc::try_clone(&server)?, Arc::try_clone(&server)?);
     if thread::spawn(&rt, move || stop_when_told(&rt, alloc, &told, input)).is_err() {
         return Err(GuardedFault::OutOfMemory);
@@ -231,7 +231,7 @@ where
     };
     let progress = Arc::new(alloc, progress).map_err(|_| AllocError)?;
     let shown = Arc::try_clone(&progress)?;
-    if thread::spawn(&rt, move || report_counts(&rt, &counted, &shown, &mut out)).is_err() {
+    if thread::spawn(&rt, move || report_progress(&rt, &counted, &shown, &mut out)).is_err() {
         return Err(GuardedFault::OutOfMemory);
     }
     let served = answer_all(alloc, &server);
