@@ -14,7 +14,7 @@ use Rattle.tiny_http_body.specs.declared.framing.Profile.TheVariants as under
 use Rattle.tiny_http_body.specs.declared.framing.HeadRules.{HeadRules}
 use Rattle.tiny_http_body.specs.declared.framing.HeadRules.TheVariants as rule
 use Rattle.tiny_http_standard_head.specs.Judging.{is_1_0}
-use Rattle.tiny_http_standard_head.specs.Heads.{is_begun, Reading, ReadWhole, ReadBad, ReadOpen}
+use Rattle.tiny_http_standard_head.specs.Heads.{is_begun, Reading, ReadWhole, ReadBad, ReadTooMany, ReadOpen}
 use Rattle.tiny_http_body.specs.Framing.{head_limit}
 use Rattle.tiny_http_open_request.specs.Pipeline.{place_feed, Item, Asks, Refuses, Manner, plainly, by_the_standard, Refusal, BadRequest, RequestTimeout, ExpectationFailed, HeaderFieldsTooLarge, VersionNotSupported, RequestLineTooLong, CodingNotImplemented, MajorVersionNotSupported, Place, is_timed_out, is_cut_with_head, body_length_or_0, served_version, served_message, standard_framing, standard_cut, standard_heading, long_refusal, RulesHeadAt, is_head_method, BeginsWithin, IsTooLarge, IsRefused, Heading, Silence, Refused, Heads, HeadAt, FoundAt, ends_too_new, Pipeline}
 use Rattle.tiny_http_connection_laws.specs.ClientReads.{goes_by_standard}
@@ -127,6 +127,7 @@ cut-fits b stop = by (b && is_timed_out stop)
 
 standard-fits : (bytes : List ℕ) (stop : Stop) (r : Reading) → HeadingFits true (standard_heading r bytes stop)
 standard-fits bytes stop ReadBad = standard-manner
+standard-fits bytes stop ReadTooMany = standard-manner
 standard-fits bytes stop (ReadOpen behind) = by (nat_lt (length bytes) STANDARD_HEAD)
   where
     by : (t : Bool) → HeadingFits true (if t then standard_cut (is_begun bytes) stop else Refused (long_refusal behind) by_the_standard)

@@ -8,7 +8,7 @@ use Rattle.std.proofs.lemmas.Bool.{and_parts, ne_eqb}
 use Rattle.tiny_http_io.specs.Device.{Feed}
 use Rattle.tiny_http_io.specs.declared.device.Stop.{Stop}
 use Rattle.tiny_http_head.specs.Heads.{Message, is_too_new, version}
-use Rattle.tiny_http_standard_head.specs.Heads.{is_begun, Reading, ReadWhole, ReadBad, ReadOpen, AreReadAs}
+use Rattle.tiny_http_standard_head.specs.Heads.{is_begun, Reading, ReadWhole, ReadBad, ReadTooMany, ReadOpen, AreReadAs}
 use Rattle.tiny_http_standard_head.specs.Judging.{has_body, is_1_0}
 use Rattle.tiny_http_standard_head.specs.Lists.{has_element}
 use Rattle.tiny_http_body.specs.declared.framing.TheConstants.{LONGEST_WITH_HEAD, STANDARD_HEAD}
@@ -122,6 +122,7 @@ standard-owes bytes stop m f after h o = by h.0 h.1 h.2
   where
     by : (r : Reading) → AreReadAs (standard_front bytes) r → Heads m f after ≡ standard_heading r bytes stop → OpensBody f
     by ReadBad a e = cc
+    by ReadTooMany a e = cc
     by (ReadOpen b) a e = absurd (open-is_none (nat_lt (length bytes) STANDARD_HEAD) (is_begun bytes) stop m f after (long_refusal b) e)
     by (ReadWhole n more (Err refusal)) a e = cc
     by (ReadWhole n more (Ok s)) a e =

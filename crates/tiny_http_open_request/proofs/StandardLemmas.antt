@@ -6,7 +6,7 @@ use Rattle.tiny_http_io.specs.declared.device.Stop.{Stop}
 use Rattle.tiny_http_head.specs.Heads.{Message}
 use Rattle.tiny_http_standard_head.specs.declared.judging.HeadSummary.{HeadSummary}
 use Rattle.tiny_http_standard_head.specs.Judging.{Judges}
-use Rattle.tiny_http_standard_head.specs.Heads.{is_begun, BeginsWithHead, ReadWhole, ReadBad, ReadOpen}
+use Rattle.tiny_http_standard_head.specs.Heads.{is_begun, BeginsWithHead, ReadWhole, ReadBad, ReadTooMany, ReadOpen}
 use Rattle.tiny_http_body.specs.declared.framing.TheConstants.{STANDARD_HEAD}
 use Rattle.tiny_http_body.specs.declared.framing.Framing.{Framing}
 use Rattle.tiny_http_body.specs.declared.framing.Form.{Form}
@@ -67,6 +67,7 @@ whole-parts bytes stop m f after n front s begins judges e = by (is_cut_with_hea
 
 pub standard-parts : (bytes : List ℕ) (stop : Stop) (m : Message) (f : Framing) (after : List ℕ) → StandardHeadAt bytes stop (Heads m f after) → IsStandardHeads bytes m f after
 standard-parts bytes stop m f after (ReadBad, a, e) = cc
+standard-parts bytes stop m f after (ReadTooMany, a, e) = cc
 standard-parts bytes stop m f after (ReadOpen behind, a, e) = absurd (open-no_heads behind bytes stop m f after e)
 standard-parts bytes stop m f after (ReadWhole n front (Err refusal), a, e) = cc
 standard-parts bytes stop m f after (ReadWhole n front (Ok s), a, e) = whole-parts bytes stop m f after n front s a.0 a.1 e

@@ -21,7 +21,7 @@ use Rattle.tiny_http_standard_head.specs.declared.heads.StandardFault.TheVariant
 use Rattle.tiny_http_standard_head.specs.declared.heads.StandardRead.TheVariants as standard
 use Rattle.tiny_http_standard_head.specs.declared.judging.Judgement.TheVariants as judged
 use Rattle.tiny_http_standard_head.specs.Judging.{is_1_0, Judges}
-use Rattle.tiny_http_standard_head.specs.Heads.{Line, behind_empty_line, BeginsWithFieldLines, BeginsWithHead, HasOpenRequestLine, HasOpenField, is_begun, status_of, message_of, Reads, ReadWhole, ReadBad, ReadOpen}
+use Rattle.tiny_http_standard_head.specs.Heads.{Line, behind_empty_line, BeginsWithFieldLines, BeginsWithHead, HasOpenRequestLine, HasOpenField, is_begun, status_of, message_of, Reads, ReadWhole, ReadBad, ReadTooMany, ReadOpen}
 use Rattle.tiny_http_standard_head.specs.SourceHeads.{ReadsFrom}
 use Rattle.tiny_http_standard_head.proofs.HeadsLemmas.{line-shorter}
 use Rattle.tiny_http_body.specs.declared.framing.TheConstants.{STANDARD_HEAD}
@@ -44,6 +44,7 @@ abbrev fault_refusal : StandardFault → Refusal
 fault_refusal fault.BadLine = BadRequest
 fault_refusal fault.RequestLineTooLong = RequestLineTooLong
 fault_refusal fault.HeaderFieldsTooLarge = HeaderFieldsTooLarge
+fault_refusal fault.TooManyFields = HeaderFieldsTooLarge
 fault_refusal (fault.Judged refusal) = standard_refusal refusal
 
 long-at : (behind : Bool) (bytes : List ℕ) (stop : Stop) → STANDARD_HEAD ≤ length bytes → Refused (long_refusal behind) by_the_standard ≡ standard_open behind bytes stop
@@ -53,6 +54,7 @@ faulty-at : (f : Feed) (e : StandardFault) → Reads STANDARD_HEAD f.bytes (stan
 faulty-at f fault.BadLine h = (ReadBad, h, refl)
 faulty-at f fault.RequestLineTooLong h = (ReadOpen false, h.1, long-at false f.bytes f.stop h.0)
 faulty-at f fault.HeaderFieldsTooLarge h = (ReadOpen true, h.1, long-at true f.bytes f.stop h.0)
+faulty-at f fault.TooManyFields h = (ReadTooMany, h, refl)
 faulty-at f (fault.Judged refusal) h = (ReadWhole h.0 h.1 (Err refusal), (h.2, h.3), refl)
 
 pub standard-faulty : (date : HttpDate) (o p : Option Feed) (e : StandardFault) (r : Result HeadRead AllocError) → ReadsFrom STANDARD_HEAD o p (standard.Refused e) → RefusesWith (status_of e) by_the_standard date r → ReadsHead Standard at.Head date o p r
@@ -60,6 +62,7 @@ standard-faulty date None p e r h k = tt
 standard-faulty date (Some f) p fault.BadLine r h k = refused-at Standard date f p BadRequest by_the_standard r refl (faulty-at f fault.BadLine h.0) k
 standard-faulty date (Some f) p fault.RequestLineTooLong r h k = refused-at Standard date f p RequestLineTooLong by_the_standard r refl (faulty-at f fault.RequestLineTooLong h.0) k
 standard-faulty date (Some f) p fault.HeaderFieldsTooLarge r h k = refused-at Standard date f p HeaderFieldsTooLarge by_the_standard r refl (faulty-at f fault.HeaderFieldsTooLarge h.0) k
+standard-faulty date (Some f) p fault.TooManyFields r h k = refused-at Standard date f p HeaderFieldsTooLarge by_the_standard r refl (faulty-at f fault.TooManyFields h.0) k
 standard-faulty date (Some f) p (fault.Judged judged.UnsupportedVersion) r h k = refused-at Standard date f p MajorVersionNotSupported by_the_standard r refl (faulty-at f (fault.Judged judged.UnsupportedVersion) h.0) k
 standard-faulty date (Some f) p (fault.Judged judged.InvalidHead) r h k = refused-at Standard date f p BadRequest by_the_standard r refl (faulty-at f (fault.Judged judged.InvalidHead) h.0) k
 standard-faulty date (Some f) p (fault.Judged judged.UnknownCoding) r h k = refused-at Standard date f p CodingNotImplemented by_the_standard r refl (faulty-at f (fault.Judged judged.UnknownCoding) h.0) k

@@ -17,7 +17,7 @@ use Rattle.tiny_http_standard_head.specs.declared.judging.HeadSummary.{HeadSumma
 use Rattle.tiny_http_standard_head.specs.declared.judging.Judgement.{Judgement}
 use Rattle.tiny_http_standard_head.specs.declared.judging.Judgement.TheVariants as judged
 use Rattle.tiny_http_standard_head.specs.Judging.{is_1_0}
-use Rattle.tiny_http_standard_head.specs.Heads.{is_begun, Reading, ReadWhole, ReadBad, ReadOpen, AreReadAs}
+use Rattle.tiny_http_standard_head.specs.Heads.{is_begun, Reading, ReadWhole, ReadBad, ReadTooMany, ReadOpen, AreReadAs}
 use Rattle.tiny_http_body.specs.declared.framing.TheConstants.{STANDARD_HEAD}
 use Rattle.tiny_http_body.specs.declared.framing.HeadRules.{HeadRules}
 use Rattle.tiny_http_body.specs.declared.framing.HeadRules.TheVariants as rules
@@ -48,7 +48,7 @@ pub data Refusal : Type 0 where
   RequestTimeout : Refusal
   -- what it expects can't be met
   ExpectationFailed : Refusal
-  -- it is larger than the profile allows
+  -- it is larger than the profile allows, or has more field lines
   HeaderFieldsTooLarge : Refusal
   -- its version is above 1.1
   VersionNotSupported : Refusal
@@ -263,6 +263,7 @@ standard_heads m f after stop =
 -- WHAT STANDS THERE by the standard, by what the first bytes are read as. All refusals are in version 1.1.
 abbrev pub standard_heading : Reading → List ℕ → Stop → Heading
 standard_heading ReadBad bytes stop = Refused BadRequest by_the_standard
+standard_heading ReadTooMany bytes stop = Refused HeaderFieldsTooLarge by_the_standard
 standard_heading (ReadOpen behind_request_line) bytes stop = standard_open behind_request_line bytes stop
 standard_heading (ReadWhole m after (Err refusal)) bytes stop = Refused (standard_refusal refusal) by_the_standard
 standard_heading (ReadWhole m after (Ok s)) bytes stop =
