@@ -2,7 +2,8 @@
 
    REFUSE_NTH=N       the Nth call for memory fails, counted from 1
    REFUSE_EVERY=N     one call for memory in N fails, by a fixed series of numbers
-   REFUSE_SOCKETS=N   one recv, send or accept4 in N fails by EINTR, and one in N moves a single byte
+   REFUSE_SOCKETS=N   one recv, send, sendmsg or accept4 in N fails by EINTR, and one in N moves a single byte
+   REFUSE_BYTES=N     one recv, send or sendmsg in N moves a single byte
    REFUSE_MARK=FILE   this file is made once a call has failed
    REFUSE_OFF=1       nothing fails before the signal SIGUSR1; SIGUSR2 ends it again */
 #define _GNU_SOURCE
@@ -18,7 +19,7 @@
 extern void *__libc_malloc(size_t size);
 extern void *__libc_realloc(void *old, size_t size);
 
-static long nth, every, sockets;
+static long nth, every, sockets, bytes;
 static const char *mark;
 static atomic_int is_on;
 static atomic_long calls;
@@ -35,6 +36,7 @@ __attribute__((constructor)) static void begin(void) {
     nth = number("REFUSE_NTH");
     every = number("REFUSE_EVERY");
     sockets = number("REFUSE_SOCKETS");
+    bytes = number("REFUSE_BYTES");
     mark = getenv("REFUSE_MARK");
     signal(SIGUSR1, set_on);
     signal(SIGUSR2, set_on);
@@ -75,10 +77,13 @@ static int is_interrupted(void) {
     return fail_by(EINTR);
 }
 
-/* How many bytes a call of a socket may move. */
-static size_t room(size_t length) {
-    return length > 1 && atomic_load(&is_on) && is_one_in(sockets) ? 1 : length;
+/* Whether a call of a socket is to move a single byte. */
+static int is_short(void) {
+    return atomic_load(&is_on) && (is_one_in(sockets) || is_one_in(bytes));
 }
+
+/* How many bytes a call of a socket may move. */
+static size_t room(size_t length) { return length > 1 && is_short() ? 1 : length; }
 
 ssize_t recv(int file, void *bytes, size_t length, int flags) {
     static ssize_t (*next)(int, void *, size_t, int);
@@ -90,6 +95,23 @@ ssize_t send(int file, const void *bytes, size_t length, int flags) {
     static ssize_t (*next)(int, const void *, size_t, int);
     if (!next) next = (ssize_t (*)(int, const void *, size_t, int))dlsym(RTLD_NEXT, "send");
     return is_interrupted() ? -1 : next(file, bytes, room(length), flags);
+}
+
+ssize_t sendmsg(int file, const struct msghdr *message, int flags) {
+    static ssize_t (*next)(int, const struct msghdr *, int);
+    if (!next) next = (ssize_t (*)(int, const struct msghdr *, int))dlsym(RTLD_NEXT, "sendmsg");
+    if (is_interrupted()) return -1;
+    for (size_t at = 0; at < message->msg_iovlen; at++) {
+        if (message->msg_iov[at].iov_len > 0 && is_short()) {
+            struct iovec one = {message->msg_iov[at].iov_base, 1};
+            struct msghdr byte = *message;
+            byte.msg_iov = &one;
+            byte.msg_iovlen = 1;
+            return next(file, &byte, flags);
+        }
+        if (message->msg_iov[at].iov_len > 0) break;
+    }
+    return next(file, message, flags);
 }
 
 int accept4(int file, struct sockaddr *address, socklen_t *length, int flags) {

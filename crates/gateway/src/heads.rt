@@ -40,18 +40,14 @@ fn is_hop(header: &Header, headers: &[Header]) -> bool {
         || has_element(headers, "Connection", header.field.as_str().as_str())
 }
 
-// The host in an absolute target, without a user's name (RFC 9112, section 3.2.2).
+// The host in an absolute target, which by the standard is one (RFC 9112, section 3.2.2).
 fn host_in(target: &str) -> Option<&str> {
     let (scheme, rest) = target.split_once("://")?;
     if scheme.is_empty() || !scheme.bytes().all(|b| b.is_ascii_alphanumeric()) {
         return None;
     }
-    let end = rest.find(|letter| matches!(letter, '/' | '?' | '#'));
-    let authority = rest.get(..end.unwrap_or(rest.len())).unwrap_or(rest);
-    Some(match authority.rsplit_once('@') {
-        Some((_, host)) => host,
-        None => authority,
-    })
+    let end = rest.find(|letter| matches!(letter, '/' | '?'));
+    Some(rest.get(..end.unwrap_or(rest.len())).unwrap_or(rest))
 }
 
 // The name of this gateway in `Via`.
