@@ -45,7 +45,7 @@ coded-whole Identity says top true = refl
 coded-whole Identity says top false = refl
 coded-whole Chunked says top true = refl
 coded-whole Chunked None top false = refl
-coded-whole Chunked (Some persistence) top false = refl
+coded-whole Chunked (Some said) top false = refl
 
 -- or a head alone by its code
 content-whole : (k : Option FramingHeader) (a : Answer) (feed : Feed) (p : Printing) → ((coding : Coding) → (coded_text coding p.persistence a.data_length (head_text_of a p) (is_withheld p.no_body a.status) feed).ending ≡ Whole) → (text_by_code k a feed p).ending ≡ Whole
@@ -95,7 +95,7 @@ chunked-line = omega arith
 no-chunk : (says : Option Persistence) → length (chunked_body (owing (owed says (Some 0)) (whole_feed []))).bytes ≤ 5
 unfolding full_chunks left_over
 no-chunk None = omega arith
-no-chunk (Some persistence) = omega arith
+no-chunk (Some said) = omega arith
 
 coded-length : (coding : Coding) (says : Option Persistence) (v : HTTPVersion) (withheld : Bool) (d : HttpDate) → v.0 < 256 → v.1 < 256 → length (date_text d) ≡ 29
     → length (coded_text coding says (Some 0) (λ framing. answer_head_text (status_version says v) 500 None [] (listed_headers says v 500 None []) d framing) withheld (whole_feed [])).bytes < 168
@@ -178,7 +178,7 @@ text-whole Identity says text top true = refl
 text-whole Identity says text top false = rw (le-leb (length text) (length text) (omega arith)) refl
 text-whole Chunked says text top true = refl
 text-whole Chunked None text top false = rw (le-leb 0 (length text) (omega arith)) refl
-text-whole Chunked (Some persistence) text top false = rw (le-leb (length text) (length text) (omega arith)) refl
+text-whole Chunked (Some said) text top false = rw (le-leb (length text) (length text) (omega arith)) refl
 
 response-whole : (status : ℕ) (headers : List Header) (text : List ℕ) (m : Manner) (no_body : Bool) (date : HttpDate) → (response_text (response_of status headers text) (own_printing m no_body date)).ending ≡ Whole
 unfolding text_of
