@@ -1,12 +1,15 @@
 //! A plain reading of what a client sends, by the standard profile: all of its bytes at once, line by line, without a
 //! buffer. What connections hand out is compared with it. It is written from docs/RULES.md, and shares no code with
-//! the server. It knows no limit of a head: a client that it reads sends fewer than 65,536 bytes.
+//! the server. It knows no limit of a head's bytes: a client that it reads sends fewer than 65,536 bytes.
 use crate::parts::{RequestWords, SHORT, add_header, decimal};
 use std::alloc::{AllocError, Global};
 use std::fmt::Write;
 
 // The most bytes of a counted body that are skipped when it is given up.
 const SKIPPED: usize = 65_536;
+
+// The most header lines that a head has.
+const MOST_HEADERS: usize = 256;
 
 // A header: its name, and its value as it is handed out.
 type Field<'a> = (&'a str, String);
@@ -79,13 +82,18 @@ fn is_host(text: &str) -> bool {
     }
 }
 
-// Whether it is the value of a `Host`: empty, or a host, behind which a colon and digits may stand.
-fn is_host_value(value: &str) -> bool {
-    if value.is_empty() || is_host(value) {
+// Whether it is a host, behind which a colon and digits may stand.
+fn is_host_with_port(text: &str) -> bool {
+    if is_host(text) {
         return true;
     }
-    value.rsplit_once(':').is_some_and(|(host, port)| is_host(host)
+    text.rsplit_once(':').is_some_and(|(host, port)| is_host(host)
         && port.bytes().all(|byte| byte.is_ascii_digit()))
+}
+
+// Whether it is the value of a `Host`.
+fn is_host_value(value: &str) -> bool {
+    value.is_empty() || is_host_with_port(value)
 }
 
 // Whether it is a host, a colon and a port.
@@ -102,11 +110,8 @@ fn is_absolute(target: &str) -> bool {
         return false;
     };
     let is_known = scheme.eq_ignore_ascii_case("http") || scheme.eq_ignore_ascii_case("https");
-    is_known
-        && rest
-            .bytes()
-            .next()
-            .is_some_and(|first| !matches!(first, b'/' | b'?' | b'#'))
+    let mut parts = rest.split(|letter| matches!(letter, '/' | '?'));
+    is_known && parts.next().is_some_and(is_host_with_port)
 }
 
 // Whether it is a target of this method.
@@ -199,6 +204,9 @@ fn headers_of(alloc: Global, bytes: &[u8]) -> Result<Option<(Vec<Field<'_>>, &[u
         let Some((name, value)) = header_of(line) else {
             return Ok(None);
         };
+        if headers.len() >= MOST_HEADERS {
+            return Ok(None);
+        }
         let header = (name, value_of(alloc, value)?);
         headers.push(header).map_err(AllocError::from)?;
         rest = behind;

@@ -4,12 +4,14 @@ ghost use Rattle.tiny_http_io.specs.Device.{Feed};
 ghost use Rattle.tiny_http_open_request.specs.Pipeline.{Item, Pipeline};
 
 use tiny_http_body::framing::{LONGEST_WITH_HEAD, Profile, STANDARD_HEAD, STRICT_HEAD};
+use tiny_http_standard_head::heads::MOST_HEADERS;
 
 /// The sizes that the definitions of a head and of its framing take from the code.
 pub fn sizes_of_heads()
     ensures with_head { LONGEST_WITH_HEAD ≡ 1024 }
     ensures strict { STRICT_HEAD ≡ 65536 }
     ensures standard { STANDARD_HEAD ≡ 65536 }
+    ensures headers { MOST_HEADERS ≡ 256 }
 {}
 
 /// Under each profile each feed has exactly one pipeline.
