@@ -24,6 +24,7 @@ use Rattle.std.specs.declared.io.ErrorKind.TheVariants.{InvalidInput}
 use Rattle.tiny_http_text.specs.Bytes.{is_ascii}
 use Rattle.tiny_http_io.specs.Device.{Feed, Sink, Took, Failed, whole_feed}
 use Rattle.tiny_http_body.specs.Text.{Text, Ending, Whole, Broken, whole, nothing_sent, chunked_body}
+use Rattle.tiny_http_response.specs.Owing.{owed, owing}
 use Rattle.tiny_http_response.specs.Answer.{Answer, Printing, answer_with, text_by_code, field_line_of, answer_coding, head_text_of, coded_text, PrintsAnswer, text_of, is_withheld, answer_head_text, status_line, field_line, upgrade_lines, server_line, date_line, framing_line}
 use Rattle.tiny_http_response.specs.ResponseValue.{printing_to, upgrading}
 use Rattle.tiny_http_response.specs.Sending.{Sends, SendsText, SendsQuietly}
@@ -39,14 +40,15 @@ use Rattle.tiny_http_head.specs.Heads.{version}
 use Rattle.tiny_http_open_request.specs.OwnAnswer.{own_text_by, own_printing, refusal_response, refused_text, too_new_text}
 
 -- an answer of the server's own is whole, however it is coded
-coded-whole : (coding : Coding) (top : FramingHeader → List ℕ) (withheld : Bool) → (coded_text coding (Some 0) top withheld (whole_feed [])).ending ≡ Whole
-coded-whole Identity top true = refl
-coded-whole Identity top false = refl
-coded-whole Chunked top true = refl
-coded-whole Chunked top false = refl
+coded-whole : (coding : Coding) (says : Option Persistence) (top : FramingHeader → List ℕ) (withheld : Bool) → (coded_text coding says (Some 0) top withheld (whole_feed [])).ending ≡ Whole
+coded-whole Identity says top true = refl
+coded-whole Identity says top false = refl
+coded-whole Chunked says top true = refl
+coded-whole Chunked None top false = refl
+coded-whole Chunked (Some persistence) top false = refl
 
 -- or a head alone by its code
-content-whole : (k : Option FramingHeader) (a : Answer) (feed : Feed) (p : Printing) → ((coding : Coding) → (coded_text coding a.data_length (head_text_of a p) (is_withheld p.no_body a.status) feed).ending ≡ Whole) → (text_by_code k a feed p).ending ≡ Whole
+content-whole : (k : Option FramingHeader) (a : Answer) (feed : Feed) (p : Printing) → ((coding : Coding) → (coded_text coding p.persistence a.data_length (head_text_of a p) (is_withheld p.no_body a.status) feed).ending ≡ Whole) → (text_by_code k a feed p).ending ≡ Whole
 content-whole (Some framing) a feed p h = refl
 content-whole None a feed p h = h (answer_coding a p)
 
@@ -55,7 +57,7 @@ unfolding text_of
 own-whole status asked v no_body says date =
     let a = answer_with status [] 0 in
     let p = printing_to asked v no_body says date in
-    content-whole (contentless_framing says false status (Some 0)) a (whole_feed []) p (λ coding. coded-whole coding (head_text_of a p) (is_withheld no_body status))
+    content-whole (contentless_framing says false status (Some 0)) a (whole_feed []) p (λ coding. coded-whole coding says (head_text_of a p) (is_withheld no_body status))
 
 pieces : (x y t l f : List ℕ) → length x ≤ 3 → length y ≤ 3 → length t ≡ 29 → length l ≤ 24 → length f ≤ 28
     → length ((codes "HTTP/" ++ (x ++ codes "." ++ y) ++ codes " " ++ codes "500" ++ codes " " ++ codes "Internal Server Error" ++ codes "\r\n") ++ [] ++ codes "Server: tiny-http (Rust)\r\n" ++ (codes "Date" ++ codes ": " ++ t ++ codes "\r\n") ++ l ++ f ++ codes "\r\n") ≤ 157
@@ -90,19 +92,20 @@ unfolding framing_line field_line
 chunked-line = omega arith
 
 -- no body, and a last chunk alone
-no-chunk : length (chunked_body (whole_feed [])).bytes ≤ 5
+no-chunk : (says : Option Persistence) → length (chunked_body (owing (owed says (Some 0)) (whole_feed []))).bytes ≤ 5
 unfolding full_chunks left_over
-no-chunk = omega arith
+no-chunk None = omega arith
+no-chunk (Some persistence) = omega arith
 
 coded-length : (coding : Coding) (says : Option Persistence) (v : HTTPVersion) (withheld : Bool) (d : HttpDate) → v.0 < 256 → v.1 < 256 → length (date_text d) ≡ 29
-    → length (coded_text coding (Some 0) (λ framing. answer_head_text (status_version says v) 500 None [] (listed_headers says v 500 None []) d framing) withheld (whole_feed [])).bytes < 168
+    → length (coded_text coding says (Some 0) (λ framing. answer_head_text (status_version says v) 500 None [] (listed_headers says v 500 None []) d framing) withheld (whole_feed [])).bytes < 168
 coded-length Identity says v true d a b e = let h = head-length says v d (ContentLength 0) a b e no-length in simp length-append (omega (arith, h))
 coded-length Identity says v false d a b e = let h = head-length says v d (ContentLength 0) a b e no-length in simp length-append (omega (arith, h))
 coded-length Chunked says v true d a b e = let h = head-length says v d TransferEncoding a b e chunked-line in simp length-append (omega (arith, h))
 coded-length Chunked says v false d a b e =
     let h = head-length says v d TransferEncoding a b e chunked-line in
-    let l = length-append (answer_head_text (status_version says v) 500 None [] (listed_headers says v 500 None []) d TransferEncoding) (chunked_body (whole_feed [])).bytes in
-    omega (arith, h, l, no-chunk)
+    let l = length-append (answer_head_text (status_version says v) 500 None [] (listed_headers says v 500 None []) d TransferEncoding) (chunked_body (owing (owed says (Some 0)) (whole_feed []))).bytes in
+    omega (arith, h, l, no-chunk says)
 
 pub own-length : (asked : Option Coding) (v : HTTPVersion) (no_body : Bool) (says : Option Persistence) (d : HttpDate) → v.0 < 256 → v.1 < 256 → length (date_text d) ≡ 29 → length (own_text_by 500 (printing_to asked v no_body says d)) < 168
 unfolding text_of
@@ -170,18 +173,19 @@ upgrade-quietly {T = T} old new ended r a content p protocol ascii s =
     own-sent {T = T} old new ended r (text_of a content (upgrading protocol p)) (upgrade-whole (list_all is_ascii protocol) (head_text_of a (upgrading protocol p) Neither) ascii) s
 
 -- a response whose data are a text is whole, however it is coded
-text-whole : (coding : Coding) (text : List ℕ) (top : FramingHeader → List ℕ) (withheld : Bool) → (coded_text coding (Some (length text)) top withheld (whole_feed text)).ending ≡ Whole
-text-whole Identity text top true = refl
-text-whole Identity text top false = rw (le-leb (length text) (length text) (omega arith)) refl
-text-whole Chunked text top true = refl
-text-whole Chunked text top false = refl
+text-whole : (coding : Coding) (says : Option Persistence) (text : List ℕ) (top : FramingHeader → List ℕ) (withheld : Bool) → (coded_text coding says (Some (length text)) top withheld (whole_feed text)).ending ≡ Whole
+text-whole Identity says text top true = refl
+text-whole Identity says text top false = rw (le-leb (length text) (length text) (omega arith)) refl
+text-whole Chunked says text top true = refl
+text-whole Chunked None text top false = rw (le-leb 0 (length text) (omega arith)) refl
+text-whole Chunked (Some persistence) text top false = rw (le-leb (length text) (length text) (omega arith)) refl
 
 response-whole : (status : ℕ) (headers : List Header) (text : List ℕ) (m : Manner) (no_body : Bool) (date : HttpDate) → (response_text (response_of status headers text) (own_printing m no_body date)).ending ≡ Whole
 unfolding text_of
 response-whole status headers text m no_body date =
     let a = answer_with status headers (length text) in
     let p = own_printing m no_body date in
-    content-whole (contentless_framing p.persistence false status (Some (length text))) a (whole_feed text) p (λ coding. text-whole coding text (head_text_of a p) (is_withheld no_body status))
+    content-whole (contentless_framing p.persistence false status (Some (length text))) a (whole_feed text) p (λ coding. text-whole coding p.persistence text (head_text_of a p) (is_withheld no_body status))
 
 -- the answer to a refused head is whole
 pub refusal-whole : (refusal : Refusal) (v : Manner) (no_body : Bool) (date : HttpDate) → (response_text (refusal_response refusal) (own_printing v no_body date)).ending ≡ Whole
