@@ -59,7 +59,8 @@ fn parts_of(call: &Call) -> &'static [&'static str] {
             "rooms",
         ],
         Call::AddHeader => &["header"],
-        Call::Print(_) | Call::Greeter => &["data", "series"],
+        Call::Print(_) => &["data", "series", "length", "threshold"],
+        Call::Greeter => &["data", "series"],
         Call::Each(_) => &[
             "data",
             "series",

@@ -126,12 +126,12 @@ pub fn encode(
 }
 
 // The answer of this status with these data. Its headers are added to it one by one.
-fn answer<'a>(
+fn answer<'a, D>(
     alloc: Global,
     status: StatusCode,
     input: &Input,
-    data: &'a mut Canned,
-) -> Result<Response<&'a mut Canned>, AllocError> {
+    data: &'a mut D,
+) -> Result<Response<&'a mut D>, AllocError> {
     let mut answer = Response::empty(alloc, status).with_data(data, input.length);
     for header in &input.headers {
         if answer.add_header(header.try_clone()?).is_err() {
@@ -189,7 +189,7 @@ const BY_THE_STANDARD: AnswerContext = AnswerContext {
     persistence: Some(Persistence::Persistent),
 };
 
-/// What comes of an answer that is printed by the standard, and how much is read of its data, whose length isn't known.
+/// What comes of an answer that is printed by the standard, and how much is read of its data.
 pub fn print_by_standard(
     alloc: Global,
     status: StatusCode,
@@ -198,7 +198,7 @@ pub fn print_by_standard(
 ) -> Result<(), AllocError> {
     let mut data = Watched::new(alloc, input.bytes.as_slice(), None)?;
     let mut writer = writer_of(alloc, None);
-    let answer = Response::empty(alloc, status).with_data(&mut data, None);
+    let answer = answer(alloc, status, input, &mut data)?;
     let outcome = answer.print(alloc, &mut writer, BY_THE_STANDARD, None, first_date());
     add_written(alloc, to, writer, outcome)?;
     add(alloc, to, "reads", data.reads().as_bytes())

@@ -414,8 +414,9 @@ impl<R: ReadDevice + Drop, W: WriteDevice + Drop, Rt: Wait + Drop> Request<R, W,
     /// requests before are finished. The first fault is the error: the data's, or the writer's; after it nothing more
     /// is sent on the connection, and on a server with limits the connection ends: no further request is handed out.
     /// One of kind `BrokenPipe`, `ConnectionAborted`, `ConnectionRefused` or `ConnectionReset` isn't reported, also
-    /// one of the data. Under `Standard` a code below 200 or above 999, or a
-    /// 2xx to `CONNECT`, is an error of kind `InvalidInput`, and the request is dropped.
+    /// one of the data. Data that end before their stated length are `UnexpectedEof`, in chunks under `Standard`
+    /// alone. There a code below 200 or above 999, or a 2xx to `CONNECT`, is an error of kind `InvalidInput`, and the
+    /// request is dropped.
     ///
     /// Under `Standard` no request follows one that is answered or dropped while its 100 is owed, or while more than
     /// 65,536 bytes of its body are unread. Then the answer says `Connection: close`, as it does where the request is
