@@ -157,6 +157,11 @@ fn read_body(
     Ok(())
 }
 
+/// The bytes of a row, as a reader that fails after them where the row says so.
+pub fn data_of(alloc: Global, input: &Input) -> Result<Canned, AllocError> {
+    Ok(Canned::new(input.bytes.as_slice().to_vec(alloc)?, input.stop))
+}
+
 /// What a reader that gives so many bytes a call gives under a decoder of these rules, how it stops, and what is left
 /// in it.
 pub fn decode(
@@ -166,7 +171,7 @@ pub fn decode(
     piece: usize,
     to: &mut Vec<Finding>,
 ) -> Result<(), AllocError> {
-    let whole = Canned::new(input.bytes.as_slice().to_vec(alloc)?, input.stop);
+    let whole = data_of(alloc, input)?;
     let mut decoder = Decoder::new_with(ByPieces::new(whole, piece), rules);
     read_body(alloc, &mut decoder, to)?;
     let mut reader = decoder.into_inner();

@@ -86,34 +86,41 @@ fn do_step(
     add_line(alloc, to, &reply)
 }
 
-// Makes a call of a connection, and adds what comes of it.
-fn call(
-    alloc: Global,
-    connection: &mut Connected,
-    deed: &Deed,
-    to: &mut Vec<Finding>,
-) -> Result<(), AllocError> {
-    match deed {
-        Deed::Script(line) => do_step(alloc, connection, line.as_str(), to),
-        Deed::Answer(watched) => answer(alloc, connection, watched, to),
-        Deed::Upgrade(number, protocol) => {
-            upgrade(alloc, connection, (*number, protocol.as_str()), to)
+/// A value of which a row makes calls, one after another.
+pub trait Callee {
+    /// Makes a call, and adds what comes of it.
+    fn call(&mut self, alloc: Global, deed: &Deed, to: &mut Vec<Finding>) -> Result<(), AllocError>;
+}
+
+impl Callee for Connected {
+    fn call(
+        &mut self,
+        alloc: Global,
+        deed: &Deed,
+        to: &mut Vec<Finding>,
+    ) -> Result<(), AllocError> {
+        match deed {
+            Deed::Script(line) => do_step(alloc, self, line.as_str(), to),
+            Deed::Answer(watched) => answer(alloc, self, watched, to),
+            Deed::Upgrade(number, protocol) => {
+                upgrade(alloc, self, (*number, protocol.as_str()), to)
+            }
+            Deed::IsOpen(number) => match self.is_open(*number) {
+                true => add_reply(alloc, to, b"open"),
+                false => add_reply(alloc, to, b"not open"),
+            },
+            Deed::NextNumber => {
+                let number = self.next_number();
+                let line = format!(in alloc; "number {number}")?;
+                add_reply(alloc, to, line.as_bytes())
+            }
+            _ => add_reply(alloc, to, b"no such call"),
         }
-        Deed::IsOpen(number) => match connection.is_open(*number) {
-            true => add_reply(alloc, to, b"open"),
-            false => add_reply(alloc, to, b"not open"),
-        },
-        Deed::NextNumber => {
-            let number = connection.next_number();
-            let line = format!(in alloc; "number {number}")?;
-            add_reply(alloc, to, line.as_bytes())
-        }
-        _ => add_reply(alloc, to, b"no such call"),
     }
 }
 
-/// Adds how often the client was called, and what the writer has sent on.
-pub fn add_progress(
+// Adds how often the client was called, and what the writer has sent on.
+fn add_progress(
     alloc: Global,
     source: Source<Client>,
     outlet: Outlet<Below>,
@@ -125,8 +132,8 @@ pub fn add_progress(
     add(alloc, to, "sent", taker.sent())
 }
 
-/// Adds what a source still gives, what an outlet holds, and what its writer took.
-pub fn add_parts(
+// Adds what a source still gives, what an outlet holds, and what its writer took.
+fn add_parts(
     alloc: Global,
     mut source: Source<Client>,
     outlet: Outlet<Below>,
@@ -136,16 +143,34 @@ pub fn add_parts(
     add_outlet(alloc, outlet, to)
 }
 
-// Makes calls of a connection. What comes of the last.
-fn call_each(
+/// Adds what came of the last call, how often the client was called and what the writer has sent on; or what is left,
+/// after all calls.
+pub fn add_outcome(
     alloc: Global,
-    connection: &mut Connected,
+    last: Result<Vec<Finding>, AllocError>,
+    (source, outlet): (Source<Client>, Outlet<Below>),
+    is_past: bool,
+    to: &mut Vec<Finding>,
+) -> Result<(), AllocError> {
+    if is_past {
+        return add_parts(alloc, source, outlet, to);
+    }
+    for finding in last? {
+        to.push(finding).map_err(AllocError::from)?;
+    }
+    add_progress(alloc, source, outlet, to)
+}
+
+/// Makes calls one after another. What comes of the last.
+pub fn call_each<C: Callee>(
+    alloc: Global,
+    callee: &mut C,
     deeds: &[Deed],
 ) -> Result<Vec<Finding>, AllocError> {
     let mut last = Vec::new(alloc);
     for deed in deeds {
         last = Vec::new(alloc);
-        call(alloc, connection, deed, &mut last)?;
+        callee.call(alloc, deed, &mut last)?;
     }
     Ok(last)
 }
@@ -166,13 +191,7 @@ fn call_front(
     let front = &deeds[..count.min(deeds.len())];
     let last = call_each(alloc, &mut connection, front);
     let (source, outlet) = connection.into_parts();
-    if count > deeds.len() {
-        return add_parts(alloc, source, outlet, to);
-    }
-    for finding in last? {
-        to.push(finding).map_err(AllocError::from)?;
-    }
-    add_progress(alloc, source, outlet, to)
+    add_outcome(alloc, last, (source, outlet), count > deeds.len(), to)
 }
 
 /// What calls of a connection are answered, how often the client was called up to each and what was sent on; and what

@@ -1,5 +1,5 @@
 //! Requests that are read without a driver, each an `Exchange`, whose calls a row makes one after another.
-use crate::conversing::{add_parts, add_progress, lent, step_of};
+use crate::conversing::{Callee, add_outcome, call_each, lent, step_of};
 use crate::deeds::{Deed, WatchedAnswer};
 use crate::devices::{Below, Client, Taker, Watched};
 use crate::findings::add;
@@ -252,34 +252,25 @@ fn call_numbered(
     add_reply(alloc, to, reply.as_slice())
 }
 
-// Makes a call, and adds what comes of it.
-fn call(
-    alloc: Global,
-    talk: &mut Talk,
-    deed: &Deed,
-    to: &mut Vec<Finding>,
-) -> Result<(), AllocError> {
-    let reply = match deed {
-        Deed::Script(line) => do_line(alloc, talk, line.as_str())?,
-        Deed::End => outcome_of(alloc, talk.outlet.end())?,
-        Deed::Write(bytes) => outcome_of(alloc, talk.outlet.write(bytes.as_slice()))?,
-        Deed::Answer(watched) => return call_numbered(alloc, talk, watched.number, deed, to),
-        Deed::Upgrade(place, _) | Deed::ReadBody(place, _) | Deed::GiveUp(place) => {
-            return call_numbered(alloc, talk, *place, deed, to);
-        }
-        _ => unfit(alloc)?,
-    };
-    add_reply(alloc, to, reply.as_slice())
-}
-
-// Makes calls one after another. What comes of the last.
-fn call_each(alloc: Global, talk: &mut Talk, deeds: &[Deed]) -> Result<Vec<Finding>, AllocError> {
-    let mut last = Vec::new(alloc);
-    for deed in deeds {
-        last = Vec::new(alloc);
-        call(alloc, talk, deed, &mut last)?;
+impl Callee for Talk {
+    fn call(
+        &mut self,
+        alloc: Global,
+        deed: &Deed,
+        to: &mut Vec<Finding>,
+    ) -> Result<(), AllocError> {
+        let reply = match deed {
+            Deed::Script(line) => do_line(alloc, self, line.as_str())?,
+            Deed::End => outcome_of(alloc, self.outlet.end())?,
+            Deed::Write(bytes) => outcome_of(alloc, self.outlet.write(bytes.as_slice()))?,
+            Deed::Answer(watched) => return call_numbered(alloc, self, watched.number, deed, to),
+            Deed::Upgrade(place, _) | Deed::ReadBody(place, _) | Deed::GiveUp(place) => {
+                return call_numbered(alloc, self, *place, deed, to);
+            }
+            _ => unfit(alloc)?,
+        };
+        add_reply(alloc, to, reply.as_slice())
     }
-    Ok(last)
 }
 
 // Makes the first calls of new requests. Adds what comes of the last, and how often the client was called; or what is
@@ -300,13 +291,7 @@ fn call_front(
     let deeds = input.deeds.as_slice();
     let last = call_each(alloc, &mut talk, &deeds[..count.min(deeds.len())]);
     let Talk { source, outlet, .. } = talk;
-    if count > deeds.len() {
-        return add_parts(alloc, source, outlet, to);
-    }
-    for finding in last? {
-        to.push(finding).map_err(AllocError::from)?;
-    }
-    add_progress(alloc, source, outlet, to)
+    add_outcome(alloc, last, (source, outlet), count > deeds.len(), to)
 }
 
 /// What calls of requests are answered that are read without a driver, how often the client was called up to each,

@@ -1,5 +1,5 @@
 //! Answers and bodies that are written.
-use crate::bodies::add_left;
+use crate::bodies::{add_left, data_of};
 use crate::devices::Watched;
 use crate::findings::{add, add_kind, add_shown, add_some};
 use crate::row::{Finding, Input};
@@ -72,7 +72,7 @@ pub fn write_chunked(
     room: Option<Room>,
     to: &mut Vec<Finding>,
 ) -> Result<(), AllocError> {
-    let mut data = Canned::new(input.bytes.as_slice().to_vec(alloc)?, input.stop);
+    let mut data = data_of(alloc, input)?;
     let mut writer = writer_of(alloc, room);
     let outcome = put_chunked(&mut data, &mut writer);
     add_written(alloc, to, writer, outcome)
@@ -174,7 +174,7 @@ pub fn print(
     room: Option<Room>,
     to: &mut Vec<Finding>,
 ) -> Result<(), AllocError> {
-    let mut data = Canned::new(input.bytes.as_slice().to_vec(alloc)?, input.stop);
+    let mut data = data_of(alloc, input)?;
     let mut writer = writer_of(alloc, room);
     let answer = answer(alloc, status, input, &mut data)?;
     let outcome = print_to(alloc, answer, input, &mut writer);

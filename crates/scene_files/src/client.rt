@@ -19,6 +19,9 @@ const PIECE: usize = 16_384;
 // How often a text is sent by a client that is to be cut off.
 const MOST_PIECES: u32 = 4_096;
 
+// How many milliseconds from one send to the next show that a client was held up.
+const HELD_UP: u64 = 200;
+
 // How often a client sips.
 const SIPS: u32 = 100;
 
@@ -71,6 +74,22 @@ fn last_date(bytes: &[u8]) -> Option<&[u8]> {
     bytes
         .windows(DATE_LENGTH)
         .rfind(|part| part.starts_with(DATE))
+}
+
+/// The time by the clock.
+pub fn now_of<R: Clock>(rt: &R) -> Result<Instant, Mishap> {
+    match Instant::now(rt) {
+        Ok(now) => Ok(now),
+        Err(_) => Err(Mishap::Unplayable("there is no clock")),
+    }
+}
+
+/// How many milliseconds have gone since then.
+pub fn millis_since<R: Clock>(rt: &R, begun: Instant) -> Result<u64, Mishap> {
+    match begun.elapsed(rt) {
+        Ok(time) => Ok(u64::try_from(time.as_millis()).unwrap_or(u64::MAX)),
+        Err(_) => Err(Mishap::Unplayable("there is no clock")),
+    }
 }
 
 // A connection to this address.
@@ -175,6 +194,46 @@ impl Client {
         demand(self.alloc, "the connection ends", self.end.is_some())
     }
 
+    // Sends these bytes again and again until a send fails, `most` times at most. Whether one failed, when the last one
+    // was, and the longest time from one to the next.
+    fn drip_until<R: Clock>(
+        &mut self,
+        rt: &R,
+        begun: Instant,
+        (bytes, millis, most): (&[u8], u64, u64),
+    ) -> Result<(bool, u64, u64), Mishap> {
+        let (mut last, mut longest) = (0u64, 0u64);
+        for _ in 0..most {
+            let is_sent = self.write_all(bytes).is_ok();
+            let now = millis_since(rt, begun)?;
+            longest = longest.max(now.saturating_sub(last));
+            last = now;
+            if !is_sent {
+                return Ok((true, last, longest));
+            }
+            thread::sleep(rt, Duration::from_millis(millis));
+        }
+        Ok((false, last, longest))
+    }
+
+    /// Sends these bytes again and again, also past the end that came, until a send fails: one of as many as take `most`
+    /// milliseconds by their pauses alone, and from `least` milliseconds after `begun` on. It may fail before where this
+    /// thread was held up, from `begun` to its first send or between two: a server that waits for the next byte may have
+    /// given up.
+    pub fn drip_on<R: Clock>(
+        &mut self,
+        rt: &R,
+        begun: Instant,
+        (bytes, millis): (&[u8], u64),
+        (least, most): (u64, u64),
+    ) -> Result<(), Mishap> {
+        let sends = most.checked_div(millis).unwrap_or(most);
+        let (has_failed, last, longest) = self.drip_until(rt, begun, (bytes, millis, sends))?;
+        demand(self.alloc, "a send fails in time", has_failed)?;
+        let is_late = last >= least || longest >= HELD_UP;
+        demand(self.alloc, "no send fails before its time", is_late)
+    }
+
     /// Reads `count` bytes at most, a hundred times, and forgets them.
     pub fn sip<R: Clock>(&mut self, rt: &R, count: usize, millis: u64) -> Result<(), Mishap> {
         let mut piece = vec![in self.alloc; 0u8; count]?;
@@ -256,9 +315,7 @@ impl Client {
 
     /// No byte comes, and no end, for this time.
     pub fn is_idle<R: Clock>(&mut self, rt: &R, millis: u64) -> Result<(), Mishap> {
-        let Ok(begun) = Instant::now(rt) else {
-            return Err(Mishap::Unplayable("there is no clock"));
-        };
+        let begun = now_of(rt)?;
         for _ in 0..millis {
             let is_over = begun
                 .elapsed(rt)

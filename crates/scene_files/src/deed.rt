@@ -15,6 +15,9 @@ pub enum ClientDeed<'a> {
     Sends(&'a str),
     /// Sends this text again and again until the connection ends, with this many milliseconds between.
     Drips(&'a str, u64),
+    /// Sends this text again and again, also past the end that came, with this many milliseconds between, until a send
+    /// fails. The clock shows the second number then or more, and as many pauses take no longer than the third.
+    DripsOn(&'a str, u64, (u64, u64)),
     /// Sends this text again and again, and can't in the end.
     IsCutOff(&'a str),
     /// Reads this many bytes a hundred times, with this many milliseconds between.
@@ -264,6 +267,15 @@ pub(crate) fn before_kind(text: &str) -> (&str, Option<ErrorKind>) {
     (text, None)
 }
 
+// What is dripped on: `TEXT every MS for MS to MS`.
+fn drip_on_deed(text: &str) -> Option<ClientDeed<'_>> {
+    let (front, times) = text.rsplit_once(" for ")?;
+    let (text, pause) = front.rsplit_once(" every ")?;
+    let (least, most) = times.split_once(" to ")?;
+    let times = (millis_in(least)?, millis_in(most)?);
+    Some(ClientDeed::DripsOn(text, millis_in(pause)?, times))
+}
+
 // What a verb of a client says, with the words after it.
 fn client_deed<'a>(verb: &str, rest: &'a str) -> Option<ClientDeed<'a>> {
     match (verb, rest) {
@@ -273,6 +285,7 @@ fn client_deed<'a>(verb: &str, rest: &'a str) -> Option<ClientDeed<'a>> {
             let (text, millis) = text.rsplit_once(" every ")?;
             Some(ClientDeed::Drips(text, millis_in(millis)?))
         }
+        ("drips-on", text) => drip_on_deed(text),
         ("is-cut-off-sending", text) => Some(ClientDeed::IsCutOff(text)),
         ("sips", numbers) => {
             let (count, millis) = numbers.split_once(" every ")?;

@@ -1,4 +1,5 @@
 //! The handler of a scene's server.
+use scene_props::requests::text_answer;
 use std::alloc::Global;
 use std::io::{ErrorKind, Read, Write};
 use std::sync::atomic::{AtomicBool, Ordering};
@@ -27,28 +28,17 @@ pub(crate) struct ByPath<R: Wait + Clock + Drop> {
     pub gate: Arc<AtomicBool>,
 }
 
-/// An answer of this text.
-pub(crate) fn text_answer(alloc: Global, text: &str) -> io::Result<Response<io::Cursor<Vec<u8>>>> {
-    Ok(Response::from_string(alloc, String::from_str(alloc, text)?)?)
-}
-
-// Answers by the path itself.
+// Answers by the path itself; whether the connection is to end.
 fn answer_path<R: Wait + Clock + Drop>(
     rt: &R,
     alloc: Global,
     request: ServerRequest<R>,
+    is_last: bool,
 ) -> io::Result<()> {
     let response = text_answer(alloc, request.url())?;
-    request.respond(response, current_date(rt))
-}
-
-// The same, and the connection is to end.
-fn answer_to_close<R: Wait + Clock + Drop>(
-    rt: &R,
-    alloc: Global,
-    request: ServerRequest<R>,
-) -> io::Result<()> {
-    let response = text_answer(alloc, request.url())?.with_close();
+    if is_last {
+        return request.respond(response.with_close(), current_date(rt));
+    }
     request.respond(response, current_date(rt))
 }
 
@@ -132,19 +122,19 @@ impl<R: Wait + Clock + Drop> Handler<R, ServerRequest<R>> for ByPath<R> {
             "/drop" => Ok(()),
             "/drop-err" => Err(ErrorKind::Other.into()),
             "/err" => {
-                answer_path(rt, alloc, request)?;
+                answer_path(rt, alloc, request, false)?;
                 Err(ErrorKind::Other.into())
             }
             "/echo" => echo(rt, alloc, request),
             "/grow" => grow(rt, alloc, request, &self.gate),
             "/long" => write_long(rt, alloc, request),
             "/greet" => greet(rt, alloc, request),
-            "/close" => answer_to_close(rt, alloc, request),
+            "/close" => answer_path(rt, alloc, request, true),
             "/wait" => {
                 wait_at(rt, &self.gate);
-                answer_path(rt, alloc, request)
+                answer_path(rt, alloc, request, false)
             }
-            _ => answer_path(rt, alloc, request),
+            _ => answer_path(rt, alloc, request, false),
         }
     }
 }

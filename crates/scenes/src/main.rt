@@ -5,20 +5,17 @@
 mod besides;
 mod handler;
 mod hands;
-mod in_turn;
 mod links;
-mod memory;
 mod playing;
-mod queue;
-mod requests;
 mod rivals;
 mod serving;
 
 use crate::links::Host;
-use crate::playing::{Failure, play};
+use crate::playing::play;
 use data_files::fault::FilesFault;
 use data_files::program::{Checker, NamedFile, run_program};
 use scene_files::scene::{Scene, SceneFile, read_scenes};
+use scene_props::jobs::Failure;
 use std::alloc::{AllocError, Global};
 use std::io::Write;
 use std::process::ExitCode;

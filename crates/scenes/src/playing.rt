@@ -1,32 +1,22 @@
 //! Plays a scene: line after line, and what is beside on threads of its own.
-use crate::besides::{Beside, Pool, begin, end, inner_lines, pool_of, spawn_job, wait};
-use crate::hands::{Hands, get, take};
-use crate::in_turn::{act_in_turn, act_turns};
+use crate::besides::{Beside, begin, end, spawn_job, wait};
+use crate::hands::Hands;
 use crate::links::Host;
-use crate::memory::act_memory;
-use crate::queue::act_queue;
-use crate::requests::{act_output, act_request};
 use crate::serving::{act_server, connect, first_hands, place_of, take_descriptors};
-use data_files::text::text_of;
-use scene_files::deed::{ClientDeed, Deed, deed_in};
-use scene_files::mishap::{Mishap, demand, differs};
+use scene_files::deed::{ClientDeed, Deed, OutputDeed, RequestDeed, deed_in};
+use scene_files::mishap::{Mishap, demand};
 use scene_files::scene::{Line, Scene, Way};
+use scene_props::acting::act_without_server;
+use scene_props::jobs::{Failure, Pool, failure_at, inner_lines, pool_of};
+use scene_props::named::{get, has};
+use scene_props::requests::{act_asked, demand_plain, write_asked};
 use std::alloc::Global;
 use std::net::Net;
 use std::sync::{Arc, Wait};
 use std::thread;
 use std::thread::JoinHandle;
-use std::time::{Clock, Duration, Instant};
+use std::time::Clock;
 use tiny_http::connection::SocketFiles;
-use tiny_http::server::current_date;
-
-/// The line at which a scene failed, and why.
-#[derive(Drop)]
-pub(crate) struct Failure {
-    pub number: usize,
-    pub line: String,
-    pub mishap: Mishap,
-}
 
 /// A scene that is played: what is at hand, the threads and jobs, the pool, and the thread that serves.
 #[derive(Drop)]
@@ -37,124 +27,51 @@ pub(crate) struct Stage<R: Net + SocketFiles + Wait + Clock + Drop> {
     serving: Option<JoinHandle<bool>>,
 }
 
-// Starts the clock.
-fn start_clock<R: Host>(rt: &R, hands: &mut Hands<R>) -> Result<(), Mishap> {
-    match Instant::now(rt) {
-        Ok(now) => hands.clock = Some(now),
-        Err(_) => return Err(Mishap::Unplayable("there is no clock")),
-    }
-    Ok(())
-}
-
-// How many milliseconds have gone since the clock was started.
-fn clock_of<R: Host>(rt: &R, hands: &Hands<R>) -> Result<u64, Mishap> {
-    let Some(begun) = hands.clock else {
-        return Err(Mishap::Unplayable("the clock wasn't started"));
-    };
-    match begun.elapsed(rt) {
-        Ok(time) => Ok(u64::try_from(time.as_millis()).unwrap_or(u64::MAX)),
-        Err(_) => Err(Mishap::Unplayable("there is no clock")),
-    }
-}
-
-// A lap ends, and the next one begins.
-fn end_lap<R: Host>(rt: &R, hands: &mut Hands<R>) -> Result<(), Mishap> {
-    let lap = clock_of(rt, hands)?;
-    hands.shortest = Some(hands.shortest.map_or(lap, |shortest| shortest.min(lap)));
-    start_clock(rt, hands)
-}
-
-// `gone` milliseconds are less than this, or at least this. The number isn't reported, so that a scene that has to fail
-// prints the same each time.
-fn demand_time(alloc: Global, gone: u64, (millis, is_below): (u64, bool)) -> Result<(), Mishap> {
-    if (gone < millis) == is_below {
-        return Ok(());
-    }
-    let bound = if is_below { "below" } else { "at least" };
-    let wanted = format!(in alloc; "{bound} {millis} ms")?;
-    Err(differs(alloc, wanted.as_str(), "not so"))
-}
-
-// What a client does, and what comes to it.
-fn act_client<R: Host>(
+// What is done with the request of this name, over memory or of the server.
+fn act_request<R: Host>(
     rt: &R,
     alloc: Global,
     hands: &mut Hands<R>,
-    (name, deed): (&str, ClientDeed<'_>),
+    (name, deed): (&str, RequestDeed<'_>),
 ) -> Result<(), Mishap> {
-    match deed {
-        ClientDeed::Connects => return connect(rt, alloc, hands, name),
-        ClientDeed::Leaves => {
-            drop(take(&mut hands.clients, name)?);
-            return Ok(());
-        }
-        _ => {}
+    if let RequestDeed::IsPlainOf(client) = deed {
+        let addr = get(&mut hands.props.clients, client)?.local_addr();
+        return demand_plain(alloc, get(&mut hands.served.requests, name)?, addr);
     }
-    let client = get(&mut hands.clients, name)?;
-    match deed {
-        ClientDeed::Sends(text) => client.send(text_of(alloc, text)?.as_slice()),
-        ClientDeed::Drips(text, millis) => {
-            client.drip(rt, text_of(alloc, text)?.as_slice(), millis)
-        }
-        ClientDeed::IsCutOff(text) => client.is_cut_off(text_of(alloc, text)?.as_slice()),
-        ClientDeed::Sips(count, millis) => client.sip(rt, count, millis),
-        ClientDeed::Gets(text) => client.gets(text_of(alloc, text)?.as_slice()),
-        ClientDeed::DateChanged => client.date_changed(),
-        ClientDeed::DatedWithin(seconds) => {
-            client.dated_within(current_date(rt).unix_secs(), seconds)
-        }
-        ClientDeed::Counts(least, most) => client.counts(least, most),
-        ClientDeed::IsIdle(millis) => client.is_idle(rt, millis),
-        ClientDeed::IsClosed => client.is_closed(),
-        ClientDeed::IsGone => client.is_gone(),
-        ClientDeed::HalfCloses => client.half_close(),
-        ClientDeed::Connects | ClientDeed::Leaves => Ok(()),
+    if has(hands.props.remembered.requests.as_slice(), name) {
+        return act_asked(rt, alloc, &mut hands.props.remembered, name, deed);
     }
+    act_asked(rt, alloc, &mut hands.served, name, deed)
+}
+
+// What is done with the output of this name, over memory or of the server.
+fn act_output<R: Host>(
+    alloc: Global,
+    hands: &mut Hands<R>,
+    (name, deed): (&str, OutputDeed<'_>),
+) -> Result<(), Mishap> {
+    if has(hands.props.remembered.outputs.as_slice(), name) {
+        return write_asked(alloc, &mut hands.props.remembered, name, deed);
+    }
+    write_asked(alloc, &mut hands.served, name, deed)
 }
 
 // What a line says, where it is about no thread.
 fn act<R: Host>(rt: &R, alloc: Global, hands: &mut Hands<R>, deed: Deed<'_>) -> Result<(), Mishap> {
     match deed {
-        Deed::Client(name, deed) => act_client(rt, alloc, hands, (name, deed)),
+        Deed::Client(name, ClientDeed::Connects) => connect(rt, alloc, hands, name),
         Deed::Server(deed) => act_server(rt, alloc, hands, deed),
-        Deed::Request(name, deed) => act_request(rt, alloc, hands, name, deed),
-        Deed::Output(name, deed) => act_output(alloc, hands, name, deed),
-        Deed::Queue(deed) => act_queue(rt, alloc, hands.queue()?, deed),
-        Deed::Memory(deed) => act_memory(rt, alloc, hands, deed),
-        Deed::Turns(deed) => act_turns(rt, alloc, hands, deed),
-        Deed::Turn(name, deed) => act_in_turn(alloc, hands, name, deed),
+        Deed::Request(name, deed) => act_request(rt, alloc, hands, (name, deed)),
+        Deed::Output(name, deed) => act_output(alloc, hands, (name, deed)),
         Deed::Descriptors(Some(left)) => take_descriptors(rt, hands, left),
         Deed::Descriptors(None) => {
             hands.taken.clear();
             Ok(())
         }
-        Deed::Pause(millis) => {
-            thread::sleep(rt, Duration::from_millis(millis));
-            Ok(())
-        }
-        Deed::ClockStarts => start_clock(rt, hands),
-        Deed::ClockBelow(millis) => demand_time(alloc, clock_of(rt, hands)?, (millis, true)),
-        Deed::ClockAbove(millis) => demand_time(alloc, clock_of(rt, hands)?, (millis, false)),
-        Deed::ClockLap => end_lap(rt, hands),
-        Deed::ShortestLap(millis) => {
-            demand_time(alloc, hands.shortest.unwrap_or(u64::MAX), (millis, true))
-        }
         Deed::Beside(_) | Deed::Job(_) | Deed::Ends(..) | Deed::Waits(_) => {
             Err(Mishap::Unplayable("a thread begins no other"))
         }
-    }
-}
-
-/// The failure at this line.
-pub(crate) fn failure_at(alloc: Global, line: &Line, mishap: Mishap) -> Failure {
-    let text = match String::from_str(alloc, line.text.as_str()) {
-        Ok(text) => text,
-        Err(_) => String::new(alloc),
-    };
-    Failure {
-        number: line.number,
-        line: text,
-        mishap,
+        _ => act_without_server(rt, alloc, &mut hands.props, deed),
     }
 }
 
@@ -264,9 +181,7 @@ fn wait_until_served<R: Host>(rt: &R, alloc: Global, hands: &mut Hands<R>) -> Re
 // ends without a fault. Each thread has ended by a line.
 fn clear<R: Host>(rt: &R, alloc: Global, stage: &mut Stage<R>) -> Result<(), Mishap> {
     stage.hands.served.clear();
-    stage.hands.remembered.clear();
-    stage.hands.in_turn.clear();
-    stage.hands.clients.clear();
+    stage.hands.props.clear();
     if let Some(serving) = stage.serving.take()
         && let Some(server) = stage.hands.server.take()
     {

@@ -4,11 +4,11 @@ use crate::links::Host;
 use crate::serving::{Place, config_of, path_beside, path_in};
 use scene_files::deed::{Found, ServerDeed};
 use scene_files::mishap::{Mishap, demand, demand_fault, demand_text, differs};
+use scene_props::props::shared;
 use std::alloc::Global;
 use std::io::ErrorKind;
 use std::net::SocketAddr;
 use std::path::{Path, PathBuf};
-use std::sync::Arc;
 use tiny_http::connection::{ConfigListenAddr, ListenAddr};
 use tiny_http::server::{Server, ServerConfig, ServerError, SslConfig};
 use tiny_http::{Limits, Profile};
@@ -43,10 +43,7 @@ fn follow<R: Host>(rt: &R, alloc: Global, hands: &mut Hands<R>) -> Result<(), Mi
     let Ok(second) = second_server(rt, alloc, hands.addr()?)? else {
         return Err(Mishap::Unplayable("there is no second server here"));
     };
-    let Ok(second) = Arc::new(alloc, second) else {
-        return Err(Mishap::OutOfMemory);
-    };
-    drop(hands.server.replace(second));
+    drop(hands.server.replace(shared(alloc, second)?));
     Ok(())
 }
 

@@ -1,13 +1,14 @@
 //! The server of a scene: how it is made, and its calls.
 use crate::handler::ByPath;
-use crate::hands::{Hands, add};
+use crate::hands::Hands;
 use crate::links::Host;
-use crate::memory::Memory;
 use crate::rivals::act_rival;
 use scene_files::client::Client;
 use scene_files::deed::{Given, ServerDeed};
 use scene_files::mishap::{Mishap, demand, demand_fault, demand_number, demand_text, differs};
 use scene_files::scene::{Ground, Over, Way};
+use scene_props::named::add;
+use scene_props::props::{Props, shared};
 use std::alloc::{AllocError, Global};
 use std::io::ErrorKind;
 use std::net::TcpListener;
@@ -113,21 +114,17 @@ fn handler_of<R: Host>(alloc: Global, keeps_all: bool) -> Result<Arc<ByPath<R>>,
     let Ok(kept) = MessagesQueue::with_capacity(alloc, KEPT_ROOM) else {
         return Err(Mishap::OutOfMemory);
     };
-    let (Ok(keeps_all), Ok(gate)) = (
-        Arc::new(alloc, AtomicBool::new(keeps_all)),
-        Arc::new(alloc, AtomicBool::new(false)),
-    ) else {
-        return Err(Mishap::OutOfMemory);
-    };
     let by_path = ByPath {
         kept,
-        keeps_all,
-        gate,
+        keeps_all: shared(alloc, AtomicBool::new(keeps_all))?,
+        gate: shared(alloc, AtomicBool::new(false))?,
     };
-    match Arc::new(alloc, by_path) {
-        Ok(handler) => Ok(handler),
-        Err(_) => Err(Mishap::OutOfMemory),
-    }
+    shared(alloc, by_path)
+}
+
+// Whether a scene over this has a server.
+fn has_server(over: Over) -> bool {
+    !matches!(over, Over::Queue | Over::Pool | Over::Memory | Over::Turns)
 }
 
 /// What is at hand as a scene begins.
@@ -138,27 +135,16 @@ pub(crate) fn first_hands<R: Host>(
     place: Place<'_>,
 ) -> Result<Hands<R>, Mishap> {
     let handler = handler_of(alloc, way == Way::Handler)?;
-    let mut hands = Hands::empty(alloc, handler, way);
-    match ground.over {
-        Over::Queue | Over::Pool => {
-            let Ok(queue) = MessagesQueue::with_capacity(alloc, KEPT_ROOM) else {
-                return Err(Mishap::OutOfMemory);
-            };
-            hands.queue = Some(queue);
-        }
-        Over::Memory => hands.memory = Some(Memory::new(rt, alloc)?),
-        Over::Turns => {}
-        _ => {
-            let Ok(server) = server_of(rt, alloc, ground, place) else {
-                return Err(Mishap::Unplayable("there is no such server here"));
-            };
-            hands.addr = Some(server.server_addr());
-            let Ok(server) = Arc::new(alloc, server) else {
-                return Err(Mishap::OutOfMemory);
-            };
-            hands.server = Some(server);
-        }
+    let props = Props::over(rt, alloc, ground.over)?;
+    let mut hands = Hands::new(alloc, (handler, way), props);
+    if !has_server(ground.over) {
+        return Ok(hands);
     }
+    let Ok(server) = server_of(rt, alloc, ground, place) else {
+        return Err(Mishap::Unplayable("there is no such server here"));
+    };
+    hands.addr = Some(server.server_addr());
+    hands.server = Some(shared(alloc, server)?);
     Ok(hands)
 }
 
@@ -503,5 +489,5 @@ pub(crate) fn connect<R: Host>(
     name: &str,
 ) -> Result<(), Mishap> {
     let client = Client::connect(rt, alloc, hands.addr()?)?;
-    add(alloc, &mut hands.clients, name, client)
+    add(alloc, &mut hands.props.clients, name, client)
 }

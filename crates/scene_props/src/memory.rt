@@ -1,6 +1,8 @@
 //! Requests over memory: of a client that sends a text, or made of their parts.
-use crate::hands::{Asked, Hands, add};
-use crate::links::Host;
+use crate::asked::Asked;
+use crate::named::add;
+use crate::props::Props;
+use crate::requests::date_now;
 use data_files::text::text_of;
 use scene_files::client::dated;
 use scene_files::grounds::{Made, MemoryDeed, Parts};
@@ -10,17 +12,17 @@ use std::io;
 use std::io::{Cursor, ErrorKind, Write};
 use std::net::SocketAddr;
 use std::sync::Wait;
-use tiny_http::ascii::AsciiString;
-use tiny_http::client::ClientConnection;
-use tiny_http::common::{HTTPVersion, Header, Method, ParseError};
-use tiny_http::device::{Metered, WriteDevice};
-use tiny_http::request::{Request, RequestCreationError, new_request};
-use tiny_http::server::current_date;
-use tiny_http::{Recorder, TestRequest};
+use std::time::Clock;
+use tiny_http_request::client::ClientConnection;
+use tiny_http_request::request::{Request, RequestCreationError, new_request};
+use tiny_http_request::test::{Recorder, TestRequest};
+use tiny_http_wire::ascii::AsciiString;
+use tiny_http_wire::common::{HTTPVersion, Header, Method, ParseError};
+use tiny_http_wire::device::{Metered, WriteDevice};
 
 /// A writer that keeps what it takes, up to a number of bytes, and then fails.
 #[derive(Drop)]
-pub(crate) struct Bounded<R: Wait + Drop> {
+pub struct Bounded<R: Wait + Drop> {
     recorder: Recorder<R>,
     room: usize,
     kind: ErrorKind,
@@ -28,7 +30,7 @@ pub(crate) struct Bounded<R: Wait + Drop> {
 
 impl<R: Wait + Copy> Bounded<R> {
     /// A writer to this recorder that takes `room` bytes, and then fails by `kind`.
-    pub(crate) fn new(
+    pub fn new(
         recorder: &Recorder<R>,
         (room, kind): (usize, ErrorKind),
     ) -> Result<Bounded<R>, Mishap> {
@@ -57,16 +59,16 @@ impl<R: Wait + Drop> Write for Bounded<R> {
 }
 
 /// What a request over memory is read by, and written by.
-pub(crate) type MemoryReader = Cursor<Vec<u8>>;
+pub type MemoryReader = Cursor<Vec<u8>>;
 
-pub(crate) type MemoryWriter<R> = Metered<Bounded<R>>;
+pub type MemoryWriter<R> = Metered<Bounded<R>>;
 
 /// The requests over memory, and their outputs.
-pub(crate) type Remembered<R> = Asked<MemoryReader, MemoryWriter<R>, R>;
+pub type Remembered<R> = Asked<MemoryReader, MemoryWriter<R>, R>;
 
 /// A client over memory, and what was written.
 #[derive(Drop)]
-pub(crate) struct Memory<R: Wait + Drop> {
+pub struct Memory<R: Wait + Drop> {
     client: Option<ClientConnection<MemoryReader, MemoryWriter<R>, R>>,
     written: Recorder<R>,
     // How many of the bytes that were written have been looked at.
@@ -76,7 +78,7 @@ pub(crate) struct Memory<R: Wait + Drop> {
 
 impl<R: Wait + Copy> Memory<R> {
     /// Nothing was sent, and nothing written.
-    pub(crate) fn new(rt: &R, alloc: Global) -> Result<Memory<R>, Mishap> {
+    pub fn new(rt: &R, alloc: Global) -> Result<Memory<R>, Mishap> {
         Ok(Memory {
             client: None,
             written: Recorder::new(*rt, alloc)?,
@@ -113,9 +115,12 @@ impl<R: Wait + Copy> Memory<R> {
 type MemoryRequest<R> = Request<MemoryReader, MemoryWriter<R>, R>;
 
 // The next request of the client.
-fn next_of<R: Host>(rt: &R, memory: &mut Memory<R>) -> Result<Option<MemoryRequest<R>>, Mishap> {
+fn next_of<R: Wait + Clock + Copy>(
+    rt: &R,
+    memory: &mut Memory<R>,
+) -> Result<Option<MemoryRequest<R>>, Mishap> {
     match &mut memory.client {
-        Some(client) => Ok(client.next(current_date(rt))?),
+        Some(client) => Ok(client.next(date_now(rt))?),
         None => Err(Mishap::Unplayable("nothing was sent")),
     }
 }
@@ -172,15 +177,15 @@ fn request_of(alloc: Global, parts: Parts<'_>) -> Result<Option<TestRequest>, Mi
 }
 
 // What came of a request that was made is what the line says; the request gets its name.
-fn take_made<R: Host>(
+fn take_made<R: Wait + Clock + Copy>(
     alloc: Global,
-    hands: &mut Hands<R>,
+    props: &mut Props<R>,
     made: Result<MemoryRequest<R>, RequestCreationError>,
     wanted: Made<'_>,
 ) -> Result<(), Mishap> {
     match (made, wanted) {
         (Ok(request), Made::Request(name)) => {
-            add(alloc, &mut hands.remembered.requests, name, request)
+            add(alloc, &mut props.remembered.requests, name, request)
         }
         (Ok(_), _) => Err(differs(alloc, "a refusal", "a request")),
         (Err(RequestCreationError::ExpectationFailed), Made::ExpectationFailed) => Ok(()),
@@ -192,10 +197,10 @@ fn take_made<R: Host>(
 }
 
 // Makes a request for a test.
-fn make<R: Host>(
+fn make<R: Wait + Clock + Copy>(
     rt: &R,
     alloc: Global,
-    hands: &mut Hands<R>,
+    props: &mut Props<R>,
     (parts, wanted): (Parts<'_>, Made<'_>),
 ) -> Result<(), Mishap> {
     let request = match (request_of(alloc, parts)?, wanted) {
@@ -203,9 +208,9 @@ fn make<R: Host>(
         (None, Made::Refused) => return Ok(()),
         (None, _) => return Err(differs(alloc, "a request", "the target is refused")),
     };
-    let writer = hands.memory()?.writer()?;
-    let made = request.into_request_over(*rt, alloc, current_date(rt), writer);
-    take_made(alloc, hands, made, wanted)
+    let writer = props.memory()?.writer()?;
+    let made = request.into_request_over(*rt, alloc, date_now(rt), writer);
+    take_made(alloc, props, made, wanted)
 }
 
 // The headers and the body among the further parts of a request.
@@ -225,10 +230,10 @@ fn headers_and_body(alloc: Global, more: &str) -> Result<(Vec<Header>, Vec<u8>),
 }
 
 // Makes a request of its parts, from no address.
-fn make_new<R: Host>(
+fn make_new<R: Wait + Clock + Copy>(
     rt: &R,
     alloc: Global,
-    hands: &mut Hands<R>,
+    props: &mut Props<R>,
     (parts, wanted): (Parts<'_>, Made<'_>),
 ) -> Result<(), Mishap> {
     let (Ok(method), Ok(target)) = (
@@ -239,7 +244,7 @@ fn make_new<R: Host>(
     };
     let (headers, body) = headers_and_body(alloc, parts.more)?;
     let (major, minor) = parts.version;
-    let writer = hands.memory()?.writer()?;
+    let writer = props.memory()?.writer()?;
     let made = new_request(
         *rt,
         alloc,
@@ -251,48 +256,48 @@ fn make_new<R: Host>(
         None,
         Cursor::new(body),
         writer,
-        current_date(rt),
+        date_now(rt),
     );
-    take_made(alloc, hands, made, wanted)
+    take_made(alloc, props, made, wanted)
 }
 
 // The next request is for this target, and gets its name.
-fn give<R: Host>(
+fn give<R: Wait + Clock + Copy>(
     rt: &R,
     alloc: Global,
-    hands: &mut Hands<R>,
+    props: &mut Props<R>,
     (target, name): (&str, &str),
 ) -> Result<(), Mishap> {
-    let Some(request) = next_of(rt, hands.memory()?)? else {
+    let Some(request) = next_of(rt, props.memory()?)? else {
         return Err(differs(alloc, target, "no request"));
     };
     demand_text(alloc, target, request.url())?;
-    add(alloc, &mut hands.remembered.requests, name, request)
+    add(alloc, &mut props.remembered.requests, name, request)
 }
 
 /// What is done over memory.
-pub(crate) fn act_memory<R: Host>(
+pub fn act_memory<R: Wait + Clock + Copy>(
     rt: &R,
     alloc: Global,
-    hands: &mut Hands<R>,
+    props: &mut Props<R>,
     deed: MemoryDeed<'_>,
 ) -> Result<(), Mishap> {
     match deed {
         MemoryDeed::Takes(room, kind) => {
-            hands.memory()?.bound = (room, kind);
+            props.memory()?.bound = (room, kind);
             Ok(())
         }
-        MemoryDeed::Sends(text) => hands.memory()?.connect(rt, alloc, text),
-        MemoryDeed::Gives(target, name) => give(rt, alloc, hands, (target, name)),
-        MemoryDeed::GivesNothing => match next_of(rt, hands.memory()?)? {
+        MemoryDeed::Sends(text) => props.memory()?.connect(rt, alloc, text),
+        MemoryDeed::Gives(target, name) => give(rt, alloc, props, (target, name)),
+        MemoryDeed::GivesNothing => match next_of(rt, props.memory()?)? {
             None => Ok(()),
             Some(request) => Err(differs(alloc, "no request", request.url())),
         },
-        MemoryDeed::Makes(parts, wanted) => make(rt, alloc, hands, (parts, wanted)),
-        MemoryDeed::News(parts, wanted) => make_new(rt, alloc, hands, (parts, wanted)),
+        MemoryDeed::Makes(parts, wanted) => make(rt, alloc, props, (parts, wanted)),
+        MemoryDeed::News(parts, wanted) => make_new(rt, alloc, props, (parts, wanted)),
         MemoryDeed::Gets(text) => {
             let wanted = text_of(alloc, text)?;
-            hands.memory()?.gets(alloc, wanted.as_slice())
+            props.memory()?.gets(alloc, wanted.as_slice())
         }
     }
 }

@@ -4,7 +4,7 @@ use scene_files::mishap::{Mishap, differs};
 use std::alloc::Global;
 use std::sync::Wait;
 use std::time::{Clock, Duration};
-use tiny_http::messages_queue::MessagesQueue;
+use tiny_http_threads::messages_queue::MessagesQueue;
 
 // How often a value that doesn't count may come.
 const MOST_PASSED: u32 = 1_000;
@@ -49,7 +49,7 @@ fn pop_past<R: Wait + Clock>(
 }
 
 /// A call of the queue.
-pub(crate) fn act_queue<R: Wait + Clock>(
+pub fn act_queue<R: Wait + Clock>(
     rt: &R,
     alloc: Global,
     queue: &MessagesQueue<u64>,

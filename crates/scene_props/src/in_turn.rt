@@ -1,47 +1,47 @@
 //! Readers and writers of a scene that are used in turn.
-use crate::hands::{Hands, add, get, take};
-use crate::links::Host;
 use crate::memory::Bounded;
+use crate::named::{add, get, take};
+use crate::props::Props;
 use data_files::text::text_of;
 use scene_files::grounds::{TurnDeed, TurnsDeed};
 use scene_files::mishap::{Mishap, demand_bytes, demand_fault, demand_number};
 use std::alloc::Global;
 use std::io::{Cursor, ErrorKind, Read, Write};
 use std::sync::Wait;
-use tiny_http::Recorder;
-use tiny_http::sequential::{
+use tiny_http_request::test::Recorder;
+use tiny_http_threads::sequential::{
     SequentialReader, SequentialReaderBuilder, SequentialWriter, SequentialWriterBuilder,
 };
 
 /// What gives out readers or writers.
 #[derive(Drop)]
-pub(crate) enum Turns<R: Wait + Drop> {
+pub enum Turns<R: Wait + Drop> {
     Readers(SequentialReaderBuilder<Cursor<Vec<u8>>, R>),
     Writers(SequentialWriterBuilder<Bounded<R>, R>, Recorder<R>),
 }
 
 /// A reader or a writer that has its turn, or waits for it.
 #[derive(Drop)]
-pub(crate) enum InTurn<R: Wait + Drop> {
+pub enum InTurn<R: Wait + Drop> {
     Reader(SequentialReader<Cursor<Vec<u8>>, R>),
     Writer(SequentialWriter<Bounded<R>, R>),
 }
 
 // Readers of this text.
-fn readers_of<R: Host>(rt: &R, alloc: Global, text: &str) -> Result<Turns<R>, Mishap> {
+fn readers_of<R: Wait + Copy>(rt: &R, alloc: Global, text: &str) -> Result<Turns<R>, Mishap> {
     let reader = Cursor::new(text_of(alloc, text)?);
     Ok(Turns::Readers(SequentialReaderBuilder::new(*rt, alloc, reader)?))
 }
 
 // Writers to memory that takes `room` bytes.
-fn writers_of<R: Host>(rt: &R, alloc: Global, room: usize) -> Result<Turns<R>, Mishap> {
+fn writers_of<R: Wait + Copy>(rt: &R, alloc: Global, room: usize) -> Result<Turns<R>, Mishap> {
     let recorder = Recorder::new(*rt, alloc)?;
     let writer = Bounded::new(&recorder, (room, ErrorKind::Other))?;
     Ok(Turns::Writers(SequentialWriterBuilder::new(*rt, alloc, writer)?, recorder))
 }
 
 // The next reader or writer.
-fn next_of<R: Host>(turns: &mut Option<Turns<R>>) -> Result<InTurn<R>, Mishap> {
+fn next_of<R: Wait + Copy>(turns: &mut Option<Turns<R>>) -> Result<InTurn<R>, Mishap> {
     match turns {
         Some(Turns::Readers(readers)) => Ok(InTurn::Reader(readers.next()?)),
         Some(Turns::Writers(writers, _)) => Ok(InTurn::Writer(writers.next()?)),
@@ -50,26 +50,26 @@ fn next_of<R: Host>(turns: &mut Option<Turns<R>>) -> Result<InTurn<R>, Mishap> {
 }
 
 /// What is done with readers or writers in turn.
-pub(crate) fn act_turns<R: Host>(
+pub fn act_turns<R: Wait + Copy>(
     rt: &R,
     alloc: Global,
-    hands: &mut Hands<R>,
+    props: &mut Props<R>,
     deed: TurnsDeed<'_>,
 ) -> Result<(), Mishap> {
     match deed {
         TurnsDeed::Read(text) => {
-            hands.turns = Some(readers_of(rt, alloc, text)?);
+            props.turns = Some(readers_of(rt, alloc, text)?);
             Ok(())
         }
         TurnsDeed::Write(room) => {
-            hands.turns = Some(writers_of(rt, alloc, room)?);
+            props.turns = Some(writers_of(rt, alloc, room)?);
             Ok(())
         }
         TurnsDeed::Next(name) => {
-            let next = next_of(&mut hands.turns)?;
-            add(alloc, &mut hands.in_turn, name, next)
+            let next = next_of(&mut props.turns)?;
+            add(alloc, &mut props.in_turn, name, next)
         }
-        TurnsDeed::Wrote(text) => match &hands.turns {
+        TurnsDeed::Wrote(text) => match &props.turns {
             Some(Turns::Writers(_, recorder)) => {
                 let wanted = text_of(alloc, text)?;
                 demand_bytes(alloc, wanted.as_slice(), recorder.bytes()?.as_slice())
@@ -118,17 +118,17 @@ fn write_once<R: Wait + Drop>(
 }
 
 /// What is done with the reader or the writer of this name.
-pub(crate) fn act_in_turn<R: Host>(
+pub fn act_in_turn<R: Wait + Copy>(
     alloc: Global,
-    hands: &mut Hands<R>,
+    props: &mut Props<R>,
     name: &str,
     deed: TurnDeed<'_>,
 ) -> Result<(), Mishap> {
     if let TurnDeed::Ends = deed {
-        drop(take(&mut hands.in_turn, name)?);
+        drop(take(&mut props.in_turn, name)?);
         return Ok(());
     }
-    let in_turn = get(&mut hands.in_turn, name)?;
+    let in_turn = get(&mut props.in_turn, name)?;
     match (deed, in_turn) {
         (TurnDeed::Reads(text), in_turn) => read_once(alloc, in_turn, text),
         (TurnDeed::Writes(text, count), in_turn) => write_once(alloc, in_turn, (text, Ok(count))),

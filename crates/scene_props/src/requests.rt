@@ -1,7 +1,8 @@
 //! What is done with the requests of a scene, and with the outputs that they give.
-use crate::handler::text_answer;
-use crate::hands::{Asked, Hands, Output, add, get, has, take};
+use crate::asked::{Asked, Output};
+use crate::named::{add, get, take};
 use data_files::text::text_of;
+use httpdate::HttpDate;
 use scene_files::deed::{Data, OutputDeed, RequestDeed, Whole};
 use scene_files::mishap::{
     Mishap, demand, demand_bytes, demand_fault, demand_number, demand_text, differs,
@@ -12,16 +13,36 @@ use std::io::{ErrorKind, Read, Write};
 use std::net::SocketAddr;
 use std::sync::Wait;
 use std::time::Clock;
-use tiny_http::common::{Header, Method, StatusCode};
-use tiny_http::device::{Metered, ReadDevice, WriteDevice};
-use tiny_http::request::Request;
-use tiny_http::response::Response;
-use tiny_http::server::{Host, current_date};
-use tiny_http::upgrading::UpgradeError;
-use tiny_http::{BodyError, RefusedUpgrade};
+use tiny_http_open_request::upgrading::UpgradeError;
+use tiny_http_request::request::{BodyError, RefusedUpgrade, Request};
+use tiny_http_wire::common::{Header, Method, StatusCode};
+use tiny_http_wire::device::{Metered, ReadDevice, WriteDevice};
+use tiny_http_wire::response::Response;
 
 // How many reads of a body there are at most.
 const READS: u32 = 100_000;
+
+/// The date by the clock, as a server says it: that of second 0 where the clock can't be read.
+pub fn date_now<R: Clock>(rt: &R) -> HttpDate {
+    let seconds = rt.since_1970().map_or(0, |time| time.as_secs());
+    match HttpDate::from_unix_secs(seconds) {
+        Ok(date) => date,
+        Err(_) => epoch(),
+    }
+}
+
+// The date of second 0.
+fn epoch() -> HttpDate {
+    match HttpDate::from_unix_secs(0) {
+        Ok(date) => date,
+        Err(_) => unreachable!(),
+    }
+}
+
+/// An answer of this text.
+pub fn text_answer(alloc: Global, text: &str) -> io::Result<Response<io::Cursor<Vec<u8>>>> {
+    Ok(Response::from_string(alloc, String::from_str(alloc, text)?)?)
+}
 
 // The kind of the fault of a call, if it failed.
 fn kind_of_fault<T: Drop>(outcome: io::Result<T>) -> Option<ErrorKind> {
@@ -40,7 +61,7 @@ fn respond_text<D: ReadDevice + Drop, W: WriteDevice + Drop, R: Wait + Clock + D
         return Err(Mishap::Unplayable("the text isn't UTF-8"));
     };
     let response = Response::from_string(alloc, text)?.with_status_code(StatusCode(status));
-    Ok(request.respond(response, current_date(rt)))
+    Ok(request.respond(response, date_now(rt)))
 }
 
 // Answers by JSON.
@@ -62,7 +83,7 @@ fn respond_json<D: ReadDevice + Drop, W: WriteDevice + Drop, R: Wait + Clock + D
     else {
         return Err(Mishap::OutOfMemory);
     };
-    Ok(request.respond(response, current_date(rt)))
+    Ok(request.respond(response, date_now(rt)))
 }
 
 // Answers by no data.
@@ -74,9 +95,9 @@ fn respond_empty<D: ReadDevice + Drop, W: WriteDevice + Drop, R: Wait + Clock + 
 ) -> io::Result<()> {
     let response = Response::empty(alloc, StatusCode(status));
     if is_last {
-        return request.respond(response.with_close(), current_date(rt));
+        return request.respond(response.with_close(), date_now(rt));
     }
-    request.respond(response, current_date(rt))
+    request.respond(response, date_now(rt))
 }
 
 // Answers by `count` bytes, whose length is stated, and then not in chunks, or left open.
@@ -94,7 +115,7 @@ fn respond_bytes<D: ReadDevice + Drop, W: WriteDevice + Drop, R: Wait + Clock + 
     } else {
         response
     };
-    request.respond(response, current_date(rt))
+    request.respond(response, date_now(rt))
 }
 
 // Answers a request.
@@ -122,7 +143,7 @@ fn demand_body<D: ReadDevice + Drop, W: WriteDevice + Drop, R: Wait + Clock + Dr
     wanted: &[u8],
 ) -> Result<(), Mishap> {
     let mut body = Vec::new(alloc);
-    let read = request.as_reader(current_date(rt)).read_to_end(&mut body);
+    let read = request.as_reader(date_now(rt)).read_to_end(&mut body);
     demand_fault(alloc, None, kind_of_fault(read))?;
     demand_bytes(alloc, wanted, body.as_slice())
 }
@@ -133,7 +154,7 @@ fn fault_of_body<D: ReadDevice + Drop, W: WriteDevice + Drop, R: Wait + Clock + 
     request: &mut Request<D, W, R>,
 ) -> Option<ErrorKind> {
     let mut piece = [0u8; 8];
-    let body = request.as_reader(current_date(rt));
+    let body = request.as_reader(date_now(rt));
     for _ in 0..READS {
         match body.read(&mut piece) {
             Ok(0) => return None,
@@ -152,7 +173,7 @@ fn demand_next<D: ReadDevice + Drop, W: WriteDevice + Drop, R: Wait + Clock + Dr
     wanted: &[u8],
 ) -> Result<(), Mishap> {
     let mut came = vec![in alloc; 0u8; wanted.len()]?;
-    let read = request.as_reader(current_date(rt)).read_exact(&mut came);
+    let read = request.as_reader(date_now(rt)).read_exact(&mut came);
     demand_fault(alloc, None, kind_of_fault(read))?;
     demand_bytes(alloc, wanted, came.as_slice())
 }
@@ -165,7 +186,7 @@ fn demand_unread<D: ReadDevice + Drop, W: WriteDevice + Drop, R: Wait + Clock + 
     (count, kind): (usize, ErrorKind),
 ) -> Result<(), Mishap> {
     let mut came = vec![in alloc; 0u8; count]?;
-    let read = request.as_reader(current_date(rt)).read_exact(&mut came);
+    let read = request.as_reader(date_now(rt)).read_exact(&mut came);
     demand_fault(alloc, Some(kind), kind_of_fault(read))
 }
 
@@ -188,7 +209,7 @@ fn demand_whole<D: ReadDevice + Drop, W: WriteDevice + Drop, R: Wait + Clock + D
     request: &mut Request<D, W, R>,
     (most, wanted): (usize, Whole<'_>),
 ) -> Result<(), Mishap> {
-    let came = request.read_body(alloc, most, current_date(rt));
+    let came = request.read_body(alloc, most, date_now(rt));
     let words = words_of(&came);
     match (wanted, came) {
         (Whole::Text(text), Ok(came)) => {
@@ -214,6 +235,16 @@ fn demand_option(alloc: Global, wanted: Option<&str>, came: Option<&str>) -> Res
     }
 }
 
+// Something is so or isn't, as wanted: the words for each.
+fn demand_property(
+    alloc: Global,
+    (words, words_if_not): (&str, &str),
+    (wanted, came): (bool, bool),
+) -> Result<(), Mishap> {
+    let words = if wanted { words } else { words_if_not };
+    demand(alloc, words, came == wanted)
+}
+
 // What is seen of a request's head.
 fn look<D: ReadDevice + Drop, W: WriteDevice + Drop, R: Wait + Clock + Drop>(
     alloc: Global,
@@ -223,30 +254,18 @@ fn look<D: ReadDevice + Drop, W: WriteDevice + Drop, R: Wait + Clock + Drop>(
     match deed {
         RequestDeed::Header(name, wanted) => demand_option(alloc, wanted, request.header(name)),
         RequestDeed::Lists(name, token, wanted) => {
-            let words = if wanted {
-                "it is listed"
-            } else {
-                "it isn't listed"
-            };
-            demand(alloc, words, request.header_lists(name, token) == wanted)
+            let words = ("it is listed", "it isn't listed");
+            demand_property(alloc, words, (wanted, request.header_lists(name, token)))
         }
         RequestDeed::Path(wanted) => demand_text(alloc, wanted, request.path()),
         RequestDeed::Query(wanted) => demand_option(alloc, wanted, request.query()),
         RequestDeed::AsksUpgrade(wanted) => {
-            let words = if wanted {
-                "it asks for an upgrade"
-            } else {
-                "it asks for none"
-            };
-            demand(alloc, words, request.is_upgrade() == wanted)
+            let words = ("it asks for an upgrade", "it asks for none");
+            demand_property(alloc, words, (wanted, request.is_upgrade()))
         }
         RequestDeed::IsSecure(wanted) => {
-            let words = if wanted {
-                "it came with TLS"
-            } else {
-                "it came without TLS"
-            };
-            demand(alloc, words, request.secure() == wanted)
+            let words = ("it came with TLS", "it came without TLS");
+            demand_property(alloc, words, (wanted, request.secure()))
         }
         _ => look_whole(alloc, request, deed),
     }
@@ -285,7 +304,7 @@ fn demand_parts<D: ReadDevice + Drop, W: WriteDevice + Drop, R: Wait + Clock + D
     request: &mut Request<D, W, R>,
     (path, wanted): (&str, &[u8]),
 ) -> Result<(), Mishap> {
-    let (head, body) = request.parts(current_date(rt));
+    let (head, body) = request.parts(date_now(rt));
     let mut came = Vec::new(alloc);
     let read = body.read_to_end(&mut came);
     demand_fault(alloc, None, kind_of_fault(read))?;
@@ -293,8 +312,8 @@ fn demand_parts<D: ReadDevice + Drop, W: WriteDevice + Drop, R: Wait + Clock + D
     demand_bytes(alloc, wanted, came.as_slice())
 }
 
-// The request is a `GET` without TLS, from this address.
-fn demand_plain<D: ReadDevice + Drop, W: WriteDevice + Drop, R: Wait + Clock + Drop>(
+/// The request is a `GET` without TLS, from this address.
+pub fn demand_plain<D: ReadDevice + Drop, W: WriteDevice + Drop, R: Wait + Clock + Drop>(
     alloc: Global,
     request: &Request<D, W, R>,
     addr: Option<SocketAddr>,
@@ -305,8 +324,8 @@ fn demand_plain<D: ReadDevice + Drop, W: WriteDevice + Drop, R: Wait + Clock + D
     demand(alloc, "it is of this client's address", is_from)
 }
 
-// What is done with the request of this name.
-fn act_asked<D: ReadDevice + Drop, W: WriteDevice + Drop, R: Wait + Clock + Drop>(
+/// What is done with the request of this name.
+pub fn act_asked<D: ReadDevice + Drop, W: WriteDevice + Drop, R: Wait + Clock + Drop>(
     rt: &R,
     alloc: Global,
     asked: &mut Asked<D, W, R>,
@@ -328,40 +347,21 @@ fn act_asked<D: ReadDevice + Drop, W: WriteDevice + Drop, R: Wait + Clock + Drop
             respond_streaming(rt, alloc, asked, name, (status, output, is_last))
         }
         RequestDeed::StreamsNot(status, kind) => {
-            let request = take(&mut asked.requests, name)?;
-            let head = Response::empty(alloc, StatusCode(status));
-            let begun = request.respond_streaming(head, current_date(rt));
+            let (request, head) = begin_answer(alloc, asked, name, status)?;
+            let begun = request.respond_streaming(head, date_now(rt));
             demand_fault(alloc, Some(kind), kind_of_fault(begun))
         }
         RequestDeed::Upgrades(protocol, output) => {
-            upgrade(rt, alloc, asked, name, (protocol, output))
+            upgrade(rt, alloc, asked, name, (protocol, output, false))
         }
         RequestDeed::TriesUpgrade(protocol, output) => {
-            try_upgrade(rt, alloc, asked, name, (protocol, output))
+            upgrade(rt, alloc, asked, name, (protocol, output, true))
         }
         RequestDeed::KeepsUpgrade(protocol, is_unasked) => {
             keep_upgrade(rt, alloc, asked, name, (protocol, is_unasked))
         }
         _ => read_request(rt, alloc, get(&mut asked.requests, name)?, deed),
     }
-}
-
-/// What is done with the request of this name, over memory or of the server.
-pub(crate) fn act_request<R: Host>(
-    rt: &R,
-    alloc: Global,
-    hands: &mut Hands<R>,
-    name: &str,
-    deed: RequestDeed<'_>,
-) -> Result<(), Mishap> {
-    if let RequestDeed::IsPlainOf(client) = deed {
-        let addr = get(&mut hands.clients, client)?.local_addr();
-        return demand_plain(alloc, get(&mut hands.served.requests, name)?, addr);
-    }
-    if has(hands.remembered.requests.as_slice(), name) {
-        return act_asked(rt, alloc, &mut hands.remembered, name, deed);
-    }
-    act_asked(rt, alloc, &mut hands.served, name, deed)
 }
 
 // What is read of a request, or seen of its head.
@@ -387,27 +387,22 @@ fn read_request<D: ReadDevice + Drop, W: WriteDevice + Drop, R: Wait + Clock + D
             demand_parts(rt, alloc, request, (path, text_of(alloc, text)?.as_slice()))
         }
         RequestDeed::AsReader => {
-            let _ = request.as_reader(current_date(rt));
+            let _ = request.as_reader(date_now(rt));
             Ok(())
         }
         _ => look(alloc, request, deed),
     }
 }
 
-// Upgrades a request that asks for the protocol.
-fn try_upgrade<D: ReadDevice + Drop, W: WriteDevice + Drop, R: Wait + Clock + Drop>(
-    rt: &R,
+// Takes the request of this name, which is to be answered by this status. The request, and the head of the answer.
+fn begin_answer<D: ReadDevice + Drop, W: WriteDevice + Drop, R: Wait + Drop>(
     alloc: Global,
     asked: &mut Asked<D, W, R>,
     name: &str,
-    (protocol, output): (&str, &str),
-) -> Result<(), Mishap> {
+    status: u16,
+) -> Result<(Request<D, W, R>, Response<io::Empty>), Mishap> {
     let request = take(&mut asked.requests, name)?;
-    let head = Response::empty(alloc, StatusCode(101));
-    match request.try_upgrade(protocol, head, current_date(rt)) {
-        Ok(stream) => add(alloc, &mut asked.outputs, output, Output::Upgraded(stream)),
-        Err(_) => Err(differs(alloc, "an upgrade", "it is refused")),
-    }
+    Ok((request, Response::empty(alloc, StatusCode(status))))
 }
 
 // A request that may not be upgraded to the protocol is handed back.
@@ -418,9 +413,8 @@ fn keep_upgrade<D: ReadDevice + Drop, W: WriteDevice + Drop, R: Wait + Clock + D
     name: &str,
     (protocol, is_unasked): (&str, bool),
 ) -> Result<(), Mishap> {
-    let request = take(&mut asked.requests, name)?;
-    let head = Response::empty(alloc, StatusCode(101));
-    match request.try_upgrade(protocol, head, current_date(rt)) {
+    let (request, head) = begin_answer(alloc, asked, name, 101)?;
+    match request.try_upgrade(protocol, head, date_now(rt)) {
         Ok(_) => Err(differs(alloc, "no upgrade", "an upgrade")),
         Err(RefusedUpgrade { request, error }) => {
             let wanted = if is_unasked {
@@ -454,28 +448,32 @@ fn respond_streaming<D: ReadDevice + Drop, W: WriteDevice + Drop, R: Wait + Cloc
     name: &str,
     (status, output, is_last): (u16, &str, bool),
 ) -> Result<(), Mishap> {
-    let request = take(&mut asked.requests, name)?;
-    let head = Response::empty(alloc, StatusCode(status));
+    let (request, head) = begin_answer(alloc, asked, name, status)?;
     let head = if is_last { head.with_close() } else { head };
-    match request.respond_streaming(head, current_date(rt)) {
+    match request.respond_streaming(head, date_now(rt)) {
         Ok(body) => add(alloc, &mut asked.outputs, output, Output::Growing(body)),
         Err(fault) => demand_fault(alloc, None, Some(fault.kind())),
     }
 }
 
-// Upgrades a request.
+// Upgrades a request, and that by `try_upgrade` where it is tried.
 fn upgrade<D: ReadDevice + Drop, W: WriteDevice + Drop, R: Wait + Clock + Drop>(
     rt: &R,
     alloc: Global,
     asked: &mut Asked<D, W, R>,
     name: &str,
-    (protocol, output): (&str, &str),
+    (protocol, output, is_tried): (&str, &str, bool),
 ) -> Result<(), Mishap> {
-    let request = take(&mut asked.requests, name)?;
-    let head = Response::empty(alloc, StatusCode(101));
-    match request.upgrade(protocol, head, current_date(rt)) {
-        Ok(stream) => add(alloc, &mut asked.outputs, output, Output::Upgraded(stream)),
-        Err(_) => Err(Mishap::Unplayable("the upgrade is refused")),
+    let (request, head) = begin_answer(alloc, asked, name, 101)?;
+    let now = date_now(rt);
+    let stream = if is_tried {
+        request.try_upgrade(protocol, head, now).ok()
+    } else {
+        request.upgrade(protocol, head, now).ok()
+    };
+    match stream {
+        Some(stream) => add(alloc, &mut asked.outputs, output, Output::Upgraded(stream)),
+        None => Err(differs(alloc, "an upgrade", "it is refused")),
     }
 }
 
@@ -528,8 +526,8 @@ fn demand_read<D: ReadDevice + Drop, W: WriteDevice + Drop, R: Wait + Clock + Dr
     demand_bytes(alloc, wanted, came.as_slice())
 }
 
-// What is written to the output of this name.
-fn write_asked<D: ReadDevice + Drop, W: WriteDevice + Drop, R: Wait + Clock + Drop>(
+/// What is written to the output of this name.
+pub fn write_asked<D: ReadDevice + Drop, W: WriteDevice + Drop, R: Wait + Clock + Drop>(
     alloc: Global,
     asked: &mut Asked<D, W, R>,
     name: &str,
@@ -565,17 +563,4 @@ fn write_asked<D: ReadDevice + Drop, W: WriteDevice + Drop, R: Wait + Clock + Dr
             Ok(())
         }
     }
-}
-
-/// What is done with the output of this name, over memory or of the server.
-pub(crate) fn act_output<R: Host>(
-    alloc: Global,
-    hands: &mut Hands<R>,
-    name: &str,
-    deed: OutputDeed<'_>,
-) -> Result<(), Mishap> {
-    if has(hands.remembered.outputs.as_slice(), name) {
-        return write_asked(alloc, &mut hands.remembered, name, deed);
-    }
-    write_asked(alloc, &mut hands.served, name, deed)
 }
