@@ -231,7 +231,12 @@ where
     };
     let progress = Arc::new(alloc, progress).map_err(|_| AllocError)?;
     let shown = Arc::try_clone(&progress)?;
-    if thread::spawn(&rt, move || report_progress(&rt, &counted, &shown, &mut out)).is_err() {
+    if thread::spawn(
+        &rt,
+        move || report_progress(&rt, &counted, &shown, &mut out),
+    )
+    .is_err()
+    {
         return Err(GuardedFault::OutOfMemory);
     }
     let served = answer_all(alloc, &server);

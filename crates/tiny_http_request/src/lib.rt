@@ -3,6 +3,7 @@
 //! `tiny_http` names its modules again.
 #![tactic(auto)]
 
+mod answering;
 mod body;
 pub mod client;
 mod remembered;

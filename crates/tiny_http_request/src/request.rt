@@ -23,10 +23,11 @@ ghost use Rattle.tiny_http_request.specs.Request.{request_address, request_open,
 ghost use Rattle.tiny_http_request.specs.Request.{cut_kind, IsCutShort, BeginsWith, Says, IsFramed, FailsBy};
 ghost use Rattle.tiny_http_request.specs.Request.{request_body, ReadsStream, RefusesUpgrade};
 ghost use Rattle.tiny_http_io.specs.CustomStream.{custom_reader};
-ghost use Rattle.tiny_http_request.specs.Body.{body_left, input_of, KeepsLeft, upgraded_body};
+ghost use Rattle.tiny_http_request.specs.Body.{body_left, input_of};
 ghost use Rattle.tiny_http_request.specs.WholeBody.{FailsWhole, IsWholeOf};
 ghost use Rattle.tiny_http_threads.specs.Turn.{held_item};
 
+use crate::answering::{begin_answer, read_stream};
 pub use crate::body::Body;
 use crate::body::GivesOn;
 pub use crate::streamed_body::StreamedBody;
@@ -39,7 +40,7 @@ use std::net::SocketAddr;
 use std::sync::{Arc, Wait};
 use std::{fmt, io};
 use thiserror::Error;
-use tiny_http_body::body::{Remainder, UnreadBody};
+use tiny_http_body::body::UnreadBody;
 use tiny_http_body::framing::{Framing, FramingFault, HeadRules, Profile, framing_of};
 pub use tiny_http_body::streamed::StreamedForm;
 use tiny_http_head::common::{HTTPVersion, Header, Method};
@@ -57,8 +58,8 @@ use tiny_http_socket::pace::Pace;
 use tiny_http_text::ascii::AsciiString;
 use tiny_http_threads::sequential::{SequentialWriter, SequentialWriterBuilder};
 use tiny_http_threads::turn::{
-    HeldReader, begin_readers, close_if_broken, end_behind_writer, hold_writer, is_broken_writer,
-    is_last_writer, leave_writer, pass_writer,
+    HeldReader, begin_readers, close_if_broken, hold_writer, is_broken_writer, is_last_writer,
+    leave_writer, pass_writer,
 };
 
 /// Why no request is made of its parts.
@@ -669,38 +670,6 @@ impl<R: ReadDevice + Drop, W: WriteDevice + Drop, Rt: Wait + Drop> fmt::Debug
         let address = self.remote_addr;
         write!(f, "Request({method} {path} from {address:?})")
     }
-}
-
-// Has the body read on as the stream of an upgrade. No head follows where that gets the connection.
-fn read_stream<R: ReadDevice + Drop, Rt: Wait + Drop>(open_request: &mut OpenRequest<Body<R, Rt>>)
-    ensures { KeepsLeft (upgraded_body open_request.old.by_standard open_request.old.body) open_request.new.body }
-{
-    let left = open_request.body.remainder();
-    open_request.body.become_stream(open_request.by_standard);
-    if open_request.is_last_with_stream(left) {
-        open_request.body.end_requests();
-    }
-}
-
-// Waits for the turn of a request that is to be answered, which may end the connection. No head is read behind it
-// where it is the last so. What is left of its body.
-fn begin_answer<R: ReadDevice + Drop, W: WriteDevice + Drop, Rt: Wait + Drop>(
-    open_request: &mut OpenRequest<Body<R, Rt>>,
-    writer: &mut SequentialWriter<Outlet<W>, Rt>,
-    ends: bool,
-) -> Remainder {
-    let left = open_request.body.remainder();
-    if open_request.is_last_once_finished(left) {
-        open_request.body.end_requests();
-    }
-    let _ = hold_writer(writer);
-    if ends {
-        end_behind_writer(writer);
-    }
-    if is_last_writer(writer) {
-        open_request.close();
-    }
-    left
 }
 
 // The kind of error of a body that ends early because its reader stopped so.

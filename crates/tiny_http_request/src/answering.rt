@@ -1,0 +1,45 @@
+//! What a request does to its body and its turn as its answer or its stream begins.
+ghost use Rattle.tiny_http_request.specs.Body.{KeepsLeft, upgraded_body};
+
+use crate::body::Body;
+use std::sync::Wait;
+use tiny_http_body::body::Remainder;
+use tiny_http_io::device::{ReadDevice, WriteDevice};
+use tiny_http_io::outlet::Outlet;
+use tiny_http_open_request::open_request::OpenRequest;
+use tiny_http_threads::sequential::SequentialWriter;
+use tiny_http_threads::turn::{end_behind_writer, hold_writer, is_last_writer};
+
+/// Has the body read on as the stream of an upgrade. No head follows where that gets the connection.
+pub(crate) fn read_stream<R: ReadDevice + Drop, Rt: Wait + Drop>(
+    open_request: &mut OpenRequest<Body<R, Rt>>,
+)
+    ensures { KeepsLeft (upgraded_body open_request.old.by_standard open_request.old.body) open_request.new.body }
+{
+    let left = open_request.body.remainder();
+    open_request.body.become_stream(open_request.by_standard);
+    if open_request.is_last_with_stream(left) {
+        open_request.body.end_requests();
+    }
+}
+
+/// Waits for the turn of a request that is to be answered, which may end the connection. No head is read behind it
+/// where it is the last so. What is left of its body.
+pub(crate) fn begin_answer<R: ReadDevice + Drop, W: WriteDevice + Drop, Rt: Wait + Drop>(
+    open_request: &mut OpenRequest<Body<R, Rt>>,
+    writer: &mut SequentialWriter<Outlet<W>, Rt>,
+    ends: bool,
+) -> Remainder {
+    let left = open_request.body.remainder();
+    if open_request.is_last_once_finished(left) {
+        open_request.body.end_requests();
+    }
+    let _ = hold_writer(writer);
+    if ends {
+        end_behind_writer(writer);
+    }
+    if is_last_writer(writer) {
+        open_request.close();
+    }
+    left
+}
