@@ -132,6 +132,19 @@ pub enum Data<'a> {
     Bytes(usize),
     /// As many bytes, whose length isn't stated.
     Unsized(usize),
+    /// This text, where as many bytes are stated.
+    Short(usize, &'a str),
+}
+
+/// Why a request is handed back that isn't upgraded.
+#[derive(Clone, Copy)]
+pub enum Kept {
+    /// It doesn't ask for the protocol.
+    NotAsked,
+    /// Its body isn't read.
+    UnfinishedBody,
+    /// As many connections are upgraded as may be.
+    TooMany,
 }
 
 /// What is done with a request.
@@ -182,8 +195,10 @@ pub enum RequestDeed<'a> {
     Upgrades(&'a str, &'a str),
     /// The same, where its head asks for the protocol.
     TriesUpgrade(&'a str, &'a str),
-    /// It is handed back, since it doesn't ask for this protocol or, if so, its body isn't read.
-    KeepsUpgrade(&'a str, bool),
+    /// It isn't upgraded to this protocol, and handed back.
+    KeepsUpgrade(&'a str, Kept),
+    /// Whether its answer would be lost.
+    IsLost(bool),
 }
 
 /// What comes of a body that is read whole.
@@ -205,6 +220,8 @@ pub enum OutputDeed<'a> {
     Close(Option<ErrorKind>),
     /// A read of an upgraded stream gives this text.
     Read(&'a str),
+    /// A read of an upgraded stream fails so.
+    ReadFails(ErrorKind),
     /// An answer that grows is sent in this form.
     Form(&'a str),
     Discard,
@@ -405,6 +422,10 @@ fn data_in(text: &str) -> Option<Data<'_>> {
         ("closing", "") => Some(Data::Closing),
         ("bytes", digits) => Some(Data::Bytes(number_in(digits)?)),
         ("unsized", digits) => Some(Data::Unsized(number_in(digits)?)),
+        ("short", words) => {
+            let (digits, text) = words.split_once(' ')?;
+            Some(Data::Short(number_in(digits)?, text))
+        }
         _ => None,
     }
 }
@@ -438,6 +459,16 @@ fn answer_in(word: &str) -> Option<bool> {
     }
 }
 
+// Why a request is handed back.
+fn kept_in(word: &str) -> Option<Kept> {
+    match word {
+        "NotAsked" => Some(Kept::NotAsked),
+        "UnfinishedBody" => Some(Kept::UnfinishedBody),
+        "TooMany" => Some(Kept::TooMany),
+        _ => None,
+    }
+}
+
 // What a call of a request says that has an outcome after ` = `.
 fn look_at_request<'a>(verb: &str, call: &'a str, outcome: &'a str) -> Option<RequestDeed<'a>> {
     match verb {
@@ -450,11 +481,7 @@ fn look_at_request<'a>(verb: &str, call: &'a str, outcome: &'a str) -> Option<Re
             let (name, token) = call.split_once(' ')?;
             Some(RequestDeed::Lists(name, token, answer_in(outcome)?))
         }
-        "try_upgrade" => match outcome {
-            "NotAsked" => Some(RequestDeed::KeepsUpgrade(call, true)),
-            "UnfinishedBody" => Some(RequestDeed::KeepsUpgrade(call, false)),
-            _ => None,
-        },
+        "try_upgrade" => Some(RequestDeed::KeepsUpgrade(call, kept_in(outcome)?)),
         "respond_streaming" => {
             let status = u16::try_from(number_in(call)?).ok()?;
             Some(RequestDeed::StreamsNot(status, kind_of(outcome)?))
@@ -471,6 +498,7 @@ fn property_of_request<'a>(verb: &str, outcome: &'a str) -> Option<RequestDeed<'
         "query" => Some(RequestDeed::Query(Some(outcome.strip_prefix('?')?))),
         "is_upgrade" => Some(RequestDeed::AsksUpgrade(answer_in(outcome)?)),
         "secure" => Some(RequestDeed::IsSecure(answer_in(outcome)?)),
+        "is_lost" => Some(RequestDeed::IsLost(answer_in(outcome)?)),
         "http_version" => Some(RequestDeed::Version(outcome)),
         "body_length" if outcome == "none" => Some(RequestDeed::Length(None)),
         "body_length" => Some(RequestDeed::Length(Some(millis_in(outcome)?))),
@@ -533,6 +561,7 @@ fn output_deed<'a>(verb: &str, rest: &'a str) -> Option<OutputDeed<'a>> {
         "flush" => Some(OutputDeed::Flush(fault_in(rest)?)),
         "close" => Some(OutputDeed::Close(fault_in(rest)?)),
         "gets-back" => Some(OutputDeed::Read(rest)),
+        "gets-fault" => Some(OutputDeed::ReadFails(kind_of(rest)?)),
         "form" => Some(OutputDeed::Form(rest.strip_prefix("= ")?)),
         "discard" if rest.is_empty() => Some(OutputDeed::Discard),
         _ => None,

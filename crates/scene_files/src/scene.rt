@@ -88,6 +88,9 @@ fn set_limit(limits: &mut Limits, name: &str, number: usize) -> Option<()> {
         "idle_time" => limits.idle_time = time,
         "body_time" => limits.body_time = time,
         "write_time" => limits.write_time = time,
+        "stream_time" => limits.stream_time = Some(time),
+        "least_rate" => limits.least_rate = number,
+        "upgrades" => limits.upgrades = number,
         _ => return None,
     }
     Some(())

@@ -3,13 +3,13 @@ use crate::asked::{Asked, Output};
 use crate::named::{add, get, take};
 use data_files::text::text_of;
 use httpdate::HttpDate;
-use scene_files::deed::{Data, OutputDeed, RequestDeed, Whole};
+use scene_files::deed::{Data, Kept, OutputDeed, RequestDeed, Whole};
 use scene_files::mishap::{
     Mishap, demand, demand_bytes, demand_fault, demand_number, demand_text, differs,
 };
 use std::alloc::Global;
 use std::io;
-use std::io::{ErrorKind, Read, Write};
+use std::io::{Cursor, ErrorKind, Read, Write};
 use std::net::SocketAddr;
 use std::sync::Wait;
 use std::time::Clock;
@@ -40,7 +40,7 @@ fn epoch() -> HttpDate {
 }
 
 /// An answer of this text.
-pub fn text_answer(alloc: Global, text: &str) -> io::Result<Response<io::Cursor<Vec<u8>>>> {
+pub fn text_answer(alloc: Global, text: &str) -> io::Result<Response<Cursor<Vec<u8>>>> {
     Ok(Response::from_string(alloc, String::from_str(alloc, text)?)?)
 }
 
@@ -132,7 +132,20 @@ fn respond<D: ReadDevice + Drop, W: WriteDevice + Drop, R: Wait + Clock + Drop>(
         Data::Closing => Ok(respond_empty(rt, alloc, request, (status, true))),
         Data::Bytes(count) => Ok(respond_bytes(rt, alloc, request, (status, count, true))),
         Data::Unsized(count) => Ok(respond_bytes(rt, alloc, request, (status, count, false))),
+        Data::Short(stated, text) => {
+            let answer = short_answer(alloc, status, (stated, text_of(alloc, text)?));
+            Ok(request.respond(answer, date_now(rt)))
+        }
     }
+}
+
+/// An answer whose head states a length, and these data.
+pub fn short_answer(
+    alloc: Global,
+    status: u16,
+    (stated, data): (usize, Vec<u8>),
+) -> Response<Cursor<Vec<u8>>> {
+    Response::empty(alloc, StatusCode(status)).with_data(Cursor::new(data), Some(stated))
 }
 
 // The whole body of a request is these bytes.
@@ -263,6 +276,10 @@ fn look<D: ReadDevice + Drop, W: WriteDevice + Drop, R: Wait + Clock + Drop>(
             let words = ("it asks for an upgrade", "it asks for none");
             demand_property(alloc, words, (wanted, request.is_upgrade()))
         }
+        RequestDeed::IsLost(wanted) => {
+            let words = ("its answer would be lost", "its answer would be sent");
+            demand_property(alloc, words, (wanted, request.is_lost()))
+        }
         RequestDeed::IsSecure(wanted) => {
             let words = ("it came with TLS", "it came without TLS");
             demand_property(alloc, words, (wanted, request.secure()))
@@ -357,8 +374,8 @@ pub fn act_asked<D: ReadDevice + Drop, W: WriteDevice + Drop, R: Wait + Clock + 
         RequestDeed::TriesUpgrade(protocol, output) => {
             upgrade(rt, alloc, asked, name, (protocol, output, true))
         }
-        RequestDeed::KeepsUpgrade(protocol, is_unasked) => {
-            keep_upgrade(rt, alloc, asked, name, (protocol, is_unasked))
+        RequestDeed::KeepsUpgrade(protocol, why) => {
+            keep_upgrade(rt, alloc, asked, name, (protocol, why))
         }
         _ => read_request(rt, alloc, get(&mut asked.requests, name)?, deed),
     }
@@ -411,16 +428,16 @@ fn keep_upgrade<D: ReadDevice + Drop, W: WriteDevice + Drop, R: Wait + Clock + D
     alloc: Global,
     asked: &mut Asked<D, W, R>,
     name: &str,
-    (protocol, is_unasked): (&str, bool),
+    (protocol, why): (&str, Kept),
 ) -> Result<(), Mishap> {
     let (request, head) = begin_answer(alloc, asked, name, 101)?;
     match request.try_upgrade(protocol, head, date_now(rt)) {
         Ok(_) => Err(differs(alloc, "no upgrade", "an upgrade")),
         Err(RefusedUpgrade { request, error }) => {
-            let wanted = if is_unasked {
-                UpgradeError::NotAsked
-            } else {
-                UpgradeError::UnfinishedBody
+            let wanted = match why {
+                Kept::NotAsked => UpgradeError::NotAsked,
+                Kept::UnfinishedBody => UpgradeError::UnfinishedBody,
+                Kept::TooMany => UpgradeError::TooMany,
             };
             let holds = error == wanted;
             add(alloc, &mut asked.requests, name, request)?;
@@ -526,6 +543,20 @@ fn demand_read<D: ReadDevice + Drop, W: WriteDevice + Drop, R: Wait + Clock + Dr
     demand_bytes(alloc, wanted, came.as_slice())
 }
 
+// A read of an upgraded stream fails so.
+fn demand_stopped<D: ReadDevice + Drop, W: WriteDevice + Drop, R: Wait + Clock + Drop>(
+    alloc: Global,
+    output: &mut Output<D, W, R>,
+    wanted: ErrorKind,
+) -> Result<(), Mishap> {
+    let Output::Upgraded(stream) = output else {
+        return Err(Mishap::Unplayable("only an upgraded stream is read"));
+    };
+    let mut came = [0u8; 1];
+    let read = stream.read(&mut came);
+    demand_fault(alloc, Some(wanted), kind_of_fault(read))
+}
+
 /// What is written to the output of this name.
 pub fn write_asked<D: ReadDevice + Drop, W: WriteDevice + Drop, R: Wait + Clock + Drop>(
     alloc: Global,
@@ -550,6 +581,9 @@ pub fn write_asked<D: ReadDevice + Drop, W: WriteDevice + Drop, R: Wait + Clock 
         OutputDeed::Read(text) => {
             let wanted = text_of(alloc, text)?;
             demand_read(alloc, get(&mut asked.outputs, name)?, wanted.as_slice())
+        }
+        OutputDeed::ReadFails(wanted) => {
+            demand_stopped(alloc, get(&mut asked.outputs, name)?, wanted)
         }
         OutputDeed::Form(wanted) => {
             let Output::Growing(body) = get(&mut asked.outputs, name)? else {

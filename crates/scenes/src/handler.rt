@@ -1,5 +1,5 @@
 //! The handler of a scene's server.
-use scene_props::requests::text_answer;
+use scene_props::requests::{short_answer, text_answer};
 use std::alloc::Global;
 use std::io::{ErrorKind, Read, Write};
 use std::sync::atomic::{AtomicBool, Ordering};
@@ -109,7 +109,7 @@ fn write_long<R: Wait + Clock + Drop>(
 
 impl<R: Wait + Clock + Drop> Handler<R, ServerRequest<R>> for ByPath<R> {
     /// Keeps a request for `/keep`, and each where it keeps all; drops one for `/drop`; answers one for `/echo` by
-    /// its body, `/grow` by pieces, `/long` by many bytes; upgrades one for `/greet`; and answers each other one by
+    /// its body, `/grow` by pieces, `/long` by many bytes, `/short` by three of ten; upgrades one for `/greet`; and answers each other one by
     /// its path, `/wait` once the gate is open. After the answer to `/close` the connection is to end, and for `/err`
     /// and `/drop-err` it fails.
     fn handle(&self, rt: &R, alloc: Global, request: ServerRequest<R>) -> io::Result<()> {
@@ -129,6 +129,10 @@ impl<R: Wait + Clock + Drop> Handler<R, ServerRequest<R>> for ByPath<R> {
             "/grow" => grow(rt, alloc, request, &self.gate),
             "/long" => write_long(rt, alloc, request),
             "/greet" => greet(rt, alloc, request),
+            "/short" => {
+                let answer = short_answer(alloc, 200, (10, b"abc".to_vec(alloc)?));
+                request.respond(answer, current_date(rt))
+            }
             "/close" => answer_path(rt, alloc, request, true),
             "/wait" => {
                 wait_at(rt, &self.gate);
