@@ -32,7 +32,7 @@ pub(crate) struct Lobby {
     guests: Mutex<Guests>,
     // A client has gone, or the server is closed.
     changed: Condvar,
-    // So many connections are upgraded.
+    // How many connections are upgraded.
     upgraded: Arc<AtomicU64>,
 }
 

@@ -19,7 +19,7 @@ abbrev pub AddsCall : Stall → ℕ → ℕ → Stall → Type 0
 AddsCall old waited moved new =
     (as_nanos new.waited ≡ min (as_nanos old.waited + waited) max_nanos) × (new.moved ≡ old.moved + moved)
 
--- the nanoseconds that so many bytes take at this rate, in bytes a second
+-- the nanoseconds that these bytes take at this rate, in bytes a second
 abbrev pub nanos_of_bytes : ℕ → ℕ → ℕ
 nanos_of_bytes bytes rate = min (bytes * 1_000_000_000) (2 ^ 64 - 1) / rate
 

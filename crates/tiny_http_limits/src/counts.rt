@@ -8,7 +8,7 @@ use std::fmt;
 /// The limit by which a connection was closed.
 #[derive(Clone, Copy, Debug, PartialEq, Eq)]
 pub enum Closing {
-    /// No byte of a head came in time.
+    /// No byte of a head, or of an upgraded stream, came in time.
     Idle,
     /// A head took too long.
     Head,
@@ -40,7 +40,7 @@ pub struct Refusals {
     pub uri_too_long: u64,
     /// 417: an expectation that isn't known.
     pub expectation_failed: u64,
-    /// 431: a head that is too long.
+    /// 431: a head that is too long, or has too many headers.
     pub header_fields_too_large: u64,
     /// 501: a coding that isn't known.
     pub not_implemented: u64,
@@ -63,7 +63,7 @@ pub struct Counts {
     pub accept_faults: u64,
     /// Clients that were closed at once, since as many of their address were connected as may be.
     pub turned_away: u64,
-    /// Connections that were closed since no byte of a head came in time.
+    /// Connections that were closed since no byte of a head, or of an upgraded stream, came in time.
     pub idle: u64,
     /// Connections whose head took too long.
     pub slow_heads: u64,

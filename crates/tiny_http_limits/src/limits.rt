@@ -23,18 +23,20 @@ pub struct Limits {
     /// without an answer. Where a request is open as the time ends, or was open as it began, the time begins anew.
     pub idle_time: Duration,
     /// The longest time for which reads of a body may wait: 60 seconds. Its bytes give time back, as `least_rate`
-    /// says. Then a read reports `TimedOut`, as each later one does, and the connection ends after the answer.
+    /// says. Once the time is over a read reports `TimedOut`, as each later one does, and the connection ends after
+    /// the answer.
     pub body_time: Duration,
     /// The longest time for which writes of answers may wait: 60 seconds. Their bytes give time back, as `least_rate`
-    /// says. Then the output ends, and the connection is closed.
+    /// says. Once the time is over the output ends, and the connection is closed.
     pub write_time: Duration,
-    /// How many bytes of a body, or of answers, give back a second for which they were waited for: 500. The reads of a
-    /// body of N bytes so wait for `body_time` and N / `least_rate` seconds at most, and writes likewise. No more is
-    /// given back than was waited for. At 0 no rate is asked for: 4,096 bytes give back the whole time.
+    /// The least rate of a body, or of answers, in bytes a second: 500. Each byte gives back the part of a second that
+    /// it takes at this rate, but no more than was waited. So the reads of a body of N bytes wait for `body_time` and
+    /// N / `least_rate` seconds at most, and writes likewise. At 0 no rate is asked for: each 4,096 bytes give back
+    /// the whole time.
     pub least_rate: usize,
-    /// The longest time without a byte either way for which the reads of an upgraded stream wait: 10 minutes; without
-    /// end where it is `None`. Then a read reports `TimedOut`, and the connection is closed. The time begins with each
-    /// read, and anew where bytes were written meanwhile.
+    /// The time without a byte either way after which a read of an upgraded stream reports `TimedOut`, and the
+    /// connection is closed: 10 minutes; never where it is `None`. It begins with each read, and anew once it is over
+    /// where bytes were written meanwhile. So it lasts at most twice as long.
     pub stream_time: Option<Duration>,
     /// The most connections that are upgraded at once: 750. A further upgrade is refused by `UpgradeError::TooMany`.
     /// One counts until its connection is closed.

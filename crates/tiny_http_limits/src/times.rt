@@ -5,10 +5,10 @@ ghost use Rattle.tiny_http_limits.specs.Times.{LeavesTime, IsFresh, AddsCall, Gi
 
 use std::time::Duration;
 
-/// So many bytes give all time back, where no rate is asked for.
+/// The number of bytes that give all time back, where no rate is asked for.
 pub const PIECE: usize = 4_096;
 
-// So many nanoseconds a second has.
+// The nanoseconds of a second.
 const NANOS: u64 = 1_000_000_000;
 
 /// What is left at `now` of a time that began at `begun`; none once it is over. The two are times of one clock; where
@@ -24,8 +24,8 @@ pub fn time_left(begun: Duration, now: Duration, time: Duration) -> Option<Durat
     Some(left)
 }
 
-// The time that so many bytes take at this rate, in bytes a second. What the bytes take at one byte a second is
-// counted up to 2^64 - 1 nanoseconds.
+// The time that these bytes take at this rate, in bytes a second. What they take at one byte a second is counted up to
+// 2^64 - 1 nanoseconds.
 fn time_of_bytes(bytes: usize, rate: usize) -> Duration
     requires { 0 < rate }
     ensures { as_nanos result ≡ nanos_of_bytes bytes rate }
@@ -37,7 +37,7 @@ fn time_of_bytes(bytes: usize, rate: usize) -> Duration
 /// How long a peer may be waited for.
 #[derive(Clone, Copy, Debug, PartialEq, Eq)]
 pub struct Patience {
-    /// So long in all, less the time that its bytes give back.
+    /// The time in all, less what its bytes give back.
     pub time: Duration,
     /// They give back the time that they take at this rate, in bytes a second; at 0 each piece of 4,096 bytes gives
     /// all time back.
@@ -48,7 +48,7 @@ pub struct Patience {
 #[derive(Clone, Copy, Debug, PartialEq, Eq)]
 pub struct Stall {
     waited: Duration,
-    // So many bytes have moved since time was given back, where no rate is asked for.
+    // How many bytes have moved since time was given back, where no rate is asked for.
     moved: usize,
 }
 
@@ -70,8 +70,8 @@ impl Stall {
         time.saturating_sub(self.waited)
     }
 
-    /// Counts a call that waited so long, and moved so many bytes. They give time back, but no more than was waited
-    /// for. Whether the time is over: so long at least was waited for, and a piece isn't whole now.
+    /// Counts a call that waited for this time, and moved this number of bytes. They give time back, but no more than
+    /// was waited. Whether the time is over: it was waited for as a whole, and, at a rate of 0, no piece is whole now.
     pub fn count(&mut self, waited: Duration, moved: usize, patience: Patience) -> bool
         ensures rate { 0 < patience.least_rate
             → GivesBack self.old (as_nanos waited) moved patience.least_rate self.new }

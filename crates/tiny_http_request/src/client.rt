@@ -434,7 +434,7 @@ impl<W: WriteDevice + Drop, Rt: Wait + Copy> RefusalPlace<SequentialWriterBuilde
     ghost refuses = { λ _ _ _ _ _ _. ⊤ };
 
     // Takes the next turn, and leaves the answer in it. An error where memory was refused, or 2^64 - 1 writers were
-    // given out, or an answer asked that the connection ends.
+    // given out, or the connection is to end.
     fn refuse(
         &mut self,
         sink: &mut SequentialWriterBuilder<Outlet<W>, Rt>,

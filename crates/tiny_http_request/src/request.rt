@@ -325,6 +325,7 @@ impl<R: ReadDevice + Drop, W: WriteDevice + Drop, Rt: Wait + Drop> Request<R, W,
             self.send_at_flush();
             let outlet = hold_writer(&mut self.writer);
             self.open_request.send_continue(self.alloc, outlet, now);
+            close_if_broken(&mut self.writer);
         }
     }
 
@@ -518,7 +519,8 @@ impl<R: ReadDevice + Drop, W: WriteDevice + Drop, Rt: Wait + Drop> Request<R, W,
     /// where the request doesn't ask for this protocol or is its connection's last, where the code isn't 101, and
     /// where the body wasn't read until a read answered 0, or was cut or is broken. A body without bytes or of up to
     /// 1024 bytes that came with its head needn't be read, and a counted one only to its last byte. On a server with
-    /// limits it is `TooMany` where as many connections are upgraded as may be.
+    /// limits it is `TooMany` where as many connections are upgraded as may be. A request that isn't upgraded is
+    /// dropped.
     pub fn upgrade<D: Drop>(
         self,
         protocol: &str,
@@ -607,8 +609,8 @@ impl<R: ReadDevice + Drop, W: WriteDevice + Drop, Rt: Wait + Drop> Request<R, W,
         }
     }
 
-    /// Whether its answer would be lost: the output of its connection has ended with an answer before it, which broke
-    /// (on a server with limits) or was closed.
+    /// Whether its answer would be lost, on a server with limits: an answer before it broke off the output of its
+    /// connection, or a raw writer closed it.
     pub fn is_lost(&self) -> bool {
         is_broken_writer(&self.writer)
     }

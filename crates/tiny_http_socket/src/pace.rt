@@ -96,7 +96,7 @@ pub struct Pace {
     requests: AtomicU64,
     // So many requests and refused heads aren't answered yet.
     open: Arc<AtomicU64>,
-    // So many connections are upgraded, of those that share this count.
+    // How many connections are upgraded, of those that share this count.
     upgraded: Arc<AtomicU64>,
     // This one counts among them.
     is_upgraded: AtomicBool,

@@ -38,7 +38,7 @@ pub struct PacedWriter<Rt: Clock> {
     last: Option<ErrorKind>,
 }
 
-// A call of the system that writes: when it began, if its time counts, and for how many bytes it asked.
+// A call of the system that writes: when it began, if its time counts, and how many bytes it was given.
 #[derive(Clone, Copy)]
 struct Asked {
     begun: Option<Duration>,
@@ -110,7 +110,8 @@ impl<Rt: Clock> PacedWriter<Rt> {
         match written {
             Ok(n) => {
                 self.pace.wrote();
-                if self.is_over(patience, asked, n) {
+                // What was taken whole is sent, however late.
+                if self.is_over(patience, asked, n) && n < asked.bytes {
                     self.end_late();
                 }
                 Ok(n)
@@ -119,15 +120,20 @@ impl<Rt: Clock> PacedWriter<Rt> {
         }
     }
 
-    // Counts a call that wrote so many bytes. Whether the time for a write is over. Of the first call that took less
-    // than it was given it isn't known how long it waited, but for one that took nothing.
+    // Counts a call that wrote this number of bytes. Whether the time for a write is over. A call that wrote nothing
+    // waited for a step, also where the clock can't be read. How long the first one waited that wrote some of its
+    // bytes isn't known.
     fn is_over(&mut self, patience: Patience, asked: Asked, written: usize) -> bool
         ensures { paced_sink self.new ≡ paced_sink self.old }
     {
+        let least = if written == 0 {
+            step(patience.time)
+        } else {
+            Duration::from_secs(0)
+        };
         let waited = match asked.begun {
-            Some(begun) => self.now().saturating_sub(begun),
-            None if written == 0 => step(patience.time),
-            None => Duration::from_secs(0),
+            Some(begun) => self.now().saturating_sub(begun).max(least),
+            None => least,
         };
         self.has_waited = self.has_waited || written < asked.bytes;
         self.has_waited && self.stall.count(waited, written, patience)

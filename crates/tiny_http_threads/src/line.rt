@@ -277,7 +277,7 @@ pub(crate) struct Line<T> {
     is_closed: AtomicBool,
     // It is closed where its item breaks.
     closes_when_broken: AtomicBool,
-    // It was closed since its item broke or was ended: what numbers do with the item now is lost.
+    // It was closed since its item broke: what numbers do with the item now is lost.
     is_broken: AtomicBool,
 }
 
@@ -345,13 +345,15 @@ impl<T: Drop> Line<T> {
         self.closes_when_broken.load(Ordering::SeqCst)
     }
 
-    /// Closes the line, whose item is broken or has ended.
-    pub fn end<R: Wait>(&self, rt: &R) {
-        self.is_broken.store(true, Ordering::SeqCst);
-        self.close(rt);
+    /// Closes the line, whose item is broken, if it is closed then.
+    pub fn break_off<R: Wait>(&self, rt: &R) {
+        if self.closes_when_broken() {
+            self.is_broken.store(true, Ordering::SeqCst);
+            self.close(rt);
+        }
     }
 
-    /// Whether it was closed since its item is broken or has ended.
+    /// Whether it was closed since its item is broken.
     pub fn is_broken(&self) -> bool {
         self.is_broken.load(Ordering::SeqCst)
     }
@@ -466,11 +468,6 @@ impl<T: Drop, R: Wait + Drop> Turn<T, R> {
         self.line.close(&self.rt);
     }
 
-    /// Closes the line, whose item has ended.
-    pub fn end_line(&self) {
-        self.line.end(&self.rt);
-    }
-
     /// Whether the line is closed where its item breaks.
     pub fn closes_when_broken(&self) -> bool {
         self.line.closes_when_broken()
@@ -478,12 +475,10 @@ impl<T: Drop, R: Wait + Drop> Turn<T, R> {
 
     /// Closes the line, whose item is broken, if it is closed then.
     pub fn break_line(&self) {
-        if self.line.closes_when_broken() {
-            self.line.end(&self.rt);
-        }
+        self.line.break_off(&self.rt);
     }
 
-    /// Whether the line was closed since its item is broken or has ended.
+    /// Whether the line was closed since its item is broken.
     pub fn is_broken(&self) -> bool {
         self.line.is_broken()
     }
@@ -605,9 +600,7 @@ impl<T: Drop, R: Wait + Drop> Held<T, R> {
 
     /// Closes the line, whose item is broken, if it is closed then.
     pub fn break_line(&self) {
-        if self.line.closes_when_broken() {
-            self.line.end(&self.rt);
-        }
+        self.line.break_off(&self.rt);
     }
 
     /// Finishes the number. If the next one was left, that one is held, with the same item and the text that it was

@@ -182,8 +182,7 @@ impl<W: Write + Drop, R: Wait + Drop> HeldTurn<(), ()> for Writing<W, R> {
 
     fn write_text(&mut self, _output: &mut (), text: &[u8]) {
         if let Some(held) = &mut self.held {
-            let _ = held.item.write_all(text);
-            let _ = held.item.flush();
+            write_and_flush(held, text);
         }
     }
 
@@ -259,7 +258,8 @@ impl<W: Write + Drop, R: Wait + Drop> SequentialWriter<W, R> {
         self.turn.close_line();
     }
 
-    /// Whether what is written is lost: the writer broke, in a line that is closed then, or was ended by `close`.
+    /// Whether what is written is lost: the writer broke or was ended by `close`, in a line that is closed where its
+    /// writer breaks.
     pub(crate) fn is_broken(&self) -> bool {
         self.turn.is_broken()
     }
@@ -320,10 +320,11 @@ impl<W: WriteDevice + Drop, R: Wait + Drop> SequentialWriter<Outlet<W>, R> {
     /// well.
     pub fn close(self) -> io::Result<()> {
         let mut writer = self;
-        writer.turn.end_line();
+        writer.turn.close_line();
         let outlet = writer.turn.hold();
         let sent = outlet.end();
         outlet.end_out();
+        writer.turn.break_line();
         drop(writer);
         sent
     }
@@ -334,10 +335,9 @@ impl<W: WriteDevice + Drop, R: Wait + Drop> SequentialWriter<Outlet<W>, R> {
         if !self.turn.closes_when_broken() {
             return;
         }
-        let outlet = self.turn.hold();
-        if outlet.is_ended() {
-            outlet.end_out();
-            self.turn.end_line();
+        if self.turn.hold().is_ended() {
+            self.turn.break_line();
+            self.turn.hold().end_out();
         }
     }
 }

@@ -49,15 +49,15 @@ pub fn hold_reader<I: Read + Drop, R: Wait + Drop>(
     reader.into_held()
 }
 
-/// The next writer; none once `end_behind_writer` was called for one of them. An error where memory was refused, or
-/// 2^64 - 1 writers were given out.
+/// The next writer; none once the line was closed: by `end_behind_writer` or `SequentialWriter::close`, or since the
+/// output broke (`close_when_broken`). An error where memory was refused, or 2^64 - 1 writers were given out.
 pub fn next_writer<W: Write + Drop, R: Wait + Copy>(
     builder: &mut SequentialWriterBuilder<W, R>,
 ) -> Result<Option<SequentialWriter<W, R>>, AllocError> {
     builder.next_unless_closed()
 }
 
-/// Whether `end_behind_writer` was called for one of the writers.
+/// Whether the line was closed, as `next_writer` tells.
 pub fn is_closed<W: Write + Drop, R: Wait + Copy>(builder: &SequentialWriterBuilder<W, R>) -> bool {
     builder.is_closed()
 }
@@ -97,13 +97,13 @@ pub fn close_if_broken<W: WriteDevice + Drop, R: Wait + Drop>(
     writer.close_if_broken();
 }
 
-/// Whether what is written is lost: `SequentialWriter::close` was called for one of the writers, or, where
-/// `close_when_broken` was called, the output broke.
+/// Whether what is written is lost, where `close_when_broken` was called: the output broke, or was ended by
+/// `SequentialWriter::close`.
 pub fn is_broken_writer<W: Write + Drop, R: Wait + Drop>(writer: &SequentialWriter<W, R>) -> bool {
     writer.is_broken()
 }
 
-/// Whether `end_behind_writer` was called, and this writer is the last that `next_writer` gave out.
+/// Whether the line was closed, and this writer is the last that `next_writer` gave out.
 pub fn is_last_writer<W: Write + Drop, R: Wait + Drop>(writer: &SequentialWriter<W, R>) -> bool {
     writer.is_last()
 }
