@@ -163,7 +163,7 @@ fn serve<Rt: Host + Disk, O: Write>(
     let server = Server::with(rt, alloc, config, Profile::Standard, Limits::new())?;
     writeln!(out, "listening on {}", server.server_addr())?;
     out.flush()?;
-    // By threads that all clients share a few of them would hold all, as long as their files last.
+    // On a fixed number of threads a few clients would hold all of them, for as long as their files take.
     server.serve(alloc, &handler)
 }
 

@@ -1,7 +1,7 @@
 //! Answers every request by `hello world`, as a server on an open port: `guarded [--lenient|--strict|--standard]
 //! ADDRESS`. It answers as `hello`, by a handler: each connection's worker answers that connection's requests itself.
 //! Heads are read under the profile that is named, or else under `Standard`, and clients have the default limits.
-//! Once a minute, and when it stops, it prints what it has counted. It serves and stops on, where nobody reads that.
+//! Once a minute, and when it stops, it prints what it has counted; where nobody reads that, it serves all the same.
 //! It stops once a line `stop` comes on standard input, and waits then for what is open, for 10 seconds at most.
 #![tactic(auto)]
 
@@ -29,7 +29,7 @@ const REPORT_SECS: u64 = 60;
 // So many seconds a stop waits for what is open.
 const STOP_SECS: u64 = 10;
 
-// So many tenths of a second the last line is waited for, which nobody may read.
+// How long the last line is waited for, which nobody may read, in tenths of a second.
 const PRINT_TENTHS: u32 = 30;
 
 /// Why nothing is served, or no longer.
@@ -255,10 +255,10 @@ fn report<E: Write>(fault: &GuardedFault, err: &mut E) -> u8 {
     1
 }
 
-/// Listens at the address that the words name, says so on `out`, on which another thread prints then, and answers every request by `hello world` until a
-/// line `stop` comes on `input`, or there are no more. Gives the exit status: 0; or 2 where the words aren't
-/// `[--lenient|--strict|--standard] ADDRESS`, and 1 where it can't listen there or serving ends by a fault, which a
-/// line on `err` says.
+/// Listens at the address that the words name, and answers every request by `hello world` until a line `stop` comes
+/// on `input`. Another thread prints on `out`: where it listens, and what is counted. Gives the exit status: 0; or 2
+/// where the words aren't `[--lenient|--strict|--standard] ADDRESS`, and 1 where it can't listen there or serving
+/// ends by a fault, which a line on `err` says.
 pub fn guarded_on<R, I, O, E: Write>(
     rt: R,
     alloc: Global,

@@ -109,9 +109,9 @@ fn write_long<R: Wait + Clock + Drop>(
 
 impl<R: Wait + Clock + Drop> Handler<R, ServerRequest<R>> for ByPath<R> {
     /// Keeps a request for `/keep`, and each where it keeps all; drops one for `/drop`; answers one for `/echo` by
-    /// its body, `/grow` by pieces, `/long` by many bytes, `/short` by three of ten; upgrades one for `/greet`; and answers each other one by
-    /// its path, `/wait` once the gate is open. After the answer to `/close` the connection is to end, and for `/err`
-    /// and `/drop-err` it fails.
+    /// its body, `/grow` by pieces, `/long` by many bytes, `/short` by three of ten; upgrades one for `/greet`; and
+    /// answers each other one by its path, `/wait` once the gate is open. After the answer to `/close` the connection
+    /// is to end, and for `/err` and `/drop-err` it fails.
     fn handle(&self, rt: &R, alloc: Global, request: ServerRequest<R>) -> io::Result<()> {
         let path = request.url();
         if self.keeps_all.load(Ordering::SeqCst) || path == "/keep" {

@@ -64,7 +64,8 @@ pub fn accepting_key<R: ReadDevice + Drop, W: WriteDevice + Drop, Rt: Wait + Dro
 }
 
 /// Makes a WebSocket of a request that asks for one: sends the 101, dated `now`, in its turn. Any other request is
-/// handed back. An error where memory was refused; the request is dropped then.
+/// handed back, and so is one where as many connections are upgraded as may be. An error where memory was refused; the
+/// request is dropped then.
 pub fn accept<R: ReadDevice + Drop, W: WriteDevice + Drop, Rt: Wait + Drop>(
     alloc: Global,
     request: Request<R, W, Rt>,

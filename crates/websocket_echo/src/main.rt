@@ -25,7 +25,7 @@ mod tests;
 const MOST: usize = 1 << 20;
 
 // The code by which a WebSocket is closed that its client broke so (RFC 6455, sections 7.1.7 and 7.4.1): a frame that
-// breaks the protocol, a text that isn't UTF-8, or a message that is too long. None where nothing can be sent.
+// breaks the protocol, a text that isn't UTF-8, or a message that is too long. None for any other fault.
 fn close_code(fault: &Error) -> Option<CloseCode> {
     match fault {
         Error::Protocol(_) => Some(CloseCode::Protocol),

@@ -4,7 +4,9 @@ use std::alloc::Global;
 use std::sync::Wait;
 use std::test::Fail;
 use std::time::Clock;
-use tiny_http::{Handler, Header, Recorder, TestRequest, current_date};
+use tiny_http::request::UpgradeError;
+use tiny_http::{Handler, Header, Recorder, StatusCode, TestRequest, current_date};
+use tiny_http_websocket::handshake::refusal;
 
 // The request and the answer of RFC 6455, section 1.2, and the frames of its section 5.7: a client's masked `Hello`,
 // and the server's own. Then each side closes.
@@ -61,6 +63,17 @@ fn a_message_comes_back(rt: HostRuntime) -> Result<(), Fail> {
 fn a_broken_frame_is_answered_by_a_close(rt: HostRuntime) -> Result<(), Fail> {
     let bytes = written(rt, rt.alloc(), ASKED, BROKEN)?;
     assert!(rt; bytes.as_slice().ends_with(CLOSED));
+    Ok(())
+}
+
+// Why a request was refused decides how it is answered.
+#[test]
+fn a_refusal_says_why(rt: HostRuntime) -> Result<(), Fail> {
+    let alloc = rt.alloc();
+    let too_many = refusal(alloc, UpgradeError::TooMany)?;
+    assert!(rt; too_many.status_code() == StatusCode(503));
+    let unasked = refusal(alloc, UpgradeError::NotAsked)?;
+    assert!(rt; unasked.status_code() == StatusCode(426));
     Ok(())
 }
 
