@@ -35,7 +35,7 @@ fn handed(alloc: Global, place: usize, exchange: &Exchange) -> Result<Vec<u8>, A
         (number.as_str(), &head.method),
         (head.path.as_str(), head.version),
         head.headers.as_slice(),
-        head.body_length,
+        head.body_length(),
     )
 }
 

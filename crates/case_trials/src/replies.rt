@@ -60,7 +60,7 @@ pub fn reply_line(alloc: Global, reply: &Reply) -> Result<Vec<u8>, AllocError> {
                 request,
                 target,
                 head.headers.as_slice(),
-                head.body_length,
+                head.body_length(),
             )
         }
         Reply::Fault(kind) => fault_line(alloc, *kind),

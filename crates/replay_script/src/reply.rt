@@ -42,7 +42,7 @@ impl fmt::Display for Handed<'_> {
         let path = head.path.as_str();
         let version = head.version;
         let headers = head.headers.len();
-        let length = Length(head.body_length);
+        let length = Length(head.body_length());
         write!(
             f,
             "handed {number} {method} {path} {version} {headers}{length}"

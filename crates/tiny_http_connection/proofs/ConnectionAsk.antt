@@ -190,7 +190,7 @@ kept-handed : (profile : Profile) (date : HttpDate) (x : Exchange) (p : Option F
     → IsWaiting (handed_slot date (request_of x.head content behind)) x.open_request
 kept-handed profile date x p content behind k left framed = record {
   request = request_of x.head content behind;
-  handed = record { date = date; continued = None; owed = x.head.owes_continue; closes = false };
+  handed = record { date = date; continued = None; owed = x.head.framing.owes_continue; closes = false };
   given = 0;
   end_reported = false;
   is = refl;
@@ -206,7 +206,7 @@ kept-handed profile date x p content behind k left framed = record {
       let c = x.open_request.answer_context in
       let F : HTTPVersion → Option Coding → Bool → Option Persistence → AnswerContext = λ v a b p. record { version = v; asked_coding = a; no_body = b; persistence = p } in
       ap (λ v. F v c.asked_coding c.no_body c.persistence) k.answer.version ∙ ap (λ a. F x.head.version a c.no_body c.persistence) k.answer.asked_coding
-      ∙ ap (λ b. F x.head.version (coding_for x.head.by_standard x.head.headers.items) b c.persistence) k.answer.no_body ∙ ap (F x.head.version (coding_for x.head.by_standard x.head.headers.items) (is_head_method x.head.method)) k.answer.persistence;
+      ∙ ap (λ b. F x.head.version (coding_for x.head.framing.by_standard x.head.headers.items) b c.persistence) k.answer.no_body ∙ ap (F x.head.version (coding_for x.head.framing.by_standard x.head.headers.items) (is_head_method x.head.method)) k.answer.persistence;
   dropped = k.answer.dropped;
   fits = k.body;
   settled = settled-any x.open_request.body p content behind left;
@@ -251,9 +251,9 @@ pub record StandsFor (r : Request) (w : OpenRequest UnreadBody) (at : Standing) 
 pub stands-for : (x : Exchange) (content behind : Feed) (at : Standing) → at ≡ standing_of x → StandsFor (request_of x.head content behind) x.open_request at
 stands-for x content behind at e =
     let S : Standing → Type 0 = λ y. StandsFor (request_of x.head content behind) x.open_request y in
-    subst S (sym e) (by x.head.is_last (is_streaming x.open_request.body) refl refl)
+    subst S (sym e) (by x.head.framing.is_last (is_streaming x.open_request.body) refl refl)
   where
-    by : (last streaming : Bool) → x.head.is_last ≡ last → is_streaming x.open_request.body ≡ streaming → StandsFor (request_of x.head content behind) x.open_request (standing_of x)
+    by : (last streaming : Bool) → x.head.framing.is_last ≡ last → is_streaming x.open_request.body ≡ streaming → StandsFor (request_of x.head content behind) x.open_request (standing_of x)
     by true streaming l t = record { past = rw l refl; within = rw l refl }
     by false true l t = record { past = rw (l, t) refl; within = rw (l, t) refl }
     by false false l t = record { past = rw (l, t) refl; within = rw (l, t) refl }
@@ -296,7 +296,7 @@ ask-handed client before k s date x from_here p stop over at n st e o quiet open
     let found = subst P g.stated reads in
     let h = x.head in
     let r = request_of h found.0 (place_feed g.feed.stop found.1) in
-    let first = pipeline-first k.profile g.feed.bytes g.feed.stop (Asks r) (place_after h.is_last found.1) s.reached.rest found.2 g.pipeline in
+    let first = pipeline-first k.profile g.feed.bytes g.feed.stop (Asks r) (place_after h.framing.is_last found.1) s.reached.rest found.2 g.pipeline in
     let y = handed_slot date r in
     let slots = s.reached.slots ++ (y ∷ []) in
     let ends : s.reached.asking_ended ≡ false = st.asking_ended ∙ e in
@@ -305,14 +305,14 @@ ask-handed client before k s date x from_here p stop over at n st e o quiet open
     let new : State = record { reached = record { slots = slots; rest = first.0; asking_ended = false }; flushed = s.flushed; failure = s.failure } in
     let G : Outcome → Type 0 = λ z. HasOutcome z s (Handed n (head_message h) (head_framing h)) new in
     let end_reported : n ≡ length s.reached.slots = number ∙ sym (kept-length s.reached.slots k.marks k.requests st.numbers) in
-    let waits = kept-handed k.profile date x p found.0 (place_feed g.feed.stop found.1) found.4 found.3 (one-head-framed k.profile g.feed.bytes g.feed.stop r (place_after h.is_last found.1) found.2) in (
+    let waits = kept-handed k.profile date x p found.0 (place_feed g.feed.stop found.1) found.4 found.3 (one-head-framed k.profile g.feed.bytes g.feed.stop r (place_after h.framing.is_last found.1) found.2) in (
       new,
       record {
         numbers = kept-append s.reached.slots k.marks k.requests (y ∷ []) (Open ∷ []) (Some (still.Waiting x.open_request) ∷ []) st.numbers (waits, tt);
         shape = shape;
         in_turn = turn-more s.reached.slots y st.in_turn (refl, λ z. refl);
         asking_ended = sym e;
-        reader = handed-reader client k s.reached.slots s.reached.rest first.0 date r x.open_request p stop over at g.feed.stop found.1 st.reader quiet refl found.3 first.2 (begins-from client k.profile g.feed (Asks r) (place_after h.is_last found.1) s.reached.rest first.0 g.begins first.1 found.2) (goes-on_more (Some client) k.feed p st.reader.source goes) (stands-for x found.0 (place_feed g.feed.stop found.1) at stands);
+        reader = handed-reader client k s.reached.slots s.reached.rest first.0 date r x.open_request p stop over at g.feed.stop found.1 st.reader quiet refl found.3 first.2 (begins-from client k.profile g.feed (Asks r) (place_after h.framing.is_last found.1) s.reached.rest first.0 g.begins first.1 found.2) (goes-on_more (Some client) k.feed p st.reader.source goes) (stands-for x found.0 (place_feed g.feed.stop found.1) at stands);
         output = output-waiting before k.sink k.output_ended s.reached.slots date r s.flushed s.failure st.output;
       },
       inl (true, tt, subst G (sym is) (refl, refl, (ap (λ z. Handed z (head_message h) (head_framing h)) end_reported, refl))),

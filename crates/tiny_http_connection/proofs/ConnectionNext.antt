@@ -30,7 +30,7 @@ use Rattle.tiny_http_connection.proofs.ConnectionAsking.{AskGoesOn, ask-passes}
 use Rattle.tiny_http_connection.proofs.ConnectionAsk.{StepIsAnswered, AskIsAnswered, ask-final, ask-memory, ask-handed, ask-refused, before-head, stands-before}
 use Rattle.tiny_http_connection.proofs.ConnectionOutput.{can-send}
 use Rattle.tiny_http_connection.proofs.ConnectionReader.{holds-snoc}
-use Rattle.tiny_http_connection.proofs.DrivingLemmas.{viewed, end-refused, end-final, ask-step, ask-found, asks-behind-head, end-behind, begins-behind, begins-here, not-body, driving-reads-on}
+use Rattle.tiny_http_connection.proofs.DrivingLemmas.{viewed, end-refused, end-final, ask-step, ask-found, asks-behind-head, end-behind, begins-behind, begins-here, hands-here, hands-behind, not-body, driving-reads-on}
 
 plus-none : (n : ℕ) → n ≡ n + 0
 plus-none n = omega arith
@@ -64,7 +64,7 @@ finds-request {R = R} {W = W} profile date s t o p q end x n h can number marks_
     let P : List Mark → List (Option Unfinished) → Type 0 = λ m r.
     StepIsAnswered client before (record k { marks = m; requests = r; standing = t.standing; feed = t.feed; stop = t.stop; is_over = t.is_over }) s date Ask (Handed n (head_message x.head) (head_framing x.head)) in
     subst (λ m. P m q.requests) (sym marks_are) (subst (λ r. P (k.marks ++ (Open ∷ [])) r) (sym requests_are) done))
-    (λ no. elim no [ ]) (can.0, can.0) (0, x.open_request, requests_are ∙ ap (λ y. y ++ (Some (still.Waiting x.open_request) ∷ [])) (sym (append-nil p.requests)), h.standing, number ∙ plus-none (length p.turns.marks), λ z. (refl, h.lazy tt)) (driving-reads-on old new refl refl h.goes_on)
+    (λ no. elim no [ ]) (can.0, can.0) (0, x.open_request, requests_are ∙ ap (λ y. y ++ (Some (still.Waiting x.open_request) ∷ [])) (sym (append-nil p.requests)), h.standing, number ∙ plus-none (length p.turns.marks), (λ z. (refl, h.lazy tt)), hands-here profile s.standing date s.feed t.feed x (h.reads here), h.framed.0) (driving-reads-on old new refl refl h.goes_on)
   where
     from : SourceState R
     from = s
@@ -205,6 +205,7 @@ finds-another {R = R} {W = W} profile date s t o u p q end status text h f can =
     here = here;
     unended = λ i. elim (h.at_end i).0 [ ];
     begins = λ begun. begins-behind profile s.standing date s.feed t.feed status text reads begun;
+    hands = λ n message framing left hands. hands-behind profile s.standing date s.feed t.feed status text n message framing left reads hands;
     stands = stands;
     ends = λ why ends. end-behind profile s.standing date s.feed t.feed status text why here reads ends;
     requests = f.requests refl;

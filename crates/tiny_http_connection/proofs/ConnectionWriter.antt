@@ -24,9 +24,9 @@ use Rattle.tiny_http_connection.specs.declared.pending.Unfinished.{Unfinished}
 use Rattle.tiny_http_connection.specs.declared.pending.Unfinished.TheVariants as still
 use Rattle.tiny_http_connection.specs.Segments.{Slot, Stage, Unanswered, Answered as AnsweredBy, ByServer, Raw, Upgraded, is_stage_finished, is_finished, is_broken, is_slot_broken, opening, stage_text, segment, is_last_item}
 use Rattle.tiny_http_connection.specs.Slots.{is_output_broken, joined, turn_has_come, body_was_abandoned}
-use Rattle.tiny_http_connection.specs.Steps.{StepValue, IntoWriter, Write, Flush, Finish, ReplyValue, Done, Fault, NotYet, NoSuch}
+use Rattle.tiny_http_connection.specs.Steps.{StepValue, IntoWriter, Write, Flush, Finish, ReplyValue, Done, Fault, NotYet, NoSuch, is_done}
 use Rattle.tiny_http_connection.specs.Outcomes.{WriterUse, Unused, Reported, Outcome, Reached, unchanged, changes, ends_asking, is_last_with_stream, finished_as, written_to, stage_closed, accepts_step, needs_turn, effect, at_item, at_slot, at_number, outcome}
-use Rattle.tiny_http_connection.specs.Seen.{write_reply, is_done, IsOfWriter, ReportsOfWriter}
+use Rattle.tiny_http_connection.specs.Seen.{write_reply, IsOfWriter, ReportsOfWriter}
 use Rattle.tiny_http_connection.specs.Driving.{IsDeclined}
 use Rattle.tiny_http_connection.specs.declared.driver.Step.TheVariants as step
 use Rattle.std.specs.Global.{Vec}

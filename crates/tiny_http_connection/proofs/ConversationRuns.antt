@@ -1,6 +1,6 @@
 -- A run goes on by one step.
 use Rattle.tiny_http_io.specs.declared.source.Standing.TheVariants as at
-use Rattle.std.proofs.Common.{◌≡◌, refl, sym, ap, ◌∙◌, subst, ℕ, ◌-◌, ◌<◌, ◌≤◌, Bool, true, false, List, [], ◌∷◌, ◌++◌, length, Option, Some, None, arith, append-nil, inl, inr}
+use Rattle.std.proofs.Common.{◌≡◌, refl, sym, ap, ◌∙◌, subst, ℕ, ◌-◌, ◌<◌, ◌≤◌, Bool, true, false, not, ◌&&◌, ◌||◌, List, [], ◌∷◌, ◌++◌, length, Option, Some, None, arith, append-nil, inl, inr}
 use Rattle.std.specs.Prelude.{MatchBool}
 use Rattle.std.specs.Option.{option_map}
 use Rattle.std.specs.List.{AllZip}
@@ -11,13 +11,13 @@ use Rattle.tiny_http_io.proofs.DeviceLemmas.{IsFront-append}
 use Rattle.tiny_http_io.specs.Outlet.{holding}
 use Rattle.tiny_http_io.specs.Source.{GoesOn}
 use Rattle.tiny_http_body.specs.declared.framing.Profile.{Profile}
-use Rattle.tiny_http_open_request.specs.Pipeline.{Item, Place, Pipeline, body_length_or_0, place_after, place_feed}
+use Rattle.tiny_http_open_request.specs.Pipeline.{Item, Asks, Refuses, Place, Pipeline, body_length_or_0, place_after, place_feed}
 use Rattle.tiny_http_open_request.specs.BodyRemains.{RemainsAt}
 use Rattle.tiny_http_open_request.proofs.BodyRemainsLemmas.{remains-of}
 use Rattle.tiny_http_open_request.proofs.PipelineLemmas.{pipeline-none}
 use Rattle.tiny_http_io.specs.declared.device.Stop.{Stop}
 use Rattle.tiny_http_connection.specs.Segments.{Slot, is_last_item}
-use Rattle.tiny_http_connection.specs.Slots.{joined, last_slot, last_is_open, last_was_abandoned, is_last_slot}
+use Rattle.tiny_http_connection.specs.Slots.{joined, last_slot, last_is_open, last_was_abandoned, is_last_slot, body_is_open, body_was_abandoned, is_form_streamed, is_body_finished, is_chunked}
 use Rattle.tiny_http_connection.specs.Steps.{ReplyValue, TimedValue}
 use Rattle.tiny_http_connection.specs.Conversation.{State, Failure, StepsTo, Run, start_state, IsFresh, HasAskOutOfMemory, PlaceAt, WithinBody, WithinLast, InputAt, IsOutput, IsConversation, BeginsBehind}
 use Rattle.tiny_http_connection.specs.Connection.{ConnectionState, Kept, OutputAt, IsOpen, behind_body, slot_rest, GivesRest, PlaceIn, Stands}
@@ -32,7 +32,7 @@ use Rattle.tiny_http_connection.specs.declared.driver.Reply.{Reply}
 use Rattle.tiny_http_connection.specs.declared.driver.Step.{Step}
 use Rattle.tiny_http_connection.specs.declared.driver.Step.TheVariants as step
 use Rattle.tiny_http_connection.specs.Seen.{seen, all_sent_after, all_sent}
-use Rattle.tiny_http_connection.specs.Driving.{stated_step, TakesStep}
+use Rattle.tiny_http_connection.specs.Driving.{stated_step, MakesStep}
 use Rattle.tiny_http_connection.specs.Runs.{TakesSteps}
 use Rattle.tiny_http_response.specs.Sending.{SinkFailsOnce, FailsOnceUnlessEnded}
 use Rattle.tiny_http_io.proofs.DeviceLemmas.{grown-nil}
@@ -103,34 +103,51 @@ place-pipeline profile false stop None rest h = let P : List Item → Type 0 = �
 place-pipeline profile false stop (Some bytes) rest h = h
 
 -- the input within the last body
-within : (profile : Profile) (s : Slot) (b : UnreadBody) (f : Feed) (rest : List Item) (o : Option Remaining) → IsOpen s b → is_streaming b ≡ true → remaining b (Some f) ≡ o → option_map (λ (r : Remaining). r.body) o ≡ Some (slot_rest s)
-    → PlaceAt profile (is_last_item s.item) (option_map (λ (r : Remaining). r.behind) o) rest → WithinBody profile s s.item f rest
-within profile s b f rest None h is_streaming_body e g p = let no : None ≡ Some (slot_rest s) = g in cc
-within profile s b f rest (Some x) h is_streaming_body e g p =
+within : (profile : Profile) (ended : Bool) (s : Slot) (b : UnreadBody) (f : Feed) (rest : List Item) (o : Option Remaining) → IsOpen s b → is_streaming b ≡ true → remaining b (Some f) ≡ o → option_map (λ (r : Remaining). r.body) o ≡ Some (slot_rest s)
+    → (ended ≡ false → PlaceAt profile (is_last_item s.item) (option_map (λ (r : Remaining). r.behind) o) rest) → WithinBody profile ended s s.item f rest
+within profile ended s b f rest None h is_streaming_body e g p = let no : None ≡ Some (slot_rest s) = g in cc
+within profile ended s b f rest (Some x) h is_streaming_body e g p =
     let same : x.body ≡ slot_rest s = cc in
     let k = remains-of h.request.framing.by_standard b h.request.framing.form (body_length_or_0 h.request.framing) h.given h.end_reported f x h.fits is_streaming_body e in
     let content : x.body ≡ k.content = ap (λ (r : Remaining). r.body) k.is in
     let behind : x.behind ≡ place_feed f.stop k.next = ap (λ (r : Remaining). r.behind) k.is in
-    let P : Slot → Type 0 = λ y. x.body ≡ slot_rest y → PlaceAt profile (is_last_item y.item) (Some x.behind) rest → WithinBody profile y y.item f rest in
+    let P : Slot → Type 0 = λ y. x.body ≡ slot_rest y → (ended ≡ false → PlaceAt profile (is_last_item y.item) (Some x.behind) rest) → WithinBody profile ended y y.item f rest in
     let A : Feed → Type 0 = λ b. RemainsAt h.request.framing.by_standard h.request.framing.form (body_length_or_0 h.request.framing - h.given) f.bytes f.stop b k.next in
     let B : Feed → Type 0 = λ b. PlaceAt profile h.request.framing.is_last (Some b) rest in
-    subst P (sym h.is) (λ is place. (k.next, subst A (sym content ∙ is) k.stands, place-pipeline profile h.request.framing.is_last f.stop k.next rest (subst B behind place))) same p
+    subst P (sym h.is) (λ is place. (k.next, subst A (sym content ∙ is) k.stands, λ on. place-pipeline profile h.request.framing.is_last f.stop k.next rest (subst B behind (place on)))) same p
 
-within-last : (profile : Profile) (last : Option Slot) (b : Option UnreadBody) (feed : Option Feed) (f : Feed) (rest : List Item) → feed ≡ Some f → LastKept last b → last_is_open last ≡ true → GivesRest b last feed → PlaceAt profile (is_last_slot last) (behind_body b feed) rest → WithinLast profile last feed rest
-within-last profile last b feed f rest stated (inl n) h g p = let no : false ≡ true = ap last_is_open (sym n.0) ∙ h in cc
-within-last profile last b feed f rest stated (inr (inl d)) h g p = let no : false ≡ true = sym (done-open d.0 d.3) ∙ ap last_is_open (sym d.1) ∙ h in cc
-within-last profile last b feed f rest stated (inr (inr w)) h g p =
+within-last : (profile : Profile) (ended : Bool) (last : Option Slot) (b : Option UnreadBody) (feed : Option Feed) (f : Feed) (rest : List Item) → feed ≡ Some f → LastKept last b → last_is_open last ≡ true → GivesRest b last feed
+    → (ended ≡ false → PlaceAt profile (is_last_slot last) (behind_body b feed) rest) → WithinLast profile ended last feed rest
+within-last profile ended last b feed f rest stated (inl n) h g p = let no : false ≡ true = ap last_is_open (sym n.0) ∙ h in cc
+within-last profile ended last b feed f rest stated (inr (inl d)) h g p = let no : false ≡ true = sym (done-open d.0 d.3) ∙ ap last_is_open (sym d.1) ∙ h in cc
+within-last profile ended last b feed f rest stated (inr (inr w)) h g p =
     let G : Option Slot → Option UnreadBody → Option Feed → Type 0 = λ x y z. GivesRest y x z in
     let P : Option Slot → Option UnreadBody → Option Feed → Type 0 = λ x y z. PlaceAt profile (is_last_slot x) (behind_body y z) rest in
-    let Q : Option Slot → Option Feed → Type 0 = λ x z. WithinLast profile x z rest in
+    let Q : Option Slot → Option Feed → Type 0 = λ x z. WithinLast profile ended x z rest in
     let gives = subst (λ z. G (Some w.0) (Some w.1) z) stated (subst (λ y. G (Some w.0) y feed) w.3 (subst (λ x. G x b feed) w.2 g)) in
-    let place = subst (λ z. P (Some w.0) (Some w.1) z) stated (subst (λ y. P (Some w.0) y feed) w.3 (subst (λ x. P x b feed) w.2 p)) in
-    let inside = within profile w.0 w.1 f rest (remaining w.1 (Some f)) w.4 (sym (waiting-open w.0 w.1 w.4) ∙ ap last_is_open (sym w.2) ∙ h) refl gives place in
+    let place : ended ≡ false → P (Some w.0) (Some w.1) (Some f) = λ on. subst (λ z. P (Some w.0) (Some w.1) z) stated (subst (λ y. P (Some w.0) y feed) w.3 (subst (λ x. P x b feed) w.2 (p on))) in
+    let inside = within profile ended w.0 w.1 f rest (remaining w.1 (Some f)) w.4 (sym (waiting-open w.0 w.1 w.4) ∙ ap last_is_open (sym w.2) ∙ h) refl gives place in
     subst (λ z. Q last z) (sym stated) (subst (λ x. Q x (Some f)) (sym w.2) inside)
+
+-- an open body wasn't given up
+open-not_lost : (o : Option Slot) → last_is_open o ≡ true → last_was_abandoned o ≡ false
+open-not_lost None h = refl
+open-not_lost (Some s) h = by s.item h
+  where
+    one : (streamed finished given_up chunked reported : Bool) → (streamed && not (finished || given_up)) ≡ true → (chunked && (given_up && not reported)) ≡ false
+    one false finished given_up chunked reported e = let no : false ≡ true = e in cc
+    one true true given_up chunked reported e = let no : false ≡ true = e in cc
+    one true false true chunked reported e = let no : false ≡ true = e in cc
+    one true false false true reported e = refl
+    one true false false false reported e = refl
+
+    by : (item : Item) → body_is_open s item ≡ true → body_was_abandoned s item ≡ false
+    by (Asks r) e = one (is_form_streamed r.framing.form) (is_body_finished r s) s.given_up (is_chunked r.framing.form) s.end_reported e
+    by (Refuses refusal manner no_body last) e = refl
 
 -- how the input stands at the end
 input-end : (client : Feed) (before : Sink) (k : Kept) (s : State) → Stands client before k s → InputAt k.profile s.reached k.feed
-input-end client before k s st = by-ended s.reached.asking_ended refl
+input-end client before k s st = by-open (last_is_open last) refl
   where
     last : Option Slot
     last = last_slot s.reached.slots
@@ -143,27 +160,27 @@ input-end client before k s st = by-ended s.reached.asking_ended refl
         let P : Bool → Type 0 = λ x. PlaceAt k.profile x (behind_body (last_body k.requests) k.feed) s.reached.rest in
         subst P (st.reader.next e).is_last ((st.reader.next e).place l).0
 
-    quiet : k.asking_ended ≡ false → last_is_open last ≡ false → last_was_abandoned last ≡ false → PlaceAt k.profile over k.feed s.reached.rest
-    quiet e h l =
+    shut : k.asking_ended ≡ false → last_is_open last ≡ false → last_was_abandoned last ≡ false → PlaceAt k.profile over k.feed s.reached.rest
+    shut e h l =
         let f = stated-feed client k.feed st.reader.source in
         let free : is_streaming_body (last_body k.requests) ≡ false = sym (open-by last (last_body k.requests) (last-of client before k s st)) ∙ h in
         let here : behind_body (last_body k.requests) k.feed ≡ k.feed = ap (behind_body (last_body k.requests)) f.1 ∙ behind-settled last (last_body k.requests) f.0 (last-of client before k s st) free ∙ sym f.1 in
         let P : Option Feed → Type 0 = λ x. PlaceAt k.profile over x s.reached.rest in
         subst P here (place e l)
 
-    by-held : (t : Bool) → last_is_open last ≡ t → k.asking_ended ≡ false → last_was_abandoned last ≡ false → MatchBool t (WithinLast k.profile last k.feed s.reached.rest) (PlaceAt k.profile over k.feed s.reached.rest)
-    by-held true h e l =
+    by-lost : (t : Bool) → last_was_abandoned last ≡ t → k.asking_ended ≡ false → last_is_open last ≡ false → MatchBool t (k.feed ≡ Some (stopped End)) (PlaceAt k.profile over k.feed s.reached.rest)
+    by-lost true l e h = ((st.reader.next e).lost l).1
+    by-lost false l e h = shut e h l
+
+    by-ended : (t : Bool) → s.reached.asking_ended ≡ t → last_is_open last ≡ false → MatchBool t (Unit {0}) (MatchBool (last_was_abandoned last) (k.feed ≡ Some (stopped End)) (PlaceAt k.profile over k.feed s.reached.rest))
+    by-ended true e h = tt
+    by-ended false e h = by-lost (last_was_abandoned last) refl (sym st.asking_ended ∙ e) h
+
+    by-open : (t : Bool) → last_is_open last ≡ t → MatchBool t (WithinLast k.profile s.reached.asking_ended last k.feed s.reached.rest) (MatchBool s.reached.asking_ended (Unit {0}) (MatchBool (last_was_abandoned last) (k.feed ≡ Some (stopped End)) (PlaceAt k.profile over k.feed s.reached.rest)))
+    by-open true h =
         let f = stated-feed client k.feed st.reader.source in
-        within-last k.profile last (last_body k.requests) k.feed f.0 s.reached.rest f.1 (last-of client before k s st) h st.reader.gives (place e l)
-    by-held false h e l = quiet e h l
-
-    by-lost : (t : Bool) → last_was_abandoned last ≡ t → k.asking_ended ≡ false → MatchBool t (k.feed ≡ Some (stopped End)) (MatchBool (last_is_open last) (WithinLast k.profile last k.feed s.reached.rest) (PlaceAt k.profile over k.feed s.reached.rest))
-    by-lost true l e = ((st.reader.next e).lost l).1
-    by-lost false l e = by-held (last_is_open last) refl e l
-
-    by-ended : (t : Bool) → s.reached.asking_ended ≡ t → MatchBool t (Unit {0}) (MatchBool (last_was_abandoned last) (k.feed ≡ Some (stopped End)) (MatchBool (last_is_open last) (WithinLast k.profile last k.feed s.reached.rest) (PlaceAt k.profile over k.feed s.reached.rest)))
-    by-ended true e = tt
-    by-ended false e = by-lost (last_was_abandoned last) refl (sym st.asking_ended ∙ e)
+        within-last k.profile s.reached.asking_ended last (last_body k.requests) k.feed f.0 s.reached.rest f.1 (last-of client before k s st) h st.reader.gives (λ on. place (sym st.asking_ended ∙ on) (open-not_lost last h))
+    by-open false h = by-ended s.reached.asking_ended refl h
 
 -- what the writer took and what is held
 sent-held : (held : List ℕ) (taken : Option (List ℕ)) (whole : List ℕ) → append_known taken held ≡ Some whole → (sent : List ℕ) × (taken ≡ Some sent) × (sent ++ held ≡ whole)
@@ -202,9 +219,9 @@ fails-step writer old new false ended (inl e) (inr s) = inr (s.0 ∙ ap next_cou
 fails-step writer old new false ended (inr h) s = let no : false ≡ true = h.1 in cc
 
 -- one step more
-pub takes-snoc : {R W D : Type 0} (feed : D → Option Feed) (a b c : ConnectionState R W) (steps : List (Timed D)) (replies : List Reply) (t : Timed D) (r : Reply) → TakesSteps feed a steps replies b → TakesStep b c t.now (stated_step feed t.step) (seen r)
+pub takes-snoc : {R W D : Type 0} (feed : D → Option Feed) (a b c : ConnectionState R W) (steps : List (Timed D)) (replies : List Reply) (t : Timed D) (r : Reply) → TakesSteps feed a steps replies b → MakesStep b c t.now (stated_step feed t.step) (seen r)
     → TakesSteps feed a (steps ++ t ∷ []) (replies ++ r ∷ []) c
-takes-snoc {R = R} {W = W} feed a b c [] [] t r h step = let P : ConnectionState R W → Type 0 = λ x. TakesStep x c t.now (stated_step feed t.step) (seen r) in (c, subst P h step, refl)
+takes-snoc {R = R} {W = W} feed a b c [] [] t r h step = let P : ConnectionState R W → Type 0 = λ x. MakesStep x c t.now (stated_step feed t.step) (seen r) in (c, subst P h step, refl)
 takes-snoc {R = R} {W = W} {D = D} feed a b c [] (x ∷ replies) t r h step = elim h [ ]
 takes-snoc {R = R} {W = W} {D = D} feed a b c (x ∷ steps) [] t r h step = elim h [ ]
 takes-snoc feed a b c (x ∷ steps) (y ∷ replies) t r h step = (h.0, h.1, takes-snoc feed h.0 b c steps replies t r h.2 step)

@@ -13,7 +13,9 @@ use Rattle.tiny_http_connection.specs.Outcomes.{fault_reply}
 use Rattle.tiny_http_io.specs.declared.device.Stop.{Stop}
 use Rattle.tiny_http_connection.specs.declared.pending.Unfinished.{Unfinished}
 use Rattle.tiny_http_connection.specs.declared.pending.Unfinished.TheVariants as still
-use Rattle.tiny_http_connection.specs.Pending.{is_last_once_finished_at as kept_lacks, refuses_at, is_last_with_stream_at, last_holds_next_head, kept_body, GivesUpBody, refuses_upgrade_at}
+use Rattle.tiny_http_connection.specs.Replies.{StepReplies, is_waiting}
+use Rattle.tiny_http_connection.proofs.RepliesLemmas.{replied-refused, replied-done}
+use Rattle.tiny_http_connection.specs.Pending.{waiting_answer_context, is_last_once_finished_at as kept_lacks, refuses_at, is_last_with_stream_at, last_holds_next_head, kept_body, GivesUpBody, refuses_upgrade_at}
 use Rattle.std.specs.List.{AllZip}
 use Rattle.tiny_http_connection.specs.declared.driver.Timed.{Timed}
 use Rattle.tiny_http_connection.specs.declared.driver.Step.{Step}
@@ -22,15 +24,15 @@ use Rattle.tiny_http_connection.specs.declared.pending.Pending.{Pending}
 use Rattle.tiny_http_io.specs.Source.{SourceState, GoesOn, IsAtEnd}
 use Rattle.tiny_http_io.specs.Outlet.{OutletState, output_of, SentOn}
 use Rattle.tiny_http_response.specs.ResponseValue.{ResponseValue}
-use Rattle.tiny_http_connection.specs.Steps.{StepValue, Ask, AsReader, Read, Respond, IntoWriter, Write, Flush, Upgrade, Finish, Drop, ReplyValue, Handed, Ended, Given, NotYet, Done, Refused, NoSuch, Memory, Fault, TimedValue}
+use Rattle.tiny_http_connection.specs.Steps.{StepValue, Ask, AsReader, Read, Respond, IntoWriter, Write, Flush, Upgrade, Finish, Drop, ReplyValue, Handed, Ended, Given, NotYet, Done, Refused, NoSuch, Memory, Fault, TimedValue, is_done}
 use Rattle.tiny_http_connection.specs.Outcomes.{Reached, changes, ends_asking, use_in_turn, outcome}
 use Rattle.tiny_http_connection.specs.Conversation.{State, IsFresh, StepsTo, IsAskOutOfMemory, start_state}
 use Rattle.tiny_http_response.specs.Sending.{FailsOnceUnlessEnded, IsHonest, FailsOnce, Sends}
-use Rattle.tiny_http_connection.specs.Seen.{IsResponse, IsStep, IsTimedStep, ReportsOfWriter, Answers, IsAnswered, IsOfWriter, is_done, all_sent_after}
+use Rattle.tiny_http_connection.specs.Seen.{IsResponse, IsStep, IsTimedStep, ReportsOfWriter, Answers, IsAnswered, IsOfWriter, all_sent_after}
 use Rattle.tiny_http_body.specs.declared.body.UnreadBody.{UnreadBody}
 use Rattle.tiny_http_open_request.specs.declared.open_request.OpenRequest.{OpenRequest}
 use Rattle.tiny_http_open_request.specs.OpenRequest.{refuses_code, request_check}
-use Rattle.tiny_http_body.specs.Body.{is_streaming, body_standing, is_whole}
+use Rattle.tiny_http_body.specs.Body.{Remaining, remaining, is_streaming, body_standing, is_whole}
 use Rattle.std.specs.Prelude.{MatchBool, is_err}
 use Rattle.tiny_http_connection.specs.Connection.{Kept, ConnectionState, kept, Stands, HandedOut, open_slot, dropped, BeginsMore}
 use Rattle.tiny_http_connection.specs.Slots.{turn_has_come, is_last_once_finished}
@@ -51,10 +53,13 @@ use Rattle.std.specs.Global.{Global, Vec}
 use Rattle.tiny_http_head.specs.declared.common.StatusCode.{StatusCode}
 use Rattle.tiny_http_open_request.specs.declared.exchange.HeadRead.TheVariants as read
 use Rattle.tiny_http_open_request.specs.declared.exchange.EndOfRequests.TheVariants as because
-use Rattle.tiny_http_open_request.specs.HeadReads.{ReadsHead, EndsAt, IsBeforeHead, HasByteOrTimedOut}
+use Rattle.tiny_http_open_request.specs.declared.exchange.Exchange.{Exchange}
+use Rattle.tiny_http_head.specs.Heads.{Message}
+use Rattle.tiny_http_body.specs.declared.framing.Framing.{Framing}
+use Rattle.tiny_http_open_request.specs.HeadReads.{ReadsHead, EndsAt, IsBeforeHead, HasByteOrTimedOut, IsFramedAs, head_message, head_framing}
 use Rattle.tiny_http_body.specs.declared.framing.Profile.{Profile}
 use Rattle.tiny_http_open_request.specs.Pipeline.{OneHead, Request, Item, Refuses, Place, place_feed}
-use Rattle.tiny_http_connection.specs.Driving.{IsRefusal, EndsRequestsAt, EndsThere, ArePassedOver, HasByteBehind, standing_behind}
+use Rattle.tiny_http_connection.specs.Driving.{HandsOut, IsRefusal, EndsRequestsAt, EndsThere, ArePassedOver, HasByteBehind, standing_behind}
 use Rattle.tiny_http_open_request.proofs.PipelineLemmas.{has-pipeline}
 use Rattle.tiny_http_connection.proofs.ConversationRuns.{run-more, stands-begun, split}
 use Rattle.tiny_http_body.proofs.BodyReads.{gives-up}
@@ -123,6 +128,20 @@ end-behind profile at date o p status text why here h ends = by at here h
     by (place.Broken kind) here h = behind (place.Broken kind) h
     by place.Body here h = elim here [ ]
     by place.Last here h = elim here [ ]
+
+-- a request stands here
+pub hands-here : (profile : Profile) (at : Standing) (date : HttpDate) (o p : Option Feed) (x : Exchange) → ReadsHead profile at date o p (Ok (read.Request x)) → HandsOut 0 profile o (head_message x.head) (head_framing x.head) (remaining x.open_request.body p)
+hands-here profile at date None p x h = tt
+hands-here profile at date (Some f) p x h = ([], f, refl, refl, h.0, h.1, h.2, h.3)
+
+-- or behind a head that is passed
+pub hands-behind : (profile : Profile) (at : Standing) (date : HttpDate) (o p : Option Feed) (status : StatusCode) (text : Vec ℕ) (n : ℕ) (message : Message) (framing : Framing) (left : Option Remaining)
+    → ReadsHead profile at date o p (Ok (read.Refused status text false)) → HandsOut n profile p message framing left → HandsOut (suc n) profile o message framing left
+hands-behind profile at date None p status text n message framing left h hands = tt
+hands-behind profile at date (Some f) p status text n message framing left h hands =
+    let H : Option Feed → Type 0 = λ y. HandsOut n profile y message framing left in
+    let next = subst H h.7 hands in
+    (Refuses h.0 h.1 h.2 false ∷ next.0, next.1, ap suc next.2, (refl, h.3, h.4, next.3), next.4, next.5, next.6, next.7)
 
 -- a byte of a head comes behind a head that is passed
 pub begins-behind : (profile : Profile) (at : Standing) (date : HttpDate) (o p : Option Feed) (status : StatusCode) (text : Vec ℕ) → ReadsHead profile at date o p (Ok (read.Refused status text false)) → HasByteBehind profile p → HasByteBehind profile o
@@ -225,8 +244,8 @@ Leads client before k s now asked reply =
 
 takes-found : {R W : Type 0} (old new : ConnectionState R W) (now : HttpDate) (x : Step (Option Feed)) (reply : ReplyValue)
     → ((client : Feed) (before : Sink) (s : State) (asked : StepValue) → before.failures < 2 ^ 64 - 1 → IsStep (λ f. f) x asked → Stands client before (kept old) s → Leads client before (kept new) s now asked reply)
-    → (IsDeclined x reply → new ≡ old) → StepEnds x old new reply → StepLeaves x old new reply → MovesBy x reply old new → ((kind : ErrorKind) → reply ≡ Fault kind → ReportsFault old new now x kind) → StepReports old new now x reply → TakesStep old new now x reply
-takes-found old new now x reply answers declined ends leaves moves honest tells =
+    → (IsDeclined x reply → new ≡ old) → StepReplies old x reply → StepEnds x old new reply → StepLeaves x old new reply → MovesBy x reply old new → ((kind : ErrorKind) → reply ≡ Fault kind → ReportsFault old new now x kind) → StepReports old new now x reply → TakesStep old new now x reply
+takes-found old new now x reply answers declined replies ends leaves moves honest tells =
     record {
       does = λ p client before steps replies asked is done.
           let a = answers client before done.at asked done.fresh.can_count is done.stands in
@@ -245,25 +264,28 @@ takes-found old new now x reply answers declined ends leaves moves honest tells 
                 (λ v. (let m = a.3 v in (m.0, λ none. begins-behind_items p client done.items done.pipeline (subst M profile (m.1 none)))))
                 (vain-snoc (start_state done.items) done.at steps replies (now, asked) reply done.run vain);
           };
-      profile = moves.profile;
-      declined = declined;
-      ends = ends;
-      leaves = leaves;
-      goes_on = moves.goes_on;
-      fails_once = moves.fails_once;
-      flushed = moves.flushed;
-      sent_on = moves.sent_on;
-      honest = honest;
-      reports = tells;
+      makes = record {
+        profile = moves.profile;
+        declined = declined;
+        replies = replies;
+        ends = ends;
+        leaves = leaves;
+        goes_on = moves.goes_on;
+        fails_once = moves.fails_once;
+        flushed = moves.flushed;
+        sent_on = moves.sent_on;
+        honest = honest;
+        reports = tells;
+      };
     }
 
 pub takes : {R W : Type 0} (old new : ConnectionState R W) (now : HttpDate) (x : Step (Option Feed)) (reply : ReplyValue)
     → ((client : Feed) (before : Sink) (s : State) (asked : StepValue) → before.failures < 2 ^ 64 - 1 → IsStep (λ f. f) x asked → Stands client before (kept old) s → StepIsAnswered client before (kept new) s now asked reply)
-    → (IsDeclined x reply → new ≡ old) → StepEnds x old new reply → StepLeaves x old new reply → MovesBy x reply old new → ((kind : ErrorKind) → reply ≡ Fault kind → ReportsFault old new now x kind) → StepReports old new now x reply → (IsAskStep x → ⊥) → TakesStep old new now x reply
-takes old new now x reply answers declined ends leaves moves honest tells other =
+    → (IsDeclined x reply → new ≡ old) → StepReplies old x reply → StepEnds x old new reply → StepLeaves x old new reply → MovesBy x reply old new → ((kind : ErrorKind) → reply ≡ Fault kind → ReportsFault old new now x kind) → StepReports old new now x reply → (IsAskStep x → ⊥) → TakesStep old new now x reply
+takes old new now x reply answers declined replies ends leaves moves honest tells other =
     takes-found old new now x reply
     (λ client before s asked low is st. (let a = answers client before s asked low is st in (a.0, a.1, a.2, λ v. absurd (other (vain-asks x asked reply is v)))))
-    declined ends leaves moves honest tells
+    declined replies ends leaves moves honest tells
 
 -- the body of what is kept under one number was given up
 pub gives-up-of : {R : Type 0} (old new : SourceState R) (o : Option (Option Unfinished)) (u : Unfinished) → o ≡ Some (Some u) → GivesUpBody (kept_body (Some u)) old new → (v : Unfinished) → o ≡ Some (Some v) → GivesUpBody (kept_body (Some v)) old new
@@ -346,7 +368,7 @@ pub takes-ask : {R W : Type 0} (old new : ConnectionState R W) (now : HttpDate) 
 takes-ask old new now reply a =
     takes-found old new now step.Ask reply
     (λ client before s asked low is st. leads client before s asked is (a.does client before s low st))
-    a.declined a.ends a.leaves
+    a.declined tt a.ends a.leaves
     (moves-kept step.Ask reply old new (λ sent. refl) (record { profile = a.profile; goes_on = a.goes_on; fails_once = a.fails_once; flushed = λ was. a.flushed (was refl); sent_on = λ was. a.sent_on (was refl) }))
     (λ kind e. absurd (ask-reports-none old new reply a.ends kind e)) tt
   where
@@ -370,6 +392,7 @@ pub record PassesHead {R W : Type 0} (old mid : ConnectionState R W) (now : Http
   pub here : IsBeforeHead old.source.standing
   pub unended : IsAtEnd old.source → ⊥
   pub begins : HasByteBehind mid.profile mid.source.feed → HasByteBehind old.profile old.source.feed
+  pub hands : (n : ℕ) (message : Message) (framing : Framing) (left : Option Remaining) → HandsOut n mid.profile mid.source.feed message framing left → HandsOut (suc n) old.profile old.source.feed message framing left
   pub stands : mid.source.standing ≡ place.Head
   pub ends : (why : EndOfRequests) → EndsRequestsAt mid.profile place.Head mid.source.feed why → EndsRequestsAt old.profile old.source.standing old.source.feed why
   pub requests : mid.requests ≡ old.requests ++ (None ∷ [])
@@ -394,16 +417,26 @@ refuses-more old mid new n e h =
 one-behind : (a b n : ℕ) → b ≡ a + 1 → b + n ≡ a + suc n
 one-behind a b n e = omega (arith, e)
 
-leaves-behind : {R W : Type 0} (old mid new : ConnectionState R W) (reply : ReplyValue) → mid.requests ≡ old.requests ++ (None ∷ []) → length mid.marks ≡ length old.marks + 1 → IsBeforeHead old.source.standing → (IsAtEnd old.source → ⊥) → AskLeaves mid new reply → AskLeaves old new reply
-leaves-behind old mid new (Handed k message framing) e count here unended h = (suc h.0, h.1, one-more old.requests mid.requests new.requests (Some (still.Waiting h.1) ∷ []) h.0 e h.2, h.3, h.4 ∙ one-behind (length old.marks) (length mid.marks) h.0 count, λ z. (let no : suc h.0 ≡ 0 = z in cc))
-leaves-behind old mid new Ended e count here unended h = (suc h.0, refuses-more old mid new h.0 e h.1, λ z. absurd (⊎_elim (not-last old.source.standing here) unended z))
-leaves-behind old mid new Memory e count here unended h = (suc h.0, refuses-more old mid new h.0 e h.1)
-leaves-behind old mid new NotYet e count here unended h = tt
-leaves-behind old mid new (Given bytes) e count here unended h = elim h [ ]
-leaves-behind old mid new (Fault x) e count here unended h = elim h [ ]
-leaves-behind old mid new Done e count here unended h = elim h [ ]
-leaves-behind old mid new Refused e count here unended h = elim h [ ]
-leaves-behind old mid new NoSuch e count here unended h = elim h [ ]
+leaves-behind : {R W : Type 0} (old mid new : ConnectionState R W) (reply : ReplyValue) → mid.requests ≡ old.requests ++ (None ∷ []) → length mid.marks ≡ length old.marks + 1 → IsBeforeHead old.source.standing → (IsAtEnd old.source → ⊥) → mid.profile ≡ old.profile
+    → ((n : ℕ) (message : Message) (framing : Framing) (left : Option Remaining) → HandsOut n mid.profile mid.source.feed message framing left → HandsOut (suc n) old.profile old.source.feed message framing left) → AskLeaves mid new reply → AskLeaves old new reply
+leaves-behind old mid new (Handed k message framing) e count here unended same hands h = (
+  suc h.0,
+  h.1,
+  one-more old.requests mid.requests new.requests (Some (still.Waiting h.1) ∷ []) h.0 e h.2,
+  h.3,
+  h.4 ∙ one-behind (length old.marks) (length mid.marks) h.0 count,
+  λ z. (let no : suc h.0 ≡ 0 = z in cc),
+  hands h.0 message framing (remaining h.1.body new.source.feed) h.6,
+  subst (λ p. IsFramedAs p message framing) same h.7,
+)
+leaves-behind old mid new Ended e count here unended same hands h = (suc h.0, refuses-more old mid new h.0 e h.1, λ z. absurd (⊎_elim (not-last old.source.standing here) unended z))
+leaves-behind old mid new Memory e count here unended same hands h = (suc h.0, refuses-more old mid new h.0 e h.1)
+leaves-behind old mid new NotYet e count here unended same hands h = tt
+leaves-behind old mid new (Given bytes) e count here unended same hands h = elim h [ ]
+leaves-behind old mid new (Fault x) e count here unended same hands h = elim h [ ]
+leaves-behind old mid new Done e count here unended same hands h = elim h [ ]
+leaves-behind old mid new Refused e count here unended same hands h = elim h [ ]
+leaves-behind old mid new NoSuch e count here unended same hands h = elim h [ ]
 
 -- behind a refused head no body and no answer is waited for
 never-waits : {R W : Type 0} (old mid : ConnectionState R W) (now : HttpDate) → PassesHead old mid now → (mid.source.standing ≡ place.Body ⊎ last_holds_next_head mid.requests ≡ true) → ⊥
@@ -446,7 +479,7 @@ asks-behind-head old mid now p = λ new reply a. record {
   profile = a.profile ∙ p.moves.profile;
   declined = λ was. absurd (never-declined old mid new now reply p a.ends was);
   ends = ends-behind old mid new now reply p a.ends;
-  leaves = leaves-behind old mid new reply p.requests p.counts p.here p.unended a.leaves;
+  leaves = leaves-behind old mid new reply p.requests p.counts p.here p.unended p.moves.profile p.hands a.leaves;
   goes_on = goes-on_more old.source.feed mid.source.feed new.source.feed p.moves.goes_on a.goes_on;
   fails_once = once-append old.outlet.ended mid.outlet.ended new.outlet.ended (output_of old.outlet) (output_of mid.outlet) (output_of new.outlet) p.moves.fails_once a.fails_once;
   flushed = λ was. a.flushed (p.moves.flushed (λ z. was));
@@ -455,19 +488,19 @@ asks-behind-head old mid now p = λ new reply a. record {
 
 pub takes-as_reader : {R W : Type 0} (old new : ConnectionState R W) (now : HttpDate) (n : ℕ) (reply : ReplyValue)
     → ((client : Feed) (before : Sink) (s : State) → before.failures < 2 ^ 64 - 1 → Stands client before (kept old) s → StepIsAnswered client before (kept new) s now (AsReader n) reply)
-    → (IsDeclined (step.AsReader n) reply → new ≡ old) → new.end ≡ old.end → StepLeaves (step.AsReader n) old new reply → Moves false old new → ReportsNoFault reply → TakesStep old new now (step.AsReader n) reply
-takes-as_reader old new now n reply answers declined ends leaves moves none =
+    → (IsDeclined (step.AsReader n) reply → new ≡ old) → StepReplies old (step.AsReader n) reply → new.end ≡ old.end → StepLeaves (step.AsReader n) old new reply → Moves false old new → ReportsNoFault reply → TakesStep old new now (step.AsReader n) reply
+takes-as_reader old new now n reply answers declined replies ends leaves moves none =
     takes old new now (step.AsReader n) reply
     (λ client before s asked low is st. step-as_reader {D = Option Feed} (λ f. f) client before (kept new) s now (now, asked) (step.AsReader n) n reply refl refl is (answers client before s low st))
-    declined ends leaves (moves-kept (step.AsReader n) reply old new (λ sent. refl) moves) (λ kind e. absurd (none kind e)) tt (λ ask. ask)
+    declined replies ends leaves (moves-kept (step.AsReader n) reply old new (λ sent. refl) moves) (λ kind e. absurd (none kind e)) tt (λ ask. ask)
 
 pub takes-drop : {R W : Type 0} (old new : ConnectionState R W) (now : HttpDate) (n : ℕ) (reply : ReplyValue)
     → ((client : Feed) (before : Sink) (s : State) → before.failures < 2 ^ 64 - 1 → Stands client before (kept old) s → StepIsAnswered client before (kept new) s now (Drop n) reply)
-    → (IsDeclined (step.Drop n) reply → new ≡ old) → EndsBehind (kept_lacks (slice_get old.requests n)) old new reply → (IsAnswered reply → LetsGo n old new) → Moves false old new → ReportsNoFault reply → TakesStep old new now (step.Drop n) reply
-takes-drop old new now n reply answers declined ends leaves moves none =
+    → (IsDeclined (step.Drop n) reply → new ≡ old) → StepReplies old (step.Drop n) reply → EndsBehind (kept_lacks (slice_get old.requests n)) old new reply → (IsAnswered reply → LetsGo n old new) → Moves false old new → ReportsNoFault reply → TakesStep old new now (step.Drop n) reply
+takes-drop old new now n reply answers declined replies ends leaves moves none =
     takes old new now (step.Drop n) reply
     (λ client before s asked low is st. step-drop {D = Option Feed} (λ f. f) client before (kept new) s (now, asked) (step.Drop n) n reply refl is (answers client before s low st))
-    declined ends leaves (moves-kept (step.Drop n) reply old new (λ sent. refl) moves) (λ kind e. absurd (none kind e)) tt (λ ask. ask)
+    declined replies ends leaves (moves-kept (step.Drop n) reply old new (λ sent. refl) moves) (λ kind e. absurd (none kind e)) tt (λ ask. ask)
 
 pub takes-read : {R W : Type 0} (old new : ConnectionState R W) (now : HttpDate) (n m : ℕ) (reply : ReplyValue)
     → ((client : Feed) (before : Sink) (s : State) → Stands client before (kept old) s → StepIsAnswered client before (kept new) s now (Read n m) reply)
@@ -475,54 +508,54 @@ pub takes-read : {R W : Type 0} (old new : ConnectionState R W) (now : HttpDate)
 takes-read old new now n m reply answers declined ends leaves moves =
     takes old new now (step.Read n m) reply
     (λ client before s asked low is st. step-read {D = Option Feed} (λ f. f) client before (kept new) s (now, asked) (step.Read n m) n m reply refl is (answers client before s st))
-    declined ends leaves (moves-kept (step.Read n m) reply old new (λ sent. refl) moves) (λ kind e. tt) tt (λ ask. ask)
+    declined tt ends leaves (moves-kept (step.Read n m) reply old new (λ sent. refl) moves) (λ kind e. tt) tt (λ ask. ask)
 
 pub takes-respond : {R W D : Type 0} (feed : D → Option Feed) (all : Bool) (old new : ConnectionState R W) (now : HttpDate) (n : ℕ) (r : ResponseState D) (reply : ReplyValue)
     → ((client : Feed) (before : Sink) (s : State) (value : ResponseValue) → before.failures < 2 ^ 64 - 1 → IsResponse feed r value → Stands client before (kept old) s → StepIsAnswered client before (kept new) s now (Respond n value) reply)
-    → (IsDeclined (step.Respond n (stated_response feed r)) reply → new ≡ old) → RespondEnds n r.answer.closes old new reply → AnswerLeaves n r.answer old new reply → is_done reply ≡ all → Moves all old new → ((kind : ErrorKind) → reply ≡ Fault kind → ReportsFault old new now (step.Respond n (stated_response feed r)) kind)
+    → (IsDeclined (step.Respond n (stated_response feed r)) reply → new ≡ old) → StepReplies old (step.Respond n (stated_response feed r)) reply → RespondEnds n r.answer.closes old new reply → AnswerLeaves n r.answer old new reply → is_done reply ≡ all → Moves all old new → ((kind : ErrorKind) → reply ≡ Fault kind → ReportsFault old new now (step.Respond n (stated_response feed r)) kind)
     → RespondReports old new now n (stated_response feed r) reply → TakesStep old new now (step.Respond n (stated_response feed r)) reply
-takes-respond feed all old new now n r reply answers declined ends leaves done moves honest tells =
+takes-respond feed all old new now n r reply answers declined replies ends leaves done moves honest tells =
     takes old new now (step.Respond n (stated_response feed r)) reply
     (λ client before s asked low is st. step-respond {D = Option Feed} (λ f. f) client before (kept new) s now (now, asked) (step.Respond n (stated_response feed r)) n (stated_response feed r) reply refl refl is (λ v h. answers client before s v low h st))
-    declined ends leaves (moves-sent (step.Respond n (stated_response feed r)) reply all old new (λ sent. refl) done moves) honest tells (λ ask. ask)
+    declined replies ends leaves (moves-sent (step.Respond n (stated_response feed r)) reply all old new (λ sent. refl) done moves) honest tells (λ ask. ask)
 
 pub takes-into_writer : {R W : Type 0} (old new : ConnectionState R W) (now : HttpDate) (n : ℕ) (reply : ReplyValue)
     → ((client : Feed) (before : Sink) (s : State) → before.failures < 2 ^ 64 - 1 → Stands client before (kept old) s → StepIsAnswered client before (kept new) s now (IntoWriter n) reply)
-    → (IsDeclined (step.IntoWriter n) reply → new ≡ old) → EndsBehind (is_last_with_stream_at (slice_get old.requests n)) old new reply → StepLeaves (step.IntoWriter n) old new reply → Moves false old new → ReportsNoFault reply → TakesStep old new now (step.IntoWriter n) reply
-takes-into_writer old new now n reply answers declined ends leaves moves none =
+    → (IsDeclined (step.IntoWriter n) reply → new ≡ old) → StepReplies old (step.IntoWriter n) reply → EndsBehind (is_last_with_stream_at (slice_get old.requests n)) old new reply → StepLeaves (step.IntoWriter n) old new reply → Moves false old new → ReportsNoFault reply → TakesStep old new now (step.IntoWriter n) reply
+takes-into_writer old new now n reply answers declined replies ends leaves moves none =
     takes old new now (step.IntoWriter n) reply
     (λ client before s asked low is st. step-into_writer {D = Option Feed} (λ f. f) client before (kept new) s (now, asked) (step.IntoWriter n) n reply refl is (answers client before s low st))
-    declined ends leaves (moves-kept (step.IntoWriter n) reply old new (λ sent. refl) moves) (λ kind e. absurd (none kind e)) tt (λ ask. ask)
+    declined replies ends leaves (moves-kept (step.IntoWriter n) reply old new (λ sent. refl) moves) (λ kind e. absurd (none kind e)) tt (λ ask. ask)
 
 pub takes-finish : {R W : Type 0} (old new : ConnectionState R W) (now : HttpDate) (n : ℕ) (reply : ReplyValue)
     → ((client : Feed) (before : Sink) (s : State) → before.failures < 2 ^ 64 - 1 → Stands client before (kept old) s → StepIsAnswered client before (kept new) s now (Finish n) reply)
-    → (IsDeclined (step.Finish n) reply → new ≡ old) → new.end ≡ old.end → StepLeaves (step.Finish n) old new reply → Moves false old new → ReportsNoFault reply → TakesStep old new now (step.Finish n) reply
-takes-finish old new now n reply answers declined ends leaves moves none =
+    → (IsDeclined (step.Finish n) reply → new ≡ old) → StepReplies old (step.Finish n) reply → new.end ≡ old.end → StepLeaves (step.Finish n) old new reply → Moves false old new → ReportsNoFault reply → TakesStep old new now (step.Finish n) reply
+takes-finish old new now n reply answers declined replies ends leaves moves none =
     takes old new now (step.Finish n) reply
     (λ client before s asked low is st. step-finish {D = Option Feed} (λ f. f) client before (kept new) s (now, asked) (step.Finish n) n reply refl is (answers client before s low st))
-    declined ends leaves (moves-kept (step.Finish n) reply old new (λ sent. refl) moves) (λ kind e. absurd (none kind e)) tt (λ ask. ask)
+    declined replies ends leaves (moves-kept (step.Finish n) reply old new (λ sent. refl) moves) (λ kind e. absurd (none kind e)) tt (λ ask. ask)
 
 pub takes-flush : {R W : Type 0} (all : Bool) (old new : ConnectionState R W) (now : HttpDate) (n : ℕ) (reply : ReplyValue)
     → ((client : Feed) (before : Sink) (s : State) → before.failures < 2 ^ 64 - 1 → Stands client before (kept old) s → StepIsAnswered client before (kept new) s now (Flush n) reply)
-    → (IsDeclined (step.Flush n) reply → new ≡ old) → new.end ≡ old.end → StepLeaves (step.Flush n) old new reply → is_done reply ≡ all → Moves all old new → ((kind : ErrorKind) → reply ≡ Fault kind → IsOfWriter (output_of old.outlet) (output_of new.outlet) kind)
+    → (IsDeclined (step.Flush n) reply → new ≡ old) → StepReplies old (step.Flush n) reply → new.end ≡ old.end → StepLeaves (step.Flush n) old new reply → is_done reply ≡ all → Moves all old new → ((kind : ErrorKind) → reply ≡ Fault kind → IsOfWriter (output_of old.outlet) (output_of new.outlet) kind)
     → ReportsOfWriter (output_of old.outlet) (output_of new.outlet) reply → TakesStep old new now (step.Flush n) reply
-takes-flush all old new now n reply answers declined ends leaves done moves honest tells =
+takes-flush all old new now n reply answers declined replies ends leaves done moves honest tells =
     takes old new now (step.Flush n) reply
     (λ client before s asked low is st. step-flush {D = Option Feed} (λ f. f) client before (kept new) s (now, asked) (step.Flush n) n reply refl is (answers client before s low st))
-    declined ends leaves (moves-sent (step.Flush n) reply all old new (λ sent. refl) done moves) honest tells (λ ask. ask)
+    declined replies ends leaves (moves-sent (step.Flush n) reply all old new (λ sent. refl) done moves) honest tells (λ ask. ask)
 
 -- a Write that wasn't done leaves what is sent on as it was; of one that was nothing is said
 pub takes-write : {R W : Type 0} (old new : ConnectionState R W) (now : HttpDate) (n : ℕ) (v : Vec ℕ) (bytes : List ℕ) (reply : ReplyValue)
     → v.items ≡ bytes → ((client : Feed) (before : Sink) (s : State) → before.failures < 2 ^ 64 - 1 → Stands client before (kept old) s → StepIsAnswered client before (kept new) s now (Write n bytes) reply)
-    → (IsDeclined (step.Write n v) reply → new ≡ old) → new.end ≡ old.end → StepLeaves (step.Write n v) old new reply → new.profile ≡ old.profile → GoesOn old.source.feed new.source.feed
+    → (IsDeclined (step.Write n v) reply → new ≡ old) → StepReplies old (step.Write n v) reply → new.end ≡ old.end → StepLeaves (step.Write n v) old new reply → new.profile ≡ old.profile → GoesOn old.source.feed new.source.feed
     → FailsOnce old.outlet new.outlet → (is_done reply ≡ false → new.outlet ≡ old.outlet) → ((kind : ErrorKind) → reply ≡ Fault kind → IsOfWriter (output_of old.outlet) (output_of new.outlet) kind)
     → ReportsOfWriter (output_of old.outlet) (output_of new.outlet) reply → TakesStep old new now (step.Write n v) reply
-takes-write {W = W} old new now n v bytes reply same answers declined ends leaves profile_is goes once still honest tells =
+takes-write {W = W} old new now n v bytes reply same answers declined replies ends leaves profile_is goes once still honest tells =
     takes old new now (step.Write n v) reply
     (λ client before s asked low is st.
     let P : List ℕ → Type 0 = λ l. StepIsAnswered client before (kept new) s now (Write n l) reply in
     step-write {D = Option Feed} (λ f. f) client before (kept new) s (now, asked) (step.Write n v) n v reply refl is (subst P (sym same) (answers client before s low st)))
-    declined ends leaves (record {
+    declined replies ends leaves (record {
       profile = profile_is;
       goes_on = goes;
       fails_once = once;
@@ -538,11 +571,11 @@ takes-write {W = W} old new now n v bytes reply same answers declined ends leave
 
 pub takes-upgrade : {R W D : Type 0} (feed : D → Option Feed) (all : Bool) (old new : ConnectionState R W) (now : HttpDate) (n : ℕ) (p : String Global) (r : ResponseState D) (reply : ReplyValue)
     → ((client : Feed) (before : Sink) (s : State) (value : ResponseValue) → before.failures < 2 ^ 64 - 1 → value.answer ≡ r.answer → Stands client before (kept old) s → StepIsAnswered client before (kept new) s now (Upgrade n (string_bytes p) value) reply)
-    → (IsDeclined (step.Upgrade n p (stated_response feed r)) reply → new ≡ old) → UpgradeEnds n old new reply → UpgradeLeaves n (string_bytes p) r.answer.status old new reply → is_done reply ≡ all → Moves all old new → ReportsNoFault reply → TakesStep old new now (step.Upgrade n p (stated_response feed r)) reply
-takes-upgrade feed all old new now n p r reply answers declined ends leaves done moves none =
+    → (IsDeclined (step.Upgrade n p (stated_response feed r)) reply → new ≡ old) → StepReplies old (step.Upgrade n p (stated_response feed r)) reply → UpgradeEnds n old new reply → UpgradeLeaves n (string_bytes p) r.answer.status old new reply → is_done reply ≡ all → Moves all old new → ReportsNoFault reply → TakesStep old new now (step.Upgrade n p (stated_response feed r)) reply
+takes-upgrade feed all old new now n p r reply answers declined replies ends leaves done moves none =
     takes old new now (step.Upgrade n p (stated_response feed r)) reply
     (λ client before s asked low is st. step-upgrade {D = Option Feed} (λ f. f) client before (kept new) s (now, asked) (step.Upgrade n p (stated_response feed r)) n p (stated_response feed r) reply refl is (λ v same. answers client before s v low same st))
-    declined ends leaves (moves-sent (step.Upgrade n p (stated_response feed r)) reply all old new (λ sent. refl) done moves) (λ kind e. absurd (none kind e)) tt (λ ask. ask)
+    declined replies ends leaves (moves-sent (step.Upgrade n p (stated_response feed r)) reply all old new (λ sent. refl) done moves) (λ kind e. absurd (none kind e)) tt (λ ask. ask)
 
 -- a step that drops a request
 pub drops-by : {R W : Type 0} (n : ℕ) (w : OpenRequest UnreadBody) (old new : ConnectionState R W) (now : HttpDate) → slice_get old.requests n ≡ Some (Some (still.Waiting w))
@@ -552,6 +585,9 @@ pub drops-by : {R W : Type 0} (n : ℕ) (w : OpenRequest UnreadBody) (old new : 
     → new.end ≡ ends_behind (kept_lacks (slice_get old.requests n)) old.end → LetsGo n old new → Moves false old new → (x : Step (Option Feed)) (reply : ReplyValue) → IsDropping old.requests n x reply → TakesStep old new now x reply
 drops-by n w old new now kept answers ends leaves moves = by
   where
+    waits : is_waiting old n ≡ true
+    waits = ap (λ o. is_some (waiting_answer_context o)) kept
+
     by : (x : Step (Option Feed)) (reply : ReplyValue) → IsDropping old.requests n x reply → TakesStep old new now x reply
     by step.Ask reply is = elim is [ ]
     by (step.AsReader k) reply is = elim is [ ]
@@ -568,7 +604,7 @@ drops-by n w old new now kept answers ends leaves moves = by
         subst T (sym is.0) (takes-respond {D = Option Feed} (λ f. f) false old new now n r Refused
         (λ client before s v low same st.
         let A : Answer → Type 0 = λ a. refuses_code w.by_standard w.is_connect a.status ≡ true in
-        answers client before s (Respond n v) Refused (at-unanswerable now n v w (subst A (sym same.0) refused)) low st) (λ no. elim no [ ]) ends (leaves, is.1) refl moves (λ kind e. cc) tt)
+        answers client before s (Respond n v) Refused (at-unanswerable now n v w (subst A (sym same.0) refused)) low st) (λ no. elim no [ ]) (replied-refused _ _ _ waits is.1) ends (leaves, is.1) refl moves (λ kind e. cc) tt)
     by (step.Respond k r) NoSuch is = elim is [ ]
     by (step.Respond k r) Memory is = elim is [ ]
     by (step.IntoWriter k) reply is = elim is [ ]
@@ -582,7 +618,7 @@ drops-by n w old new now kept answers ends leaves moves = by
     by (step.Drop k) NotYet is = elim is [ ]
     by (step.Drop k) Done is =
         let T : ℕ → Type 0 = λ m. TakesStep old new now (step.Drop m) Done in
-        subst T (sym is) (takes-drop old new now n Done (λ client before s low st. answers client before s (Drop n) Done (λ was by r given end_reported same. at-drop now n was by r given end_reported) low st) (λ no. elim no [ ]) ends (λ done. leaves) moves (λ kind e. cc))
+        subst T (sym is) (takes-drop old new now n Done (λ client before s low st. answers client before s (Drop n) Done (λ was by r given end_reported same. at-drop now n was by r given end_reported) low st) (λ no. elim no [ ]) (replied-done _ _ _ Done waits refl refl tt) ends (λ done. leaves) moves (λ kind e. cc))
     by (step.Drop k) Refused is = elim is [ ]
     by (step.Drop k) NoSuch is = elim is [ ]
     by (step.Drop k) Memory is = elim is [ ]
@@ -597,7 +633,7 @@ drops-by n w old new now kept answers ends leaves moves = by
         let refused = ap (refuses_upgrade_at (string_bytes p) r.answer.status) (sym kept) ∙ is.1 in
         subst T (sym is.0) (takes-upgrade {D = Option Feed} (λ f. f) false old new now n p r Refused (λ client before s v low same st.
         let A : Answer → Type 0 = λ a. is_err (request_check w (string_bytes p) a.status (is_whole w.body)) ≡ true in
-        answers client before s (Upgrade n (string_bytes p) v) Refused (at-refused now n (string_bytes p) v w (subst A (sym same) refused)) low st) (λ no. elim no [ ]) ends (leaves, is.1) refl moves (λ kind e. cc))
+        answers client before s (Upgrade n (string_bytes p) v) Refused (at-refused now n (string_bytes p) v w (subst A (sym same) refused)) low st) (λ no. elim no [ ]) (replied-refused _ _ _ waits is.1) ends (leaves, is.1) refl moves (λ kind e. cc))
     by (step.Upgrade k p r) NoSuch is = elim is [ ]
     by (step.Upgrade k p r) Memory is = elim is [ ]
 

@@ -21,5 +21,7 @@ pub mod PendingLemmas
 pub mod SeenLemmas
 pub mod ConversationEnded
 pub mod ConversationRuns
+pub mod RepliesLemmas
+pub mod ReadGives
 pub mod DrivingLemmas
 pub mod ConversationReadingRows

@@ -148,8 +148,18 @@ abbrev pub answers_to : List Slot → List Item → WriterUse
 answers_to slots [] = Unused
 answers_to slots (item ∷ refused) = use_in_turn (turn_has_come (length slots) slots)
 
--- out of memory: before a read, which changes nothing; or at a head, after the refused ones before it, which ends the
--- asking
+-- no memory is found for a head, after these that are refused: the asking has ended
+abbrev pub lacks_head : HttpDate → Reached → List Item → List Item → Outcome
+lacks_head date old refused rest =
+    record {
+      reply = Memory;
+      slots = old.slots ++ map (new_slot date) refused;
+      rest = rest;
+      asking_ended = true;
+      writer = answers_to old.slots refused;
+    }
+
+-- out of memory: before a read, which changes nothing; or at a head, after the refused ones before it
 abbrev pub FindsNoMemory : HttpDate → State → StepValue → ReplyValue → State → Type 0
 FindsNoMemory date old (Read k n) reply new =
     0 < n × ((outcome true date old.reached (Read k n)).reply ≡ NoSuch → ⊥) × (reply ≡ Memory) × (new ≡ old)
@@ -162,15 +172,7 @@ FindsNoMemory date old Ask reply new =
     × (rest : List Item)
     × (old.reached.rest ≡ refused ++ rest)
     × AllByRecursion IsPassedOver refused
-    × (let slots = old.reached.slots ++ map (new_slot date) refused in
-    HasOutcome
-    (record {
-      reply = Memory;
-      slots = slots;
-      rest = rest;
-      asking_ended = true;
-      writer = answers_to old.reached.slots refused;
-    }) old reply new)
+    × HasOutcome (lacks_head date old.reached refused rest) old reply new
 FindsNoMemory date old _ reply new = ⊥
 
 -- One step on a date may be answered so and leave this.
@@ -217,27 +219,29 @@ PlaceAt p true feed rest = rest ≡ []
 PlaceAt p false None rest = ⊥
 PlaceAt p false (Some f) rest = Pipeline p (Some f.bytes) f.stop rest
 
--- The input stands within this number's body: what is left of the body comes next, and after it what the pipeline
--- still has.
-abbrev pub WithinBody : Profile → Slot → Item → Feed → List Item → Type 0
-WithinBody p s (Asks r) feed rest =
+-- The input stands within this number's body: what is left of the body comes next, and after it, unless the asking has
+-- ended, what the pipeline still has.
+abbrev pub WithinBody : Profile → Bool → Slot → Item → Feed → List Item → Type 0
+WithinBody p ended s (Asks r) feed rest =
     (next : Place)
     × RemainsAt r.framing.by_standard r.framing.form (body_length_or_0 r.framing - s.given) feed.bytes feed.stop
     (rest_of r s.given) next
-    × Pipeline p (place_after r.framing.is_last next) feed.stop rest
-WithinBody p s (Refuses refusal manner no_body last) feed rest = ⊥
+    × (ended ≡ false → Pipeline p (place_after r.framing.is_last next) feed.stop rest)
+WithinBody p ended s (Refuses refusal manner no_body last) feed rest = ⊥
 
-abbrev pub WithinLast : Profile → Option Slot → Option Feed → List Item → Type 0
-WithinLast p (Some s) (Some feed) rest = WithinBody p s s.item feed rest
-WithinLast p _ _ rest = ⊥
+abbrev pub WithinLast : Profile → Bool → Option Slot → Option Feed → List Item → Type 0
+WithinLast p ended (Some s) (Some feed) rest = WithinBody p ended s s.item feed rest
+WithinLast p ended _ _ rest = ⊥
 
--- How the input stands while the asking goes on: it has ended after a chunked body that was given up before its end; it
--- stands within the last body, while that is open; else what the bytes still ask is the rest of the pipeline.
+-- How the input stands: within the last body, while that is open, also once the asking has ended. Else, while it goes
+-- on: the input has ended after a chunked body that was given up before its end; or what the bytes still ask is the
+-- rest of the pipeline.
 abbrev pub InputAt : Profile → Reached → Option Feed → Type 0
 InputAt p old feed =
-    MatchBool old.asking_ended (Unit {0})
+    MatchBool (last_is_open (last_slot old.slots))
+    (WithinLast p old.asking_ended (last_slot old.slots) feed old.rest)
+    (MatchBool old.asking_ended (Unit {0})
     (MatchBool (last_was_abandoned (last_slot old.slots)) (feed ≡ Some (stopped End))
-    (MatchBool (last_is_open (last_slot old.slots)) (WithinLast p (last_slot old.slots) feed old.rest)
     (PlaceAt p (is_last_slot (last_slot old.slots)) feed old.rest)))
 
 -- behind all these heads a byte of a further one comes; or, but by the standard, the reader times out there

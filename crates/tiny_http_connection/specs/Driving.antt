@@ -13,14 +13,15 @@ use Rattle.tiny_http_io.specs.Source.{SourceState, GoesOn, IsAtEnd}
 use Rattle.tiny_http_io.specs.declared.source.Standing.{Standing}
 use Rattle.tiny_http_io.specs.declared.source.Standing.TheVariants as at
 use Rattle.tiny_http_head.specs.declared.common.StatusCode.{StatusCode}
+use Rattle.tiny_http_head.specs.Heads.{Message}
 use Rattle.tiny_http_open_request.specs.declared.exchange.EndOfRequests.{EndOfRequests}
 use Rattle.tiny_http_open_request.specs.declared.exchange.EndOfRequests.TheVariants as because
-use Rattle.tiny_http_open_request.specs.HeadReads.{EndsAt, IsBeforeHead, HasByteOrTimedOut}
+use Rattle.tiny_http_open_request.specs.HeadReads.{EndsAt, IsBeforeHead, HasByteOrTimedOut, ComesWith, IsFramedAs}
 use Rattle.tiny_http_body.specs.declared.framing.Profile.{Profile}
 use Rattle.tiny_http_body.specs.declared.framing.Framing.{Framing}
 use Rattle.tiny_http_io.specs.Outlet.{output_of, SentOn}
-use Rattle.tiny_http_open_request.specs.Pipeline.{Item, Manner, Refuses, Refusal, refusal_status, OneHead, Pipeline}
-use Rattle.tiny_http_open_request.specs.Pipeline.{Place, place_feed}
+use Rattle.tiny_http_open_request.specs.Pipeline.{Item, Manner, Asks, Refuses, Refusal, refusal_status, OneHead}
+use Rattle.tiny_http_open_request.specs.Pipeline.{Pipeline, Place, place_feed, place_after}
 use Rattle.tiny_http_connection.specs.Steps.{StepValue, ReplyValue, Given, Handed, Ended, NotYet, Done, Refused, NoSuch}
 use Rattle.tiny_http_connection.specs.Steps.{Memory, Fault, TimedValue}
 use Rattle.tiny_http_connection.specs.Conversation.{State, Run, start_state, IsFresh, IsPassedOver, HasAskOutOfMemory}
@@ -31,13 +32,16 @@ use Rattle.tiny_http_response.specs.Sending.{CanSend, IsHonest, FailsOnce}
 use Rattle.tiny_http_connection.specs.Pending.{waiting_answer_context, owes_continue, is_last_once_finished_at}
 use Rattle.tiny_http_connection.specs.Pending.{refuses_at, refuses_upgrade_at, is_last_with_stream_at, asked_to_close}
 use Rattle.tiny_http_connection.specs.Pending.{last_holds_next_head, kept_body, GivesUpBody, with_body, begins_left}
+use Rattle.tiny_http_connection.specs.Pending.{is_readable}
 use Rattle.tiny_http_body.specs.declared.body.UnreadBody.{UnreadBody}
 use Rattle.tiny_http_open_request.specs.declared.open_request.OpenRequest.{OpenRequest}
 use Rattle.tiny_http_connection.specs.declared.pending.Unfinished.{Unfinished}
 use Rattle.tiny_http_connection.specs.declared.pending.Unfinished.TheVariants as still
-use Rattle.tiny_http_body.specs.Body.{is_streaming, stream_body, body_standing, ends_met}
+use Rattle.tiny_http_body.specs.Body.{Remaining, remaining, is_streaming, stream_body, body_standing, ends_met}
 use Rattle.tiny_http_connection.specs.Seen.{IsStep, IsAnswered, IsOfWriter, ReportsOfWriter, all_sent_after}
 use Rattle.tiny_http_connection.specs.Outcomes.{fault_reply}
+use Rattle.tiny_http_connection.specs.Giving.{TakesNext}
+use Rattle.tiny_http_connection.specs.Replies.{StepReplies}
 use Rattle.tiny_http_connection.specs.Connection.{ConnectionState, kept, Stands}
 
 -- By a connection of this profile, over this client's feed and a fresh writer, these steps were done, with these
@@ -203,16 +207,37 @@ abbrev pub RefusesHeads : {R W : Type 0} → ℕ → ConnectionState R W → Con
 RefusesHeads n old new =
     (new.requests ≡ old.requests ++ replicate n None) × (n ≡ 0 → (new.marks ≡ old.marks) × (new.outlet ≡ old.outlet))
 
--- What an Ask leaves of requests, source and output, by its reply: a request was added behind the refused heads, and
--- the source stands after its head; where none was refused nothing is sent, and no end or fault of the reader was
--- met. Or none was added. After the last request, or the end of the source, no head is refused.
+-- So many heads are refused, and behind them this request's head stands: this is to come of its body and of what
+-- follows that.
+abbrev pub HandsOut : ℕ → Profile → Option Feed → Message → Framing → Option Remaining → Type 0
+HandsOut n p None message framing left = ⊤
+HandsOut n p (Some f) message framing left =
+    (passed : List Item)
+    × (behind : Feed)
+    × (length passed ≡ n)
+    × ArePassedOver p f passed behind
+    × (body : Feed)
+    × (next : Place)
+    × (let after = place_feed behind.stop next in
+    OneHead p behind.bytes behind.stop
+    (Some (Asks (record { message = message; framing = framing; body = body; behind = after })))
+    (place_after framing.is_last next)
+    × ComesWith left behind.stop body next)
+
+-- What an Ask leaves of requests, source and output, by its reply: a request was added behind the refused heads, as it
+-- stands in the client's bytes and is framed by its head, and the source stands after its head; where none was refused
+-- nothing is sent, and no end or fault of the reader was met. Or none was added. After the last request, or the end of
+-- the source, no head is refused.
 abbrev pub AskLeaves : {R W : Type 0} → ConnectionState R W → ConnectionState R W → ReplyValue → Type 0
 AskLeaves old new (Handed k message framing) =
     (n : ℕ)
     × (w : OpenRequest UnreadBody)
     × (new.requests ≡ old.requests ++ replicate n None ++ Some (still.Waiting w) ∷ [])
     × (new.source.standing ≡ after_head framing w.body)
-    × (k ≡ length old.marks + n) × (n ≡ 0 → (new.outlet ≡ old.outlet) × (new.source.stop ≡ old.source.stop))
+    × (k ≡ length old.marks + n)
+    × (n ≡ 0 → (new.outlet ≡ old.outlet) × (new.source.stop ≡ old.source.stop))
+    × HandsOut n old.profile old.source.feed message framing (remaining w.body new.source.feed)
+    × IsFramedAs old.profile message framing
 AskLeaves old new Memory = (n : ℕ) × RefusesHeads n old new
 AskLeaves old new Ended =
     (n : ℕ) × RefusesHeads n old new × (old.source.standing ≡ at.Last ⊎ IsAtEnd old.source → n ≡ 0)
@@ -262,6 +287,29 @@ UpgradeLeaves k protocol code old new NotYet = Unit {0}
 UpgradeLeaves k protocol code old new NoSuch = Unit {0}
 UpgradeLeaves k protocol code old new _ = ⊥
 
+-- A read of n bytes gave the next of the body that is kept of this number, as far as the reader states them; and the
+-- source stands by what is left of the body.
+abbrev pub ReadsKept : {R W : Type 0} → ℕ → ℕ → ConnectionState R W → ConnectionState R W → ReplyValue → Type 0
+ReadsKept k n old new reply =
+    (u : Unfinished)
+    × (was : UnreadBody)
+    × (body : UnreadBody)
+    × (slice_get old.requests k ≡ Some (Some u))
+    × (kept_body (Some u) ≡ Some was)
+    × (new.requests ≡ slice_set old.requests k (Some (with_body body u)))
+    × StandsAfter was body old.source new.source
+    × TakesNext n (remaining was old.source.feed) reply (remaining body new.source.feed)
+
+-- What a read leaves of requests and source, by its reply. Memory is refused for a byte at least.
+abbrev pub ReadLeaves : {R W : Type 0} → ℕ → ℕ → ConnectionState R W → ConnectionState R W → ReplyValue → Type 0
+ReadLeaves k n old new (Given bytes) =
+    (is_readable (slice_get old.requests k) ≡ true) × ReadsKept k n old new (Given bytes)
+ReadLeaves k n old new (Fault kind) =
+    (is_readable (slice_get old.requests k) ≡ true) × ReadsKept k n old new (Fault kind)
+ReadLeaves k n old new NoSuch = is_readable (slice_get old.requests k) ≡ false
+ReadLeaves k n old new Memory = (is_readable (slice_get old.requests k) ≡ true) × (0 < n)
+ReadLeaves k n old new _ = ⊥
+
 -- What a step leaves of requests, source and output. An AsReader only clears what its request owes. A read changes no
 -- more than the body of its request, and the source if it is read from that. An answer, a drop and a Finish let their
 -- request go. An IntoWriter gives the body up.
@@ -271,14 +319,7 @@ StepLeaves step.Ask old new reply = AskLeaves old new reply
 StepLeaves (step.AsReader k) old new reply =
     (new.source ≡ old.source) × (new.marks ≡ old.marks) × SendsContinue k old new reply
 StepLeaves (step.Read k n) old new reply =
-    (new.outlet ≡ old.outlet) × (new.marks ≡ old.marks)
-    × (((new.requests ≡ old.requests) × (new.source ≡ old.source))
-    ⊎ ((u : Unfinished)
-    × (was : UnreadBody)
-    × (body : UnreadBody)
-    × (slice_get old.requests k ≡ Some (Some u))
-    × (kept_body (Some u) ≡ Some was)
-    × (new.requests ≡ slice_set old.requests k (Some (with_body body u))) × StandsAfter was body old.source new.source))
+    (new.outlet ≡ old.outlet) × (new.marks ≡ old.marks) × ReadLeaves k n old new reply
 StepLeaves (step.Respond k r) old new reply = AnswerLeaves k r.answer old new reply
 StepLeaves (step.IntoWriter k) old new reply =
     (new.outlet ≡ old.outlet)
@@ -298,8 +339,8 @@ IsDeclined (step.Read k n) Memory = Unit {0}
 IsDeclined _ _ = ⊥
 
 -- A fault that a step reports, whatever reader, writer and data state: that of a Write or a Flush is the writer's,
--- whose count rose; that of an answer is so too, or that of its own data, printed for its request; of a body's
--- nothing is said here. The other steps report none.
+-- whose count rose; that of an answer is so too, or that of its own data, printed for its request; that of a read is the
+-- body's, as `ReadLeaves` says. The other steps report none.
 abbrev pub ReportsFault : {R W : Type 0} → ConnectionState R W → ConnectionState R W → HttpDate → Step (Option Feed)
     → ErrorKind → Type 0
 ReportsFault old new now step.Ask kind = ⊥
@@ -368,18 +409,14 @@ StepReports old new now (step.Flush k) reply = ReportsOfWriter (output_of old.ou
 StepReports old new now (step.Respond k r) reply = RespondReports old new now k r reply
 StepReports old new now _ reply = Unit {0}
 
--- ONE STEP on a date, and its reply.
-pub record TakesStep {R W : Type 0} (old new : ConnectionState R W) (now : HttpDate) (step : Step (Option Feed))
+-- WHAT ONE STEP DOES on a date, with its reply, whatever reader, writer and data state.
+pub record MakesStep {R W : Type 0} (old new : ConnectionState R W) (now : HttpDate) (step : Step (Option Feed))
     (reply : ReplyValue) : Type 0 where
-  -- what was done before is done, and this step and its reply after it
-  pub does : (p : Profile) (client : Feed) (before : Sink) (steps : List TimedValue) (replies : List ReplyValue)
-      (asked : StepValue) → IsStep (λ f. f) step asked
-      → HasDone p client before old steps replies
-      → HasDone p client before new (steps ++ (now, asked) ∷ []) (replies ++ reply ∷ [])
-  -- What follows holds whatever reader, writer and data state. The profile is kept, and a step that was not done
-  -- changes nothing.
+  -- The profile is kept, and a step that was not done changes nothing.
   pub profile : new.profile ≡ old.profile
   pub declined : IsDeclined step reply → new ≡ old
+  -- whether it is done
+  pub replies : StepReplies old step reply
   -- why the requests end, and what becomes of requests, source and output
   pub ends : StepEnds step old new reply
   pub leaves : StepLeaves step old new reply
@@ -393,6 +430,15 @@ pub record TakesStep {R W : Type 0} (old new : ConnectionState R W) (now : HttpD
   -- a fault that is reported is one, and a failure of the writer is reported
   pub honest : (kind : ErrorKind) → reply ≡ Fault kind → ReportsFault old new now step kind
   pub reports : StepReports old new now step reply
+
+-- ONE STEP: it does this, and what was done before is done, and this step and its reply after it.
+pub record TakesStep {R W : Type 0} (old new : ConnectionState R W) (now : HttpDate) (step : Step (Option Feed))
+    (reply : ReplyValue) : Type 0 where
+  pub makes : MakesStep old new now step reply
+  pub does : (p : Profile) (client : Feed) (before : Sink) (steps : List TimedValue) (replies : List ReplyValue)
+      (asked : StepValue) → IsStep (λ f. f) step asked
+      → HasDone p client before old steps replies
+      → HasDone p client before new (steps ++ (now, asked) ∷ []) (replies ++ reply ∷ [])
 
 -- a step that drops the request of this number, and its reply: a Drop, an answer that is refused, or an Upgrade that is
 abbrev pub IsDropping : List (Option Unfinished) → ℕ → Step (Option Feed) → ReplyValue → Type 0

@@ -1,11 +1,13 @@
 pub mod Segments
 pub mod Slots
 pub mod Steps
+pub mod Giving
 pub mod Outcomes
 pub mod Conversation
 pub mod Seen
 pub mod Pending
 pub mod Connection
+pub mod Replies
 pub mod Driving
 pub mod Runs
 pub mod ConversationReading

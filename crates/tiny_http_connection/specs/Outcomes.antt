@@ -178,45 +178,49 @@ answers_slot found date old r k response (Some s) =
 abbrev pub answers : Bool → HttpDate → Reached → Request → ℕ → ResponseValue → Outcome
 answers found date old r k response = answers_slot found date old r k response (slice_get old.slots k)
 
+-- the request is dropped: the server answers it, in its turn
+abbrev pub drops : Reached → Request → Slot → Bool → ℕ → ReplyValue → Outcome
+drops old r s turn k reply =
+    ends_asking (is_last_once_finished r s.owed s.given s.end_reported)
+    (changes old k (finished_as (closes_now r s.closes s.owed s.given s.end_reported) s ByServer) reply
+    (use_in_turn turn))
+
+-- n bytes of its body are asked for
+abbrev pub reads : Reached → Request → Slot → ℕ → ℕ → Outcome
+reads old r s k n =
+    if n == 0 then unchanged old (Given [])
+    else changes old k
+    (record s {
+      given = s.given + length (take n (rest_of r s.given).bytes);
+      end_reported = s.end_reported || nat_lt (length (rest_of r s.given).bytes) n;
+    })
+    (read_reply n (rest_of r s.given).bytes r.body.stop) Unused
+
+-- it gets the connection's stream, by its raw writer or an upgrade
+abbrev pub streams : Reached → Request → Slot → ℕ → Slot → WriterUse → Outcome
+streams old r s k new writer =
+    ends_asking (is_last_with_stream r s.owed s.given s.end_reported) (changes old k new Done writer)
+
 -- a step that the number of a request takes, in its time
 abbrev pub effect : Bool → HttpDate → Reached → Request → Slot → Bool → StepValue → Outcome
 effect found date old r s turn (AsReader k) =
     if s.owed then changes old k (record s { owed = false; continued = Some date }) Done Unreported
     else unchanged old Done
-effect found date old r s turn (Read k n) =
-    if n == 0 then unchanged old (Given [])
-    else changes old k
-    (record s {
-      given = s.given + length (take n (rest_of r s.given).bytes);
-      end_reported = s.end_reported
-          || nat_lt (length (rest_of r s.given).bytes) n;
-    })
-    (read_reply n (rest_of r s.given).bytes r.body.stop) Unused
+effect found date old r s turn (Read k n) = reads old r s k n
 effect found date old r s turn (Respond k response) =
-    if refuses_response r response
-    then ends_asking (is_last_once_finished r s.owed s.given s.end_reported)
-    (changes old k (finished_as (closes_now r s.closes s.owed s.given s.end_reported) s ByServer) Refused
-    (use_in_turn turn))
+    if refuses_response r response then drops old r s turn k Refused
     else answers found date (asked_to_close response.answer.closes old) r k response
 effect found date old r s turn (IntoWriter k) =
-    ends_asking (is_last_with_stream r s.owed s.given s.end_reported)
-    (changes old k (record s { stage = Raw [] false; given_up = true; owed = false }) Done Unused)
+    streams old r s k (record s { stage = Raw [] false; given_up = true; owed = false }) Unused
 effect found date old r s turn (Write k bytes) =
     changes old k (record s { stage = written_to bytes s.stage }) Done (Reported bytes None false Fault)
 effect found date old r s turn (Flush k) = changes old k s Done (Reported [] None true Fault)
 effect found date old r s turn (Upgrade k protocol response) =
-    if refuses_upgrade r s protocol response
-    then ends_asking (is_last_once_finished r s.owed s.given s.end_reported)
-    (changes old k (finished_as (closes_now r s.closes s.owed s.given s.end_reported) s ByServer) Refused
-    (use_in_turn turn))
-    else ends_asking (is_last_with_stream r s.owed s.given s.end_reported)
-    (changes old k (upgraded_slot r s (Upgraded protocol response date [] false)) Done Unreported)
+    if refuses_upgrade r s protocol response then drops old r s turn k Refused
+    else streams old r s k (upgraded_slot r s (Upgraded protocol response date [] false)) Unreported
 effect found date old r s turn (Finish k) =
     changes old k (finished_as s.closes s (stage_closed s.stage)) Done (use_in_turn turn)
-effect found date old r s turn (Drop k) =
-    ends_asking (is_last_once_finished r s.owed s.given s.end_reported)
-    (changes old k (finished_as (closes_now r s.closes s.owed s.given s.end_reported) s ByServer) Done
-    (use_in_turn turn))
+effect found date old r s turn (Drop k) = drops old r s turn k Done
 effect found date old r s turn Ask = unchanged old NoSuch
 
 abbrev pub at_item : Bool → HttpDate → Reached → ℕ → StepValue → Slot → Item → Outcome

@@ -13,7 +13,7 @@ use Rattle.tiny_http_connection.specs.declared.driver.Record.{Record}
 use Rattle.tiny_http_connection.specs.declared.driver.Reply.{Reply}
 use Rattle.tiny_http_connection.specs.Seen.{IsTimedStep, seen, all_sent}
 use Rattle.tiny_http_connection.specs.Connection.{ConnectionState}
-use Rattle.tiny_http_connection.specs.Driving.{TakesStep, stated_step}
+use Rattle.tiny_http_connection.specs.Driving.{MakesStep, stated_step}
 use Rattle.tiny_http_connection.specs.Conversation.{IsConversation, IsFresh}
 use Rattle.tiny_http_connection.specs.Steps.{TimedValue}
 
@@ -47,7 +47,7 @@ abbrev pub TakesSteps : {R W D : Type 0} → (D → Option Feed) → ConnectionS
 TakesSteps stated old [] [] new = new ≡ old
 TakesSteps {R = R} {W = W} stated old (t ∷ steps) (r ∷ replies) new =
     (mid : ConnectionState R W)
-    × TakesStep old mid t.now (stated_step stated t.step) (seen r)
+    × MakesStep old mid t.now (stated_step stated t.step) (seen r)
     × TakesSteps stated mid steps replies new
 TakesSteps stated old [] (r ∷ replies) new = ⊥
 TakesSteps stated old (t ∷ steps) [] new = ⊥
@@ -59,7 +59,7 @@ pub record RunsSteps {R W D : Type 0} (client : R → Option Feed) (sink : W →
   pub replies : length done.replies.items ≡ length steps
   -- what the source still gives is the client's bytes from some place on, if the reader states them
   pub source : GoesOn (client reader) done.source.feed
-  -- The steps were taken one after another by a connection that was new. So what `TakesStep` says holds of each step
+  -- The steps were taken one after another by a connection that was new. So what `MakesStep` says holds of each step
   -- and its reply. Source and outlet are as the last step left them, and the outlet states what its writer states.
   pub first : ConnectionState R W
   pub last : ConnectionState R W

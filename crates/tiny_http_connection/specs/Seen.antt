@@ -16,7 +16,7 @@ use Rattle.tiny_http_open_request.specs.HeadReads.{head_message, head_framing}
 use Rattle.tiny_http_response.specs.ResponseValue.{ResponseValue}
 use Rattle.tiny_http_connection.specs.Steps.{StepValue, Ask, AsReader, Read, Respond, IntoWriter, Write, Flush}
 use Rattle.tiny_http_connection.specs.Steps.{Upgrade, Finish, Drop, ReplyValue, Handed, Ended, Given, Fault, NotYet}
-use Rattle.tiny_http_connection.specs.Steps.{Done, Refused, NoSuch, Memory, TimedValue}
+use Rattle.tiny_http_connection.specs.Steps.{Done, Refused, NoSuch, Memory, TimedValue, is_done}
 use Rattle.tiny_http_connection.specs.Outcomes.{fault_reply}
 use Rattle.tiny_http_response.specs.Sending.{Sends, IsFlushed}
 
@@ -64,12 +64,6 @@ IsOfWriter old new kind = (new.failures ≡ next_count old.failures) × StatesKi
 abbrev pub ReportsOfWriter : Sink → Sink → ReplyValue → Type 0
 ReportsOfWriter old new reply =
     (new.failures ≡ old.failures) ⊎ ((kind : ErrorKind) × (reply ≡ Fault kind) × IsOfWriter old new kind)
-
--- the step was done
-abbrev pub is_done : ReplyValue → Bool
-is_done Done = true
-is_done (Fault kind) = true
-is_done _ = false
 
 -- WHETHER ALL WAS SENT ON after a step, by whether all was before it: a Write that is done may hold its bytes back, a
 -- Flush, an answer and an upgrade that are done hold none; the other steps leave it as it is.

@@ -37,32 +37,26 @@ abbrev pub is_output_broken : List Slot → Bool
 is_output_broken [] = false
 is_output_broken (s ∷ slots) = is_slot_broken s || (is_finished s && is_output_broken slots)
 
--- the slot of an item that is reached
-abbrev pub new_slot : HttpDate → Item → Slot
-new_slot date (Asks r) =
+-- a number that waits, of whose body nothing was given, and whether a 100 is owed
+abbrev pub waiting_slot : HttpDate → Item → Bool → Slot
+waiting_slot date item owed =
     record {
-      item = Asks r;
+      item = item;
       date = date;
       continued = None;
-      owed = r.framing.owes_continue;
+      owed = owed;
       given = 0;
       end_reported = false;
       given_up = false;
       closes = false;
       stage = Unanswered;
     }
+
+-- the slot of an item that is reached
+abbrev pub new_slot : HttpDate → Item → Slot
+new_slot date (Asks r) = waiting_slot date (Asks r) r.framing.owes_continue
 new_slot date (Refuses refusal manner no_body last) =
-    record {
-      item = Refuses refusal manner no_body last;
-      date = date;
-      continued = None;
-      owed = false;
-      given = 0;
-      end_reported = false;
-      given_up = true;
-      closes = false;
-      stage = ByServer;
-    }
+    record (waiting_slot date (Refuses refusal manner no_body last) false) { given_up = true; stage = ByServer }
 
 -- what is left of a request's body
 abbrev pub rest_of : Request → ℕ → Feed

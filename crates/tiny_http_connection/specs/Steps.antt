@@ -1,5 +1,5 @@
 -- The steps of a connection, and what each can be answered.
-use Rattle.std.specs.Prelude.{ℕ, List}
+use Rattle.std.specs.Prelude.{ℕ, List, Bool, true, false}
 use Rattle.std.specs.declared.io.ErrorKind.{ErrorKind}
 use Rattle.httpdate.specs.declared.date.HttpDate.{HttpDate}
 use Rattle.tiny_http_head.specs.Heads.{Message}
@@ -30,6 +30,17 @@ pub data ReplyValue : Type 0 where
   Refused : ReplyValue
   NoSuch : ReplyValue
   Memory : ReplyValue
+
+-- the step was done: whole, or up to a fault that is reported
+abbrev pub is_done : ReplyValue → Bool
+is_done Done = true
+is_done (Fault kind) = true
+is_done _ = false
+
+-- the step was refused, and its request dropped
+abbrev pub is_refused : ReplyValue → Bool
+is_refused Refused = true
+is_refused _ = false
 
 -- the number that a step is for; 0 for an Ask, which is for none
 abbrev pub number_of : StepValue → ℕ

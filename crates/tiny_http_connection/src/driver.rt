@@ -1,7 +1,8 @@
 //! A connection driven step by step, or by a list of steps, without threads.
 ghost use Rattle.std.specs.Global.{Global as Heap, Vec};
 ghost use Rattle.std.specs.Prelude.{◌≡◌, ℕ, ◌+◌, ◌-◌, ◌<◌, ◌≤◌, ◌^◌, true, false, List, [], length, Some, None};
-ghost use Rattle.std.specs.Prelude.{◌⊎◌, Ok, IfOk, IfErr, IsTrue, is_some, slice_get, String, string_bytes};
+ghost use Rattle.std.specs.Prelude.{◌⊎◌, Ok, IfOk, IfErr, OnErr, IsTrue, is_some, slice_get, String, string_bytes};
+ghost use Rattle.std.specs.Prelude.{vec_len, vec_capacity};
 ghost use Rattle.tiny_http_io.specs.Device.{Feed, Sink};
 ghost use Rattle.tiny_http_response.specs.ResponseValue.{ResponseValue};
 ghost use Rattle.tiny_http_open_request.specs.OpenRequest.{final_context};
@@ -116,7 +117,7 @@ pub struct Record<R: ReadDevice, W: WriteDevice> {
     pub outlet: Outlet<W>,
 }
 
-/// Room for the replies was refused: nothing was read or written.
+/// Room for the replies was refused: nothing was read or written. Where there is no step there is no such error.
 #[derive(Drop)]
 pub struct RunError<R, W> {
     /// The reader, as it was.
@@ -619,6 +620,19 @@ impl<R: ReadDevice, W: WriteDevice> Connection<R, W> {
     }
 }
 
+// Room for so many replies. For none no memory is asked for.
+fn room_for(alloc: Global, count: usize) -> Result<Vec<Reply>, AllocError>
+    ensures items { IfOk result (λ v. v.items ≡ []) }
+    ensures len { IfOk result (λ v. vec_len v ≡ 0) }
+    ensures room { IfOk result (λ v. count ≤ vec_capacity v) }
+    ensures asked { OnErr result (0 < count) }
+{
+    if count == 0 {
+        return Ok(Vec::new(alloc));
+    }
+    Vec::with_capacity(alloc, count)
+}
+
 /// Runs the steps over a connection under `Lenient`, one reply a step. Where reader, writer and data state their
 /// bytes, it hands out exactly the requests that the grammar finds in the client's bytes, each body gives its own
 /// bytes and reports its end only there, and the output is one segment a request or refused head, in order, whole up
@@ -635,6 +649,7 @@ pub fn run<R: ReadDevice + Drop, W: WriteDevice + Drop, D: ReadDevice + Drop>(
     // Whatever reader, writer and data state.
     ensures run { IfOk result (RunsSteps R.feed W.sink D.feed Profile.Lenient reader writer steps.items) }
     ensures err { IfErr result (λ e. (e.reader ≡ reader) × (e.writer ≡ writer)) }
+    ensures asked { OnErr result (0 < length steps.items) }
 {
     run_with(alloc, Profile::Lenient, reader, writer, steps)
 }
@@ -655,8 +670,9 @@ pub fn run_with<R: ReadDevice + Drop, W: WriteDevice + Drop, D: ReadDevice + Dro
     // Whatever reader, writer and data state.
     ensures run { IfOk result (RunsSteps R.feed W.sink D.feed profile reader writer steps.items) }
     ensures err { IfErr result (λ e. (e.reader ≡ reader) × (e.writer ≡ writer)) }
+    ensures asked { OnErr result (0 < length steps.items) }
 {
-    let Ok(mut replies) = Vec::with_capacity(alloc, steps.len()) else {
+    let Ok(mut replies) = room_for(alloc, steps.len()) else {
         return Err(RunError { reader, writer });
     };
     let mut connection = Connection::new_with(alloc, profile, reader, writer);

@@ -75,7 +75,7 @@ checked-asked false asked code whole e = cc
 checked-asked true true code whole e = refl
 checked-asked true false code whole e = cc
 
-upgrade-holds : (r : Request) (s : Slot) (protocol : List ℕ) (response : ResponseValue) → r.framing.by_standard ≡ true → refuses_upgrade r s protocol response ≡ false → holds_next_head r ≡ true
+pub upgrade-holds : (r : Request) (s : Slot) (protocol : List ℕ) (response : ResponseValue) → r.framing.by_standard ≡ true → refuses_upgrade r s protocol response ≡ false → holds_next_head r ≡ true
 upgrade-holds r s protocol response standard e =
     let C : Bool → Bool = λ b. is_err (checked (list_all is_ascii protocol) b (asks_protocol r protocol) (response.answer.status == 101) (is_body_whole r s)) in
     let asked = checked-asked (list_all is_ascii protocol) (asks_protocol r protocol) (response.answer.status == 101) (is_body_whole r s) (sym (ap C standard) ∙ e) in

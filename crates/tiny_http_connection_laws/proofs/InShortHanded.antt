@@ -306,7 +306,7 @@ step-moves old date step reply new s =
 pub record RunMoves (old : State) (replies : List ReplyValue) (new : State) : Type 0 where
   pub requests : requests_from (length old.reached.slots) old.reached.rest ≡ handed replies ++ requests_from (length new.reached.slots) new.reached.rest
 
-run-moves : (old new : State) (steps : List TimedValue) (replies : List ReplyValue) → Run old steps replies new → RunMoves old replies new
+pub run-moves : (old new : State) (steps : List TimedValue) (replies : List ReplyValue) → Run old steps replies new → RunMoves old replies new
 run-moves old new [] [] r = let P : State → Type 0 = λ x. RunMoves old [] x in subst P (sym r) (record { requests = refl })
 run-moves old new [] (x ∷ replies) r = elim r [ ]
 run-moves old new (s ∷ steps) [] r = elim r [ ]

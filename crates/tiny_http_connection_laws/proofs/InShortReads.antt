@@ -45,7 +45,7 @@ get-past slots n s e =
     let no : None ≡ Some s = sym none ∙ e in
     cc
 
-get-append : (slots more : List Slot) (k : ℕ) (s : Slot) → slice_get slots k ≡ Some s → slice_get (slots ++ more) k ≡ Some s
+pub get-append : (slots more : List Slot) (k : ℕ) (s : Slot) → slice_get slots k ≡ Some s → slice_get (slots ++ more) k ≡ Some s
 get-append [] more k s e = cc
 get-append (x ∷ xs) more zero s e = e
 get-append (x ∷ xs) more (suc k) s e = get-append xs more k s e

@@ -18,7 +18,7 @@ use Rattle.tiny_http_connection_laws.proofs.InShortReads.{same-some, get-set, ge
 
 -- ---- numbers and items
 
-abbrev Matches : List Slot → List Item → Type 0
+abbrev pub Matches : List Slot → List Item → Type 0
 Matches [] [] = ⊤
 Matches (s ∷ slots) (item ∷ items) = AreOfOneHead s.item item × Matches slots items
 Matches [] (item ∷ items) = ⊥
@@ -47,7 +47,7 @@ matches-one [] (i ∷ items) s item h e = elim h [ ]
 matches-one (x ∷ xs) [] s item h e = elim h [ ]
 matches-one (x ∷ xs) (i ∷ items) s item h e = (h.0, matches-one xs items s item h.1 e)
 
-matches-get : (slots : List Slot) (items rest : List Item) (k : ℕ) (s : Slot) → Matches slots items → slice_get slots k ≡ Some s → (item : Item) × (slice_get (items ++ rest) k ≡ Some item) × AreOfOneHead s.item item
+pub matches-get : (slots : List Slot) (items rest : List Item) (k : ℕ) (s : Slot) → Matches slots items → slice_get slots k ≡ Some s → (item : Item) × (slice_get (items ++ rest) k ≡ Some item) × AreOfOneHead s.item item
 matches-get [] items rest k s h e = cc
 matches-get (x ∷ xs) [] rest k s h e = elim h [ ]
 matches-get (x ∷ xs) (i ∷ items) rest zero s h e =
@@ -88,7 +88,7 @@ ComesFrom made old new = (k : ℕ) (s : Slot) (x : TimedValue) → slice_get new
     → (made ≡ x) ⊎ ((was : Slot) × (slice_get old k ≡ Some was) × (maker k was.stage ≡ Some x))
 
 -- which items are reached
-abbrev Goes : List Slot → List Item → List Slot → List Item → Type 0
+abbrev pub Goes : List Slot → List Item → List Slot → List Item → Type 0
 Goes old rest slots left = (items : List Item) → Matches old items → (more : List Item) × (rest ≡ more ++ left) × Matches slots (items ++ more)
 
 record Fits (made : TimedValue) (slots : List Slot) (rest : List Item) (o : Outcome) : Type 0 where
@@ -397,8 +397,8 @@ step-reaches old date step reply new s =
     s
 
 -- what the steps of a run make of the numbers
-record RunFits (old : State) (steps : List TimedValue) (new : State) : Type 0 where
-  goes : Goes old.reached.slots old.reached.rest new.reached.slots new.reached.rest
+pub record RunFits (old : State) (steps : List TimedValue) (new : State) : Type 0 where
+  pub goes : Goes old.reached.slots old.reached.rest new.reached.slots new.reached.rest
   comes : (k : ℕ) (s : Slot) (x : TimedValue) → slice_get new.reached.slots k ≡ Some s → maker k s.stage ≡ Some x
       → IsAmong x steps ⊎ ((was : Slot) × (slice_get old.reached.slots k ≡ Some was) × (maker k was.stage ≡ Some x))
 
@@ -410,7 +410,7 @@ goes-on old mid new first second items m =
     let split : old.reached.rest ≡ (a.0 ++ b.0) ++ new.reached.rest = a.1 ∙ ap (λ x. a.0 ++ x) b.1 ∙ sym (append_assoc a.0 b.0 new.reached.rest) in
     (a.0 ++ b.0, split, subst (λ (x : List Item). Matches new.reached.slots x) (append_assoc items a.0 b.0) b.2)
 
-run-fits : (old new : State) (steps : List TimedValue) (replies : List ReplyValue) → Run old steps replies new → RunFits old steps new
+pub run-fits : (old new : State) (steps : List TimedValue) (replies : List ReplyValue) → Run old steps replies new → RunFits old steps new
 run-fits old new [] [] run =
     let P : State → Type 0 = λ x. RunFits old [] x in
     subst P (sym run) (record { goes = goes-nowhere old.reached.slots old.reached.rest old.reached.slots (λ items h. h); comes = λ k s x e m. inr (s, e, m) })

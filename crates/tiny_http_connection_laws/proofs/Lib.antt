@@ -13,3 +13,6 @@ pub mod PipelineEnds
 pub mod CloseIsLast
 pub mod CloseSteps
 pub mod CloseIsRead
+pub mod AccountsHold
+pub mod AccountsTurns
+pub mod AccountsEnd

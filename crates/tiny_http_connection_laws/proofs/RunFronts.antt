@@ -17,7 +17,7 @@ use Rattle.tiny_http_connection_laws.proofs.StepsAdd.{ItemFits, IsSound, AllSoun
 keeps-unchanged : (bs : Bool) (old : Reached) (reply : ReplyValue) → Holds bs old → Keeps bs old (unchanged old reply)
 keeps-unchanged bs old reply h = record { adds = record { front = ([], sym (append-nil (joined old.slots))); own = tt }; slots = h.slots; rest = h.rest }
 
-not-true : {b : Bool} → not b ≡ false → b ≡ true
+pub not-true : {b : Bool} → not b ≡ false → b ≡ true
 not-true {b = true} e = refl
 not-true {b = false} e = cc
 

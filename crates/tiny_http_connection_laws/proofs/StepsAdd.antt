@@ -116,7 +116,7 @@ never : {G : Type 0} → false ≡ true → G
 never e = cc
 
 -- the steps that only a number takes that waits for its answer
-by-asreader : (stage : Stage) (owed : Bool) (k : ℕ) → accepts_step stage owed (AsReader k) ≡ true → stage ≡ Unanswered
+pub by-asreader : (stage : Stage) (owed : Bool) (k : ℕ) → accepts_step stage owed (AsReader k) ≡ true → stage ≡ Unanswered
 by-asreader Unanswered owed k e = refl
 by-asreader (Answered response date found) owed k e = never e
 by-asreader ByServer owed k e = never e

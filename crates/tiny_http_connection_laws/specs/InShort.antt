@@ -3,15 +3,15 @@
 -- `end.reached.slots`, the numbers that were reached; and its replies and output. To believe them one needs to know
 -- what stands in the bytes (`Pipeline`) and what a number sends (`segment`), but not how a step is judged, and not
 -- what the driver keeps.
-use Rattle.std.specs.Prelude.{◌≡◌, ℕ, ◌+◌, ◌⊎◌, ⊤, ◌==◌, Bool, not, ◌&&◌, List, [], ◌∷◌, ◌++◌, take, drop, MatchBool}
+use Rattle.std.specs.Prelude.{◌≡◌, ℕ, ◌+◌, ◌⊎◌, ⊤, ◌==◌, Bool, not, ◌&&◌, List, [], ◌∷◌, ◌++◌, MatchBool}
 use Rattle.std.specs.Prelude.{Option, Some, None, if◌then◌else◌}
-use Rattle.tiny_http_io.specs.declared.device.Stop.TheVariants.{Fault as Faults}
-use Rattle.tiny_http_io.specs.Device.{Feed, whole_feed}
+use Rattle.tiny_http_io.specs.Device.{Feed}
 use Rattle.tiny_http_head.specs.Heads.{Message}
 use Rattle.tiny_http_body.specs.declared.framing.Framing.{Framing}
 use Rattle.tiny_http_open_request.specs.Pipeline.{Item, Asks, Refuses, Request}
 use Rattle.tiny_http_connection.specs.Segments.{Slot, Stage, Answered, Upgraded, segment, is_slot_broken, is_finished}
-use Rattle.tiny_http_connection.specs.Steps.{StepValue, Read, Respond, Upgrade, ReplyValue, Handed, Given, Fault}
+use Rattle.tiny_http_connection.specs.Giving.{ReadsNext}
+use Rattle.tiny_http_connection.specs.Steps.{StepValue, Read, Respond, Upgrade, ReplyValue, Handed}
 use Rattle.tiny_http_connection.specs.Steps.{Done, TimedValue}
 
 -- ---- which requests are handed out
@@ -29,17 +29,6 @@ requests_from k (Asks r ∷ items) = (k, r.message, r.framing) ∷ requests_from
 requests_from k (Refuses refusal manner no_body last ∷ items) = requests_from (k + 1) items
 
 -- ---- what a body gives
-
--- A read of n bytes of which this is left, and what is left then: it gives the next n bytes, or all where fewer are
--- left, and none only where n is 0 or the end is all that is left; or it reports the fault that is all that is left.
--- Another reply took nothing.
-abbrev pub ReadsNext : ℕ → Feed → ReplyValue → Feed → Type 0
-ReadsNext n left (Given bytes) next =
-    (bytes ≡ take n left.bytes)
-    × (next ≡ record { bytes = drop n left.bytes; stop = left.stop })
-    × (bytes ≡ [] → (n ≡ 0) ⊎ (left ≡ whole_feed []))
-ReadsNext n left (Fault kind) next = (left ≡ record { bytes = []; stop = Faults kind }) × (next ≡ left)
-ReadsNext n left _ next = next ≡ left
 
 -- What is left of the body of request k, after a step with this reply. An upgrade by the standard goes on to the bytes
 -- behind the request.

@@ -1,3 +1,4 @@
 pub mod InShort
 pub mod ClientReads
 pub mod Closes
+pub mod Accounts

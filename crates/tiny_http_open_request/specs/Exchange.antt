@@ -75,4 +75,5 @@ GivesUpBody x old new = GivesUp x.open_request.body old new
 -- what is kept of a request that was read on this date, of whose body nothing was read yet
 pub record KeepsRequest (x : Exchange) (date : HttpDate) : Type 0 where
   pub answer : KeepsHead x.open_request x.head date
-  pub body : Fits x.head.by_standard x.open_request.body x.head.form (unwrap_or x.head.body_length 0) 0 false
+  pub body : Fits x.head.framing.by_standard x.open_request.body x.head.framing.form
+      (unwrap_or x.head.framing.body_length 0) 0 false

@@ -183,15 +183,7 @@ abbrev pub head_message : Head → Texted
 head_message h = record { method = h.method; path = h.path; version = h.version; headers = h.headers.items }
 
 abbrev pub head_framing : Head → Framing
-head_framing h =
-    record {
-      form = h.form;
-      owes_continue = h.owes_continue;
-      body_length = h.body_length;
-      asks_upgrade = h.asks_upgrade;
-      by_standard = h.by_standard;
-      is_last = h.is_last;
-    }
+head_framing h = h.framing
 
 -- the request of a head, with its body and what follows that
 abbrev pub request_of : Head → Feed → Feed → Request
@@ -314,7 +306,7 @@ ReadsHead p from_here date (Some f) new (Ok (read.Request x)) =
     (body : Feed)
     × (next : Place)
     × OneHead p f.bytes f.stop (Some (Asks (request_of (exchange_head x) body (place_feed f.stop next))))
-    (place_after (exchange_head x).is_last next)
+    (place_after (exchange_head x).framing.is_last next)
     × ComesWith (exchange_left x new) f.stop body next × KeepsRequest x date
 ReadsHead p from_here date (Some f) new (Ok (read.Refused status text last)) =
     (refusal : Refusal)
@@ -358,16 +350,20 @@ abbrev pub IsRefusedUncut : HeadRead → Type 0
 IsRefusedUncut (read.Refused status text last) = (status.0 ≢ 408) × (status.0 ≢ 431) × (last ≡ true)
 IsRefusedUncut _ = ⊥
 
--- a head is framed as its version and headers say; by the standard it is judged so, in a version that counts as its own
-abbrev pub IsFramedHead : Profile → Head → Type 0
-IsFramedHead under.Lenient h = framing rules.Lenient h.version h.headers.items ≡ Ok (head_framing h)
-IsFramedHead under.Strict h = framing rules.Strict h.version h.headers.items ≡ Ok (head_framing h)
-IsFramedHead under.Standard h =
+-- a message is framed as its version and headers say; by the standard it is judged so, in a version that counts as its
+-- own
+abbrev pub IsFramedAs : Profile → Texted → Framing → Type 0
+IsFramedAs under.Lenient m f = framing rules.Lenient m.version m.headers ≡ Ok f
+IsFramedAs under.Strict m f = framing rules.Strict m.version m.headers ≡ Ok f
+IsFramedAs under.Standard m f =
     (v : HTTPVersion)
     × (s : HeadSummary)
-    × Judges v h.method h.headers.items (Ok s)
-    × (h.version ≡ served_version v)
-    × (head_framing h ≡ standard_framing s)
+    × Judges v m.method m.headers (Ok s)
+    × (m.version ≡ served_version v)
+    × (f ≡ standard_framing s)
+
+abbrev pub IsFramedHead : Profile → Head → Type 0
+IsFramedHead p h = IsFramedAs p (head_message h) (head_framing h)
 
 -- and this is what is kept of a request with this head, on this date
 abbrev pub IsFramedBy : {B : Type 0} → Profile → HttpDate → Head → OpenRequest B → Type 0
@@ -381,7 +377,8 @@ IsFramedRequest p date _ = ⊤
 
 -- where a source stands after the head of this request
 abbrev pub standing_of : Exchange → Standing
-standing_of x = if (exchange_head x).is_last then at.Last else if exchange_streams x then at.Body else at.Head
+standing_of x =
+    if (exchange_head x).framing.is_last then at.Last else if exchange_streams x then at.Body else at.Head
 
 -- and after a head was read, or none
 abbrev pub standing_read : Result HeadRead AllocError → Standing → Standing

@@ -116,12 +116,12 @@ HasSentAll o = (outlet_held o ≡ []) × SentOn o × IsFlushed (output_of o)
 -- this is kept of a request with this head that was handed out on this date
 pub record KeepsHead {B : Type 0} (w : OpenRequest B) (h : Head) (date : HttpDate) : Type 0 where
   pub version : w.answer_context.version ≡ h.version
-  pub asked_coding : w.answer_context.asked_coding ≡ coding_for h.by_standard h.headers.items
+  pub asked_coding : w.answer_context.asked_coding ≡ coding_for h.framing.by_standard h.headers.items
   pub no_body : w.answer_context.no_body ≡ is_head_method h.method
-  pub persistence : w.answer_context.persistence ≡ persistence_of h.by_standard h.is_last
-  pub owes_continue : w.owes_continue ≡ h.owes_continue
-  pub holds_next_head : w.holds_next_head ≡ (h.asks_upgrade && not h.is_last)
-  pub by_standard : w.by_standard ≡ h.by_standard
+  pub persistence : w.answer_context.persistence ≡ persistence_of h.framing.by_standard h.framing.is_last
+  pub owes_continue : w.owes_continue ≡ h.framing.owes_continue
+  pub holds_next_head : w.holds_next_head ≡ (h.framing.asks_upgrade && not h.framing.is_last)
+  pub by_standard : w.by_standard ≡ h.framing.by_standard
   pub is_connect : w.is_connect ≡ is_connect_method h.method
   pub closes : w.closes ≡ false
   -- the protocols that it asks for, unless it is its connection's last

@@ -48,21 +48,8 @@ pub struct Head {
     pub version: HTTPVersion,
     /// The headers, in their order.
     pub headers: Vec<Header>,
-    /// The number of bytes that `Content-Length` says, where it can be read and no `Transfer-Encoding` hides it.
-    pub body_length: Option<usize>,
-    /// How the body is read.
-    pub form: Form,
-    /// Whether the head expects a 100 before the body (RFC 9110, section 10.1.1): in any version and with or without
-    /// a body; under `Standard` in version 1.1, where a body follows.
-    pub owes_continue: bool,
-    /// Whether the head asks for an upgrade (RFC 9110, section 7.8); it is told under `Standard` alone: in version
-    /// 1.1, by a `Connection` with the element `upgrade` and an `Upgrade` that names a protocol.
-    pub asks_upgrade: bool,
-    /// Whether it was read under `Standard`: no request follows one that is answered or dropped while its 100 is
-    /// owed, or while more than 65,536 bytes of its body are unread.
-    pub by_standard: bool,
-    /// Whether the connection ends after this request (RFC 9112, section 9.3).
-    pub is_last: bool,
+    /// How the message is framed, by its version and headers.
+    pub framing: Framing,
 }
 
 /// A request that was read from a source, whose body is read from that source.
@@ -426,12 +413,7 @@ fn head_of(message: MessageHead, framing: Framing) -> Head
         path: message.path,
         version: message.version,
         headers: message.headers,
-        body_length: framing.body_length,
-        form: framing.form,
-        owes_continue: framing.owes_continue,
-        asks_upgrade: framing.asks_upgrade,
-        by_standard: framing.by_standard,
-        is_last: framing.is_last,
+        framing,
     }
 }
 
@@ -537,7 +519,7 @@ fn read_item<R: ReadDevice>(
 fn standing_of(exchange: &Exchange) -> Standing
     ensures { result ≡ standing_of exchange.now }
 {
-    if exchange.head.is_last {
+    if exchange.head.is_last() {
         return Standing::Last;
     }
     if exchange.open_request.body.holds_reader() {

@@ -13,6 +13,48 @@ use tiny_http_head::target::{path_of, query_of};
 use tiny_http_standard_head::lists::has_element;
 
 impl Head {
+    /// The number of bytes that `Content-Length` says, where it can be read and no `Transfer-Encoding` hides it.
+    #[inline(always)]
+    pub fn body_length(&self) -> Option<usize>
+        ensures { result ≡ self.now.framing.body_length }
+    {
+        self.framing.body_length
+    }
+
+    /// How the body is read.
+    #[inline(always)]
+    pub fn form(&self) -> Form
+        ensures { result ≡ self.now.framing.form }
+    {
+        self.framing.form
+    }
+
+    /// Whether the head expects a 100 before the body (RFC 9110, section 10.1.1): in any version and with or without
+    /// a body; under `Standard` in version 1.1, where a body follows.
+    #[inline(always)]
+    pub fn owes_continue(&self) -> bool
+        ensures { result ≡ self.now.framing.owes_continue }
+    {
+        self.framing.owes_continue
+    }
+
+    /// Whether the head asks for an upgrade (RFC 9110, section 7.8); it is told under `Standard` alone: in version
+    /// 1.1, by a `Connection` with the element `upgrade` and an `Upgrade` that names a protocol.
+    #[inline(always)]
+    pub fn asks_upgrade(&self) -> bool
+        ensures { result ≡ self.now.framing.asks_upgrade }
+    {
+        self.framing.asks_upgrade
+    }
+
+    /// Whether the connection ends after this request (RFC 9112, section 9.3).
+    #[inline(always)]
+    pub fn is_last(&self) -> bool
+        ensures { result ≡ self.now.framing.is_last }
+    {
+        self.framing.is_last
+    }
+
     /// The value of the first header of this name, which is compared without regard to the case of ASCII letters (RFC
     /// 9110, section 5.1). `None` where there is no header of that name. Further headers of that name are passed
     /// over.
@@ -63,9 +105,9 @@ impl Head {
     pub fn is_upgrade(&self) -> bool
         ensures { result ≡ is_upgrade self.now }
     {
-        if self.by_standard {
-            return self.asks_upgrade && !self.is_last;
+        if self.framing.by_standard {
+            return self.framing.asks_upgrade && !self.framing.is_last;
         }
-        matches!(self.form, Form::Rest)
+        matches!(self.framing.form, Form::Rest)
     }
 }

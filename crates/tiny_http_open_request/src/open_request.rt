@@ -73,13 +73,14 @@ impl<B: Drop> OpenRequest<B> {
     ) -> Result<OpenRequest<B>, AllocError>
         ensures { IfOk result (λ w. (w.body ≡ body) × KeepsHead w head.now now) }
     {
+        let framing = head.framing;
         let answer_context = AnswerContext {
             version: head.version,
-            asked_coding: coding_for(head.by_standard, head.headers.as_slice()),
+            asked_coding: coding_for(framing.by_standard, head.headers.as_slice()),
             no_body: is_head(&head.method),
-            persistence: persistence_of(head.by_standard, head.is_last),
+            persistence: persistence_of(framing.by_standard, framing.is_last),
         };
-        let holds_next_head = head.asks_upgrade && !head.is_last;
+        let holds_next_head = framing.asks_upgrade && !framing.is_last;
         let upgrades = if holds_next_head {
             upgrade_headers(alloc, head.headers.as_slice())?
         } else {
@@ -88,9 +89,9 @@ impl<B: Drop> OpenRequest<B> {
         let dropped = DropText::new(alloc, now)?;
         Ok(OpenRequest {
             answer_context,
-            owes_continue: head.owes_continue,
+            owes_continue: framing.owes_continue,
             holds_next_head,
-            by_standard: head.by_standard,
+            by_standard: framing.by_standard,
             is_connect: matches!(head.method, Method::Connect),
             closes: false,
             upgrades,

@@ -70,12 +70,7 @@ fn head_of(head: StandardHead, framing: Framing) -> Head
         path: head.target,
         version: served_version(head.version),
         headers: head.headers,
-        body_length: framing.body_length,
-        form: framing.form,
-        owes_continue: framing.owes_continue,
-        asks_upgrade: framing.asks_upgrade,
-        by_standard: framing.by_standard,
-        is_last: framing.is_last,
+        framing,
     }
 }
 

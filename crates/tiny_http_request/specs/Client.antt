@@ -46,8 +46,8 @@ pub record HandsOut {R W Rt : Type 0} (old new : ClientConnection R W Rt) (date 
   pub framed : IsFramed r (client_profile old) date
   pub client : (request_secure r ≡ client_secure old) × (request_address r ≡ client_address old)
   pub holds : (request_body r).holds_input ≡ is_streaming (request_open r).body || (request_open r).holds_next_head
-  pub last : (request_head r).is_last ≡ true → IsOver new
-  pub goes_on : (request_head r).is_last ≡ false → IsOver new → ⊥
+  pub last : (request_head r).framing.is_last ≡ true → IsOver new
+  pub goes_on : (request_head r).framing.is_last ≡ false → IsOver new → ⊥
 
 -- the input, if the next head is read on it at once
 abbrev pub source_here : {R : Type 0} → {Rt : Type 0} → NextHead R Rt → Option (SourceState R)
@@ -91,7 +91,7 @@ pub record FindsRequest {R : Type 0} (p : Profile) (date : HttpDate) (here : Sou
 abbrev pub GivesInput : {R W Rt : Type 0} → SourceState R → ClientConnection R W Rt → Request R W Rt → Type 0
 GivesInput source new r =
     MatchBool (request_body r).holds_input ((request_body r).input ≡ source.feed)
-    ((request_head r).is_last ≡ false → client_source new ≡ Some source)
+    ((request_head r).framing.is_last ≡ false → client_source new ≡ Some source)
 
 -- Where the connection holds the input, a request that is handed out on this date is the next that stands there.
 abbrev pub HandsOutNext : {R W Rt : Type 0} → ClientConnection R W Rt → ClientConnection R W Rt → HttpDate

@@ -3,3 +3,4 @@ pub mod Body
 pub mod WholeBody
 pub mod Client
 pub mod Test
+pub mod StreamedBody

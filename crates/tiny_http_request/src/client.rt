@@ -330,7 +330,7 @@ impl<R: ReadDevice + Drop, W: WriteDevice + Drop, Rt: Wait + Copy> ClientConnect
         } else {
             (None, Some(reader))
         };
-        self.next_head = next_head(&mut self.source, head.is_last, held)?;
+        self.next_head = next_head(&mut self.source, head.is_last(), held)?;
         Ok(Request::from_parts(
             self.alloc,
             client,

@@ -24,6 +24,8 @@ ghost use Rattle.tiny_http_request.specs.Request.{cut_kind, IsCutShort, BeginsWi
 ghost use Rattle.tiny_http_request.specs.Request.{request_body, ReadsStream, RefusesUpgrade};
 ghost use Rattle.tiny_http_io.specs.CustomStream.{custom_reader};
 ghost use Rattle.tiny_http_request.specs.Body.{body_left, input_of};
+ghost use Rattle.tiny_http_request.specs.StreamedBody.{form_of};
+ghost use Rattle.tiny_http_response.specs.Streaming.{streamed_form};
 ghost use Rattle.tiny_http_request.specs.WholeBody.{FailsWhole, IsWholeOf};
 ghost use Rattle.tiny_http_threads.specs.Turn.{held_item};
 
@@ -296,7 +298,7 @@ impl<R: ReadDevice + Drop, W: WriteDevice + Drop, Rt: Wait + Drop> Request<R, W,
     pub fn body_length(&self) -> Option<usize>
         ensures { result ≡ (request_head self.now).body_length }
     {
-        self.head.body_length
+        self.head.body_length()
     }
 
     /// The client's address; none of a client of a Unix socket.
@@ -409,7 +411,7 @@ impl<R: ReadDevice + Drop, W: WriteDevice + Drop, Rt: Wait + Drop> Request<R, W,
             return Err(BodyError::TooLong);
         }
         self.send_continue(now);
-        read_left(alloc, &mut self.open_request.body, self.head.form, most)
+        read_left(alloc, &mut self.open_request.body, self.head.form(), most)
     }
 
     /// Sends the answer, dated `now`, in the turn of the request, and then gives the body up. It waits until the
@@ -473,6 +475,8 @@ impl<R: ReadDevice + Drop, W: WriteDevice + Drop, Rt: Wait + Drop> Request<R, W,
         ensures refused { refuses_code (request_open self).by_standard (request_open self).is_connect
             response.answer.status ≡ true
             → IsInvalidInput result }
+        ensures form { IfOk result
+            (λ body. form_of body ≡ streamed_form (request_open self).answer_context response.answer.status) }
     {
         let status = response.status_code();
         if self.open_request.refuses(status) {
@@ -764,12 +768,7 @@ pub fn new_request<R: ReadDevice + Drop, W: WriteDevice + Drop, Rt: Wait + Copy>
         path,
         version,
         headers,
-        body_length: framing.body_length,
-        form: framing.form,
-        owes_continue: framing.owes_continue,
-        asks_upgrade: framing.asks_upgrade,
-        by_standard: framing.by_standard,
-        is_last: framing.is_last,
+        framing,
     };
     let open_request = OpenRequest::new(alloc, &head, body, now)?;
     let client = (secure, remote_addr);

@@ -1,4 +1,7 @@
 //! The body of an answer, where it grows while it is sent.
+ghost use Rattle.std.specs.Prelude.{◌≡◌};
+ghost use Rattle.tiny_http_request.specs.StreamedBody.{form_of};
+
 use std::io;
 use std::io::{ErrorKind, Write};
 use std::sync::Wait;
@@ -26,7 +29,9 @@ impl<W: WriteDevice + Drop, Rt: Wait + Drop> StreamedBody<W, Rt> {
     pub(crate) fn new(
         writer: SequentialWriter<Outlet<W>, Rt>,
         form: StreamedForm,
-    ) -> StreamedBody<W, Rt> {
+    ) -> StreamedBody<W, Rt>
+        ensures { form_of result ≡ form }
+    {
         StreamedBody {
             body: Streamed::new(writer, form),
         }
@@ -34,7 +39,9 @@ impl<W: WriteDevice + Drop, Rt: Wait + Drop> StreamedBody<W, Rt> {
 
     /// How the body is sent: in chunks; up to the connection's end; or not at all, and then what is written is left
     /// out.
-    pub fn form(&self) -> StreamedForm {
+    pub fn form(&self) -> StreamedForm
+        ensures { result ≡ form_of self.now }
+    {
         self.body.form()
     }
 

@@ -52,13 +52,13 @@ loop-timed-preserved g c =
       as_many = length-append done (c.in-Some.timed ∷ []) ∙ ap (λ n. n + 1) inv.as_many ∙ sym (length-append replies (c.step-reply.result ∷ [])) ∙ ap length (sym c.push_reserved.ensures.items);
       follows = λ client dated states fresh stated. rw (c.push_reserved.ensures.items, map-append)
           (done-step g.D.ReadDevice.feed c.args.profile client writer old new c.in-Some.timed c.loop-timed.yielded (map seen c.loop-timed.replies.items) (seen c.step-reply.result) dated (λ ds t. inv.follows client ds states fresh t) step stated);
-      source = goes-on_more _ _ _ inv.source step.goes_on;
-      fails_once = fails-step writer (output_of old.outlet) (output_of new.outlet) old.outlet.ended new.outlet.ended inv.fails_once step.fails_once;
-      flushed = λ e. step.flushed (all_sent c.loop-timed.yielded c.loop-timed.replies.items true) inv.flushed (before e);
-      sent_on = λ none e. step.sent_on (all_sent c.loop-timed.yielded c.loop-timed.replies.items true) (inv.sent_on none) (before e);
+      source = goes-on_more _ _ _ inv.source step.makes.goes_on;
+      fails_once = fails-step writer (output_of old.outlet) (output_of new.outlet) old.outlet.ended new.outlet.ended inv.fails_once step.makes.fails_once;
+      flushed = λ e. step.makes.flushed (all_sent c.loop-timed.yielded c.loop-timed.replies.items true) inv.flushed (before e);
+      sent_on = λ none e. step.makes.sent_on (all_sent c.loop-timed.yielded c.loop-timed.replies.items true) (inv.sent_on none) (before e);
       first = inv.first;
       begins = inv.begins;
-      takes = rw c.push_reserved.ensures.items (takes-snoc g.D.ReadDevice.feed inv.first old new done replies c.in-Some.timed c.step-reply.result inv.takes step);
+      takes = rw c.push_reserved.ensures.items (takes-snoc g.D.ReadDevice.feed inv.first old new done replies c.in-Some.timed c.step-reply.result inv.takes step.makes);
     }
 
 pub returns-clause-conversation : goal.returns-clause-conversation

@@ -1,4 +1,6 @@
-use Rattle.std.proofs.Common.{refl, sym, subst, IsTrue, rules}
+use Rattle.std.proofs.Common.{refl, sym, ap, subst, IsTrue, rules}
+use Rattle.std.specs.Prelude.{is_some}
+use Rattle.tiny_http_connection.proofs.RepliesLemmas.{replied-none}
 use Rattle.tiny_http_connection.specs.declared.driver.Step.TheVariants as step
 use Rattle.tiny_http_connection.specs.Steps.{Drop, NoSuch, Done}
 use Rattle.tiny_http_connection.specs.Connection.{kept}
@@ -15,7 +17,7 @@ returns-then-not-let_go g c =
     let free = c.let_go.ensures.none c.if-not-let_go.true in
     record {
       step = λ date. subst (λ x. TakesStep old x date (step.Drop n) NoSuch) (sym free.1) (takes-drop old old date n NoSuch
-          (λ client before s low st. no-such client before (kept old) s date n (Drop n) refl (drop-not_taken n) st free.0) (λ no. refl) refl (λ no. elim no [ ]) (moves-none old) (λ kind e. cc));
+          (λ client before s low st. no-such client before (kept old) s date n (Drop n) refl (drop-not_taken n) st free.0) (λ no. refl) (replied-none _ _ _ (ap is_some free.0)) refl (λ no. elim no [ ]) (moves-none old) (λ kind e. cc));
     }
 
 pub returns : goal.returns

@@ -1,4 +1,5 @@
-use Rattle.std.proofs.Common.{inl, [], refl, sym, ◌∙◌, subst, true, false}
+use Rattle.tiny_http_connection.proofs.RepliesLemmas.{replied-none, replied-later, replied-done, write-answered}
+use Rattle.std.proofs.Common.{inl, ap, not, [], refl, sym, ◌∙◌, subst, true, false}
 use Rattle.std.specs.Prelude.{slice_get}
 use Rattle.tiny_http_io.specs.Outlet.{output_of, outlet_ended}
 use Rattle.tiny_http_connection.specs.declared.driver.Step.TheVariants as step
@@ -21,7 +22,7 @@ returns-then-not-is_writable g c =
     record {
       step = λ date. rw (← c.self.view_is) (takes-flush false old old date n NoSuch
           (λ client before s low st. no-writer client before (kept old) s date n (Flush n) refl (a-flush n) st (sym c.is_writable.ensures ∙ c.if-not-is_writable.true))
-          (λ no. refl) refl (refl, refl, refl) refl (moves-none old) (λ kind e. cc) (inl refl));
+          (λ no. refl) (replied-none _ _ _ (sym c.is_writable.ensures ∙ c.if-not-is_writable.true)) refl (refl, refl, refl) refl (moves-none old) (λ kind e. cc) (inl refl));
     }
 
 pub returns-then-not-is_in_turn : goal.returns-then-not-is_in_turn
@@ -34,7 +35,7 @@ returns-then-not-is_in_turn g c =
       step = λ date. rw (← c.self.view_is) (takes-flush false old old date n NotYet
           (λ client before s low st.
           writer-not_yet client before (kept old) s date n (Flush n) w.0 refl (a-flush n) (λ r owed. refl) st w.1 w.2 (sym c.is_in_turn.ensures ∙ c.if-not-is_in_turn.true))
-          (λ no. refl) refl (refl, refl, refl) refl (moves-none old) (λ kind e. cc) (inl refl));
+          (λ no. refl) (replied-later _ _ _ (sym c.is_writable.ensures ∙ c.if-not-is_writable.false) refl (ap not (sym c.is_in_turn.ensures ∙ c.if-not-is_in_turn.true))) refl (refl, refl, refl) refl (moves-none old) (λ kind e. cc) (inl refl));
     }
 
 pub returns : goal.returns
@@ -55,7 +56,7 @@ returns g c =
           let open_sink = sink-ended before k.sink k.output_ended s.reached.slots s.flushed s.failure st.output (λ z. rw z refl) in
           flush-done client before k s date n w.0 (output_of new_outlet) (outlet_ended new_outlet) c.flush.result q.source st (record { feed = refl; stop = refl; ends = refl; standing = refl }) low w.1 w.2 (sym c.is_in_turn.ensures ∙ c.if-not-is_in_turn.false) open_sink
           (writes-own k.sink (output_of new_outlet) k.output_ended (outlet_ended new_outlet) c.flush.result [] open_sink done.puts done.ended done.stays) (is-flushed new_outlet.sink new_outlet.held new_outlet.ended done.held done.sent))
-          (λ no. absurd (flush-not_declined n c.flush.result no)) refl (refl, refl, refl) (write-done_reply c.flush.result)
+          (λ no. absurd (flush-not_declined n c.flush.result no)) (replied-done _ _ _ (write_reply c.flush.result) (sym c.is_writable.ensures ∙ c.if-not-is_writable.false) refl (ap not (sym c.is_in_turn.ensures ∙ c.if-not-is_in_turn.false)) (write-answered c.flush.result)) refl (refl, refl, refl) (write-done_reply c.flush.result)
           (record {
             profile = refl;
             goes_on = goes-on_same q.source.feed;

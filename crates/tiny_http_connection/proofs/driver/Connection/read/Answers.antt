@@ -11,6 +11,7 @@ use Rattle.tiny_http_body.specs.Body.{ends_met}
 use Rattle.tiny_http_connection.proofs.ConnectionAsk.{StepIsAnswered}
 use Rattle.tiny_http_connection.proofs.ConnectionBody.{with_reader}
 use Rattle.tiny_http_connection.proofs.ConnectionRead.{read-nothing, readable-some, read-none, read-memory, read-done}
+use Rattle.tiny_http_connection.proofs.ReadGives.{reads-nothing, fills-next, fails-next}
 use Rattle.tiny_http_connection.proofs.DrivingLemmas.{viewed, takes-read, driving-reads-on, moves-none, stands-after}
 use Rattle.tiny_http_connection.proofs.driver.Connection.read.Goals.{in-Ok-fill, in-Err}
 use Rattle.tiny_http_connection.proofs.driver.Connection.read.Goals as goal
@@ -39,7 +40,7 @@ returns-then-not-is_readable-clause-step g c date =
     let q = c.self.inside in
     let old = viewed q.profile q.source q.outlet q.pending q.end in
     rw (← c.self.view_is) (takes-read old old date n c.args.count NoSuch
-    (λ client before s st. read-nothing client before (kept old) s date n c.args.count st (sym c.is_readable.ensures ∙ c.if-not-is_readable.true)) (λ no. refl) refl (refl, refl, inl (refl, refl)) (moves-none old))
+    (λ client before s st. read-nothing client before (kept old) s date n c.args.count st (sym c.is_readable.ensures ∙ c.if-not-is_readable.true)) (λ no. refl) refl (refl, refl, sym c.is_readable.ensures ∙ c.if-not-is_readable.true) (moves-none old))
 
 pub returns-then-count-eq0-clause-step : goal.returns-then-count-eq0-clause-step
 returns-then-count-eq0-clause-step g c date =
@@ -47,11 +48,13 @@ returns-then-count-eq0-clause-step g c date =
     let q = c.self.inside in
     let old = viewed q.profile q.source q.outlet q.pending q.end in
     let k : Kept = kept old in
+    let free = sym c.is_readable.ensures ∙ c.if-not-is_readable.false in
+    let w = readable-some (slice_get k.requests n) free in
     rw (← c.self.view_is) (takes-read old old date n c.args.count (Given c.new.result.items)
     (λ client before s st.
-    let w = readable-some (slice_get k.requests n) (sym c.is_readable.ensures ∙ c.if-not-is_readable.false) in
     let P : List ℕ → Type 0 = λ l. StepIsAnswered client before k s date (Read n c.args.count) (Given l) in
-    subst P (none _ (search rules)) (read-none client before k s date n c.args.count w.0 w.1 st w.2 w.3 w.4 c.if-count-eq0.true)) (λ no. refl) refl (refl, refl, inl (refl, refl)) (moves-none old))
+    subst P (none _ (search rules)) (read-none client before k s date n c.args.count w.0 w.1 st w.2 w.3 w.4 c.if-count-eq0.true)) (λ no. refl) refl
+    (refl, refl, free, reads-nothing old n c.args.count c.new.result.items w.0 w.1 w.2 w.4 c.if-count-eq0.true (none _ (search rules))) (moves-none old))
 
 pub returns-in_default-clause-step : goal.returns-in_default-clause-step
 returns-in_default-clause-step g c date =
@@ -62,7 +65,7 @@ returns-in_default-clause-step g c date =
     rw (← c.self.view_is) (takes-read old old date n c.args.count Memory
     (λ client before s st.
     let w = readable-some (slice_get k.requests n) (sym c.is_readable.ensures ∙ c.if-not-is_readable.false) in
-    read-memory client before k s date n c.args.count w.0 w.1 st w.2 w.3 w.4 (omega (arith, c.if-count-eq0.false))) (λ no. refl) refl (refl, refl, inl (refl, refl)) (moves-none old))
+    read-memory client before k s date n c.args.count w.0 w.1 st w.2 w.3 w.4 (omega (arith, c.if-count-eq0.false))) (λ no. refl) refl (refl, refl, sym c.is_readable.ensures ∙ c.if-not-is_readable.false, omega (arith, c.if-count-eq0.false)) (moves-none old))
 
 pub returns-clause-step : goal.returns-clause-step
 returns-clause-step g c date =
@@ -87,7 +90,18 @@ returns-clause-step g c date =
           rw b.result-is (subst P (ap (λ t. t.marks) (sym c.fill.ensures.turns)) done)
     ])
     (elim c.match-fill.branch [ in-Ok-fill b ↦ rw b.result-is (λ no. elim no [ ]) | in-Err b ↦ rw b.result-is (λ no. elim no [ ]) ]) refl
-    (let fills = c.fill.ensures.fills w.0 w.1 w.2 w.4 in (refl, ap (λ t. t.marks) c.fill.ensures.turns, inr (w.0, w.1, fills.0, w.2, w.4, fills.1, stands-after w.1 fills.0 q.source c.fill.new.source fills.3 fills.4)))
+    (refl, ap (λ t. t.marks) c.fill.ensures.turns, elim c.match-fill.branch [
+      | in-Ok-fill b ↦
+          let fills = b.in-Ok-fill.ensures.fills w.0 w.1 w.2 w.4 in
+          let items = whole c.fill.new.buf c.in-Ok.bytes.items c.in-Ok.bytes.len (search (rules, c.in-Ok.ensures)) size c.in-Ok.ensures in
+          let came : take b.in-Ok-fill.n c.fill.new.buf ≡ _ = ap (take b.in-Ok-fill.n) (sym items) ∙ sym b.truncate.ensures.items in
+          rw b.result-is (sym c.is_readable.ensures ∙ c.if-not-is_readable.false, (w.0, w.1, fills.0, w.2, w.4, fills.1, stands-after w.1 fills.0 q.source c.fill.new.source fills.3 fills.4,
+          fills-next w.1 fills.0 q.source.feed c.fill.new.source.feed b.in-Ok-fill.n c.args.count c.fill.new.buf _ size b.in-Ok-fill.ensures.bound (sym came) (omega (arith, c.if-count-eq0.false)) fills.2))
+      | in-Err b ↦
+          let fills = b.in-Err.ensures.fills w.0 w.1 w.2 w.4 in
+          rw b.result-is (sym c.is_readable.ensures ∙ c.if-not-is_readable.false, (w.0, w.1, fills.0, w.2, w.4, fills.1, stands-after w.1 fills.0 q.source c.fill.new.source fills.3 fills.4,
+          fails-next w.1 fills.0 q.source.feed c.fill.new.source.feed b.in-Err.kind c.args.count c.fill.new.buf fills.2))
+    ])
     (driving-reads-on old new refl refl c.fill.ensures.goes_on))
 
 pub returns-clause-told : goal.returns-clause-told

@@ -1,14 +1,16 @@
 use Rattle.tiny_http_response.specs.Sending.{IsHonest}
 use Rattle.tiny_http_body.specs.declared.body.Remainder.{Remainder}
 use Rattle.tiny_http_open_request.specs.OpenRequest.{final_context}
-use Rattle.std.proofs.Common.{◌&&◌, ◌||◌, ◌⊎◌, inl, inr, rules, ℕ, ◌+◌, ◌≡◌, refl, sym, ap, ◌∙◌, subst, Bool, true, false, List, ◌∷◌, ◌++◌, Option, Some, None}
+use Rattle.tiny_http_connection.specs.Replies.{can_take}
+use Rattle.tiny_http_connection.proofs.RepliesLemmas.{replied-none, replied-later, replied-done, held-in_turn}
+use Rattle.std.proofs.Common.{not, ◌&&◌, ◌||◌, ◌⊎◌, inl, inr, rules, ℕ, ◌+◌, ◌≡◌, refl, sym, ap, ◌∙◌, subst, Bool, true, false, List, ◌∷◌, ◌++◌, Option, Some, None}
 use Rattle.std.specs.Prelude.{is_some, drop, slice_get, slice_set, IsTrue}
 use Rattle.tiny_http_response.specs.Answer.{Answer}
 use Rattle.tiny_http_connection.specs.declared.pending.Unfinished.{Unfinished}
 use Rattle.tiny_http_connection.specs.declared.pending.Unfinished.TheVariants as still
-use Rattle.tiny_http_connection.specs.Steps.{ReplyValue, Handed, Ended, Given, Fault, Done, Refused, Memory, Respond, NotYet, NoSuch}
+use Rattle.tiny_http_connection.specs.Steps.{ReplyValue, Handed, Ended, Given, Fault, Done, Refused, Memory, Respond, NotYet, NoSuch, is_done}
 use Rattle.tiny_http_connection.specs.Driving.{IsDeclined, RespondEnds, LetsGoAnswered, AnswerLeaves, ends_behind, stated_response, AnswerIsSentOn, RespondReports}
-use Rattle.tiny_http_connection.specs.Seen.{IsAnswered, is_done}
+use Rattle.tiny_http_connection.specs.Seen.{IsAnswered}
 use Rattle.tiny_http_connection.specs.declared.driver.Step.TheVariants as step
 use Rattle.tiny_http_response.specs.Answer.{ResponseState}
 use Rattle.tiny_http_io.specs.Device.{Feed}
@@ -48,7 +50,7 @@ returns-then-not-is_waiting g c =
     record {
       step = rw (← c.self.view_is) (takes-respond g.D.ReadDevice.feed false old old c.args.now n c.args.response NoSuch
           (λ client before s value low is st. no-such client before (kept old) s c.args.now n (Respond n value) refl (respond-not_taken n value) st none)
-          (λ no. refl) refl (λ no. elim no [ ]) refl (moves-none old) (λ kind e. cc) (inl refl));
+          (λ no. refl) (replied-none _ _ _ (sym c.is_waiting.ensures ∙ c.if-not-is_waiting.true)) refl (λ no. elim no [ ]) refl (moves-none old) (λ kind e. cc) (inl refl));
     }
 
 -- the code of the response
@@ -62,6 +64,9 @@ returns-then-not-hold g c =
     let old = viewed q.profile q.source q.outlet q.pending q.end in
     let new = viewed q.profile q.source q.outlet c.hold.new.self q.end in
     let k : Kept = kept old in
+    let accepted : refuses_at c.args.response.answer.status (slice_get k.requests n) ≡ false = answered-code c.args.response.answer.status c.status_code.result.0 (slice_get k.requests n) c.status_code.ensures ∙ sym c.refuses.ensures ∙ c.if-refuses.false in
+    let put_off : c.hold.result ≡ false = search rules in
+    let turn : not (can_take old n) ≡ true = ap not (held-in_turn c.hold.result n q.pending.turns.marks c.hold.ensures.held ∙ put_off) in
     record {
       step = rw (← c.self.view_is) (takes-respond g.D.ReadDevice.feed false old new c.args.now n c.args.response NotYet
           (λ client before s value low is st.
@@ -72,7 +77,7 @@ returns-then-not-hold g c =
           let good = ap (λ a. refuses_at a.status (slice_get k.requests n)) is.0 ∙ answered-code c.args.response.answer.status c.status_code.result.0 (slice_get k.requests n) c.status_code.ensures ∙ sym c.refuses.ensures ∙ c.if-refuses.false in
           let done = respond-not_yet client before k s c.args.now n value w.0 st w.1 good (λ h. let none : true ≡ false = sym (c.hold.ensures.held.1 h) ∙ late in cc) in
           subst (λ m. P m c.hold.new.self.requests) (sym same) (subst (λ r. P k.marks r) (sym c.hold.ensures.requests) done))
-          (λ no. same-view q.profile q.source q.outlet c.hold.new.self q.pending q.end (c.hold.ensures.not_yet (search rules)) c.hold.ensures.requests) refl (λ no. elim no [ ]) refl (driving-reads-on old new refl refl (goes-on_same q.source.feed)) (λ kind e. cc) (inl refl));
+          (λ no. same-view q.profile q.source q.outlet c.hold.new.self q.pending q.end (c.hold.ensures.not_yet (search rules)) c.hold.ensures.requests) (replied-later _ _ _ (sym c.is_waiting.ensures ∙ c.if-not-is_waiting.false) accepted turn) refl (λ no. elim no [ ]) refl (driving-reads-on old new refl refl (goes-on_same q.source.feed)) (λ kind e. cc) (inl refl));
     }
 
 -- what an answer is replied is no refusal of the step
@@ -309,7 +314,7 @@ returns g c =
           (λ e. let h = c.answer-reply.ensures.past e in (ap (λ o. output_of o) h.0, ap (λ o. outlet_ended o) h.0, h.1))
           (λ e. subst A (sym is.0) (subst L c.remainder-left.ensures (c.answer-reply.ensures.sends value.content is.1 is.2 e (can-send before k.sink k.output_ended now.reached.slots s.flushed s.failure stands.output low e)))))
           c.pass.ensures.passes c.pass.ensures.sends))))
-          (λ no. absurd (not-declined n (stated_response g.D.ReadDevice.feed c.args.response) reply c.answer-reply.ensures.done no)) (answered-ends n asked old new reply c.answer-reply.ensures.done (end_is ∙ ap (λ b. ends_behind (asked || b) q.end) same_lacks))
+          (λ no. absurd (not-declined n (stated_response g.D.ReadDevice.feed c.args.response) reply c.answer-reply.ensures.done no)) (replied-done _ _ _ reply (sym c.is_waiting.ensures ∙ c.if-not-is_waiting.false) accepted (ap not (held-in_turn c.hold.result n q.pending.turns.marks c.hold.ensures.held ∙ held_is)) c.answer-reply.ensures.done) (answered-ends n asked old new reply c.answer-reply.ensures.done (end_is ∙ ap (λ b. ends_behind (asked || b) q.end) same_lacks))
           (answered-leaves n c.args.response.answer old new reply c.answer-reply.ensures.done ((requests, gives-up-of q.source source (slice_get k0.requests n) (still.Waiting w1.0) w1.1 given_up_old), accepted))
           (answered-done reply c.answer-reply.ensures.done)
           (record {

@@ -1,4 +1,4 @@
-use Rattle.std.proofs.Common.{ℕ, ◌≡◌, refl, sym, ap, ◌∙◌, subst, Bool, true, false, ◌&&◌, ◌||◌, List, Option, Some, None, IsTrue}
+use Rattle.std.proofs.Common.{ℕ, ◌≡◌, refl, sym, ap, ◌∙◌, subst, Bool, true, false, not, ◌&&◌, ◌||◌, List, Option, Some, None, IsTrue}
 use Rattle.std.specs.Prelude.{◌==◌, slice_get, string_bytes, is_err, is_some}
 use Rattle.std.specs.List.{list_all}
 use Rattle.tiny_http_response.specs.Answer.{Answer}
@@ -22,6 +22,7 @@ use Rattle.tiny_http_connection.specs.declared.pending.Unfinished.TheVariants as
 use Rattle.tiny_http_io.proofs.SourceGoesOn.{goes-on_same}
 use Rattle.tiny_http_connection.proofs.ConnectionRespond.{no-such, waits-some, waits-none}
 use Rattle.tiny_http_connection.proofs.ConnectionUpgrade.{upgrade-not_taken, upgrade-not_yet, upgrade-done}
+use Rattle.tiny_http_connection.proofs.RepliesLemmas.{replied-none, replied-later, replied-done}
 use Rattle.tiny_http_connection.proofs.DrivingLemmas.{viewed, ends-some, takes-upgrade, moves-none}
 use Rattle.tiny_http_connection.proofs.driver.Connection.upgrade.Goals as goal
 
@@ -34,7 +35,7 @@ returns-then-not-is_waiting g c =
     record {
       step = λ named same. rw (← c.self.view_is) (takes-upgrade g.D.ReadDevice.feed false old old c.args.now n named c.args.response NoSuch
           (λ client before s value low answer st. no-such client before (kept old) s c.args.now n (Upgrade n (string_bytes named) value) refl (upgrade-not_taken n (string_bytes named) value) st none)
-          (λ no. refl) refl tt refl (moves-none old) (λ kind e. cc));
+          (λ no. refl) (replied-none _ _ _ (sym c.is_waiting.ensures ∙ c.if-not-is_waiting.true)) refl tt refl (moves-none old) (λ kind e. cc));
     }
 
 -- a request that waits was let go
@@ -82,7 +83,7 @@ returns-then-not-is_in_turn g c =
           let A : Answer → Type 0 = λ a. is_err (request_check w.0 (string_bytes named) a.status (is_whole w.0.body)) ≡ false in
           rw (← c.self.view_is) (takes-upgrade g.D.ReadDevice.feed false old old c.args.now n named c.args.response NotYet
           (λ client before s value low answer st. upgrade-not_yet client before (kept old) s c.args.now n (string_bytes named) value w.0 st w.1 (subst A (sym answer) kept_grants) (sym c.is_in_turn.ensures ∙ c.if-not-is_in_turn.true))
-          (λ no. refl) refl tt refl (moves-none old) (λ kind e. cc));
+          (λ no. refl) (replied-later _ _ _ (sym c.is_waiting.ensures ∙ c.if-not-is_waiting.false) granted (ap not (sym c.is_in_turn.ensures ∙ c.if-not-is_in_turn.true))) refl tt refl (moves-none old) (λ kind e. cc));
     }
 
 pub upgrade-requires : goal.upgrade-requires
@@ -121,7 +122,7 @@ returns g c =
           let E : Bool → Type 0 = λ e. StepIsAnswered client before (record (kept new) { asking_ended = e }) s c.args.now (Upgrade n (string_bytes named) value) Done in
           subst E (sym ended) (upgrade-done client before k s c.args.now n (string_bytes named) value w.0 w.0.answer_context (output_of outlet) (outlet_ended outlet) left.turns.marks left.requests q.source st (record { feed = refl; stop = refl; ends = refl; standing = refl }) low w.1 refl (subst A (sym answer) kept_grants) come marks requests
           (λ can. subst (λ t. T value.answer t) (sym same) (subst (λ a. T a c.args.protocol.now) (sym answer) (said.0 value.content can))) said.1.2))
-          (λ no. elim no [ ]) end_is (granted, w.0, w.1, requests, marks, refl) refl
+          (λ no. elim no [ ]) (replied-done _ _ _ Done (sym c.is_waiting.ensures ∙ c.if-not-is_waiting.false) granted (ap not come) tt) end_is (granted, w.0, w.1, requests, marks, refl) refl
           (record { profile = refl; goes_on = goes-on_same q.source.feed; fails_once = done.fails_once; flushed = λ was. said.1.0; sent_on = λ was. said.1.1 })
           (λ kind e. cc));
     }

@@ -1,0 +1,147 @@
+-- What was done for each number, told by the steps and their replies alone, and why the requests end.
+use Rattle.std.specs.Prelude.{◌≡◌, ℕ, ◌⊎◌, ⊤, ◌==◌, Bool, true, false, not, ◌&&◌, ◌||◌, List, [], ◌∷◌, ◌++◌, Option, Some}
+use Rattle.std.specs.Prelude.{None, is_some, slice_get, if◌then◌else◌}
+use Rattle.httpdate.specs.declared.date.HttpDate.{HttpDate}
+use Rattle.tiny_http_head.specs.Heads.{Message}
+use Rattle.tiny_http_body.specs.declared.framing.Framing.{Framing}
+use Rattle.tiny_http_body.specs.Body.{is_long}
+use Rattle.tiny_http_open_request.specs.Pipeline.{Item, Asks, Refuses, Request}
+use Rattle.tiny_http_connection.specs.Segments.{Slot, Stage, Unanswered, Answered, ByServer, Raw, Upgraded}
+use Rattle.tiny_http_connection.specs.Slots.{remainder_of, body_was_abandoned}
+use Rattle.tiny_http_connection.specs.Steps.{StepValue, Ask, AsReader, Read, Respond, IntoWriter, Write, Flush, Upgrade}
+use Rattle.tiny_http_connection.specs.Steps.{Finish, Drop, ReplyValue, Ended, Refused, Memory, TimedValue, number_of}
+use Rattle.tiny_http_connection.specs.Steps.{is_done, is_refused}
+
+-- ---- what was done for a number
+
+-- it waits for its answer; or bytes are written under it, by its raw writer or to its stream; or it is finished
+pub data Condition : Type 0 where
+  Waits : Condition
+  Writes : Condition
+  Finished : Condition
+
+-- what became of a number, the bytes that were written under it, and when its 100 was first asked for
+pub record Account : Type 0 where
+  pub condition : Condition
+  pub written : List ℕ
+  pub asked : Option HttpDate
+
+-- nothing was done for the number
+abbrev pub untouched : Account
+untouched = record { condition = Waits; written = []; asked = None }
+
+-- this becomes of it, if that holds
+abbrev pub becomes : Condition → Bool → Account → Account
+becomes condition holds a = if holds then record a { condition = condition } else a
+
+abbrev pub first_date : Option HttpDate → HttpDate → Option HttpDate
+first_date None date = Some date
+first_date (Some first) date = Some first
+
+-- The account of a number after a step for it, by the reply. What wasn't done changes nothing.
+abbrev pub account_after : HttpDate → StepValue → ReplyValue → Account → Account
+account_after date Ask reply a = a
+account_after date (AsReader k) reply a = if is_done reply then record a { asked = first_date a.asked date } else a
+account_after date (Read k n) reply a = a
+account_after date (Respond k response) reply a = becomes Finished (is_done reply || is_refused reply) a
+account_after date (IntoWriter k) reply a = becomes Writes (is_done reply) a
+account_after date (Write k bytes) reply a = if is_done reply then record a { written = a.written ++ bytes } else a
+account_after date (Flush k) reply a = a
+account_after date (Upgrade k protocol response) reply a =
+    becomes Finished (is_refused reply) (becomes Writes (is_done reply) a)
+account_after date (Finish k) reply a = becomes Finished (is_done reply) a
+account_after date (Drop k) reply a = becomes Finished (is_done reply) a
+
+-- the account of number k after a step, which may be for another
+abbrev pub account_now : ℕ → HttpDate → StepValue → ReplyValue → Account → Account
+account_now k date step reply a = if number_of step == k then account_after date step reply a else a
+
+abbrev pub account_from : ℕ → Account → List TimedValue → List ReplyValue → Account
+account_from k a (s ∷ steps) (reply ∷ replies) = account_from k (account_now k s.0 s.1 reply a) steps replies
+account_from k a _ _ = a
+
+-- WHAT WAS DONE FOR NUMBER k, by the steps and their replies
+abbrev pub account : ℕ → List TimedValue → List ReplyValue → Account
+account k steps replies = account_from k untouched steps replies
+
+-- ---- what a number is in the end
+
+abbrev pub condition_of : Stage → Condition
+condition_of Unanswered = Waits
+condition_of (Answered response date found) = Finished
+condition_of ByServer = Finished
+condition_of (Raw written closed) = if closed then Finished else Writes
+condition_of (Upgraded protocol response date written closed) = if closed then Finished else Writes
+
+abbrev pub written_in : Stage → List ℕ
+written_in (Raw written closed) = written
+written_in (Upgraded protocol response date written closed) = written
+written_in _ = []
+
+-- A NUMBER IS AS ITS ACCOUNT SAYS. Its 100 was sent when that was first asked for, if its head expects one. Nothing is
+-- done for a refused head, which the server answers.
+abbrev pub IsAsTold : Slot → Item → Account → Type 0
+IsAsTold s (Asks r) a =
+    (condition_of s.stage ≡ a.condition)
+    × (written_in s.stage ≡ a.written)
+    × (s.continued ≡ (if r.framing.owes_continue then a.asked else None))
+IsAsTold s (Refuses refusal manner no_body last) a = (s.stage ≡ ByServer) × (a ≡ untouched) × (s.continued ≡ None)
+
+-- ---- turns
+
+-- it is finished, or a refused head
+abbrev pub IsThrough : Option Item → Account → Type 0
+IsThrough (Some (Refuses refusal manner no_body last)) a = ⊤
+IsThrough item a = a.condition ≡ Finished
+
+-- a request was handed out under this number
+abbrev pub IsHanded : ℕ → List (ℕ × Message × Framing) → Type 0
+IsHanded k [] = ⊥
+IsHanded k (h ∷ handed) = (h.0 ≡ k) ⊎ IsHanded k handed
+
+-- ---- why the requests end
+
+-- an Ask is answered so that no further request comes
+abbrev pub IsEnd : StepValue → ReplyValue → Type 0
+IsEnd Ask Ended = ⊤
+IsEnd _ _ = ⊥
+
+abbrev pub HasEnd : List TimedValue → List ReplyValue → Type 0
+HasEnd (s ∷ steps) (reply ∷ replies) = IsEnd s.1 reply ⊎ HasEnd steps replies
+HasEnd _ _ = ⊥
+
+-- a step ends the requests: no memory was found for an Ask, or an answer that was made asks for that
+abbrev pub EndsRequests : StepValue → ReplyValue → Type 0
+EndsRequests Ask reply = reply ≡ Memory
+EndsRequests (Respond k response) reply = (is_done reply ≡ true) × (response.answer.closes ≡ true)
+EndsRequests _ _ = ⊥
+
+abbrev pub OneEndsRequests : List TimedValue → List ReplyValue → Type 0
+OneEndsRequests (s ∷ steps) (reply ∷ replies) = EndsRequests s.1 reply ⊎ OneEndsRequests steps replies
+OneEndsRequests _ _ = ⊥
+
+-- By the standard the request was finished, or gave its raw writer, while its 100 wasn't sent, or more was left of its
+-- body than is skipped. Or its chunked body was given up before its end was reported.
+abbrev pub was_cut_short : Slot → Request → Bool
+was_cut_short s r =
+    body_was_abandoned s (Asks r)
+    || (r.framing.by_standard
+    && ((r.framing.owes_continue && not (is_some s.continued)) || is_long (remainder_of r s.given s.end_reported)))
+
+-- no head is read behind this number, whatever its own head says: it was cut short; or it asks for an upgrade, and got
+-- the connection's stream
+abbrev pub stops_by : Slot → Request → Stage → Bool
+stops_by s r Unanswered = false
+stops_by s r (Answered response date found) = was_cut_short s r
+stops_by s r ByServer = was_cut_short s r
+stops_by s r (Raw written closed) = r.framing.asks_upgrade || was_cut_short s r
+stops_by s r (Upgraded protocol response date written closed) =
+    r.framing.asks_upgrade || body_was_abandoned s (Asks r)
+
+abbrev pub stops : Slot → Item → Bool
+stops s (Asks r) = stops_by s r s.stage
+stops s (Refuses refusal manner no_body last) = false
+
+-- one of the numbers does that
+abbrev pub OneStops : List Slot → Type 0
+OneStops slots = (k : ℕ) × (s : Slot) × (slice_get slots k ≡ Some s) × (stops s s.item ≡ true)

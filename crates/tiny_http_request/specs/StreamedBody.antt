@@ -1,0 +1,7 @@
+-- What a contract sees of the body of an answer that grows while it is sent.
+use Rattle.tiny_http_body.specs.declared.streamed.StreamedForm.{StreamedForm}
+use Rattle.tiny_http_request.specs.declared.streamed_body.StreamedBody.{StreamedBody}
+
+-- how it is sent
+abbrev pub form_of : {W : Type 0} → {Rt : Type 0} → StreamedBody W Rt → StreamedForm
+form_of b = b.body.form
