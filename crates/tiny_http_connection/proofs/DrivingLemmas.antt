@@ -132,7 +132,7 @@ end-behind profile at date o p status text why here h ends = by at here h
 -- a request stands here
 pub hands-here : (profile : Profile) (at : Standing) (date : HttpDate) (o p : Option Feed) (x : Exchange) → ReadsHead profile at date o p (Ok (read.Request x)) → HandsOut 0 profile o (head_message x.head) (head_framing x.head) (remaining x.open_request.body p)
 hands-here profile at date None p x h = tt
-hands-here profile at date (Some f) p x h = ([], f, refl, refl, h.0, h.1, h.2, h.3)
+hands-here profile at date (Some f) p x h = ([], f, refl, refl, h.0, h.1, (h.2, h.3))
 
 -- or behind a head that is passed
 pub hands-behind : (profile : Profile) (at : Standing) (date : HttpDate) (o p : Option Feed) (status : StatusCode) (text : Vec ℕ) (n : ℕ) (message : Message) (framing : Framing) (left : Option Remaining)
@@ -141,7 +141,7 @@ hands-behind profile at date None p status text n message framing left h hands =
 hands-behind profile at date (Some f) p status text n message framing left h hands =
     let H : Option Feed → Type 0 = λ y. HandsOut n profile y message framing left in
     let next = subst H h.7 hands in
-    (Refuses h.0 h.1 h.2 false ∷ next.0, next.1, ap suc next.2, (refl, h.3, h.4, next.3), next.4, next.5, next.6, next.7)
+    (Refuses h.0 h.1 h.2 false ∷ next.0, next.1, ap suc next.2, (refl, h.3, h.4, next.3), next.4, next.5, next.6)
 
 -- a byte of a head comes behind a head that is passed
 pub begins-behind : (profile : Profile) (at : Standing) (date : HttpDate) (o p : Option Feed) (status : StatusCode) (text : Vec ℕ) → ReadsHead profile at date o p (Ok (read.Refused status text false)) → HasByteBehind profile p → HasByteBehind profile o

@@ -1,5 +1,5 @@
 -- What a read gives of the body that is kept of a number.
-use Rattle.std.proofs.Common.{◌≡◌, refl, sym, ap, ◌∙◌, subst, arith, ℕ, zero, suc, ◌<◌, ◌≤◌, ◌⊎◌, inl, inr, Bool, true, false, List, [], ◌∷◌, ◌++◌, length, take, drop, Option, Some, None, Ok, Err, append-nil}
+use Rattle.std.proofs.Common.{◌≡◌, refl, sym, ap, ◌∙◌, subst, arith, ℕ, zero, suc, ◌<◌, ◌≤◌, ◌⊎◌, inl, inr, ⊎_elim, Bool, true, false, List, [], ◌∷◌, ◌++◌, length, take, drop, Option, Some, None, Ok, Err, append-nil}
 use Rattle.std.specs.Prelude.{MatchBool, slice_get, slice_set}
 use Rattle.std.proofs.lemmas.Grind.{common_steps}
 use Rattle.std.specs.declared.io.ErrorKind.{ErrorKind}
@@ -62,7 +62,10 @@ count-taken : (buf : List ℕ) (n : ℕ) → n ≤ length buf → length (take n
 count-taken buf n e = grind (arith, common_steps)
 
 less-or-all : (n m : ℕ) → n ≤ m → (n < m) ⊎ (n ≡ m)
-less-or-all n m e = omega (arith, e)
+less-or-all zero zero e = inr refl
+less-or-all zero (suc m) e = inl (omega arith)
+less-or-all (suc n) zero e = absurd (omega (arith, e))
+less-or-all (suc n) (suc m) e = ⊎_elim (λ less. inl (omega (arith, less))) (λ same. inr (ap suc same)) (less-or-all n m (omega (arith, e)))
 
 no-bytes : (xs : List ℕ) (n : ℕ) → length xs ≡ n → xs ≡ [] → n ≡ 0
 no-bytes [] n e f = sym e

@@ -54,7 +54,7 @@ returns-then-count-eq0-clause-step g c date =
     (λ client before s st.
     let P : List ℕ → Type 0 = λ l. StepIsAnswered client before k s date (Read n c.args.count) (Given l) in
     subst P (none _ (search rules)) (read-none client before k s date n c.args.count w.0 w.1 st w.2 w.3 w.4 c.if-count-eq0.true)) (λ no. refl) refl
-    (refl, refl, free, reads-nothing old n c.args.count c.new.result.items w.0 w.1 w.2 w.4 c.if-count-eq0.true (none _ (search rules))) (moves-none old))
+    (refl, refl, (free, reads-nothing old n c.args.count c.new.result.items w.0 w.1 w.2 w.4 c.if-count-eq0.true (none _ (search rules)))) (moves-none old))
 
 pub returns-in_default-clause-step : goal.returns-in_default-clause-step
 returns-in_default-clause-step g c date =
@@ -65,7 +65,7 @@ returns-in_default-clause-step g c date =
     rw (← c.self.view_is) (takes-read old old date n c.args.count Memory
     (λ client before s st.
     let w = readable-some (slice_get k.requests n) (sym c.is_readable.ensures ∙ c.if-not-is_readable.false) in
-    read-memory client before k s date n c.args.count w.0 w.1 st w.2 w.3 w.4 (omega (arith, c.if-count-eq0.false))) (λ no. refl) refl (refl, refl, sym c.is_readable.ensures ∙ c.if-not-is_readable.false, omega (arith, c.if-count-eq0.false)) (moves-none old))
+    read-memory client before k s date n c.args.count w.0 w.1 st w.2 w.3 w.4 (omega (arith, c.if-count-eq0.false))) (λ no. refl) refl (refl, refl, (sym c.is_readable.ensures ∙ c.if-not-is_readable.false, omega (arith, c.if-count-eq0.false))) (moves-none old))
 
 pub returns-clause-step : goal.returns-clause-step
 returns-clause-step g c date =
