@@ -64,7 +64,7 @@ finds-request {R = R} {W = W} profile date s t o p q end x n h can number marks_
     let P : List Mark → List (Option Unfinished) → Type 0 = λ m r.
     StepIsAnswered client before (record k { marks = m; requests = r; standing = t.standing; feed = t.feed; stop = t.stop; is_over = t.is_over }) s date Ask (Handed n (head_message x.head) (head_framing x.head)) in
     subst (λ m. P m q.requests) (sym marks_are) (subst (λ r. P (k.marks ++ (Open ∷ [])) r) (sym requests_are) done))
-    (λ no. elim no [ ]) (can.0, can.0) (0, x.open_request, requests_are ∙ ap (λ y. y ++ (Some (still.Waiting x.open_request) ∷ [])) (sym (append-nil p.requests)), h.standing, number ∙ plus-none (length p.turns.marks), (λ z. (refl, h.lazy tt)), hands-here profile s.standing date s.feed t.feed x (h.reads here), h.framed.0) (driving-reads-on old new refl refl h.goes_on)
+    (λ no. elim no [ ]) (can.0, can.0, here, (can.1, can.2)) (0, x.open_request, requests_are ∙ ap (λ y. y ++ (Some (still.Waiting x.open_request) ∷ [])) (sym (append-nil p.requests)), h.standing, number ∙ plus-none (length p.turns.marks), (λ z. (refl, h.lazy tt)), hands-here profile s.standing date s.feed t.feed x (h.reads here), h.framed.0, (x.head, date, refl, refl, h.framed.1)) (driving-reads-on old new refl refl h.goes_on)
   where
     from : SourceState R
     from = s
@@ -119,7 +119,7 @@ finds-no-memory {R = R} {W = W} profile date s t o u p q end r h other can turns
         let done = ask-memory client before k s date t.feed t.stop t.is_over t.standing st open_is f.unread f.quiet f.more
         (λ i. other (h.at_end i).0) (h.begun other) h.goes_on in
         subst (λ m. P m q.requests) (ap (λ t. t.marks) (sym turns_are)) (subst (λ r. P k.marks r) (sym requests_are) done))
-        (λ no. elim no [ ]) (can.0, refl, here, begins-here profile from.feed (h.begun other)) (0, (requests_are ∙ sym (append-nil p.requests), λ z. (ap (λ t. t.marks) turns_are, refl))) (driving-reads-on old new refl refl h.goes_on)
+        (λ no. elim no [ ]) (can.0, refl, here, begins-here profile from.feed (h.begun other), (can.1, can.2)) (0, (requests_are ∙ sym (append-nil p.requests), λ z. (ap (λ t. t.marks) turns_are, refl))) (driving-reads-on old new refl refl h.goes_on)
 
 -- no further request comes
 finds-end : {R W : Type 0} (profile : Profile) (date : HttpDate) (s t : SourceState R) (o : OutletState W) (p : Pending) (end : Option EndOfRequests) (why : EndOfRequests)
@@ -132,7 +132,7 @@ finds-end {R = R} {W = W} profile date s t o p end why h can =
     (λ i. (let same = (h.last i).1 in (ap (λ y. y.feed) same, ap (λ y. y.stop) same, ap (λ y. y.is_over) same, ap (λ y. y.standing) same)))
     (λ here. h.reads here) h.goes_on)
     (λ no. elim no [ ])
-    (λ some. absurd (some-none open_is some), λ i. (h.last i).1, λ none. (why, refl, end-final profile s.standing date s.feed t.feed why can.1 (λ i. last-reason why (h.last i).0) (λ here. h.reads here)))
+    (λ some. absurd (some-none open_is some), λ i. (h.last i).1, λ none. (why, refl, end-final profile s.standing date s.feed t.feed why can.1 (λ i. last-reason why (h.last i).0) (λ here. h.reads here), (can.1, can.2)))
     (0, (sym (append-nil p.requests), λ z. (refl, refl)), λ over. refl) (driving-reads-on old new refl refl h.goes_on)
   where
     old : ConnectionState R W
@@ -161,7 +161,7 @@ finds-refused {R = R} {W = W} profile date s t o u p q end status text h f can =
     StepIsAnswered client before (record k { marks = q.turns.marks; requests = r; asking_ended = true; standing = t.standing; feed = t.feed; stop = t.stop; is_over = t.is_over; sink = output_of u; output_ended = outlet_ended u }) s date Ask Ended in
     subst (λ r. P r) (sym (f.requests refl)) done)
     (λ no. elim no [ ])
-    (λ some. absurd (some-none open_is some), λ i. elim (past-last (Ok (read.Refused status text true)) (h.last i).0) [ ], λ none. (because.Refused status, refl, end-refused profile s.standing date s.feed t.feed status text here reads))
+    (λ some. absurd (some-none open_is some), λ i. elim (past-last (Ok (read.Refused status text true)) (h.last i).0) [ ], λ none. (because.Refused status, refl, end-refused profile s.standing date s.feed t.feed status text here reads, (can.1, can.2)))
     (1, (f.requests refl, λ z. (let no : 1 ≡ 0 = z in cc)), λ over. absurd (⊎_elim (λ i. elim (past-last (Ok (read.Refused status text true)) (h.last i).0) [ ]) (λ i. elim (h.at_end i).0 [ ]) over))
     (record { profile = refl; goes_on = h.goes_on; fails_once = f.fails_once; flushed = λ was. f.flushed (was refl); sent_on = λ was. f.sent_on (was refl) })
   where
@@ -205,6 +205,7 @@ finds-another {R = R} {W = W} profile date s t o u p q end status text h f can =
     here = here;
     unended = λ i. elim (h.at_end i).0 [ ];
     begins = λ begun. begins-behind profile s.standing date s.feed t.feed status text reads begun;
+    free = (can.1, can.2);
     hands = λ n message framing left hands. hands-behind profile s.standing date s.feed t.feed status text n message framing left reads hands;
     stands = stands;
     ends = λ why ends. end-behind profile s.standing date s.feed t.feed status text why here reads ends;

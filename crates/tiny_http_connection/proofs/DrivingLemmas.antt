@@ -59,7 +59,7 @@ use Rattle.tiny_http_body.specs.declared.framing.Framing.{Framing}
 use Rattle.tiny_http_open_request.specs.HeadReads.{ReadsHead, EndsAt, IsBeforeHead, HasByteOrTimedOut, IsFramedAs, head_message, head_framing}
 use Rattle.tiny_http_body.specs.declared.framing.Profile.{Profile}
 use Rattle.tiny_http_open_request.specs.Pipeline.{OneHead, Request, Item, Refuses, Place, place_feed}
-use Rattle.tiny_http_connection.specs.Driving.{HandsOut, IsRefusal, EndsRequestsAt, EndsThere, ArePassedOver, HasByteBehind, standing_behind}
+use Rattle.tiny_http_connection.specs.Driving.{HandsOut, IsFree, IsRefusal, EndsRequestsAt, EndsThere, ArePassedOver, HasByteBehind, standing_behind}
 use Rattle.tiny_http_open_request.proofs.PipelineLemmas.{has-pipeline}
 use Rattle.tiny_http_connection.proofs.ConversationRuns.{run-more, stands-begun, split}
 use Rattle.tiny_http_body.proofs.BodyReads.{gives-up}
@@ -392,6 +392,7 @@ pub record PassesHead {R W : Type 0} (old mid : ConnectionState R W) (now : Http
   pub here : IsBeforeHead old.source.standing
   pub unended : IsAtEnd old.source → ⊥
   pub begins : HasByteBehind mid.profile mid.source.feed → HasByteBehind old.profile old.source.feed
+  pub free : IsFree old
   pub hands : (n : ℕ) (message : Message) (framing : Framing) (left : Option Remaining) → HandsOut n mid.profile mid.source.feed message framing left → HandsOut (suc n) old.profile old.source.feed message framing left
   pub stands : mid.source.standing ≡ place.Head
   pub ends : (why : EndOfRequests) → EndsRequestsAt mid.profile place.Head mid.source.feed why → EndsRequestsAt old.profile old.source.standing old.source.feed why
@@ -428,6 +429,7 @@ leaves-behind old mid new (Handed k message framing) e count here unended same h
   λ z. (let no : suc h.0 ≡ 0 = z in cc),
   hands h.0 message framing (remaining h.1.body new.source.feed) h.6,
   subst (λ p. IsFramedAs p message framing) same h.7,
+  h.8,
 )
 leaves-behind old mid new Ended e count here unended same hands h = (suc h.0, refuses-more old mid new h.0 e h.1, λ z. absurd (⊎_elim (not-last old.source.standing here) unended z))
 leaves-behind old mid new Memory e count here unended same hands h = (suc h.0, refuses-more old mid new h.0 e h.1)
@@ -445,16 +447,16 @@ never-waits old mid now p h =
     (λ waits. (let no : false ≡ true = sym (ap last_holds_next_head p.requests ∙ holds-snoc old.requests None) ∙ waits in cc)) h
 
 ends-behind : {R W : Type 0} (old mid new : ConnectionState R W) (now : HttpDate) (reply : ReplyValue) → PassesHead old mid now → AskEnds mid new reply → AskEnds old new reply
-ends-behind old mid new now (Handed k message framing) p h = (p.was_open, h.1)
+ends-behind old mid new now (Handed k message framing) p h = (p.was_open, h.1, p.here, p.free)
 ends-behind old mid new now Ended p h = (
   λ some. (let absent : false ≡ true = ap is_some (sym p.was_open) ∙ some in cc),
   λ last. absurd (not-last old.source.standing p.here last),
   λ open_is.
       let x = h.2 p.is_open in
       let E : Standing → Type 0 = λ y. EndsRequestsAt mid.profile y mid.source.feed x.0 in
-      (x.0, x.1, p.ends x.0 (subst E p.stands x.2)),
+      (x.0, x.1, p.ends x.0 (subst E p.stands x.2), p.free),
 )
-ends-behind old mid new now Memory p h = (p.was_open, h.1, p.here, p.begins h.3)
+ends-behind old mid new now Memory p h = (p.was_open, h.1, p.here, p.begins h.3, p.free)
 ends-behind old mid new now NotYet p h = absurd (never-waits old mid now p h.1)
 ends-behind old mid new now (Given bytes) p h = elim h [ ]
 ends-behind old mid new now (Fault x) p h = elim h [ ]

@@ -1,14 +1,15 @@
 -- What a read gives of the body that is kept of a number.
 use Rattle.std.proofs.Common.{◌≡◌, refl, sym, ap, ◌∙◌, subst, arith, ℕ, zero, suc, ◌<◌, ◌≤◌, ◌⊎◌, inl, inr, ⊎_elim, Bool, true, false, List, [], ◌∷◌, ◌++◌, length, take, drop, Option, Some, None, Ok, Err, append-nil}
-use Rattle.std.specs.Prelude.{MatchBool, slice_get, slice_set}
+use Rattle.std.specs.Prelude.{MatchBool, nat_lt, slice_get, slice_set}
 use Rattle.std.proofs.lemmas.Grind.{common_steps}
+use Rattle.std.proofs.lemmas.Bool.{lt-ltb}
 use Rattle.std.specs.declared.io.ErrorKind.{ErrorKind}
 use Rattle.tiny_http_io.specs.declared.device.Stop.TheVariants.{End, Fault as Faults}
 use Rattle.tiny_http_io.specs.Device.{Feed, whole_feed}
 use Rattle.tiny_http_io.specs.Source.{SourceState}
 use Rattle.tiny_http_body.specs.declared.body.UnreadBody.{UnreadBody}
 use Rattle.tiny_http_body.specs.declared.body.UnreadBody.TheVariants as body
-use Rattle.tiny_http_body.specs.Body.{Remaining, remaining, prepended_body, NoneRemains, BodyStops, FillsFromBody, is_streaming, body_standing}
+use Rattle.tiny_http_body.specs.Body.{Remaining, remaining, prepended_body, NoneRemains, BodyStops, FillsFromBody, ReadsOn, is_streaming, body_standing}
 use Rattle.tiny_http_connection.specs.declared.pending.Unfinished.{Unfinished}
 use Rattle.tiny_http_connection.specs.declared.pending.Unfinished.TheVariants as still
 use Rattle.tiny_http_connection.specs.Pending.{kept_body, with_body}
@@ -42,7 +43,7 @@ takes-none n bytes (Some r) none empty = rw (none, sym empty) (r.body, (refl, re
 
 pub reads-nothing : {R W : Type 0} (c : ConnectionState R W) (k n : ℕ) (bytes : List ℕ) (u : Unfinished) (b : UnreadBody) → slice_get c.requests k ≡ Some (Some u) → kept_body (Some u) ≡ Some b → n ≡ 0 → [] ≡ bytes → ReadsKept k n c c (Given bytes)
 reads-nothing c k n bytes u b e has none empty =
-    (u, b, b, e, has, same-set c.requests k (Some u) e ∙ ap (λ x. slice_set c.requests k (Some x)) (same-body u b has), stands-still b c.source, takes-none n bytes (remaining b c.source.feed) none empty)
+    (u, b, b, e, has, same-set c.requests k (Some u) e ∙ ap (λ x. slice_set c.requests k (Some x)) (same-body u b has), stands-still b c.source, takes-none n bytes (remaining b c.source.feed) none empty, λ some. absurd (omega (arith, some, none)))
 
 -- ---- a read into a buffer
 
@@ -110,3 +111,12 @@ fails-with kind count (Some r) p same stops = (r.body, (stops, refl), same)
 
 pub fails-next : (was now : UnreadBody) (from to : Option Feed) (kind : ErrorKind) (count : ℕ) (buf : List ℕ) → FillsFromBody was from now to (Err kind) buf → TakesNext count (remaining was from) (Fault kind) (remaining now to)
 fails-next was now from to kind count buf h = fails-with kind count (remaining was from) (remaining now to) h.0 h.2
+
+-- what is left of the body goes on from what it was
+pub fills-on : (was now : UnreadBody) (from to : Option Feed) (n count : ℕ) (buf bytes : List ℕ) → length buf ≡ count → length bytes ≡ n → 0 < count → FillsFromBody was from now to (Ok n) buf → ReadsOn was (length bytes) (nat_lt (length bytes) count) now
+fills-on was now from to n count buf bytes size many some h =
+    let P : ℕ → ℕ → Type 0 = λ m c. ReadsOn was m (nat_lt m c) now in
+    subst (λ m. P m count) (sym many) (subst (λ c. P n c) size (h.1 (omega (arith, some, size))))
+
+pub fails-on : (was now : UnreadBody) (from to : Option Feed) (kind : ErrorKind) (count : ℕ) (buf : List ℕ) → 0 < count → FillsFromBody was from now to (Err kind) buf → ReadsOn was 0 (nat_lt 0 count) now
+fails-on was now from to kind count buf some h = subst (λ b. ReadsOn was 0 b now) (sym (lt-ltb 0 count some)) h.1

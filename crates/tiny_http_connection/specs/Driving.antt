@@ -2,7 +2,7 @@
 -- Nobody needs this file to believe the laws of `InShort`.
 use Rattle.std.specs.Prelude.{◌≡◌, ◌⊎◌, ◌||◌, ℕ, ◌+◌, Bool, true, false, List, [], ◌∷◌, ◌++◌, length, replicate}
 use Rattle.std.specs.Prelude.{Option, Some, None, IsSome, MatchBool, drop, slice_get, slice_set, if◌then◌else◌}
-use Rattle.std.specs.Prelude.{string_bytes, ◌<◌, ◌≤◌, ◌^◌, ⊤}
+use Rattle.std.specs.Prelude.{string_bytes, ◌<◌, ◌≤◌, ◌^◌, ⊤, nat_lt}
 use Rattle.std.specs.declared.io.ErrorKind.{ErrorKind}
 use Rattle.httpdate.specs.declared.date.HttpDate.{HttpDate}
 use Rattle.tiny_http_io.specs.Device.{Feed, Sink, IsFront}
@@ -17,6 +17,9 @@ use Rattle.tiny_http_head.specs.Heads.{Message}
 use Rattle.tiny_http_open_request.specs.declared.exchange.EndOfRequests.{EndOfRequests}
 use Rattle.tiny_http_open_request.specs.declared.exchange.EndOfRequests.TheVariants as because
 use Rattle.tiny_http_open_request.specs.HeadReads.{EndsAt, IsBeforeHead, HasByteOrTimedOut, ComesWith, IsFramedAs}
+use Rattle.tiny_http_open_request.specs.HeadReads.{head_message, head_framing}
+use Rattle.tiny_http_open_request.specs.OpenRequest.{KeepsHead}
+use Rattle.tiny_http_open_request.specs.declared.exchange.Head.{Head}
 use Rattle.tiny_http_body.specs.declared.framing.Profile.{Profile}
 use Rattle.tiny_http_body.specs.declared.framing.Framing.{Framing}
 use Rattle.tiny_http_io.specs.Outlet.{output_of, SentOn}
@@ -38,6 +41,7 @@ use Rattle.tiny_http_open_request.specs.declared.open_request.OpenRequest.{OpenR
 use Rattle.tiny_http_connection.specs.declared.pending.Unfinished.{Unfinished}
 use Rattle.tiny_http_connection.specs.declared.pending.Unfinished.TheVariants as still
 use Rattle.tiny_http_body.specs.Body.{Remaining, remaining, is_streaming, stream_body, body_standing, ends_met}
+use Rattle.tiny_http_body.specs.Body.{ReadsOn}
 use Rattle.tiny_http_connection.specs.Seen.{IsStep, IsAnswered, IsOfWriter, ReportsOfWriter, all_sent_after}
 use Rattle.tiny_http_connection.specs.Outcomes.{fault_reply}
 use Rattle.tiny_http_connection.specs.Giving.{TakesNext}
@@ -122,23 +126,30 @@ EndsRequestsAt p standing feed why =
     × ArePassedOver p f passed behind
     × EndsThere p (standing_behind standing passed) behind why
 
+-- no request waits, but for its turn, before whose answer the next head isn't read, and no body holds the reader
+abbrev pub IsFree : {R W : Type 0} → ConnectionState R W → Type 0
+IsFree c = (c.source.standing ≡ at.Body → ⊥) × (last_holds_next_head c.requests ≡ false)
+
 -- What an Ask says of the end of the requests, by its reply: it ends them for a reason that stands in the client's
 -- bytes, or where memory for a head was refused; after the end it changes nothing, and after the last request the
--- source is left alone.
+-- source is left alone. No head is read while the last request holds the reader, and that alone has it wait.
 abbrev pub AskEnds : {R W : Type 0} → ConnectionState R W → ConnectionState R W → ReplyValue → Type 0
-AskEnds old new (Handed k message framing) = (old.end ≡ None) × (new.end ≡ None)
+AskEnds old new (Handed k message framing) =
+    (old.end ≡ None) × (new.end ≡ None) × IsBeforeHead old.source.standing × IsFree old
 AskEnds old new NotYet = (old.end ≡ None) × (old.source.standing ≡ at.Body ⊎ last_holds_next_head old.requests ≡ true)
 AskEnds old new Ended =
     (IsSome old.end → new ≡ old) × (old.source.standing ≡ at.Last → new.source ≡ old.source)
     × (old.end ≡ None
     → (why : EndOfRequests)
     × (new.end ≡ Some why)
-    × EndsRequestsAt old.profile old.source.standing old.source.feed why)
+    × EndsRequestsAt old.profile old.source.standing old.source.feed why
+    × IsFree old)
 AskEnds old new Memory =
     (old.end ≡ None)
     × (new.end ≡ Some because.Memory)
     × IsBeforeHead old.source.standing
     × HasByteBehind old.profile old.source.feed
+    × IsFree old
 AskEnds old new _ = ⊥
 
 -- why the requests end, where no head is read behind a request that is finished or gets the connection's stream
@@ -224,6 +235,15 @@ HandsOut n p (Some f) message framing left =
     (place_after framing.is_last next)
     × ComesWith left behind.stop body next)
 
+-- this is kept of a request with this head
+abbrev pub KeepsRequestOf : OpenRequest UnreadBody → Message → Framing → Type 0
+KeepsRequestOf w message framing =
+    (h : Head)
+    × (date : HttpDate)
+    × (head_message h ≡ message)
+    × (head_framing h ≡ framing)
+    × KeepsHead w h date
+
 -- What an Ask leaves of requests, source and output, by its reply: a request was added behind the refused heads, as it
 -- stands in the client's bytes and is framed by its head, and the source stands after its head; where none was refused
 -- nothing is sent, and no end or fault of the reader was met. Or none was added. After the last request, or the end of
@@ -238,6 +258,7 @@ AskLeaves old new (Handed k message framing) =
     × (n ≡ 0 → (new.outlet ≡ old.outlet) × (new.source.stop ≡ old.source.stop))
     × HandsOut n old.profile old.source.feed message framing (remaining w.body new.source.feed)
     × IsFramedAs old.profile message framing
+    × KeepsRequestOf w message framing
 AskLeaves old new Memory = (n : ℕ) × RefusesHeads n old new
 AskLeaves old new Ended =
     (n : ℕ) × RefusesHeads n old new × (old.source.standing ≡ at.Last ⊎ IsAtEnd old.source → n ≡ 0)
@@ -287,6 +308,11 @@ UpgradeLeaves k protocol code old new NotYet = Unit {0}
 UpgradeLeaves k protocol code old new NoSuch = Unit {0}
 UpgradeLeaves k protocol code old new _ = ⊥
 
+-- how many bytes a reply gives
+abbrev pub given_count : ReplyValue → ℕ
+given_count (Given bytes) = length bytes
+given_count _ = 0
+
 -- A read of n bytes gave the next of the body that is kept of this number, as far as the reader states them; and the
 -- source stands by what is left of the body.
 abbrev pub ReadsKept : {R W : Type 0} → ℕ → ℕ → ConnectionState R W → ConnectionState R W → ReplyValue → Type 0
@@ -299,13 +325,14 @@ ReadsKept k n old new reply =
     × (new.requests ≡ slice_set old.requests k (Some (with_body body u)))
     × StandsAfter was body old.source new.source
     × TakesNext n (remaining was old.source.feed) reply (remaining body new.source.feed)
+    × (0 < n → ReadsOn was (given_count reply) (nat_lt (given_count reply) n) body)
 
--- What a read leaves of requests and source, by its reply. Memory is refused for a byte at least.
+-- What a read leaves of requests and source, by its reply. A fault is met, and memory refused, for a byte at least.
 abbrev pub ReadLeaves : {R W : Type 0} → ℕ → ℕ → ConnectionState R W → ConnectionState R W → ReplyValue → Type 0
 ReadLeaves k n old new (Given bytes) =
-    (is_readable (slice_get old.requests k) ≡ true) × ReadsKept k n old new (Given bytes)
+    (is_readable (slice_get old.requests k) ≡ true) × (length bytes ≤ n) × ReadsKept k n old new (Given bytes)
 ReadLeaves k n old new (Fault kind) =
-    (is_readable (slice_get old.requests k) ≡ true) × ReadsKept k n old new (Fault kind)
+    (is_readable (slice_get old.requests k) ≡ true) × (0 < n) × ReadsKept k n old new (Fault kind)
 ReadLeaves k n old new NoSuch = is_readable (slice_get old.requests k) ≡ false
 ReadLeaves k n old new Memory = (is_readable (slice_get old.requests k) ≡ true) × (0 < n)
 ReadLeaves k n old new _ = ⊥
@@ -381,11 +408,6 @@ RespondReports old new now k r reply =
     ((output_of new.outlet).failures ≡ (output_of old.outlet).failures)
     ⊎ ((kind : ErrorKind) × (reply ≡ fault_reply kind) × ReportsFault old new now (step.Respond k r) kind)
     ⊎ ((begins_left (drop (k + 1) old.marks) ≡ true) × AnswerIsSentOn old new now k r)
-
--- how many bytes a reply gives
-abbrev pub given_count : ReplyValue → ℕ
-given_count (Given bytes) = length bytes
-given_count _ = 0
 
 -- HOW MANY ENDS AND FAULTS OF THE CLIENT A READ MEETS on this number: none, or no more than what it gave of the body
 -- and left of it allow.

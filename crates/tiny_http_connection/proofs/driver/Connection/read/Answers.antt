@@ -11,7 +11,7 @@ use Rattle.tiny_http_body.specs.Body.{ends_met}
 use Rattle.tiny_http_connection.proofs.ConnectionAsk.{StepIsAnswered}
 use Rattle.tiny_http_connection.proofs.ConnectionBody.{with_reader}
 use Rattle.tiny_http_connection.proofs.ConnectionRead.{read-nothing, readable-some, read-none, read-memory, read-done}
-use Rattle.tiny_http_connection.proofs.ReadGives.{reads-nothing, fills-next, fails-next}
+use Rattle.tiny_http_connection.proofs.ReadGives.{reads-nothing, fills-next, fails-next, fills-on, fails-on}
 use Rattle.tiny_http_connection.proofs.DrivingLemmas.{viewed, takes-read, driving-reads-on, moves-none, stands-after}
 use Rattle.tiny_http_connection.proofs.driver.Connection.read.Goals.{in-Ok-fill, in-Err}
 use Rattle.tiny_http_connection.proofs.driver.Connection.read.Goals as goal
@@ -19,6 +19,10 @@ use Rattle.tiny_http_connection.proofs.driver.Connection.read.Goals as goal
 -- a slice of all the bytes, written back
 whole : (buf items : List ℕ) {count : ℕ} (n : ℕ) → n ≡ length items → length buf ≡ count → length items ≡ count → take n (buf ++ drop (length buf) items) ≡ buf
 whole buf items n e f g = grind (arith, common_steps)
+
+-- so many bytes are in the reply
+taken-count : (buf bytes : List ℕ) (n : ℕ) → take n buf ≡ bytes → n ≤ length buf → length bytes ≡ n
+taken-count buf bytes n came bound = grind (arith, common_steps)
 
 given-bytes : (xs ys : List ℕ) → Given xs ≡ Given ys → xs ≡ ys
 given-bytes xs ys e = cc
@@ -49,12 +53,13 @@ returns-then-count-eq0-clause-step g c date =
     let old = viewed q.profile q.source q.outlet q.pending q.end in
     let k : Kept = kept old in
     let free = sym c.is_readable.ensures ∙ c.if-not-is_readable.false in
+    let no_bytes : length c.new.result.items ≡ 0 = search rules in
     let w = readable-some (slice_get k.requests n) free in
     rw (← c.self.view_is) (takes-read old old date n c.args.count (Given c.new.result.items)
     (λ client before s st.
     let P : List ℕ → Type 0 = λ l. StepIsAnswered client before k s date (Read n c.args.count) (Given l) in
     subst P (none _ (search rules)) (read-none client before k s date n c.args.count w.0 w.1 st w.2 w.3 w.4 c.if-count-eq0.true)) (λ no. refl) refl
-    (refl, refl, (free, reads-nothing old n c.args.count c.new.result.items w.0 w.1 w.2 w.4 c.if-count-eq0.true (none _ (search rules)))) (moves-none old))
+    (refl, refl, (free, omega (arith, c.if-count-eq0.true, no_bytes), reads-nothing old n c.args.count c.new.result.items w.0 w.1 w.2 w.4 c.if-count-eq0.true (none _ (search rules)))) (moves-none old))
 
 pub returns-in_default-clause-step : goal.returns-in_default-clause-step
 returns-in_default-clause-step g c date =
@@ -95,12 +100,16 @@ returns-clause-step g c date =
           let fills = b.in-Ok-fill.ensures.fills w.0 w.1 w.2 w.4 in
           let items = whole c.fill.new.buf c.in-Ok.bytes.items c.in-Ok.bytes.len (search (rules, c.in-Ok.ensures)) size c.in-Ok.ensures in
           let came : take b.in-Ok-fill.n c.fill.new.buf ≡ _ = ap (take b.in-Ok-fill.n) (sym items) ∙ sym b.truncate.ensures.items in
-          rw b.result-is (sym c.is_readable.ensures ∙ c.if-not-is_readable.false, (w.0, w.1, fills.0, w.2, w.4, fills.1, stands-after w.1 fills.0 q.source c.fill.new.source fills.3 fills.4,
-          fills-next w.1 fills.0 q.source.feed c.fill.new.source.feed b.in-Ok-fill.n c.args.count c.fill.new.buf _ size b.in-Ok-fill.ensures.bound (sym came) (omega (arith, c.if-count-eq0.false)) fills.2))
+          let few = b.in-Ok-fill.ensures.bound in
+          let many : length _ ≡ b.in-Ok-fill.n = taken-count c.fill.new.buf _ b.in-Ok-fill.n came few in
+          rw b.result-is (sym c.is_readable.ensures ∙ c.if-not-is_readable.false, omega (arith, many, few, size), (w.0, w.1, fills.0, w.2, w.4, fills.1, stands-after w.1 fills.0 q.source c.fill.new.source fills.3 fills.4,
+          fills-next w.1 fills.0 q.source.feed c.fill.new.source.feed b.in-Ok-fill.n c.args.count c.fill.new.buf _ size few (sym came) (omega (arith, c.if-count-eq0.false)) fills.2,
+          λ some. fills-on w.1 fills.0 q.source.feed c.fill.new.source.feed b.in-Ok-fill.n c.args.count c.fill.new.buf _ size many some fills.2))
       | in-Err b ↦
           let fills = b.in-Err.ensures.fills w.0 w.1 w.2 w.4 in
-          rw b.result-is (sym c.is_readable.ensures ∙ c.if-not-is_readable.false, (w.0, w.1, fills.0, w.2, w.4, fills.1, stands-after w.1 fills.0 q.source c.fill.new.source fills.3 fills.4,
-          fails-next w.1 fills.0 q.source.feed c.fill.new.source.feed b.in-Err.kind c.args.count c.fill.new.buf fills.2))
+          rw b.result-is (sym c.is_readable.ensures ∙ c.if-not-is_readable.false, omega (arith, c.if-count-eq0.false), (w.0, w.1, fills.0, w.2, w.4, fills.1, stands-after w.1 fills.0 q.source c.fill.new.source fills.3 fills.4,
+          fails-next w.1 fills.0 q.source.feed c.fill.new.source.feed b.in-Err.kind c.args.count c.fill.new.buf fills.2,
+          λ some. fails-on w.1 fills.0 q.source.feed c.fill.new.source.feed b.in-Err.kind c.args.count c.fill.new.buf some fills.2))
     ])
     (driving-reads-on old new refl refl c.fill.ensures.goes_on))
 
@@ -117,10 +126,6 @@ returns-clause-lazy g c =
           b.in-Ok-fill.ensures.lazy (all-came c.fill.new.buf bytes b.in-Ok-fill.n c.args.count came size b.in-Ok-fill.ensures.bound all)
       | in-Err b ↦ absurd (gives-none b.in-Err.kind bytes (ap seen (sym b.result-is) ∙ given))
     ])
-
--- so many bytes are in the reply
-taken-count : (buf bytes : List ℕ) (n : ℕ) → take n buf ≡ bytes → n ≤ length buf → length bytes ≡ n
-taken-count buf bytes n came bound = grind (arith, common_steps)
 
 pub returns-clause-whole : goal.returns-clause-whole
 returns-clause-whole g c =
