@@ -25,7 +25,7 @@ use Rattle.tiny_http_connection_laws.proofs.RunFronts.{not-true}
 use Rattle.tiny_http_connection_laws.proofs.StepsAdd.{told, by-asreader, by-respond, by-writer, by-upgrade, by-drop}
 use Rattle.tiny_http_connection_laws.proofs.CloseSteps.{upgrade-holds}
 use Rattle.tiny_http_connection_laws.proofs.AccountsHold.{Told, IsTold, AllTold, Alike, IsOwn, is_given_up, told-at, last-told, own-answers, planned-alike, outcome-tells, step-told, none-told}
-use Rattle.tiny_http_connection_laws.proofs.AccountsTurns.{last-number, own-planned}
+use Rattle.tiny_http_connection_laws.proofs.AccountsTurns.{last-number, own-planned, run-found, matches-length}
 
 -- ---- booleans
 
@@ -132,8 +132,8 @@ ends-set old step k s t x w ends at keeps stop = record {
 }
 
 -- a 100 that is owed wasn't sent
-owed-unsent : (r : Request) (s : Slot) (a : Account) → Told r s a → s.stage ≡ Unanswered → s.owed ≡ true → (r.framing.owes_continue && not (is_some s.continued)) ≡ true
-owed-unsent r s a h u owed =
+owed-unsent : (k : ℕ) (r : Request) (s : Slot) (a : Account) → Told k r s a → s.stage ≡ Unanswered → s.owed ≡ true → (r.framing.owes_continue && not (is_some s.continued)) ≡ true
+owed-unsent k r s a h u owed =
     let parts = and_parts r.framing.owes_continue (not (is_some a.asked)) (sym (h.owed (ap is_unanswered u)) ∙ owed) in
     let same : s.continued ≡ a.asked = h.continued ∙ if-true r.framing.owes_continue a.asked parts.0 in
     rw (parts.0, same) parts.1
@@ -142,24 +142,24 @@ owed-unsent r s a h u owed =
     if-true true x e = refl
     if-true false x e = never e
 
-cut-short : (r : Request) (s : Slot) (a : Account) (ab : Bool) → Told r s a → s.stage ≡ Unanswered → is_last_once_finished r s.owed s.given s.end_reported ≡ true
+cut-short : (k : ℕ) (r : Request) (s : Slot) (a : Account) (ab : Bool) → Told k r s a → s.stage ≡ Unanswered → is_last_once_finished r s.owed s.given s.end_reported ≡ true
     → (ab || (r.framing.by_standard && ((r.framing.owes_continue && not (is_some s.continued)) || is_long (remainder_of r s.given s.end_reported)))) ≡ true
-cut-short r s a ab h u last =
+cut-short k r s a ab h u last =
     let unsent = r.framing.owes_continue && not (is_some s.continued) in
     let long = is_long (remainder_of r s.given s.end_reported) in
     let parts = and_parts r.framing.by_standard (s.owed || long) last in
-    let early : (unsent || long) ≡ true = ⊎_elim (λ owed. or-left unsent long (owed-unsent r s a h u owed)) (λ l. or-right unsent long l) (or-cases s.owed long parts.1) in
+    let early : (unsent || long) ≡ true = ⊎_elim (λ owed. or-left unsent long (owed-unsent k r s a h u owed)) (λ l. or-right unsent long l) (or-cases s.owed long parts.1) in
     or-right ab (r.framing.by_standard && (unsent || long)) (rw (parts.0, early) refl)
 
 -- the server's answer, or that of a response
-finished-ends : (old : Reached) (step : StepValue) (k : ℕ) (r : Request) (s : Slot) (a : Account) (x : ReplyValue) (w : WriterUse) → slice_get old.slots k ≡ Some s → s.item ≡ Asks r → s.stage ≡ Unanswered → Told r s a
+finished-ends : (old : Reached) (step : StepValue) (k : ℕ) (r : Request) (s : Slot) (a : Account) (x : ReplyValue) (w : WriterUse) → slice_get old.slots k ≡ Some s → s.item ≡ Asks r → s.stage ≡ Unanswered → Told k r s a
     → Ends old step (ends_asking (is_last_once_finished r s.owed s.given s.end_reported) (changes old k (finished_as (closes_now r s.closes s.owed s.given s.end_reported) s ByServer) x w))
 finished-ends old step k r s a x w at is u h =
     let t = finished_as (closes_now r s.closes s.owed s.given s.end_reported) s ByServer in
     ends-set old step k s t x w (is_last_once_finished r s.owed s.given s.end_reported) at (quiet-keeps s t r is u)
-    (λ last. stops-item t s.item r refl is (cut-short r s a (body_was_abandoned t (Asks r)) h u last))
+    (λ last. stops-item t s.item r refl is (cut-short k r s a (body_was_abandoned t (Asks r)) h u last))
 
-answered-ends : (found : Bool) (date : HttpDate) (old : Reached) (r : Request) (s : Slot) (a : Account) (k : ℕ) (response : ResponseValue) → slice_get old.slots k ≡ Some s → s.item ≡ Asks r → s.stage ≡ Unanswered → Told r s a
+answered-ends : (found : Bool) (date : HttpDate) (old : Reached) (r : Request) (s : Slot) (a : Account) (k : ℕ) (response : ResponseValue) → slice_get old.slots k ≡ Some s → s.item ≡ Asks r → s.stage ≡ Unanswered → Told k r s a
     → Ends old (Respond k response) (answers found date old r k response) × (is_done (answers found date old r k response).reply ≡ true)
 answered-ends found date old r s a k response at is u h =
     let P : Option Slot → Type 0 = λ o. Ends old (Respond k response) (answers_slot found date old r k response o) × (is_done (answers_slot found date old r k response o).reply ≡ true) in
@@ -169,7 +169,7 @@ answered-ends found date old r s a k response at is u h =
     let w = Reported text.bytes (fault_in text.ending) true fault_reply in
     subst P (sym at)
     (ends-set old (Respond k response) k s t Done w (is_last_once_finished r s.owed s.given s.end_reported) at (quiet-keeps s t r is u)
-    (λ last. stops-item t s.item r refl is (cut-short r s a (body_was_abandoned t (Asks r)) h u last)), refl)
+    (λ last. stops-item t s.item r refl is (cut-short k r s a (body_was_abandoned t (Asks r)) h u last)), refl)
 
 asked-ends : (f : ℕ → Account) (found : Bool) (date : HttpDate) (old : Reached) (r : Request) (s : Slot) (k : ℕ) (response : ResponseValue) (closes : Bool) → response.answer.closes ≡ closes → AllTold old.slots f → slice_get old.slots k ≡ Some s → s.item ≡ Asks r → s.stage ≡ Unanswered
     → Ends old (Respond k response) (answers found date (asked_to_close closes old) r k response)
@@ -269,7 +269,7 @@ effect-ends f found date old r s turn (IntoWriter k) h at is takes =
     ends-set old (IntoWriter k) k s t Done Unused (is_last_with_stream r s.owed s.given s.end_reported) at (quiet-keeps s t r is u)
     (λ last. stops-item t s.item r refl is (⊎_elim
     (λ holds. or-left r.framing.asks_upgrade (was_cut_short t r) (stream-asks r holds))
-    (λ once. or-right r.framing.asks_upgrade (was_cut_short t r) (cut-short r s (f k) (body_was_abandoned t (Asks r)) (told-at old.slots f k s r h at is) u once))
+    (λ once. or-right r.framing.asks_upgrade (was_cut_short t r) (cut-short k r s (f k) (body_was_abandoned t (Asks r)) (told-at old.slots f k s r h at is) u once))
     (or-cases (holds_next_head r) (is_last_once_finished r s.owed s.given s.end_reported) last)))
 effect-ends f found date old r s turn (Write k bytes) h at is takes =
     let t : Slot = record s { stage = written_to bytes s.stage } in
@@ -328,11 +328,11 @@ last-abandoned : (f : ℕ → Account) (slots : List Slot) (o : Option Slot) →
 last-abandoned f slots None e h lost = never lost
 last-abandoned f slots (Some s) e h lost =
     let n = last-number slots s e in
-    (n.0, s, n.1, by s.item (h.here n.0 s n.1) lost)
+    (n.0, s, n.1, by s.item (f n.0) n.0 (h.here n.0 s n.1) lost)
   where
-    by : (item : Item) {a : Account} → IsTold s item a → body_was_abandoned s item ≡ true → stops s item ≡ true
-    by (Asks r) i l = abandoned-stops s r s.stage i.given_up l
-    by (Refuses refusal manner no_body last) i l = never l
+    by : (item : Item) (a : Account) (k : ℕ) → IsTold k s item a → body_was_abandoned s item ≡ true → stops s item ≡ true
+    by (Asks r) a k i l = abandoned-stops s r s.stage i.given_up l
+    by (Refuses refusal manner no_body last) a k i l = never l
 
 record Asked (old slots : List Slot) (o : Outcome) : Type 0 where
   keeps : OneStops old → OneStops o.slots
@@ -429,7 +429,7 @@ run-ends : (f : ℕ → Account) (old new : State) (steps : List TimedValue) (re
 run-ends f old new [] [] h run goes e = let no : false ≡ true = sym goes ∙ ap (λ (x : State). x.reached.asking_ended) (sym run) ∙ e in cc
 run-ends f old new [] (x ∷ replies) h run goes e = elim run [ ]
 run-ends f old new (s ∷ steps) [] h run goes e = elim run [ ]
-run-ends f old new (s ∷ steps) (x ∷ replies) h run goes e = by run.0.reached.asking_ended refl
+run-ends f old new (s ∷ steps) (x ∷ replies) h run goes e = by (λ on. run-ends g mid new steps replies told_mid run.2 on e) mid.reached.asking_ended refl
   where
     mid : State
     mid = run.0
@@ -443,9 +443,9 @@ run-ends f old new (s ∷ steps) (x ∷ replies) h run goes e = by run.0.reached
     from : (mid.reached.rest ≡ []) ⊎ OneStops mid.reached.slots → mid.reached.asking_ended ≡ true → (new.reached.rest ≡ []) ⊎ (OneStops new.reached.slots ⊎ OneEndsRequests (s ∷ steps) (x ∷ replies))
     from why ended = ⊎_elim (λ all. inl all) (λ one. inr (inl one)) (ended-run g mid new steps replies told_mid run.2 ended why)
 
-    by : (b : Bool) → mid.reached.asking_ended ≡ b → (new.reached.rest ≡ []) ⊎ (OneStops new.reached.slots ⊎ OneEndsRequests (s ∷ steps) (x ∷ replies))
-    by false on = ⊎_elim (λ all. inl all) (λ more. inr (⊎_elim (λ one. inl one) (λ later. inr (inr later)) more)) (run-ends g mid new steps replies told_mid run.2 on e)
-    by true ended =
+    by : (mid.reached.asking_ended ≡ false → (new.reached.rest ≡ []) ⊎ (OneStops new.reached.slots ⊎ OneEndsRequests steps replies)) → (b : Bool) → mid.reached.asking_ended ≡ b → (new.reached.rest ≡ []) ⊎ (OneStops new.reached.slots ⊎ OneEndsRequests (s ∷ steps) (x ∷ replies))
+    by later false on = ⊎_elim (λ all. inl all) (λ more. inr (⊎_elim (λ one. inl one) (λ after. inr (inr after)) more)) (later on)
+    by later true ended =
         ⊎_elim (λ was. let no : false ≡ true = sym goes ∙ was in cc)
         (λ now. ⊎_elim (λ all. from (inl all) ended) (λ more. ⊎_elim (λ one. from (inr one) ended) (λ step. inr (inr (inl step))) more) now)
         ((step-ends f old s.0 s.1 x mid h run.1).begins ended)
@@ -467,7 +467,7 @@ ask-ended date old = by old.asking_ended refl (last_holds_reader (last_slot old.
     heads : (w : WriterUse) (slots : List Slot) (items : List Item) → IsOwn w → IsOwn (asks_from date w slots items).writer × ((asks_from date w slots items).reply ≡ Ended → (asks_from date w slots items).asking_ended ≡ true)
     heads w slots [] o = (o, λ e. refl)
     heads w slots (Asks r ∷ items) o = (o, λ e. cc)
-    heads w slots (Refuses refusal manner no_body last ∷ items) o = heads _ _ items (own-if (turn_has_come (length slots) slots) w o)
+    heads w slots (Refuses refusal manner no_body last ∷ items) o = heads (if turn_has_come (length slots) slots then Unreported else w) (slots ++ new_slot date (Refuses refusal manner no_body last) ∷ []) items (own-if (turn_has_come (length slots) slots) w o)
 
     by : (a : Bool) → old.asking_ended ≡ a → (b c : Bool)
         → IsOwn (if a then unchanged old Ended else if b then unchanged old NotYet else if c then left else goes).writer
@@ -518,11 +518,14 @@ has-ended old new (s ∷ steps) (x ∷ replies) run (inl e) = run-ended run.0 ne
 
 pub end-has_reason : (p : Profile) (feed : Feed) (before after : Sink) (steps : List TimedValue) (replies : List ReplyValue) (held : List ℕ) (ended : Bool) (unread : Option Feed)
     → (c : IsConversation p feed before steps replies after held ended unread) → HasEnd steps replies
-    → (requests_from 0 c.items ≡ handed replies) ⊎ (OneStops c.end.reached.slots ⊎ OneEndsRequests steps replies)
+    → ((requests_from 0 c.items ≡ handed replies) × (length c.end.reached.slots ≡ length c.items)) ⊎ (OneStops c.end.reached.slots ⊎ OneEndsRequests steps replies)
 end-has_reason p feed before after steps replies held ended unread c e =
     let start = start_state c.items in
     let over = has-ended start c.end steps replies c.run e in
     ⊎_elim
-    (λ all. inl ((run-moves start c.end steps replies c.run).requests ∙ ap (λ l. handed replies ++ requests_from (length c.end.reached.slots) l) all ∙ append-nil (handed replies)))
+    (λ all.
+    let f = run-found c.items c.end steps replies c.run in
+    let whole : c.items ≡ f.reached = f.splits ∙ ap (λ l. f.reached ++ l) all ∙ append-nil f.reached in
+    inl ((run-moves start c.end steps replies c.run).requests ∙ ap (λ l. handed replies ++ requests_from (length c.end.reached.slots) l) all ∙ append-nil (handed replies), sym (matches-length c.end.reached.slots f.reached f.matches) ∙ ap length (sym whole)))
     (λ more. inr more)
     (run-ends (λ k. untouched) start c.end steps replies none-told c.run refl over)

@@ -13,11 +13,13 @@ use Rattle.tiny_http_response.specs.Sending.{is_closed_client}
 use Rattle.tiny_http_response.specs.ResponseValue.{ResponseValue}
 use Rattle.tiny_http_connection.specs.Segments.{Slot, Stage, Unanswered, Answered, ByServer, Raw, Upgraded, to_request, text_if}
 use Rattle.tiny_http_connection.specs.Slots.{turn_has_come, new_slot, rest_of, last_slot, last_closing, closing, is_unanswered, last_holds_reader, last_was_abandoned, is_last_once_finished, closes_now, refuses_response, refuses_upgrade, upgraded_slot, as_stream}
-use Rattle.tiny_http_connection.specs.Steps.{StepValue, Ask, AsReader, Read, Respond, IntoWriter, Write, Flush, Upgrade, Finish, Drop, ReplyValue, Ended, Given, Fault, NotYet, Done, Refused, NoSuch, Memory, TimedValue, number_of, is_done, is_refused}
+use Rattle.tiny_http_connection.specs.Steps.{StepValue, Ask, AsReader, Read, Respond, IntoWriter, Write, Flush, Upgrade, Finish, Drop, ReplyValue, Handed, Ended, Given, Fault, NotYet, Done, Refused, NoSuch, Memory, TimedValue, number_of, is_done, is_refused}
 use Rattle.tiny_http_connection.specs.Outcomes.{WriterUse, Unused, Unreported, Reported, Outcome, Reached, unchanged, changes, asks_from, ask, read_reply, finished_as, written_to, stage_closed, fault_in, fault_reply, accepts_step, needs_turn, use_in_turn, ends_asking, is_last_with_stream, asked_to_close, answers_slot, answers, effect, at_item, at_slot, at_number, outcome}
 use Rattle.tiny_http_connection.specs.Conversation.{Failure, State, Fares, Well, FailsWithin, FailsAfter, MayFare, reply_in, failure_in, is_silent, HasOutcome, FindsNoMemory, answers_to, StepsTo, Run}
 use Rattle.tiny_http_connection.proofs.ConnectionClosing.{by-closing}
+use Rattle.tiny_http_connection_laws.specs.InShort.{maker}
 use Rattle.tiny_http_connection_laws.specs.Accounts.{Condition, Waits, Writes, Finished, Account, untouched, becomes, first_date, account_after, account_now, account_from, condition_of, written_in}
+use Rattle.tiny_http_connection_laws.proofs.InShortSlots.{written-made, closed-made}
 use Rattle.tiny_http_connection_laws.proofs.InShortReads.{same-some, get-set, get-other}
 use Rattle.tiny_http_connection_laws.proofs.RunFronts.{not-true}
 use Rattle.tiny_http_connection_laws.proofs.StepsAdd.{told, by-asreader, by-respond, by-writer, by-upgrade, by-drop}
@@ -32,8 +34,9 @@ is_given_up ByServer = true
 is_given_up (Raw written closed) = true
 is_given_up (Upgraded protocol response date written closed) = closed
 
-pub record Told (r : Request) (s : Slot) (a : Account) : Type 0 where
+pub record Told (k : ℕ) (r : Request) (s : Slot) (a : Account) : Type 0 where
   pub condition : condition_of s.stage ≡ a.condition
+  pub by : maker k s.stage ≡ a.by
   pub written : written_in s.stage ≡ a.written
   pub continued : s.continued ≡ (if r.framing.owes_continue then a.asked else None)
   pub owed : is_unanswered s.stage ≡ true → s.owed ≡ (r.framing.owes_continue && not (is_some a.asked))
@@ -44,18 +47,18 @@ pub record Untold (s : Slot) (a : Account) : Type 0 where
   pub account : a ≡ untouched
   pub continued : s.continued ≡ None
 
-abbrev pub IsTold : Slot → Item → Account → Type 0
-IsTold s (Asks r) a = Told r s a
-IsTold s (Refuses refusal manner no_body last) a = Untold s a
+abbrev pub IsTold : ℕ → Slot → Item → Account → Type 0
+IsTold k s (Asks r) a = Told k r s a
+IsTold k s (Refuses refusal manner no_body last) a = Untold s a
 
 -- each number has this account, and nothing was done for those that aren't reached
 pub record AllTold (slots : List Slot) (f : ℕ → Account) : Type 0 where
-  pub here : (k : ℕ) (s : Slot) → slice_get slots k ≡ Some s → IsTold s s.item (f k)
+  pub here : (k : ℕ) (s : Slot) → slice_get slots k ≡ Some s → IsTold k s s.item (f k)
   pub none : (k : ℕ) → slice_get slots k ≡ None → f k ≡ untouched
 
 told-as : (slots : List Slot) (f g : ℕ → Account) → ((k : ℕ) → f k ≡ g k) → AllTold slots f → AllTold slots g
 told-as slots f g same h = record {
-  here = λ k s e. subst (λ a. IsTold s s.item a) (same k) (h.here k s e);
+  here = λ k s e. subst (λ a. IsTold k s s.item a) (same k) (h.here k s e);
   none = λ k e. sym (same k) ∙ h.none k e;
 }
 
@@ -73,11 +76,11 @@ after-alike : (date : HttpDate) (step : StepValue) (x y : ReplyValue) (a : Accou
 after-alike date Ask x y a h = refl
 after-alike date (AsReader k) x y a h = ap (λ b. if b then record a { asked = first_date a.asked date } else a) h.done
 after-alike date (Read k n) x y a h = refl
-after-alike date (Respond k response) x y a h = ap (λ b. becomes Finished (b || is_refused x) a) h.done ∙ ap (λ b. becomes Finished (is_done y || b) a) h.refused
+after-alike date (Respond k response) x y a h = rw (h.done, h.refused) refl
 after-alike date (IntoWriter k) x y a h = ap (λ b. becomes Writes b a) h.done
 after-alike date (Write k bytes) x y a h = ap (λ b. if b then record a { written = a.written ++ bytes } else a) h.done
 after-alike date (Flush k) x y a h = refl
-after-alike date (Upgrade k protocol response) x y a h = ap (λ b. becomes Finished (is_refused x) (becomes Writes b a)) h.done ∙ ap (λ b. becomes Finished b (becomes Writes (is_done y) a)) h.refused
+after-alike date (Upgrade k protocol response) x y a h = rw (h.done, h.refused) refl
 after-alike date (Finish k) x y a h = ap (λ b. becomes Finished b a) h.done
 after-alike date (Drop k) x y a h = ap (λ b. becomes Finished b a) h.done
 
@@ -117,9 +120,6 @@ fault-done kind = go (is_closed_client kind)
     go : (b : Bool) → Alike (if b then Done else Fault kind) Done
     go true = record { done = refl; refused = refl }
     go false = record { done = refl; refused = refl }
-
-idle-read : (n : ℕ) (left : List ℕ) (close : Stop) → read_reply n left close ≡ read_reply n left close
-idle-read n left close = refl
 
 -- where a fault of the writer may be reported, that is as the planned reply
 abbrev pub MayTell : WriterUse → ReplyValue → Type 0
@@ -185,7 +185,7 @@ set-past (x ∷ xs) (suc j) zero t e = cc
 set-past (x ∷ xs) (suc j) (suc k) t e = set-past xs j k t e
 
 -- the number of the step is changed so, and the others stay
-told-set : (f : ℕ → Account) (date : HttpDate) (step : StepValue) (x : ReplyValue) (slots : List Slot) (s t : Slot) → slice_get slots (number_of step) ≡ Some s → IsTold t t.item (account_after date step x (f (number_of step))) → AllTold slots f
+told-set : (f : ℕ → Account) (date : HttpDate) (step : StepValue) (x : ReplyValue) (slots : List Slot) (s t : Slot) → slice_get slots (number_of step) ≡ Some s → IsTold (number_of step) t t.item (account_after date step x (f (number_of step))) → AllTold slots f
     → AllTold (slice_set slots (number_of step) t) (λ k. account_now k date step x (f k))
 told-set f date step x slots s t at is h = record {
   here = λ k u e.
@@ -193,13 +193,13 @@ told-set f date step x slots s t at is h = record {
       (λ yes.
       let there : slice_get (slice_set slots (number_of step) t) (number_of step) ≡ Some u = ap (λ n. slice_get (slice_set slots (number_of step) t) n) yes.1 ∙ e in
       let same : t ≡ u = same-some t u (sym (get-set slots (number_of step) s t at) ∙ there) in
-      let A : ℕ → Type 0 = λ n. IsTold t t.item (account_after date step x (f n)) in
+      let A : ℕ → Type 0 = λ n. IsTold n t t.item (account_after date step x (f n)) in
       let now : account_now k date step x (f k) ≡ account_after date step x (f k) = if-true (number_of step == k) _ (f k) yes.0 in
-      let made : IsTold t t.item (account_now k date step x (f k)) = subst (λ a. IsTold t t.item a) (sym now) (subst A yes.1 is) in
-      subst (λ (y : Slot). IsTold y y.item (account_now k date step x (f k))) same made)
+      let made : IsTold k t t.item (account_now k date step x (f k)) = subst (λ a. IsTold k t t.item a) (sym now) (subst A yes.1 is) in
+      subst (λ (y : Slot). IsTold k y y.item (account_now k date step x (f k))) same made)
       (λ no.
       let now : account_now k date step x (f k) ≡ f k = if-false (number_of step == k) _ (f k) no.0 in
-      subst (λ a. IsTold u u.item a) (sym now) (h.here k u (sym (get-other slots (number_of step) k t no.1) ∙ e)))
+      subst (λ a. IsTold k u u.item a) (sym now) (h.here k u (sym (get-other slots (number_of step) k t no.1) ∙ e)))
       (eqb_tells (number_of step) k);
   none = λ k e.
       let was = set-past slots (number_of step) k t e in
@@ -210,20 +210,20 @@ told-set f date step x slots s t at is h = record {
 }
 
 -- nothing is changed, but the account of the step's number
-told-kept : (f : ℕ → Account) (date : HttpDate) (step : StepValue) (x : ReplyValue) (slots : List Slot) (s : Slot) → slice_get slots (number_of step) ≡ Some s → IsTold s s.item (account_after date step x (f (number_of step))) → AllTold slots f
+told-kept : (f : ℕ → Account) (date : HttpDate) (step : StepValue) (x : ReplyValue) (slots : List Slot) (s : Slot) → slice_get slots (number_of step) ≡ Some s → IsTold (number_of step) s s.item (account_after date step x (f (number_of step))) → AllTold slots f
     → AllTold slots (λ k. account_now k date step x (f k))
 told-kept f date step x slots s at is h = record {
   here = λ k u e.
       ⊎_elim
       (λ yes.
       let same : s ≡ u = same-some s u (sym at ∙ ap (λ n. slice_get slots n) yes.1 ∙ e) in
-      let A : ℕ → Type 0 = λ n. IsTold s s.item (account_after date step x (f n)) in
+      let A : ℕ → Type 0 = λ n. IsTold n s s.item (account_after date step x (f n)) in
       let now : account_now k date step x (f k) ≡ account_after date step x (f k) = if-true (number_of step == k) _ (f k) yes.0 in
-      let made : IsTold s s.item (account_now k date step x (f k)) = subst (λ a. IsTold s s.item a) (sym now) (subst A yes.1 is) in
-      subst (λ (y : Slot). IsTold y y.item (account_now k date step x (f k))) same made)
+      let made : IsTold k s s.item (account_now k date step x (f k)) = subst (λ a. IsTold k s s.item a) (sym now) (subst A yes.1 is) in
+      subst (λ (y : Slot). IsTold k y y.item (account_now k date step x (f k))) same made)
       (λ no.
       let now : account_now k date step x (f k) ≡ f k = if-false (number_of step == k) _ (f k) no.0 in
-      subst (λ a. IsTold u u.item a) (sym now) (h.here k u e))
+      subst (λ a. IsTold k u u.item a) (sym now) (h.here k u e))
       (eqb_tells (number_of step) k);
   none = λ k e.
       ⊎_elim
@@ -233,47 +233,47 @@ told-kept f date step x slots s at is h = record {
 }
 
 -- the account of a number of a request
-told-at : (slots : List Slot) (f : ℕ → Account) (k : ℕ) (s : Slot) (r : Request) → AllTold slots f → slice_get slots k ≡ Some s → s.item ≡ Asks r → Told r s (f k)
-told-at slots f k s r h at is = let P : Item → Type 0 = λ i. IsTold s i (f k) in subst P is (h.here k s at)
+pub told-at : (slots : List Slot) (f : ℕ → Account) (k : ℕ) (s : Slot) (r : Request) → AllTold slots f → slice_get slots k ≡ Some s → s.item ≡ Asks r → Told k r s (f k)
+told-at slots f k s r h at is = let P : Item → Type 0 = λ i. IsTold k s i (f k) in subst P is (h.here k s at)
 
 -- the same item
-as-item : (t : Slot) (item : Item) (r : Request) (a : Account) → t.item ≡ item → item ≡ Asks r → Told r t a → IsTold t t.item a
-as-item t item r a same is h = let P : Item → Type 0 = λ i. IsTold t i a in subst P (sym (same ∙ is)) h
+as-item : (k : ℕ) (t : Slot) (item : Item) (r : Request) (a : Account) → t.item ≡ item → item ≡ Asks r → Told k r t a → IsTold k t t.item a
+as-item k t item r a same is h = let P : Item → Type 0 = λ i. IsTold k t i a in subst P (sym (same ∙ is)) h
 
 -- ---- the last number is told that the connection ends
 
-closing-keeps : (s : Slot) (item : Item) (a : Account) → IsTold s item a → IsTold (closing s) item a
-closing-keeps s (Asks r) a h = by-closing (λ t. Told r t a) s (λ u. record { condition = h.condition; written = h.written; continued = h.continued; owed = h.owed; given_up = h.given_up }) h
-closing-keeps s (Refuses refusal manner no_body last) a h = by-closing (λ t. Untold t a) s (λ u. record { stage = h.stage; account = h.account; continued = h.continued }) h
+closing-keeps : (k : ℕ) (s : Slot) (item : Item) (a : Account) → IsTold k s item a → IsTold k (closing s) item a
+closing-keeps k s (Asks r) a h = by-closing (λ t. Told k r t a) s (λ u. record { condition = h.condition; by = h.by; written = h.written; continued = h.continued; owed = h.owed; given_up = h.given_up }) h
+closing-keeps k s (Refuses refusal manner no_body last) a h = by-closing (λ t. Untold t a) s (λ u. record { stage = h.stage; account = h.account; continued = h.continued }) h
 
-closing-told : (s : Slot) (a : Account) → IsTold s s.item a → IsTold (closing s) (closing s).item a
-closing-told s a h =
+closing-told : (k : ℕ) (s : Slot) (a : Account) → IsTold k s s.item a → IsTold k (closing s) (closing s).item a
+closing-told k s a h =
     let same : (closing s).item ≡ s.item = by-closing (λ t. t.item ≡ s.item) s (λ u. refl) refl in
-    let P : Item → Type 0 = λ i. IsTold (closing s) i a in
-    subst P (sym same) (closing-keeps s s.item a h)
+    let P : Item → Type 0 = λ i. IsTold k (closing s) i a in
+    subst P (sym same) (closing-keeps k s s.item a h)
 
-last-told : (slots : List Slot) (f : ℕ → Account) → AllTold slots f → AllTold (last_closing slots) f
-last-told [] f h = h
-last-told (s ∷ []) f h = record { here = here; none = none }
-  where
-    here : (k : ℕ) (u : Slot) → slice_get (closing s ∷ []) k ≡ Some u → IsTold u u.item (f k)
-    here zero u e = subst (λ (y : Slot). IsTold y y.item (f zero)) (same-some (closing s) u e) (closing-told s (f zero) (h.here zero s refl))
-    here (suc k) u e = cc
+closing-get : (slots : List Slot) (k : ℕ) (u : Slot) → slice_get (last_closing slots) k ≡ Some u → (s : Slot) × (slice_get slots k ≡ Some s) × ((s ≡ u) ⊎ (closing s ≡ u))
+closing-get [] k u e = cc
+closing-get (s ∷ []) zero u e = (s, refl, inr (same-some (closing s) u e))
+closing-get (s ∷ []) (suc k) u e = cc
+closing-get (s ∷ t ∷ slots) zero u e = (s, refl, inl (same-some s u e))
+closing-get (s ∷ t ∷ slots) (suc k) u e = closing-get (t ∷ slots) k u e
 
-    none : (k : ℕ) → slice_get (closing s ∷ []) k ≡ None → f k ≡ untouched
-    none zero e = cc
-    none (suc k) e = h.none (suc k) e
-last-told (s ∷ t ∷ slots) f h =
-    let more = last-told (t ∷ slots) (λ k. f (suc k)) (record { here = λ k u e. h.here (suc k) u e; none = λ k e. h.none (suc k) e }) in
-    record { here = here more; none = none more }
-  where
-    here : AllTold (last_closing (t ∷ slots)) (λ k. f (suc k)) → (k : ℕ) (u : Slot) → slice_get (s ∷ last_closing (t ∷ slots)) k ≡ Some u → IsTold u u.item (f k)
-    here more zero u e = h.here zero u e
-    here more (suc k) u e = more.here k u e
+closing-none : (slots : List Slot) (k : ℕ) → slice_get (last_closing slots) k ≡ None → slice_get slots k ≡ None
+closing-none [] k e = e
+closing-none (s ∷ []) zero e = cc
+closing-none (s ∷ []) (suc k) e = e
+closing-none (s ∷ t ∷ slots) zero e = cc
+closing-none (s ∷ t ∷ slots) (suc k) e = closing-none (t ∷ slots) k e
 
-    none : AllTold (last_closing (t ∷ slots)) (λ k. f (suc k)) → (k : ℕ) → slice_get (s ∷ last_closing (t ∷ slots)) k ≡ None → f k ≡ untouched
-    none more zero e = cc
-    none more (suc k) e = more.none k e
+pub last-told : (slots : List Slot) (f : ℕ → Account) → AllTold slots f → AllTold (last_closing slots) f
+last-told slots f h = record {
+  here = λ k u e.
+      let g = closing-get slots k u e in
+      let I : Slot → Type 0 = λ y. IsTold k y y.item (f k) in
+      ⊎_elim (λ same. subst I same (h.here k g.0 g.1)) (λ told. subst I told (closing-told k g.0 (f k) (h.here k g.0 g.1))) g.2;
+  none = λ k e. h.none k (closing-none slots k e);
+}
 
 -- ---- one number
 
@@ -284,10 +284,11 @@ unanswered-of : (stage : Stage) → stage ≡ Unanswered → is_unanswered stage
 unanswered-of stage u = ap is_unanswered u
 
 -- a number that waits is finished, by an answer or by the server
-pub told-finished : (r : Request) (s t : Slot) (a : Account) → s.stage ≡ Unanswered → t.continued ≡ s.continued → t.given_up ≡ true → condition_of t.stage ≡ Finished → written_in t.stage ≡ [] → is_unanswered t.stage ≡ false → is_given_up t.stage ≡ true → Told r s a
-    → Told r t (record a { condition = Finished })
-told-finished r s t a u continued given_up finished empty answered given h = record {
+pub told-finished : (k : ℕ) (r : Request) (s t : Slot) (a : Account) (b : Option TimedValue) → s.stage ≡ Unanswered → maker k t.stage ≡ b → t.continued ≡ s.continued → t.given_up ≡ true → condition_of t.stage ≡ Finished → written_in t.stage ≡ [] → is_unanswered t.stage ≡ false → is_given_up t.stage ≡ true → Told k r s a
+    → Told k r t (record a { condition = Finished; by = b })
+told-finished k r s t a b u made continued given_up finished empty answered given h = record {
   condition = finished;
+  by = made;
   written = empty ∙ ap written_in (sym u) ∙ h.written;
   continued = continued ∙ h.continued;
   owed = λ waits. never (sym answered ∙ waits);
@@ -295,26 +296,32 @@ told-finished r s t a u continued given_up finished empty answered given h = rec
 }
 
 -- it gets a raw writer or a stream
-told-writes : (r q : Request) (s t : Slot) (a : Account) → s.stage ≡ Unanswered → t.continued ≡ s.continued → t.given_up ≡ is_given_up t.stage → condition_of t.stage ≡ Writes → written_in t.stage ≡ [] → is_unanswered t.stage ≡ false → q.framing.owes_continue ≡ r.framing.owes_continue → Told r s a
-    → Told q t (record a { condition = Writes })
-told-writes r q s t a u continued given_up writes empty answered owes h = record {
+told-writes : (k : ℕ) (r q : Request) (s t : Slot) (a : Account) (b : Option TimedValue) → s.stage ≡ Unanswered → maker k t.stage ≡ b → t.continued ≡ s.continued → t.given_up ≡ is_given_up t.stage → condition_of t.stage ≡ Writes → written_in t.stage ≡ [] → is_unanswered t.stage ≡ false → q.framing.owes_continue ≡ r.framing.owes_continue → Told k r s a
+    → Told k q t (record a { condition = Writes; by = b })
+told-writes k r q s t a b u made continued given_up writes empty answered owes h = record {
   condition = writes;
+  by = made;
   written = empty ∙ ap written_in (sym u) ∙ h.written;
   continued = continued ∙ h.continued ∙ ap (λ b. if b then a.asked else None) (sym owes);
   owed = λ waits. never (sym answered ∙ waits);
   given_up = given_up;
 }
 
+-- a number that waits was answered by none
+unmade : (k : ℕ) (r : Request) (s : Slot) (a : Account) → s.stage ≡ Unanswered → Told k r s a → None ≡ a.by
+unmade k r s a u h = sym (ap (maker k) u) ∙ h.by
+
 some-first : (o : Option HttpDate) (date : HttpDate) → is_some (first_date o date) ≡ true
 some-first None date = refl
 some-first (Some first) date = refl
 
 -- the 100 is sent
-told-continued : (r : Request) (s : Slot) (date : HttpDate) (a : Account) → s.stage ≡ Unanswered → s.owed ≡ true → Told r s a → Told r (record s { owed = false; continued = Some date }) (record a { asked = first_date a.asked date })
-told-continued r s date a u owed h =
+told-continued : (k : ℕ) (r : Request) (s : Slot) (date : HttpDate) (a : Account) → s.stage ≡ Unanswered → s.owed ≡ true → Told k r s a → Told k r (record s { owed = false; continued = Some date }) (record a { asked = first_date a.asked date })
+told-continued k r s date a u owed h =
     let parts = and_parts r.framing.owes_continue (not (is_some a.asked)) (sym (h.owed (unanswered-of s.stage u)) ∙ owed) in
     record {
       condition = h.condition;
+      by = h.by;
       written = h.written;
       continued = first a.asked parts.1 ∙ sym (if-true r.framing.owes_continue (first_date a.asked date) None parts.0);
       owed = λ waits. sym (ap (λ b. r.framing.owes_continue && not b) (some-first a.asked date) ∙ and-false r.framing.owes_continue);
@@ -326,9 +333,10 @@ told-continued r s date a u owed h =
     first (Some d) e = never e
 
 -- none is owed
-told-unowed : (r : Request) (s : Slot) (date : HttpDate) (a : Account) → s.stage ≡ Unanswered → s.owed ≡ false → Told r s a → Told r s (record a { asked = first_date a.asked date })
-told-unowed r s date a u owed h = record {
+told-unowed : (k : ℕ) (r : Request) (s : Slot) (date : HttpDate) (a : Account) → s.stage ≡ Unanswered → s.owed ≡ false → Told k r s a → Told k r s (record a { asked = first_date a.asked date })
+told-unowed k r s date a u owed h = record {
   condition = h.condition;
+  by = h.by;
   written = h.written;
   continued = h.continued ∙ kept r.framing.owes_continue a.asked no_more;
   owed = λ waits. owed ∙ sym (ap (λ b. r.framing.owes_continue && not b) (some-first a.asked date) ∙ and-false r.framing.owes_continue);
@@ -344,8 +352,8 @@ told-unowed r s date a u owed h = record {
     kept false o e = refl
 
 -- a body is read
-told-read : (r : Request) (s : Slot) (given : ℕ) (reported : Bool) (a : Account) → Told r s a → Told r (record s { given = given; end_reported = reported }) a
-told-read r s given reported a h = record { condition = h.condition; written = h.written; continued = h.continued; owed = h.owed; given_up = h.given_up }
+told-read : (k : ℕ) (r : Request) (s : Slot) (given : ℕ) (reported : Bool) (a : Account) → Told k r s a → Told k r (record s { given = given; end_reported = reported }) a
+told-read k r s given reported a h = record { condition = h.condition; by = h.by; written = h.written; continued = h.continued; owed = h.owed; given_up = h.given_up }
 
 -- bytes are written
 record IsWritten (stage new : Stage) (bytes : List ℕ) : Type 0 where
@@ -361,11 +369,12 @@ written-stage ByServer owed k bytes e = never e
 written-stage (Raw written ends) owed k bytes e = record { condition = refl; written = refl; answered = refl; given_up = refl }
 written-stage (Upgraded protocol response date written ends) owed k bytes e = record { condition = refl; written = refl; answered = refl; given_up = refl }
 
-told-written : (r : Request) (s : Slot) (k : ℕ) (bytes : List ℕ) (a : Account) → accepts_step s.stage s.owed (Write k bytes) ≡ true → Told r s a → Told r (record s { stage = written_to bytes s.stage }) (record a { written = a.written ++ bytes })
+told-written : (r : Request) (s : Slot) (k : ℕ) (bytes : List ℕ) (a : Account) → accepts_step s.stage s.owed (Write k bytes) ≡ true → Told k r s a → Told k r (record s { stage = written_to bytes s.stage }) (record a { written = a.written ++ bytes })
 told-written r s k bytes a takes h =
     let w = written-stage s.stage s.owed k bytes takes in
     record {
       condition = w.condition ∙ h.condition;
+      by = written-made k bytes s.stage ∙ h.by;
       written = w.written ∙ ap (λ x. x ++ bytes) h.written;
       continued = h.continued;
       owed = λ waits. never (sym w.answered ∙ waits);
@@ -386,11 +395,12 @@ closed-stage ByServer owed k e = never e
 closed-stage (Raw written ends) owed k e = record { condition = refl; written = refl; answered = refl; given_up = refl }
 closed-stage (Upgraded protocol response date written ends) owed k e = record { condition = refl; written = refl; answered = refl; given_up = refl }
 
-told-closed : (r : Request) (s : Slot) (k : ℕ) (a : Account) → accepts_step s.stage s.owed (Finish k) ≡ true → Told r s a → Told r (finished_as s.closes s (stage_closed s.stage)) (record a { condition = Finished })
+told-closed : (r : Request) (s : Slot) (k : ℕ) (a : Account) → accepts_step s.stage s.owed (Finish k) ≡ true → Told k r s a → Told k r (finished_as s.closes s (stage_closed s.stage)) (record a { condition = Finished })
 told-closed r s k a takes h =
     let c = closed-stage s.stage s.owed k takes in
     record {
       condition = c.condition;
+      by = closed-made k s.stage ∙ h.by;
       written = c.written ∙ h.written;
       continued = h.continued;
       owed = λ waits. never (sym c.answered ∙ waits);
@@ -400,7 +410,7 @@ told-closed r s k a takes h =
 -- ---- the steps of a number
 
 -- the number of a step is changed
-tells-set : (f : ℕ → Account) (date : HttpDate) (step : StepValue) (old : Reached) (s t : Slot) (x : ReplyValue) (w : WriterUse) → slice_get old.slots (number_of step) ≡ Some s → MayTell w x → IsTold t t.item (account_after date step x (f (number_of step))) → AllTold old.slots f
+tells-set : (f : ℕ → Account) (date : HttpDate) (step : StepValue) (old : Reached) (s t : Slot) (x : ReplyValue) (w : WriterUse) → slice_get old.slots (number_of step) ≡ Some s → MayTell w x → IsTold (number_of step) t t.item (account_after date step x (f (number_of step))) → AllTold old.slots f
     → Tells f date step (changes old (number_of step) t x w)
 tells-set f date step old s t x w at may is h = record { told = told-set f date step x old.slots s t at is h; may = may }
 
@@ -415,7 +425,7 @@ answered-tells f found date old r s k response h at is u =
     subst P (sym at)
     (tells-ended f date (Respond k response) (is_last_once_finished r s.owed s.given s.end_reported) (changes old k t Done w)
     (tells-set f date (Respond k response) old s t Done w at fault-done
-    (as-item t s.item r _ refl is (told-finished r s t (f k) u refl refl refl refl refl refl (told-at old.slots f k s r h at is))) h))
+    (as-item k t s.item r (record (f k) { condition = Finished; by = Some (date, Respond k response) }) refl is (told-finished k r s t (f k) (Some (date, Respond k response)) u refl refl refl refl refl refl refl (told-at old.slots f k s r h at is))) h))
 
 asked-tells : (f : ℕ → Account) (found : Bool) (date : HttpDate) (old : Reached) (r : Request) (s : Slot) (k : ℕ) (response : ResponseValue) (closes : Bool) → AllTold old.slots f → slice_get old.slots k ≡ Some s → s.item ≡ Asks r → s.stage ≡ Unanswered
     → Tells f date (Respond k response) (answers found date (asked_to_close closes old) r k response)
@@ -432,11 +442,12 @@ refused-tells f date step old r s turn x h at is u after =
     let t = finished_as (closes_now r s.closes s.owed s.given s.end_reported) s ByServer in
     tells-ended f date step (is_last_once_finished r s.owed s.given s.end_reported) (changes old (number_of step) t x (use_in_turn turn))
     (tells-set f date step old s t x (use_in_turn turn) at (tell-turn turn x)
-    (as-item t s.item r (account_after date step x a) refl is (subst (λ b. Told r t b) (sym after) (told-finished r s t a u refl refl refl refl refl refl (told-at old.slots f (number_of step) s r h at is)))) h)
+    (let i = told-at old.slots f (number_of step) s r h at is in
+    as-item (number_of step) t s.item r (account_after date step x a) refl is (subst (λ b. Told (number_of step) r t b) (sym after) (told-finished (number_of step) r s t a a.by u (unmade (number_of step) r s a u i) refl refl refl refl refl refl i))) h)
 
-upgraded-told : (r : Request) (s : Slot) (stage : Stage) (a : Account) → s.item ≡ Asks r → s.stage ≡ Unanswered → condition_of stage ≡ Writes → written_in stage ≡ [] → is_unanswered stage ≡ false → is_given_up stage ≡ false → Told r s a
-    → IsTold (upgraded_slot r s stage) (upgraded_slot r s stage).item (record a { condition = Writes })
-upgraded-told r s stage a is u writes empty answered given h = go r.framing.by_standard
+upgraded-told : (k : ℕ) (r : Request) (s : Slot) (stage : Stage) (a : Account) (b : Option TimedValue) → s.item ≡ Asks r → s.stage ≡ Unanswered → maker k stage ≡ b → condition_of stage ≡ Writes → written_in stage ≡ [] → is_unanswered stage ≡ false → is_given_up stage ≡ false → Told k r s a
+    → IsTold k (upgraded_slot r s stage) (upgraded_slot r s stage).item (record a { condition = Writes; by = b })
+upgraded-told k r s stage a by is u made writes empty answered given h = go r.framing.by_standard
   where
     kept : s.given_up ≡ is_given_up stage
     kept = h.given_up ∙ ap is_given_up u ∙ sym given
@@ -447,9 +458,9 @@ upgraded-told r s stage a is u writes empty answered given h = go r.framing.by_s
     plain : Slot
     plain = record s { stage = stage; owed = false }
 
-    go : (b : Bool) → IsTold (if b then stream else plain) (if b then stream else plain).item (record a { condition = Writes })
-    go true = told-writes r (as_stream r) s stream a u refl kept writes empty answered refl h
-    go false = as-item plain s.item r (record a { condition = Writes }) refl is (told-writes r r s plain a u refl kept writes empty answered refl h)
+    go : (b : Bool) → IsTold k (if b then stream else plain) (if b then stream else plain).item (record a { condition = Writes; by = by })
+    go true = told-writes k r (as_stream r) s stream a by u made refl kept writes empty answered refl h
+    go false = as-item k plain s.item r (record a { condition = Writes; by = by }) refl is (told-writes k r r s plain a by u made refl kept writes empty answered refl h)
 
 effect-tells : (f : ℕ → Account) (found : Bool) (date : HttpDate) (old : Reached) (r : Request) (s : Slot) (turn : Bool) (step : StepValue) → AllTold old.slots f → slice_get old.slots (number_of step) ≡ Some s → s.item ≡ Asks r → accepts_step s.stage s.owed step ≡ true
     → Tells f date step (effect found date old r s turn step)
@@ -460,8 +471,8 @@ effect-tells f found date old r s turn (AsReader k) h at is takes =
     let t : Slot = record s { owed = false; continued = Some date } in
     let a : Account = record (f k) { asked = first_date (f k).asked date } in
     tells-if f date (AsReader k) s.owed (changes old k t Done Unreported) (unchanged old Done)
-    (λ owed. tells-set f date (AsReader k) old s t Done Unreported at tt (as-item t s.item r a refl is (told-continued r s date (f k) u owed i)) h)
-    (λ owed. record { told = told-kept f date (AsReader k) Done old.slots s at (as-item s s.item r a refl is (told-unowed r s date (f k) u owed i)) h; may = tt })
+    (λ owed. tells-set f date (AsReader k) old s t Done Unreported at tt (as-item k t s.item r a refl is (told-continued k r s date (f k) u owed i)) h)
+    (λ owed. record { told = told-kept f date (AsReader k) Done old.slots s at (as-item k s s.item r a refl is (told-unowed k r s date (f k) u owed i)) h; may = tt })
 effect-tells f found date old r s turn (Read k n) h at is takes =
     let i = told-at old.slots f k s r h at is in
     let left = (rest_of r s.given).bytes in
@@ -471,7 +482,7 @@ effect-tells f found date old r s turn (Read k n) h at is takes =
     let reply = read_reply n left r.body.stop in
     tells-if f date (Read k n) (n == 0) (unchanged old (Given [])) (changes old k t reply Unused)
     (λ e. tells-none f date (Read k n) old (Given []) (record { done = refl; refused = refl }) h)
-    (λ e. tells-set f date (Read k n) old s t reply Unused at tt (as-item t s.item r (f k) refl is (told-read r s given reported (f k) i)) h)
+    (λ e. tells-set f date (Read k n) old s t reply Unused at tt (as-item k t s.item r (f k) refl is (told-read k r s given reported (f k) i)) h)
 effect-tells f found date old r s turn (Respond k response) h at is takes =
     let u = by-respond s.stage s.owed k response takes in
     tells-if f date (Respond k response) (refuses_response r response) (ends_asking (is_last_once_finished r s.owed s.given s.end_reported) (changes old k (finished_as (closes_now r s.closes s.owed s.given s.end_reported) s ByServer) Refused (use_in_turn turn))) (answers found date (asked_to_close response.answer.closes old) r k response)
@@ -480,11 +491,14 @@ effect-tells f found date old r s turn (Respond k response) h at is takes =
 effect-tells f found date old r s turn (IntoWriter k) h at is takes =
     let t : Slot = record s { stage = Raw [] false; given_up = true; owed = false } in
     tells-ended f date (IntoWriter k) (is_last_with_stream r s.owed s.given s.end_reported) (changes old k t Done Unused)
-    (tells-set f date (IntoWriter k) old s t Done Unused at tt (as-item t s.item r (record (f k) { condition = Writes }) refl is (told-writes r r s t (f k) (by-writer s.stage s.owed k takes) refl refl refl refl refl refl (told-at old.slots f k s r h at is))) h)
+    (tells-set f date (IntoWriter k) old s t Done Unused at tt
+    (let i = told-at old.slots f k s r h at is in
+    let u = by-writer s.stage s.owed k takes in
+    as-item k t s.item r (record (f k) { condition = Writes }) refl is (told-writes k r r s t (f k) (f k).by u (unmade k r s (f k) u i) refl refl refl refl refl refl i)) h)
 effect-tells f found date old r s turn (Write k bytes) h at is takes =
     let t : Slot = record s { stage = written_to bytes s.stage } in
     tells-set f date (Write k bytes) old s t Done (Reported bytes None false Fault) at (λ kind. record { done = refl; refused = refl })
-    (as-item t s.item r (record (f k) { written = (f k).written ++ bytes }) refl is (told-written r s k bytes (f k) takes (told-at old.slots f k s r h at is))) h
+    (as-item k t s.item r (record (f k) { written = (f k).written ++ bytes }) refl is (told-written r s k bytes (f k) takes (told-at old.slots f k s r h at is))) h
 effect-tells f found date old r s turn (Flush k) h at is takes =
     tells-set f date (Flush k) old s s Done (Reported [] None true Fault) at (λ kind. record { done = refl; refused = refl }) (h.here k s at) h
 effect-tells f found date old r s turn (Upgrade k protocol response) h at is takes =
@@ -495,11 +509,11 @@ effect-tells f found date old r s turn (Upgrade k protocol response) h at is tak
     tells-if f date (Upgrade k protocol response) (refuses_upgrade r s protocol response) (ends_asking (is_last_once_finished r s.owed s.given s.end_reported) (changes old k (finished_as (closes_now r s.closes s.owed s.given s.end_reported) s ByServer) Refused (use_in_turn turn))) (ends_asking goes (changes old k t Done Unreported))
     (λ e. refused-tells f date (Upgrade k protocol response) old r s turn Refused h at is u refl)
     (λ e. tells-ended f date (Upgrade k protocol response) goes (changes old k t Done Unreported)
-    (tells-set f date (Upgrade k protocol response) old s t Done Unreported at tt (upgraded-told r s stage (f k) is u refl refl refl refl (told-at old.slots f k s r h at is)) h))
+    (tells-set f date (Upgrade k protocol response) old s t Done Unreported at tt (upgraded-told k r s stage (f k) (Some (date, Upgrade k protocol response)) is u refl refl refl refl refl (told-at old.slots f k s r h at is)) h))
 effect-tells f found date old r s turn (Finish k) h at is takes =
     let t = finished_as s.closes s (stage_closed s.stage) in
     tells-set f date (Finish k) old s t Done (use_in_turn turn) at (tell-turn turn Done)
-    (as-item t s.item r (record (f k) { condition = Finished }) refl is (told-closed r s k (f k) takes (told-at old.slots f k s r h at is))) h
+    (as-item k t s.item r (record (f k) { condition = Finished }) refl is (told-closed r s k (f k) takes (told-at old.slots f k s r h at is))) h
 effect-tells f found date old r s turn (Drop k) h at is takes =
     refused-tells f date (Drop k) old r s turn Done h at is (by-drop s.stage s.owed k takes) refl
 
@@ -538,9 +552,10 @@ none-more [] t (suc k) e = refl
 none-more (x ∷ xs) t zero e = cc
 none-more (x ∷ xs) t (suc k) e = none-more xs t k e
 
-new-told : (date : HttpDate) (item : Item) → IsTold (new_slot date item) (new_slot date item).item untouched
-new-told date (Asks r) = record {
+new-told : (k : ℕ) (date : HttpDate) (item : Item) → IsTold k (new_slot date item) (new_slot date item).item untouched
+new-told k date (Asks r) = record {
   condition = refl;
+  by = refl;
   written = refl;
   continued = sym (if-same r.framing.owes_continue None);
   owed = λ waits. sym (owes r.framing.owes_continue);
@@ -550,7 +565,7 @@ new-told date (Asks r) = record {
     owes : (b : Bool) → (b && true) ≡ b
     owes true = refl
     owes false = refl
-new-told date (Refuses refusal manner no_body last) = record { stage = refl; account = refl; continued = refl }
+new-told k date (Refuses refusal manner no_body last) = record { stage = refl; account = refl; continued = refl }
 
 told-more : (f : ℕ → Account) (date : HttpDate) (slots : List Slot) (item : Item) → AllTold slots f → AllTold (slots ++ new_slot date item ∷ []) f
 told-more f date slots item h = record {
@@ -558,8 +573,8 @@ told-more f date slots item h = record {
       ⊎_elim
       (λ was. h.here k s was)
       (λ new.
-      let untold : IsTold (new_slot date item) (new_slot date item).item (f k) = subst (λ a. IsTold (new_slot date item) (new_slot date item).item a) (sym (h.none k new.0)) (new-told date item) in
-      subst (λ (y : Slot). IsTold y y.item (f k)) new.1 untold)
+      let untold : IsTold k (new_slot date item) (new_slot date item).item (f k) = subst (λ a. IsTold k (new_slot date item) (new_slot date item).item a) (sym (h.none k new.0)) (new-told k date item) in
+      subst (λ (y : Slot). IsTold k y y.item (f k)) new.1 untold)
       (one-more-at slots (new_slot date item) k s e);
   none = λ k e. h.none k (none-more slots (new_slot date item) k e);
 }
@@ -598,7 +613,7 @@ asked-told f date x slots h = told-as slots f (λ k. account_now k date Ask x (f
 
 asks-tell : (f : ℕ → Account) (date : HttpDate) (w : WriterUse) (slots : List Slot) (items : List Item) → IsOwn w → AllTold slots f → Tells f date Ask (asks_from date w slots items)
 asks-tell f date w slots [] o h = record { told = asked-told f date Ended slots h; may = own-tells w Ended o }
-asks-tell f date w slots (Asks r ∷ items) o h = record { told = asked-told f date _ (slots ++ new_slot date (Asks r) ∷ []) (told-more f date slots (Asks r) h); may = own-tells w _ o }
+asks-tell f date w slots (Asks r ∷ items) o h = record { told = asked-told f date (Handed (length slots) r.message r.framing) (slots ++ new_slot date (Asks r) ∷ []) (told-more f date slots (Asks r) h); may = own-tells w (Handed (length slots) r.message r.framing) o }
 asks-tell f date w slots (Refuses refusal manner no_body last ∷ items) o h =
     let item = Refuses refusal manner no_body last in
     let turn = turn_has_come (length slots) slots in

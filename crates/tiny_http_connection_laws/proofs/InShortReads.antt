@@ -18,7 +18,8 @@ use Rattle.tiny_http_connection.specs.Steps.{StepValue, Ask, AsReader, Read, Res
 use Rattle.tiny_http_connection.specs.Outcomes.{WriterUse, Unused, Unreported, Reported, Outcome, Reached, unchanged, changes, asks_from, ask, read_reply, finished_as, written_to, stage_closed, fault_in, fault_reply, accepts_step, needs_turn, use_in_turn, ends_asking, is_last_with_stream, asked_to_close, answers_slot, answers, effect, at_item, at_slot, at_number, outcome}
 use Rattle.tiny_http_connection.specs.Conversation.{Failure, State, Fares, MayFare, reply_in, failure_in, is_silent, HasOutcome, FindsNoMemory, answers_to, StepsTo, Run, start_state, IsConversation}
 use Rattle.tiny_http_connection.proofs.ConnectionClosing.{by-closing}
-use Rattle.tiny_http_connection_laws.specs.InShort.{ReadsNext, LeavesBody, ReadsInOrder}
+use Rattle.tiny_http_connection.specs.Giving.{ReadsNext}
+use Rattle.tiny_http_connection_laws.specs.InShort.{LeavesBody, ReadsInOrder}
 use Rattle.tiny_http_connection_laws.proofs.InShortHanded.{closing-length, set-length, one-more}
 use Rattle.tiny_http_connection_laws.proofs.StepsAdd.{by-upgrade}
 

@@ -166,14 +166,14 @@ asked-fits found date old r j response false = answered-fits found date old r j 
 asked-fits found date old r j response true =
     told-fits (date, Respond j response) old (answers found date (asked_to_close true old) r j response) (answered-fits found date (asked_to_close true old) r j response)
 
-written-made : (k : ℕ) (bytes : List ℕ) (stage : Stage) → maker k (written_to bytes stage) ≡ maker k stage
+pub written-made : (k : ℕ) (bytes : List ℕ) (stage : Stage) → maker k (written_to bytes stage) ≡ maker k stage
 written-made k bytes Unanswered = refl
 written-made k bytes (Answered response date found) = refl
 written-made k bytes ByServer = refl
 written-made k bytes (Raw written closed) = refl
 written-made k bytes (Upgraded protocol response date written closed) = refl
 
-closed-made : (k : ℕ) (stage : Stage) → maker k (stage_closed stage) ≡ maker k stage
+pub closed-made : (k : ℕ) (stage : Stage) → maker k (stage_closed stage) ≡ maker k stage
 closed-made k Unanswered = refl
 closed-made k (Answered response date found) = refl
 closed-made k ByServer = refl

@@ -1,4 +1,4 @@
--- What was done for each number, told by the steps and their replies alone, and why the requests end.
+-- What was done for each number, told by the steps and their replies, and why the requests end.
 use Rattle.std.specs.Prelude.{◌≡◌, ℕ, ◌⊎◌, ⊤, ◌==◌, Bool, true, false, not, ◌&&◌, ◌||◌, List, [], ◌∷◌, ◌++◌, Option, Some}
 use Rattle.std.specs.Prelude.{None, is_some, slice_get, if◌then◌else◌}
 use Rattle.httpdate.specs.declared.date.HttpDate.{HttpDate}
@@ -11,6 +11,7 @@ use Rattle.tiny_http_connection.specs.Slots.{remainder_of, body_was_abandoned}
 use Rattle.tiny_http_connection.specs.Steps.{StepValue, Ask, AsReader, Read, Respond, IntoWriter, Write, Flush, Upgrade}
 use Rattle.tiny_http_connection.specs.Steps.{Finish, Drop, ReplyValue, Ended, Refused, Memory, TimedValue, number_of}
 use Rattle.tiny_http_connection.specs.Steps.{is_done, is_refused}
+use Rattle.tiny_http_connection_laws.specs.InShort.{maker}
 
 -- ---- what was done for a number
 
@@ -20,35 +21,43 @@ pub data Condition : Type 0 where
   Writes : Condition
   Finished : Condition
 
--- what became of a number, the bytes that were written under it, and when its 100 was first asked for
+-- what became of a number; the step that answered it by a response, if one did; the bytes that were written under it;
+-- and when its 100 was first asked for
 pub record Account : Type 0 where
   pub condition : Condition
+  pub by : Option TimedValue
   pub written : List ℕ
   pub asked : Option HttpDate
 
 -- nothing was done for the number
 abbrev pub untouched : Account
-untouched = record { condition = Waits; written = []; asked = None }
+untouched = record { condition = Waits; by = None; written = []; asked = None }
 
 -- this becomes of it, if that holds
 abbrev pub becomes : Condition → Bool → Account → Account
 becomes condition holds a = if holds then record a { condition = condition } else a
 
+-- this step answers it, if that holds
+abbrev pub answered_by : TimedValue → Bool → Account → Account
+answered_by step holds a = if holds then record a { by = Some step } else a
+
 abbrev pub first_date : Option HttpDate → HttpDate → Option HttpDate
 first_date None date = Some date
 first_date (Some first) date = Some first
 
--- The account of a number after a step for it, by the reply. What wasn't done changes nothing.
+-- The account of a number after a step for it, by the reply. One that was neither done nor refused changes nothing.
 abbrev pub account_after : HttpDate → StepValue → ReplyValue → Account → Account
 account_after date Ask reply a = a
 account_after date (AsReader k) reply a = if is_done reply then record a { asked = first_date a.asked date } else a
 account_after date (Read k n) reply a = a
-account_after date (Respond k response) reply a = becomes Finished (is_done reply || is_refused reply) a
+account_after date (Respond k response) reply a =
+    becomes Finished (is_done reply || is_refused reply) (answered_by (date, Respond k response) (is_done reply) a)
 account_after date (IntoWriter k) reply a = becomes Writes (is_done reply) a
 account_after date (Write k bytes) reply a = if is_done reply then record a { written = a.written ++ bytes } else a
 account_after date (Flush k) reply a = a
 account_after date (Upgrade k protocol response) reply a =
-    becomes Finished (is_refused reply) (becomes Writes (is_done reply) a)
+    becomes Finished (is_refused reply)
+    (becomes Writes (is_done reply) (answered_by (date, Upgrade k protocol response) (is_done reply) a))
 account_after date (Finish k) reply a = becomes Finished (is_done reply) a
 account_after date (Drop k) reply a = becomes Finished (is_done reply) a
 
@@ -78,14 +87,16 @@ written_in (Raw written closed) = written
 written_in (Upgraded protocol response date written closed) = written
 written_in _ = []
 
--- A NUMBER IS AS ITS ACCOUNT SAYS. Its 100 was sent when that was first asked for, if its head expects one. Nothing is
--- done for a refused head, which the server answers.
-abbrev pub IsAsTold : Slot → Item → Account → Type 0
-IsAsTold s (Asks r) a =
+-- NUMBER k IS AS ITS ACCOUNT SAYS. Its answer is that of the step which answered it, and else the server's or none.
+-- Its 100 has the date on which it was first asked for, if its head expects one. Nothing is done for a refused head,
+-- which the server answers.
+abbrev pub IsAsTold : ℕ → Slot → Item → Account → Type 0
+IsAsTold k s (Asks r) a =
     (condition_of s.stage ≡ a.condition)
+    × (maker k s.stage ≡ a.by)
     × (written_in s.stage ≡ a.written)
     × (s.continued ≡ (if r.framing.owes_continue then a.asked else None))
-IsAsTold s (Refuses refusal manner no_body last) a = (s.stage ≡ ByServer) × (a ≡ untouched) × (s.continued ≡ None)
+IsAsTold k s (Refuses refusal manner no_body last) a = (s.stage ≡ ByServer) × (a ≡ untouched) × (s.continued ≡ None)
 
 -- ---- turns
 
@@ -99,9 +110,39 @@ abbrev pub IsHanded : ℕ → List (ℕ × Message × Framing) → Type 0
 IsHanded k [] = ⊥
 IsHanded k (h ∷ handed) = (h.0 ≡ k) ⊎ IsHanded k handed
 
+-- a number in this condition takes the step
+abbrev pub takes : Condition → StepValue → Bool
+takes Waits (AsReader k) = true
+takes Waits (Read k n) = true
+takes Waits (Respond k response) = true
+takes Waits (IntoWriter k) = true
+takes Waits (Upgrade k protocol response) = true
+takes Waits (Drop k) = true
+takes Writes (Read k n) = true
+takes Writes (Write k bytes) = true
+takes Writes (Flush k) = true
+takes Writes (Finish k) = true
+takes _ _ = false
+
+-- the step is done before the turn of its number, too
+abbrev pub is_done_early : StepValue → Bool
+is_done_early (IntoWriter k) = true
+is_done_early (Drop k) = true
+is_done_early (Finish k) = true
+is_done_early _ = false
+
+-- a step that was taken is done or refused; of a read nothing is said, which waits for its 100, and may find no memory
+abbrev pub IsTaken : StepValue → ReplyValue → Type 0
+IsTaken (Read k n) reply = ⊤
+IsTaken step reply = (is_done reply || is_refused reply) ≡ true
+
+abbrev pub is_ask : StepValue → Bool
+is_ask Ask = true
+is_ask _ = false
+
 -- ---- why the requests end
 
--- an Ask is answered so that no further request comes
+-- an Ask is answered that no further request comes
 abbrev pub IsEnd : StepValue → ReplyValue → Type 0
 IsEnd Ask Ended = ⊤
 IsEnd _ _ = ⊥
@@ -110,7 +151,7 @@ abbrev pub HasEnd : List TimedValue → List ReplyValue → Type 0
 HasEnd (s ∷ steps) (reply ∷ replies) = IsEnd s.1 reply ⊎ HasEnd steps replies
 HasEnd _ _ = ⊥
 
--- a step ends the requests: no memory was found for an Ask, or an answer that was made asks for that
+-- the step ends the requests: it is an Ask for which no memory was found, or an answer was made that asks for that
 abbrev pub EndsRequests : StepValue → ReplyValue → Type 0
 EndsRequests Ask reply = reply ≡ Memory
 EndsRequests (Respond k response) reply = (is_done reply ≡ true) × (response.answer.closes ≡ true)
@@ -142,6 +183,6 @@ abbrev pub stops : Slot → Item → Bool
 stops s (Asks r) = stops_by s r s.stage
 stops s (Refuses refusal manner no_body last) = false
 
--- one of the numbers does that
+-- a number stops the requests
 abbrev pub OneStops : List Slot → Type 0
 OneStops slots = (k : ℕ) × (s : Slot) × (slice_get slots k ≡ Some s) × (stops s s.item ≡ true)

@@ -1,6 +1,6 @@
 //! What follows from the connection theorem: what it says in short words, and what a client reads.
-ghost use Rattle.std.specs.Prelude.{◌≡◌, ◌<◌, ◌≤◌, ◌^◌, ◌+◌, ◌++◌, ◌∷◌, ◌⊎◌, ◌||◌, length, map, slice_get, ℕ, Bool, true};
-ghost use Rattle.std.specs.Prelude.{false, List, []};
+ghost use Rattle.std.specs.Prelude.{◌≡◌, ◌<◌, ◌≤◌, ◌^◌, ◌+◌, ◌++◌, ◌∷◌, ◌⊎◌, ◌≢◌, length, map, slice_get, ℕ, Bool};
+ghost use Rattle.std.specs.Prelude.{true, false, List, []};
 ghost use Rattle.std.specs.Prelude.{Option, Some, None, IsTrue};
 ghost use Rattle.std.specs.List.{AllByRecursion, list_all};
 ghost use Rattle.tiny_http_io.specs.Device.{Feed, Sink, IsFront};
@@ -8,7 +8,7 @@ ghost use Rattle.tiny_http_head.specs.Heads.{Message};
 ghost use Rattle.tiny_http_body.specs.declared.framing.Framing.{Framing};
 ghost use Rattle.tiny_http_open_request.specs.Pipeline.{Item, Request, Asks};
 ghost use Rattle.tiny_http_connection.specs.Segments.{Slot, is_finished};
-ghost use Rattle.tiny_http_connection.specs.Steps.{ReplyValue, TimedValue, Ask, Respond, NotYet, is_done, is_refused};
+ghost use Rattle.tiny_http_connection.specs.Steps.{StepValue, ReplyValue, TimedValue, Ask, NotYet, NoSuch, number_of};
 ghost use Rattle.tiny_http_body.specs.declared.framing.Profile.{Profile};
 ghost use Rattle.tiny_http_connection.specs.Conversation.{IsConversation};
 ghost use Rattle.tiny_http_client.specs.ClientAnswer.{ClientAnswer, ReadsAnswers};
@@ -16,10 +16,10 @@ ghost use Rattle.tiny_http_client.specs.SentTexts.{methods, whole_answers, remai
 ghost use Rattle.tiny_http_response.specs.Readable.{IsReadable};
 ghost use Rattle.tiny_http_connection_laws.specs.InShort.{handed, requests_from, ReadsInOrder, sent, segment_of};
 ghost use Rattle.tiny_http_connection_laws.specs.InShort.{AreOfOneHead, maker, IsAmong};
-ghost use Rattle.tiny_http_connection_laws.specs.Accounts.{Finished, Waits, account, IsAsTold, IsThrough, IsHanded};
-ghost use Rattle.tiny_http_connection_laws.specs.Accounts.{HasEnd, OneEndsRequests, OneStops};
+ghost use Rattle.tiny_http_connection_laws.specs.Accounts.{Finished, account, IsAsTold, IsThrough, IsHanded, takes};
+ghost use Rattle.tiny_http_connection_laws.specs.Accounts.{is_done_early, IsTaken, is_ask, HasEnd, OneEndsRequests};
+ghost use Rattle.tiny_http_connection_laws.specs.Accounts.{OneStops};
 ghost use Rattle.httpdate.specs.declared.date.HttpDate.{HttpDate};
-ghost use Rattle.tiny_http_response.specs.ResponseValue.{ResponseValue};
 ghost use Rattle.tiny_http_connection_laws.specs.Closes.{NoneFollowsClose, IsReadAsSaid};
 ghost use Rattle.tiny_http_connection_laws.specs.ClientReads.{headers_printed, CanBeRead, AreReadable, CanBeReadAt};
 ghost use Rattle.tiny_http_connection_laws.specs.ClientReads.{IsOutputOf, HaveAnswers, ReadsNumbers, sent_texts};
@@ -85,48 +85,69 @@ pub fn output_joins_the_segments()
         → IsAmong t steps }
 {}
 
-/// EACH NUMBER IS AS ITS STEPS SAY, by their replies alone: it is finished where a step finished it, its raw writer or
-/// stream has the bytes of its writes, joined, and its 100 stands where it was first asked for. So a step that is
-/// replied `Done` was done, and nothing else was.
+/// EACH NUMBER IS AS ITS STEPS SAY, by their replies: each request that was handed out has a number. It is finished
+/// where a step finished it, and has the answer of the step that was done, or else the server's. Its raw writer or
+/// stream has the bytes of its writes, joined, and its 100 the date on which it was first asked for.
 pub fn numbers_are_as_told()
+    ensures reached { (p : Profile) (feed : Feed) (before after : Sink) (steps : List TimedValue)
+        (replies : List ReplyValue) (held : List ℕ) (ended : Bool) (unread : Option Feed)
+        → (c : IsConversation p feed before steps replies after held ended unread)
+        → (k : ℕ)
+        → IsHanded k (handed replies)
+        → (s : Slot) × (slice_get c.end.reached.slots k ≡ Some s) }
     ensures told { (p : Profile) (feed : Feed) (before after : Sink) (steps : List TimedValue)
         (replies : List ReplyValue) (held : List ℕ) (ended : Bool) (unread : Option Feed)
         → (c : IsConversation p feed before steps replies after held ended unread)
         → (k : ℕ) (s : Slot)
         → slice_get c.end.reached.slots k ≡ Some s
-        → IsAsTold s s.item (account k steps replies) }
+        → IsAsTold k s s.item (account k steps replies) }
 {}
 
-/// STEPS ARE TAKEN IN TURN. An answer to a request that was handed out and waits is made or refused, once the numbers
-/// before it are finished: it is not put off. An `Ask` is put off only while a request isn't finished.
+/// STEPS ARE TAKEN IN TURN. A step for a request that was handed out is done or refused where the request takes it,
+/// once the numbers before it are finished; it is not put off. A step that is neither done, refused nor put off finds
+/// no such request. An `Ask` is put off only while the last request that was handed out isn't finished.
 pub fn steps_are_taken_in_turn()
-    ensures answer { (p : Profile) (feed : Feed) (before after : Sink) (steps later : List TimedValue)
+    ensures done { (p : Profile) (feed : Feed) (before after : Sink) (steps later : List TimedValue)
         (replies more : List ReplyValue) (held : List ℕ) (ended : Bool) (unread : Option Feed) (date : HttpDate)
-        (k : ℕ) (response : ResponseValue) (reply : ReplyValue)
-        → (c : IsConversation p feed before (steps ++ (date, Respond k response) ∷ later) (replies ++ reply ∷ more)
-        after held ended unread)
+        (step : StepValue) (reply : ReplyValue)
+        → (c : IsConversation p feed before (steps ++ (date, step) ∷ later) (replies ++ reply ∷ more) after held ended
+        unread)
         → length replies ≡ length steps
-        → IsHanded k (handed replies)
-        → (account k steps replies).condition ≡ Waits
-        → ((j : ℕ) → j < k → IsThrough (slice_get c.items j) (account j steps replies))
-        → (is_done reply || is_refused reply) ≡ true }
+        → IsHanded (number_of step) (handed replies)
+        → takes (account (number_of step) steps replies).condition step ≡ true
+        → (is_done_early step ≡ false
+        → (j : ℕ) → j < number_of step → IsThrough (slice_get c.items j) (account j steps replies))
+        → IsTaken step reply }
+    ensures found { (p : Profile) (feed : Feed) (before after : Sink) (steps later : List TimedValue)
+        (replies more : List ReplyValue) (held : List ℕ) (ended : Bool) (unread : Option Feed) (date : HttpDate)
+        (step : StepValue) (reply : ReplyValue)
+        → (c : IsConversation p feed before (steps ++ (date, step) ∷ later) (replies ++ reply ∷ more) after held ended
+        unread)
+        → length replies ≡ length steps
+        → is_ask step ≡ false
+        → reply ≢ NoSuch
+        → IsHanded (number_of step) (handed replies)
+        × (takes (account (number_of step) steps replies).condition step ≡ true) }
     ensures ask { (p : Profile) (feed : Feed) (before after : Sink) (steps later : List TimedValue)
         (replies more : List ReplyValue) (held : List ℕ) (ended : Bool) (unread : Option Feed) (date : HttpDate)
         → (c : IsConversation p feed before (steps ++ (date, Ask) ∷ later) (replies ++ NotYet ∷ more) after held ended
         unread)
         → length replies ≡ length steps
-        → (k : ℕ) × IsHanded k (handed replies) × ((account k steps replies).condition ≡ Finished → ⊥) }
+        → (k : ℕ)
+        × IsHanded k (handed replies)
+        × ((j : ℕ) → IsHanded j (handed replies) → j ≤ k)
+        × ((account k steps replies).condition ≢ Finished) }
 {}
 
-/// THE END HAS A REASON. Where an `Ask` is answered by the end, every request of the pipeline was handed out; or a
-/// number stops the requests, as one whose chunked body was given up in the middle; or a step ended them: memory was
-/// refused, or an answer asked for the connection's end.
+/// THE END HAS A REASON. Where an `Ask` is answered by the end, every request of the pipeline was handed out, and each
+/// refused head has a number; or a number stops the requests, as one whose chunked body was given up in the middle; or
+/// a step ended them: memory was refused, or an answer asked for the connection's end.
 pub fn the_end_has_a_reason()
     ensures reason { (p : Profile) (feed : Feed) (before after : Sink) (steps : List TimedValue)
         (replies : List ReplyValue) (held : List ℕ) (ended : Bool) (unread : Option Feed)
         → (c : IsConversation p feed before steps replies after held ended unread)
         → HasEnd steps replies
-        → (requests_from 0 c.items ≡ handed replies)
+        → ((requests_from 0 c.items ≡ handed replies) × (length c.end.reached.slots ≡ length c.items))
         ⊎ (OneStops c.end.reached.slots ⊎ OneEndsRequests steps replies) }
 {}
 

@@ -311,8 +311,8 @@ impl<R: ReadDevice + Drop, W: WriteDevice + Drop, Rt: Wait + Copy> ClientConnect
         ensures holds { IfOk result (λ request. (request_body request).holds_input
             ≡ is_streaming (request_open request).body || (request_open request).holds_next_head) }
         ensures err { OnErr result (IsOver self.new) }
-        ensures last { IfOk result (λ request. (request_head request).is_last ≡ true → IsOver self.new) }
-        ensures open { IfOk result (λ request. (request_head request).is_last ≡ false → IsOver self.new → ⊥) }
+        ensures last { IfOk result (λ request. (request_head request).framing.is_last ≡ true → IsOver self.new) }
+        ensures open { IfOk result (λ request. (request_head request).framing.is_last ≡ false → IsOver self.new → ⊥) }
         ensures client { IfOk result (λ request. (request_secure request ≡ client_secure self.old)
             × (request_address request ≡ client_address self.old)) }
         ensures same { (client_secure self.new ≡ client_secure self.old)

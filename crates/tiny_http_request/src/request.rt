@@ -296,7 +296,7 @@ impl<R: ReadDevice + Drop, W: WriteDevice + Drop, Rt: Wait + Drop> Request<R, W,
 
     /// The length that `Content-Length` says, where it can be read and no `Transfer-Encoding` hides it.
     pub fn body_length(&self) -> Option<usize>
-        ensures { result ≡ (request_head self.now).body_length }
+        ensures { result ≡ (request_head self.now).framing.body_length }
     {
         self.head.body_length()
     }
@@ -400,7 +400,7 @@ impl<R: ReadDevice + Drop, W: WriteDevice + Drop, Rt: Wait + Drop> Request<R, W,
         ensures over { OnOk result (is_streaming (request_open self.old).body ≡ true
             → (bytes_left (request_open self.old).body ≡ Some 0) ⊎ IsBodyOver (request_open self.new).body) }
         ensures fails { IfErr result
-            (λ e. FailsWhole (request_head self.old).form most (request_open self.old).body
+            (λ e. FailsWhole (request_head self.old).framing.form most (request_open self.old).body
             (request_open self.new).body e) }
         ensures continued { OnOk result ((request_open self.new).owes_continue ≡ false) }
         ensures head { request_head self.new ≡ request_head self.old }

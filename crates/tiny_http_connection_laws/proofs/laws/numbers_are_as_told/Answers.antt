@@ -4,14 +4,17 @@ use Rattle.tiny_http_connection.specs.Segments.{Slot}
 use Rattle.tiny_http_connection.specs.Conversation.{start_state}
 use Rattle.tiny_http_connection_laws.specs.Accounts.{Account, untouched, IsAsTold}
 use Rattle.tiny_http_connection_laws.proofs.AccountsHold.{IsTold, none-told, run-told}
+use Rattle.tiny_http_connection_laws.proofs.AccountsTurns.{handed-reached}
 use Rattle.tiny_http_connection_laws.proofs.laws.numbers_are_as_told.Goals as goal
 
-as-told : (s : Slot) (item : Item) (a : Account) → IsTold s item a → IsAsTold s item a
-as-told s (Asks r) a h = (h.condition, h.written, h.continued)
-as-told s (Refuses refusal manner no_body last) a h = (h.stage, h.account, h.continued)
+as-told : (k : ℕ) (s : Slot) (item : Item) (a : Account) → IsTold k s item a → IsAsTold k s item a
+as-told k s (Asks r) a h = (h.condition, h.by, h.written, h.continued)
+as-told k s (Refuses refusal manner no_body last) a h = (h.stage, h.account, h.continued)
 
-pub returns : goal.returns
-returns c = record {
-  told = λ p feed before after steps replies held ended unread x k s here.
-      as-told s s.item _ ((run-told (λ j. untouched) (start_state x.items) x.end steps replies none-told x.run).here k s here);
-}
+pub returns-clause-reached : goal.returns-clause-reached
+returns-clause-reached c = λ p feed before after steps replies held ended unread x k known.
+    handed-reached p feed before after steps replies held ended unread x k known
+
+pub returns-clause-told : goal.returns-clause-told
+returns-clause-told c = λ p feed before after steps replies held ended unread x k s here.
+    as-told k s s.item _ ((run-told (λ j. untouched) (start_state x.items) x.end steps replies none-told x.run).here k s here)
