@@ -60,7 +60,7 @@ fn send_request<R: ReadDevice + Drop, W: WriteDevice + Drop, Rt: Clock + Wait + 
 ) -> io::Result<()> {
     backend.write_all(head.as_bytes())?;
     let (head, body) = request.parts(current_date(rt));
-    if head.body_length.is_none() && head.header("Transfer-Encoding").is_some() {
+    if head.body_length().is_none() && head.header("Transfer-Encoding").is_some() {
         let mut chunks = Encoder::new(Metered::new(backend));
         pipe(body, &mut chunks)?;
         let _ = chunks.finish()?;

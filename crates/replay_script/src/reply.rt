@@ -33,7 +33,7 @@ impl fmt::Display for Length {
 struct Handed<'a>(u64, &'a Head);
 
 impl fmt::Display for Handed<'_> {
-    ghost output = { λ h. Some (handed_text h.0 (head_message h.1.now) h.1.now.body_length) };
+    ghost output = { λ h. Some (handed_text h.0 (head_message h.1.now) h.1.now.framing.body_length) };
 
     fn fmt<W: fmt::Write>(&self, f: &mut fmt::Formatter<W>) -> fmt::Result {
         let number = self.0;
@@ -42,7 +42,7 @@ impl fmt::Display for Handed<'_> {
         let path = head.path.as_str();
         let version = head.version;
         let headers = head.headers.len();
-        let length = Length(head.body_length());
+        let length = Length(head.framing.body_length);
         write!(
             f,
             "handed {number} {method} {path} {version} {headers}{length}"

@@ -167,9 +167,11 @@ answered-ends found date old r s a k response at is u h =
     let text = text_if found response (to_request closes r date) in
     let t = finished_as closes s (Answered response date found) in
     let w = Reported text.bytes (fault_in text.ending) true fault_reply in
-    subst P (sym at)
-    (ends-set old (Respond k response) k s t Done w (is_last_once_finished r s.owed s.given s.end_reported) at (quiet-keeps s t r is u)
-    (λ last. stops-item t s.item r refl is (cut-short k r s a (body_was_abandoned t (Asks r)) h u last)), refl)
+    subst P (sym at) (
+      ends-set old (Respond k response) k s t Done w (is_last_once_finished r s.owed s.given s.end_reported) at (quiet-keeps s t r is u)
+          (λ last. stops-item t s.item r refl is (cut-short k r s a (body_was_abandoned t (Asks r)) h u last)),
+      refl,
+    )
 
 asked-ends : (f : ℕ → Account) (found : Bool) (date : HttpDate) (old : Reached) (r : Request) (s : Slot) (k : ℕ) (response : ResponseValue) (closes : Bool) → response.answer.closes ≡ closes → AllTold old.slots f → slice_get old.slots k ≡ Some s → s.item ≡ Asks r → s.stage ≡ Unanswered
     → Ends old (Respond k response) (answers found date (asked_to_close closes old) r k response)

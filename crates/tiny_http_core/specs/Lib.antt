@@ -29,11 +29,13 @@ pub use Rattle.tiny_http_turns.specs.TurnsLaw
 pub use Rattle.tiny_http_connection.specs.Segments
 pub use Rattle.tiny_http_connection.specs.Slots
 pub use Rattle.tiny_http_connection.specs.Steps
+pub use Rattle.tiny_http_connection.specs.Giving
 pub use Rattle.tiny_http_connection.specs.Outcomes
 pub use Rattle.tiny_http_connection.specs.Conversation
 pub use Rattle.tiny_http_connection.specs.Seen
 pub use Rattle.tiny_http_connection.specs.Pending
 pub use Rattle.tiny_http_connection.specs.Connection
+pub use Rattle.tiny_http_connection.specs.Replies
 pub use Rattle.tiny_http_connection.specs.Driving
 pub use Rattle.tiny_http_connection.specs.Runs
 pub use Rattle.tiny_http_connection.specs.ConversationReading

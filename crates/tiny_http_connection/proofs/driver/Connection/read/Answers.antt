@@ -94,23 +94,50 @@ returns-clause-step g c date =
           let P : List Mark → Type 0 = λ m. StepIsAnswered client before (record (with_reader k c.fill.new.self.requests c.fill.new.source) { marks = m }) s date (Read n c.args.count) (Fault b.in-Err.kind) in
           rw b.result-is (subst P (ap (λ t. t.marks) (sym c.fill.ensures.turns)) done)
     ])
-    (elim c.match-fill.branch [ in-Ok-fill b ↦ rw b.result-is (λ no. elim no [ ]) | in-Err b ↦ rw b.result-is (λ no. elim no [ ]) ]) refl
-    (refl, ap (λ t. t.marks) c.fill.ensures.turns, elim c.match-fill.branch [
-      | in-Ok-fill b ↦
-          let fills = b.in-Ok-fill.ensures.fills w.0 w.1 w.2 w.4 in
-          let items = whole c.fill.new.buf c.in-Ok.bytes.items c.in-Ok.bytes.len (search (rules, c.in-Ok.ensures)) size c.in-Ok.ensures in
-          let came : take b.in-Ok-fill.n c.fill.new.buf ≡ _ = ap (take b.in-Ok-fill.n) (sym items) ∙ sym b.truncate.ensures.items in
-          let few = b.in-Ok-fill.ensures.bound in
-          let many : length _ ≡ b.in-Ok-fill.n = taken-count c.fill.new.buf _ b.in-Ok-fill.n came few in
-          rw b.result-is (sym c.is_readable.ensures ∙ c.if-not-is_readable.false, omega (arith, many, few, size), (w.0, w.1, fills.0, w.2, w.4, fills.1, stands-after w.1 fills.0 q.source c.fill.new.source fills.3 fills.4,
-          fills-next w.1 fills.0 q.source.feed c.fill.new.source.feed b.in-Ok-fill.n c.args.count c.fill.new.buf _ size few (sym came) (omega (arith, c.if-count-eq0.false)) fills.2,
-          λ some. fills-on w.1 fills.0 q.source.feed c.fill.new.source.feed b.in-Ok-fill.n c.args.count c.fill.new.buf _ size many some fills.2))
-      | in-Err b ↦
-          let fills = b.in-Err.ensures.fills w.0 w.1 w.2 w.4 in
-          rw b.result-is (sym c.is_readable.ensures ∙ c.if-not-is_readable.false, omega (arith, c.if-count-eq0.false), (w.0, w.1, fills.0, w.2, w.4, fills.1, stands-after w.1 fills.0 q.source c.fill.new.source fills.3 fills.4,
-          fails-next w.1 fills.0 q.source.feed c.fill.new.source.feed b.in-Err.kind c.args.count c.fill.new.buf fills.2,
-          λ some. fails-on w.1 fills.0 q.source.feed c.fill.new.source.feed b.in-Err.kind c.args.count c.fill.new.buf some fills.2))
-    ])
+    (elim c.match-fill.branch [ in-Ok-fill b ↦ rw b.result-is (λ no. elim no [ ]) | in-Err b ↦ rw b.result-is (λ no. elim no [ ]) ]) refl (
+      refl,
+      ap (λ t. t.marks) c.fill.ensures.turns,
+      elim c.match-fill.branch [
+        | in-Ok-fill b ↦
+            let fills = b.in-Ok-fill.ensures.fills w.0 w.1 w.2 w.4 in
+            let items = whole c.fill.new.buf c.in-Ok.bytes.items c.in-Ok.bytes.len (search (rules, c.in-Ok.ensures)) size c.in-Ok.ensures in
+            let came : take b.in-Ok-fill.n c.fill.new.buf ≡ _ = ap (take b.in-Ok-fill.n) (sym items) ∙ sym b.truncate.ensures.items in
+            let few = b.in-Ok-fill.ensures.bound in
+            let many : length _ ≡ b.in-Ok-fill.n = taken-count c.fill.new.buf _ b.in-Ok-fill.n came few in
+            rw b.result-is (
+              sym c.is_readable.ensures ∙ c.if-not-is_readable.false,
+              omega (arith, many, few, size),
+              (
+                w.0,
+                w.1,
+                fills.0,
+                w.2,
+                w.4,
+                fills.1,
+                stands-after w.1 fills.0 q.source c.fill.new.source fills.3 fills.4,
+                fills-next w.1 fills.0 q.source.feed c.fill.new.source.feed b.in-Ok-fill.n c.args.count c.fill.new.buf _ size few (sym came) (omega (arith, c.if-count-eq0.false)) fills.2,
+                λ some. fills-on w.1 fills.0 q.source.feed c.fill.new.source.feed b.in-Ok-fill.n c.args.count c.fill.new.buf _ size many some fills.2,
+              ),
+            )
+        | in-Err b ↦
+            let fills = b.in-Err.ensures.fills w.0 w.1 w.2 w.4 in
+            rw b.result-is (
+              sym c.is_readable.ensures ∙ c.if-not-is_readable.false,
+              omega (arith, c.if-count-eq0.false),
+              (
+                w.0,
+                w.1,
+                fills.0,
+                w.2,
+                w.4,
+                fills.1,
+                stands-after w.1 fills.0 q.source c.fill.new.source fills.3 fills.4,
+                fails-next w.1 fills.0 q.source.feed c.fill.new.source.feed b.in-Err.kind c.args.count c.fill.new.buf fills.2,
+                λ some. fails-on w.1 fills.0 q.source.feed c.fill.new.source.feed b.in-Err.kind c.args.count c.fill.new.buf some fills.2,
+              ),
+            )
+      ],
+    )
     (driving-reads-on old new refl refl c.fill.ensures.goes_on))
 
 pub returns-clause-told : goal.returns-clause-told
