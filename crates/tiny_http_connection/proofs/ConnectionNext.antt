@@ -15,7 +15,8 @@ use Rattle.tiny_http_open_request.specs.declared.exchange.HeadRead.TheVariants a
 use Rattle.tiny_http_open_request.specs.declared.exchange.EndOfRequests.{EndOfRequests}
 use Rattle.tiny_http_open_request.specs.declared.exchange.EndOfRequests.TheVariants as because
 use Rattle.tiny_http_open_request.specs.HeadReads.{ReadsHead, IsBeforeHead, IsOkEnd, TakesHead, head_message, head_framing}
-use Rattle.tiny_http_open_request.specs.NextRequest.{At, Found, Follows, FollowsRefusal, FindsHead, FindsNext, PassesHeads}
+use Rattle.tiny_http_open_request.specs.NextRequest.{At, Found, Follows, FollowsRefusal, FindsHead, FindsNext, PassesHeads, next_of}
+use Rattle.tiny_http_open_request.proofs.NextRequestLemmas.{same-next}
 use Rattle.tiny_http_open_request.specs.declared.next_request.NextRequest.{NextRequest}
 use Rattle.tiny_http_open_request.specs.declared.next_request.NextRequest.TheVariants as next
 use Rattle.tiny_http_turns.specs.Turns.{Mark, AreInShape, Open}
@@ -255,7 +256,7 @@ none-some x e = cc
 ok-err : {X E : Type 0} (x : X) (e : E) → ◌≡◌ {A = Option (Result X E)} (Some (Ok x)) (Some (Err e)) → ⊥
 ok-err x e is = cc
 
-request-ended : (x : Exchange) (why : EndOfRequests) → ◌≡◌ {A = Found} (Some (Ok (next.Request x))) (Some (Ok (next.Ended why))) → ⊥
+request-ended : (x : Exchange) (why : EndOfRequests) → ◌≡◌ {A = Found} (Some (Ok (next_of x))) (Some (Ok (next.Ended why))) → ⊥
 request-ended x why is = cc
 
 -- the connection whose reading stands there
@@ -275,7 +276,7 @@ passes-one profile date here there end status text false true h left f can =
 passed-one : {R W : Type 0} (profile : Profile) (date : HttpDate) (here there : At R Pending (OutletState W)) (end : Option EndOfRequests) (r : Result HeadRead AllocError)
     → TakesHead profile date here.source there.source r → Follows RefusesHead r here None there → CanAsk (standing_at profile here end)
     → Passed (standing_at profile here end) (standing_at profile there end) date 1
-passed-one profile date here there end (Ok (read.Request x)) h f can = absurd (none-some (Ok (next.Request x)) f.0)
+passed-one profile date here there end (Ok (read.Request x)) h f can = absurd (none-some (Ok (next_of x)) f.0)
 passed-one profile date here there end (Ok (read.Ended why)) h f can = absurd (none-some (Ok (next.Ended why)) f.0)
 passed-one profile date here there end (Err e) h f can = absurd (none-some (Err e) f.0)
 passed-one profile date here there end (Ok (read.Refused status text last)) h f can = passes-one profile date here there end status text last f.0 h f.1 f.2 can
@@ -310,46 +311,46 @@ asks-next profile date here there end r f can new reply go =
     ⊎_elim (λ found. passed.behind new reply (go found passed.can)) (λ many. absurd (too-many (standing_at profile here end) (standing_at profile f.mid end) date f.passed passed many.0)) f.ends
 
 -- a refused head is no request
-refused-request : (x : Exchange) (status : StatusCode) (last kept : Bool) → FollowsRefusal status last kept (Some (Ok (next.Request x))) → ⊥
+refused-request : (x : Exchange) (status : StatusCode) (last kept : Bool) → FollowsRefusal status last kept (Some (Ok (next_of x))) → ⊥
 refused-request x status true true f = request-ended x (because.Refused status) f
-refused-request x status false true f = none-some (Ok (next.Request x)) (sym f)
-refused-request x status last false f = ok-err (next.Request x) f.0 f.1
+refused-request x status false true f = none-some (Ok (next_of x)) (sym f)
+refused-request x status last false f = ok-err (next_of x) f.0 f.1
 
 -- a request is found, and takes a number
 pub found-request : {R W : Type 0} (profile : Profile) (date : HttpDate) (here there : At R Pending (OutletState W)) (a : Pending) (end : Option EndOfRequests) (x : Exchange) (n : ℕ)
     → n ≡ length there.place.turns.marks → a.turns.marks ≡ there.place.turns.marks ++ (Open ∷ []) → AreInShape a.turns.marks → a.requests ≡ there.place.requests ++ (Some (still.Waiting x.open_request) ∷ [])
-    → FindsHead RefusesHead profile date here (Some (Ok (next.Request x))) there → CanAsk (standing_at profile here end)
+    → FindsHead RefusesHead profile date here (Some (Ok (next_of x))) there → CanAsk (standing_at profile here end)
     → AskStep (standing_at profile here end) (viewed profile there.source there.output a end) date (Handed n (head_message x.head) (head_framing x.head))
 found-request {R = R} {W = W} profile date here there a end x n number marks_are shape requests_are found can = by found.0 found.1 found.2
   where
     U : OutletState W → Type 0
     U v = AskStep (standing_at profile here end) (viewed profile there.source v a end) date (Handed n (head_message x.head) (head_framing x.head))
 
-    by : (r : Result HeadRead AllocError) → TakesHead profile date here.source there.source r → Follows RefusesHead r here (Some (Ok (next.Request x))) there → U there.output
+    by : (r : Result HeadRead AllocError) → TakesHead profile date here.source there.source r → Follows RefusesHead r here (Some (Ok (next_of x))) there → U there.output
     by (Ok (read.Request y)) h f =
         let e = f.0 in
-        let same : y ≡ x = cc in
+        let same : y ≡ x = same-next x y e in
         let T : Exchange → Type 0 = λ z. TakesHead profile date here.source there.source (Ok (read.Request z)) in
         subst U (sym f.1.1) (finds-request profile date here.source there.source here.output here.place a end x n (subst T same h) can
         (number ∙ ap (λ q. length q.turns.marks) f.1.0) (marks_are ∙ ap (λ q. q.turns.marks ++ (Open ∷ [])) f.1.0) shape (requests_are ∙ ap (λ q. q.requests ++ (Some (still.Waiting x.open_request) ∷ [])) f.1.0))
     by (Ok (read.Ended why)) h f = absurd (request-ended x why f.0)
     by (Ok (read.Refused status text last)) h f = absurd (refused-request x status last f.0 f.2)
-    by (Err e) h f = absurd (ok-err (next.Request x) e f.0)
+    by (Err e) h f = absurd (ok-err (next_of x) e f.0)
 
 -- a request is found, and memory is refused for its number
 pub found-no-number : {R W : Type 0} (profile : Profile) (date : HttpDate) (here there : At R Pending (OutletState W)) (a : Pending) (end : Option EndOfRequests) (x : Exchange)
     → a.turns ≡ there.place.turns → a.requests ≡ there.place.requests
-    → FindsHead RefusesHead profile date here (Some (Ok (next.Request x))) there → CanAsk (standing_at profile here end)
+    → FindsHead RefusesHead profile date here (Some (Ok (next_of x))) there → CanAsk (standing_at profile here end)
     → AskStep (standing_at profile here end) (viewed profile there.source there.output a (Some because.Memory)) date Memory
 found-no-number {R = R} {W = W} profile date here there a end x turns_are requests_are found can = by found.0 found.1 found.2
   where
-    by : (r : Result HeadRead AllocError) → TakesHead profile date here.source there.source r → Follows RefusesHead r here (Some (Ok (next.Request x))) there
+    by : (r : Result HeadRead AllocError) → TakesHead profile date here.source there.source r → Follows RefusesHead r here (Some (Ok (next_of x))) there
         → AskStep (standing_at profile here end) (viewed profile there.source there.output a (Some because.Memory)) date Memory
     by (Ok (read.Request y)) h f =
         finds-no-memory profile date here.source there.source here.output there.output here.place a end (Ok (read.Request y)) h (λ e. elim e [ ]) can (turns_are ∙ ap (λ q. q.turns) f.1.0) (requests_are ∙ ap (λ q. q.requests) f.1.0) f.1.1
     by (Ok (read.Ended why)) h f = absurd (request-ended x why f.0)
     by (Ok (read.Refused status text last)) h f = absurd (refused-request x status last f.0 f.2)
-    by (Err e) h f = absurd (ok-err (next.Request x) e f.0)
+    by (Err e) h f = absurd (ok-err (next_of x) e f.0)
 
 -- memory is refused
 pub found-no-memory : {R W : Type 0} (profile : Profile) (date : HttpDate) (here there : At R Pending (OutletState W)) (end : Option EndOfRequests) (e : AllocError)
@@ -369,7 +370,7 @@ found-no-memory {R = R} {W = W} profile date here there end e found can = by fou
         finds-no-memory profile date here.source there.source here.output there.output here.place there.place end (Ok (read.Refused status text last)) h (λ i. elim i [ ]) can same.0 same.1 same.2
 
     by : (r : Result HeadRead AllocError) → TakesHead profile date here.source there.source r → Follows RefusesHead r here (Some (Err e)) there → Goal
-    by (Ok (read.Request y)) h f = absurd (ok-err (next.Request y) e (sym f.0))
+    by (Ok (read.Request y)) h f = absurd (ok-err (next_of y) e (sym f.0))
     by (Ok (read.Ended why)) h f = absurd (ok-err (next.Ended why) e (sym f.0))
     by (Ok (read.Refused status text last)) h f = refused status text last f.0 h f.1 f.2
     by (Err x) h f = finds-no-memory profile date here.source there.source here.output there.output here.place there.place end (Err x) h (λ i. elim i [ ]) can (ap (λ q. q.turns) f.1.0) (ap (λ q. q.requests) f.1.0) f.1.1

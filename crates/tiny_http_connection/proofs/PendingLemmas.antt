@@ -21,7 +21,8 @@ use Rattle.tiny_http_body.specs.declared.body.UnreadBody.{UnreadBody}
 use Rattle.tiny_http_open_request.specs.declared.open_request.OpenRequest.{OpenRequest}
 use Rattle.tiny_http_connection.specs.declared.pending.Unfinished.{Unfinished}
 use Rattle.tiny_http_connection.specs.declared.pending.Unfinished.TheVariants as still
-use Rattle.tiny_http_connection.specs.Pending.{left_text, with_left_finished, begins_left, SendsLeft, FinishesFront, LeavesText, WritesHeld, FinishesHeld, waiting_answer_context, closing_number, last_closing}
+use Rattle.tiny_http_connection.specs.Pending.{left_text, with_left_finished, begins_left, SendsLeft, FinishesFront, LeavesText, WritesHeld, FinishesHeld, waiting_answer_context, closing_number}
+use Rattle.tiny_http_connection.specs.Slots.{with_last}
 use Rattle.tiny_http_open_request.specs.OpenRequest.{closing}
 use Rattle.tiny_http_connection.proofs.ConnectionKept.{get-at, set-at}
 use Rattle.tiny_http_response.proofs.SendingLemmas.{once-append, sends-append, sends-can}
@@ -478,14 +479,14 @@ number-alone (Some (still.Waiting w)) e = cc
 number-alone (Some still.Raw) e = refl
 number-alone (Some (still.Upgraded b)) e = refl
 
-pub closing-set : (us : List (Option Unfinished)) (n : ℕ) (w : OpenRequest UnreadBody) → n + 1 ≡ length us → slice_get us n ≡ Some (Some (still.Waiting w)) → slice_set us n (Some (still.Waiting (closing w))) ≡ last_closing us
+pub closing-set : (us : List (Option Unfinished)) (n : ℕ) (w : OpenRequest UnreadBody) → n + 1 ≡ length us → slice_get us n ≡ Some (Some (still.Waiting w)) → slice_set us n (Some (still.Waiting (closing w))) ≡ with_last closing_number us
 closing-set [] n w e g = cc
 closing-set (u ∷ []) zero w e g = let is : u ≡ Some (still.Waiting w) = cc in ap (λ x. closing_number x ∷ []) (sym is)
 closing-set (u ∷ []) (suc n) w e g = cc
 closing-set (u ∷ v ∷ us) zero w e g = absurd (omega (arith, e))
 closing-set (u ∷ v ∷ us) (suc n) w e g = ap (λ l. u ∷ l) (closing-set (v ∷ us) n w (omega (arith, e)) g)
 
-pub closing-none : (us : List (Option Unfinished)) (n : ℕ) → n + 1 ≡ length us → waiting_answer_context (slice_get us n) ≡ None → last_closing us ≡ us
+pub closing-none : (us : List (Option Unfinished)) (n : ℕ) → n + 1 ≡ length us → waiting_answer_context (slice_get us n) ≡ None → with_last closing_number us ≡ us
 closing-none [] n e g = refl
 closing-none (u ∷ []) zero e g = ap (λ x. x ∷ []) (number-alone u g)
 closing-none (u ∷ []) (suc n) e g = absurd (omega (arith, e))
@@ -493,6 +494,6 @@ closing-none (u ∷ v ∷ us) zero e g = absurd (omega (arith, e))
 closing-none (u ∷ v ∷ us) (suc n) e g = ap (λ l. u ∷ l) (closing-none (v ∷ us) n (omega (arith, e)) g)
 
 -- none was given out
-pub closing-first : (us : List (Option Unfinished)) → length us ≡ 0 → last_closing us ≡ us
+pub closing-first : (us : List (Option Unfinished)) → length us ≡ 0 → with_last closing_number us ≡ us
 closing-first [] e = refl
 closing-first (u ∷ us) e = absurd (omega (arith, e))

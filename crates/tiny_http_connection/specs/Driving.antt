@@ -33,7 +33,7 @@ use Rattle.tiny_http_response.specs.declared.answer_context.AnswerContext.{Answe
 use Rattle.tiny_http_response.specs.ResponseValue.{printing_in}
 use Rattle.tiny_http_response.specs.Sending.{CanSend, IsHonest, FailsOnce}
 use Rattle.tiny_http_connection.specs.Pending.{waiting_answer_context, owes_continue, is_last_once_finished_at}
-use Rattle.tiny_http_connection.specs.Pending.{refuses_at, refuses_upgrade_at, is_last_with_stream_at, asked_to_close}
+use Rattle.tiny_http_connection.specs.Pending.{refuses_at, refuses_upgrade_at, is_last_with_stream_at, closing_if_asked}
 use Rattle.tiny_http_connection.specs.Pending.{last_holds_next_head, kept_body, GivesUpBody, with_body, begins_left}
 use Rattle.tiny_http_connection.specs.Pending.{is_readable}
 use Rattle.tiny_http_body.specs.declared.body.UnreadBody.{UnreadBody}
@@ -207,7 +207,7 @@ LetsGo k old new =
 -- ends, if it waits and the answer asked for that
 abbrev pub LetsGoAnswered : {R W : Type 0} → ℕ → Bool → ConnectionState R W → ConnectionState R W → Type 0
 LetsGoAnswered k closes old new =
-    (new.requests ≡ slice_set (asked_to_close closes old.requests) k None) × GivesUpKept k old new
+    (new.requests ≡ slice_set (closing_if_asked closes old.requests) k None) × GivesUpKept k old new
 
 -- where a source stands after the head of a request that is framed so, and its body read so far
 abbrev pub after_head : Framing → UnreadBody → Standing
@@ -381,7 +381,7 @@ ReportsFault old new now (step.Upgrade k p r) kind = ⊥
 ReportsFault old new now (step.Finish k) kind = ⊥
 ReportsFault old new now (step.Respond k r) kind =
     (context : AnswerContext)
-    × (waiting_answer_context (slice_get (asked_to_close r.answer.closes old.requests) k) ≡ Some context)
+    × (waiting_answer_context (slice_get (closing_if_asked r.answer.closes old.requests) k) ≡ Some context)
     × IsHonest (output_of old.outlet) (output_of new.outlet) r.answer r.data_reader (printing_in context now) kind
 
 -- The answer's own text was sent on whole, behind all that the writer had taken. This is said where the data state
@@ -390,7 +390,7 @@ abbrev pub AnswerIsSentOn : {R W : Type 0} → ConnectionState R W → Connectio
     → ResponseState (Option Feed) → Type 0
 AnswerIsSentOn old new now k r =
     (context : AnswerContext)
-    × (waiting_answer_context (slice_get (asked_to_close r.answer.closes old.requests) k) ≡ Some context)
+    × (waiting_answer_context (slice_get (closing_if_asked r.answer.closes old.requests) k) ≡ Some context)
     × ((content : Feed) (taken : List ℕ)
     → r.data_reader ≡ Some content
     → length content.bytes < 2 ^ 63

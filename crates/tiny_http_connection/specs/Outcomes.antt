@@ -13,7 +13,8 @@ use Rattle.tiny_http_response.specs.Sending.{is_closed_client}
 use Rattle.tiny_http_connection.specs.Segments.{Answered, ByServer, Raw, Slot, Stage, Unanswered, Upgraded, text_if}
 use Rattle.tiny_http_connection.specs.Segments.{to_request}
 use Rattle.tiny_http_connection.specs.Slots.{turn_has_come, refuses_response, refuses_upgrade, rest_of, upgraded_slot}
-use Rattle.tiny_http_connection.specs.Slots.{closes_now, holds_next_head, is_last_once_finished, last_closing}
+use Rattle.tiny_http_connection.specs.Slots.{closes_now, holds_next_head, is_last_once_finished, with_last}
+use Rattle.tiny_http_connection.specs.Slots.{closing_slot}
 use Rattle.tiny_http_connection.specs.Slots.{last_holds_reader, last_slot, last_was_abandoned, new_slot}
 use Rattle.tiny_http_connection.specs.Steps.{AsReader, Ask, Done, Drop, Ended, Fault, Finish, Flush, Given, Handed}
 use Rattle.tiny_http_connection.specs.Steps.{IntoWriter, NoSuch, NotYet, Read, Refused, ReplyValue, Respond}
@@ -162,7 +163,7 @@ is_last_with_stream r owed given end_reported = holds_next_head r || is_last_onc
 -- An answer asks that the connection ends: no further head is read, and the last number that was reached says so in
 -- its answer, if that isn't made yet.
 abbrev pub asked_to_close : Bool → Reached → Reached
-asked_to_close closes old = if closes then record old { slots = last_closing old.slots; asking_ended = true } else old
+asked_to_close closes old = if closes then record old { slots = with_last closing_slot old.slots; asking_ended = true } else old
 
 -- this slot of a request is answered by the response
 abbrev pub answers_slot : Bool → HttpDate → Reached → Request → ℕ → ResponseValue → Option Slot → Outcome

@@ -17,6 +17,7 @@ use Rattle.tiny_http_open_request.specs.OpenRequest.{request_check}
 use Rattle.tiny_http_io.specs.Source.{SourceState}
 use Rattle.tiny_http_io.specs.Outlet.{OutletState, output_of, outlet_ended, outlet_held, SentOn}
 use Rattle.tiny_http_response.specs.Sending.{CanSend, SendsUnlessEnded, SendsQuietlyOn, IsFlushed, FailsOnce, KeepsSent}
+use Rattle.tiny_http_connection.specs.Slots.{with_last}
 use Rattle.tiny_http_turns.specs.Turns.{Mark, Open, Held, Left, Finished, AreInShape, first_unfinished, TurnsState}
 use Rattle.tiny_http_turns.specs.Turns.{Finish, marks_after_step, turn_answer}
 use Rattle.tiny_http_turns.specs.TurnsCalls.{Finishes}
@@ -145,15 +146,9 @@ closing_number (Some still.Raw) = Some still.Raw
 closing_number (Some (still.Upgraded b)) = Some (still.Upgraded b)
 closing_number None = None
 
--- the same of the last of these
-abbrev pub last_closing : List (Option Unfinished) → List (Option Unfinished)
-last_closing [] = []
-last_closing (u ∷ []) = closing_number u ∷ []
-last_closing (u ∷ v ∷ us) = u ∷ last_closing (v ∷ us)
-
--- the same if an answer asks for it
-abbrev pub asked_to_close : Bool → List (Option Unfinished) → List (Option Unfinished)
-asked_to_close closes requests = if closes then last_closing requests else requests
+-- the same of the last of these, if an answer asks for it
+abbrev pub closing_if_asked : Bool → List (Option Unfinished) → List (Option Unfinished)
+closing_if_asked closes requests = if closes then with_last closing_number requests else requests
 
 -- the next head isn't read before the last of these is answered
 abbrev pub last_holds_next_head : List (Option Unfinished) → Bool

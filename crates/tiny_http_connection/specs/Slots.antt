@@ -12,13 +12,14 @@ use Rattle.tiny_http_body.specs.declared.framing.Form.{Form}
 use Rattle.tiny_http_body.specs.declared.framing.Form.TheVariants.{Rest, Nothing, WithHead, Counted, Chunked}
 use Rattle.tiny_http_open_request.specs.Pipeline.{Item, Asks, Refuses, Request, is_connect_method}
 use Rattle.tiny_http_open_request.specs.Pipeline.{body_length_or_0}
-use Rattle.tiny_http_open_request.specs.OpenRequest.{refuses_code, upgrade_check}
+use Rattle.tiny_http_open_request.specs.OpenRequest.{refuses_code, upgrade_check, ends_once_finished}
+use Rattle.tiny_http_open_request.specs.OpenRequest.{closes_once_answered}
 use Rattle.tiny_http_standard_head.specs.Judging.{names_protocol}
 use Rattle.tiny_http_response.specs.ResponseValue.{ResponseValue}
 use Rattle.tiny_http_body.specs.declared.body.TheConstants.{MOST_SKIPPED}
 use Rattle.tiny_http_body.specs.declared.body.Remainder.{Remainder}
 use Rattle.tiny_http_body.specs.declared.body.Remainder.TheVariants as left
-use Rattle.tiny_http_body.specs.Body.{body_finished, is_long, is_skipped}
+use Rattle.tiny_http_body.specs.Body.{body_finished}
 use Rattle.tiny_http_connection.specs.Segments.{ByServer, Slot, Stage, Unanswered, is_last_item, is_finished}
 use Rattle.tiny_http_connection.specs.Segments.{is_slot_broken, segment}
 
@@ -114,24 +115,24 @@ remainder_of r given end_reported =
 -- leave the body out, or send it; or more is left of its body than is skipped.
 abbrev pub is_last_once_finished : Request → Bool → ℕ → Bool → Bool
 is_last_once_finished r owed given end_reported =
-    r.framing.by_standard && (owed || is_long (remainder_of r given end_reported))
+    ends_once_finished r.framing.by_standard owed (remainder_of r given end_reported)
 
 -- By the standard the answer of a request that is finished now says that the connection ends: its head ended it, an
 -- answer asked for that, its 100 is owed, or what is left of its body isn't skipped: it is long, or its end isn't
 -- known.
 abbrev pub closes_now : Request → Bool → Bool → ℕ → Bool → Bool
 closes_now r closes owed given end_reported =
-    r.framing.is_last || (closes || (owed || not (is_skipped (remainder_of r given end_reported))))
+    r.framing.is_last || closes_once_answered closes owed (remainder_of r given end_reported)
 
 -- the number's answer says that the connection ends, if it isn't made yet
-abbrev pub closing : Slot → Slot
-closing s = if is_unanswered s.stage then record s { closes = true } else s
+abbrev pub closing_slot : Slot → Slot
+closing_slot s = if is_unanswered s.stage then record s { closes = true } else s
 
--- the same of the last of these
-abbrev pub last_closing : List Slot → List Slot
-last_closing [] = []
-last_closing (s ∷ []) = closing s ∷ []
-last_closing (s ∷ t ∷ slots) = s ∷ last_closing (t ∷ slots)
+-- the same list, with this done to its last
+abbrev pub with_last : {A : Type 0} → (A → A) → List A → List A
+with_last change [] = []
+with_last change (x ∷ []) = change x ∷ []
+with_last change (x ∷ y ∷ xs) = x ∷ with_last change (y ∷ xs)
 
 -- the request isn't answered by this response
 abbrev pub refuses_response : Request → ResponseValue → Bool

@@ -307,8 +307,7 @@ impl<R: ReadDevice, W: WriteDevice> Connection<R, W> {
         }
         let (source, outlet) = (&mut self.source, &mut self.outlet);
         match next_request(alloc, source, self.profile, &mut self.pending, outlet, now) {
-            Ok(NextRequest::Request(exchange)) => {
-                let (head, request) = exchange.into_parts();
+            Ok(NextRequest::Request(head, request)) => {
                 match self.pending.issue(Some(Unfinished::Waiting(request))) {
                     Ok(number) => Reply::Handed(number, head),
                     Err(_) => {

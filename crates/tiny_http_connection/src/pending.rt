@@ -18,7 +18,7 @@ ghost use Rattle.tiny_http_body.specs.Body.{bytes_given, ends_met, is_streaming,
 ghost use Rattle.tiny_http_connection.specs.Pending.{WaitsAt, left_text, SendsLeft, FinishesFront, LeavesText};
 ghost use Rattle.tiny_http_connection.specs.Pending.{waiting_answer_context, is_readable, is_writable, owes_continue};
 ghost use Rattle.tiny_http_connection.specs.Pending.{holds_next_head_at, refuses_at, refuses_upgrade_at};
-ghost use Rattle.tiny_http_connection.specs.Pending.{is_last_with_stream_at, asked_to_close, last_holds_next_head};
+ghost use Rattle.tiny_http_connection.specs.Pending.{is_last_with_stream_at, closing_if_asked, last_holds_next_head};
 ghost use Rattle.tiny_http_connection.specs.Pending.{kept_body, GivesUpBody, with_body, begins_left};
 
 use httpdate::HttpDate;
@@ -186,7 +186,7 @@ impl Pending {
     /// waits for it and an answer asks for that.
     pub fn close_last(&mut self, closes: bool)
         ensures turns { self.new.turns ≡ self.old.turns }
-        ensures requests { self.new.requests ≡ asked_to_close closes self.old.requests }
+        ensures requests { self.new.requests ≡ closing_if_asked closes self.old.requests }
     {
         if !closes {
             return;

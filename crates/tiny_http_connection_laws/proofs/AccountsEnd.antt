@@ -11,7 +11,7 @@ use Rattle.tiny_http_body.specs.declared.framing.Profile.{Profile}
 use Rattle.tiny_http_open_request.specs.Pipeline.{Item, Asks, Refuses, Request}
 use Rattle.tiny_http_response.specs.ResponseValue.{ResponseValue}
 use Rattle.tiny_http_connection.specs.Segments.{Slot, Stage, Unanswered, Answered, ByServer, Raw, Upgraded, to_request, text_if}
-use Rattle.tiny_http_connection.specs.Slots.{turn_has_come, new_slot, rest_of, last_slot, last_closing, closing, is_unanswered, is_chunked, last_holds_reader, last_was_abandoned, body_was_abandoned, remainder_of, is_last_once_finished, closes_now, holds_next_head, refuses_response, refuses_upgrade, upgraded_slot, as_stream}
+use Rattle.tiny_http_connection.specs.Slots.{turn_has_come, new_slot, rest_of, last_slot, with_last, closing_slot, is_unanswered, is_chunked, last_holds_reader, last_was_abandoned, body_was_abandoned, remainder_of, is_last_once_finished, closes_now, holds_next_head, refuses_response, refuses_upgrade, upgraded_slot, as_stream}
 use Rattle.tiny_http_connection.specs.Steps.{StepValue, Ask, AsReader, Read, Respond, IntoWriter, Write, Flush, Upgrade, Finish, Drop, ReplyValue, Handed, Ended, Given, NotYet, Done, Refused, NoSuch, Memory, Fault, TimedValue, number_of, is_done}
 use Rattle.tiny_http_connection.specs.Outcomes.{WriterUse, Unused, Unreported, Reported, Outcome, Reached, unchanged, changes, asks_from, ask, read_reply, finished_as, written_to, stage_closed, fault_in, fault_reply, accepts_step, needs_turn, use_in_turn, ends_asking, is_last_with_stream, asked_to_close, answers_slot, answers, effect, at_item, at_slot, at_number, outcome}
 use Rattle.tiny_http_connection.specs.Conversation.{State, HasOutcome, FindsNoMemory, answers_to, StepsTo, Run, start_state, IsConversation}
@@ -79,7 +79,7 @@ item-stops s r is e = ap (stops s) (sym is) ∙ e
 
 -- ---- the last number is told that the connection ends
 
-closing-kept : (s : Slot) → stops s s.item ≡ true → closing s ≡ s
+closing-kept : (s : Slot) → stops s s.item ≡ true → closing_slot s ≡ s
 closing-kept s e = by-closing (λ t. t ≡ s) s (λ u. never (sym (waits s.item s.stage u) ∙ e)) refl
   where
     waits : (item : Item) (stage : Stage) → is_unanswered s.stage ≡ true → stops s item ≡ false
@@ -93,14 +93,14 @@ closing-kept s e = by-closing (λ t. t ≡ s) s (λ u. never (sym (waits s.item 
         one (Upgraded protocol response date written closed) e = never e
     waits (Refuses refusal manner no_body last) stage u = refl
 
-last-stops : (slots : List Slot) (k : ℕ) (s : Slot) → slice_get slots k ≡ Some s → stops s s.item ≡ true → slice_get (last_closing slots) k ≡ Some s
+last-stops : (slots : List Slot) (k : ℕ) (s : Slot) → slice_get slots k ≡ Some s → stops s s.item ≡ true → slice_get (with_last closing_slot slots) k ≡ Some s
 last-stops [] k s at e = at
-last-stops (x ∷ []) zero s at e = let same : x ≡ s = same-some x s at in subst (λ (y : Slot). Some (closing y) ≡ Some s) (sym same) (ap (λ (y : Slot). Some y) (closing-kept s e))
+last-stops (x ∷ []) zero s at e = let same : x ≡ s = same-some x s at in subst (λ (y : Slot). Some (closing_slot y) ≡ Some s) (sym same) (ap (λ (y : Slot). Some y) (closing-kept s e))
 last-stops (x ∷ []) (suc k) s at e = at
 last-stops (x ∷ y ∷ slots) zero s at e = at
 last-stops (x ∷ y ∷ slots) (suc k) s at e = last-stops (y ∷ slots) k s at e
 
-one-closing : (slots : List Slot) → OneStops slots → OneStops (last_closing slots)
+one-closing : (slots : List Slot) → OneStops slots → OneStops (with_last closing_slot slots)
 one-closing slots one = (one.0, one.1, last-stops slots one.0 one.1 one.2 one.3, one.3)
 
 -- ---- a step
@@ -178,7 +178,7 @@ asked-ends : (f : ℕ → Account) (found : Bool) (date : HttpDate) (old : Reach
 asked-ends f found date old r s k response false c h at is u = (answered-ends found date old r s (f k) k response at is u (told-at old.slots f k s r h at is)).0
 asked-ends f found date old r s k response true c h at is u =
     let t = told s old.slots k at in
-    let e = answered-ends found date (asked_to_close true old) r t.slot (f k) k response t.get (t.item ∙ is) (t.stage ∙ u) (told-at (last_closing old.slots) f k t.slot r (last-told old.slots f h) t.get (t.item ∙ is)) in
+    let e = answered-ends found date (asked_to_close true old) r t.slot (f k) k response t.get (t.item ∙ is) (t.stage ∙ u) (told-at (with_last closing_slot old.slots) f k t.slot r (last-told old.slots f h) t.get (t.item ∙ is)) in
     record { keeps = λ one. e.0.keeps (one-closing old.slots one); begins = λ x. inr (inr (inr (λ y alike. (alike.done ∙ e.1, c)))) }
 
 -- ---- a raw writer or a stream goes on

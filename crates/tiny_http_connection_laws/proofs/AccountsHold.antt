@@ -12,7 +12,7 @@ use Rattle.tiny_http_open_request.specs.Pipeline.{Item, Asks, Refuses, Request}
 use Rattle.tiny_http_response.specs.Sending.{is_closed_client}
 use Rattle.tiny_http_response.specs.ResponseValue.{ResponseValue}
 use Rattle.tiny_http_connection.specs.Segments.{Slot, Stage, Unanswered, Answered, ByServer, Raw, Upgraded, to_request, text_if}
-use Rattle.tiny_http_connection.specs.Slots.{turn_has_come, new_slot, rest_of, last_slot, last_closing, closing, is_unanswered, last_holds_reader, last_was_abandoned, is_last_once_finished, closes_now, refuses_response, refuses_upgrade, upgraded_slot, as_stream}
+use Rattle.tiny_http_connection.specs.Slots.{turn_has_come, new_slot, rest_of, last_slot, with_last, closing_slot, is_unanswered, last_holds_reader, last_was_abandoned, is_last_once_finished, closes_now, refuses_response, refuses_upgrade, upgraded_slot, as_stream}
 use Rattle.tiny_http_connection.specs.Steps.{StepValue, Ask, AsReader, Read, Respond, IntoWriter, Write, Flush, Upgrade, Finish, Drop, ReplyValue, Handed, Ended, Given, Fault, NotYet, Done, Refused, NoSuch, Memory, TimedValue, number_of, is_done, is_refused}
 use Rattle.tiny_http_connection.specs.Outcomes.{WriterUse, Unused, Unreported, Reported, Outcome, Reached, unchanged, changes, asks_from, ask, read_reply, finished_as, written_to, stage_closed, fault_in, fault_reply, accepts_step, needs_turn, use_in_turn, ends_asking, is_last_with_stream, asked_to_close, answers_slot, answers, effect, at_item, at_slot, at_number, outcome}
 use Rattle.tiny_http_connection.specs.Conversation.{Failure, State, Fares, Well, FailsWithin, FailsAfter, MayFare, reply_in, failure_in, is_silent, HasOutcome, FindsNoMemory, answers_to, StepsTo, Run}
@@ -242,31 +242,31 @@ as-item k t item r a same is h = let P : Item → Type 0 = λ i. IsTold k t i a 
 
 -- ---- the last number is told that the connection ends
 
-closing-keeps : (k : ℕ) (s : Slot) (item : Item) (a : Account) → IsTold k s item a → IsTold k (closing s) item a
+closing-keeps : (k : ℕ) (s : Slot) (item : Item) (a : Account) → IsTold k s item a → IsTold k (closing_slot s) item a
 closing-keeps k s (Asks r) a h = by-closing (λ t. Told k r t a) s (λ u. record { condition = h.condition; by = h.by; written = h.written; continued = h.continued; owed = h.owed; given_up = h.given_up }) h
 closing-keeps k s (Refuses refusal manner no_body last) a h = by-closing (λ t. Untold t a) s (λ u. record { stage = h.stage; account = h.account; continued = h.continued }) h
 
-closing-told : (k : ℕ) (s : Slot) (a : Account) → IsTold k s s.item a → IsTold k (closing s) (closing s).item a
+closing-told : (k : ℕ) (s : Slot) (a : Account) → IsTold k s s.item a → IsTold k (closing_slot s) (closing_slot s).item a
 closing-told k s a h =
-    let same : (closing s).item ≡ s.item = by-closing (λ t. t.item ≡ s.item) s (λ u. refl) refl in
-    let P : Item → Type 0 = λ i. IsTold k (closing s) i a in
+    let same : (closing_slot s).item ≡ s.item = by-closing (λ t. t.item ≡ s.item) s (λ u. refl) refl in
+    let P : Item → Type 0 = λ i. IsTold k (closing_slot s) i a in
     subst P (sym same) (closing-keeps k s s.item a h)
 
-closing-get : (slots : List Slot) (k : ℕ) (u : Slot) → slice_get (last_closing slots) k ≡ Some u → (s : Slot) × (slice_get slots k ≡ Some s) × ((s ≡ u) ⊎ (closing s ≡ u))
+closing-get : (slots : List Slot) (k : ℕ) (u : Slot) → slice_get (with_last closing_slot slots) k ≡ Some u → (s : Slot) × (slice_get slots k ≡ Some s) × ((s ≡ u) ⊎ (closing_slot s ≡ u))
 closing-get [] k u e = cc
-closing-get (s ∷ []) zero u e = (s, refl, inr (same-some (closing s) u e))
+closing-get (s ∷ []) zero u e = (s, refl, inr (same-some (closing_slot s) u e))
 closing-get (s ∷ []) (suc k) u e = cc
 closing-get (s ∷ t ∷ slots) zero u e = (s, refl, inl (same-some s u e))
 closing-get (s ∷ t ∷ slots) (suc k) u e = closing-get (t ∷ slots) k u e
 
-closing-none : (slots : List Slot) (k : ℕ) → slice_get (last_closing slots) k ≡ None → slice_get slots k ≡ None
+closing-none : (slots : List Slot) (k : ℕ) → slice_get (with_last closing_slot slots) k ≡ None → slice_get slots k ≡ None
 closing-none [] k e = e
 closing-none (s ∷ []) zero e = cc
 closing-none (s ∷ []) (suc k) e = e
 closing-none (s ∷ t ∷ slots) zero e = cc
 closing-none (s ∷ t ∷ slots) (suc k) e = closing-none (t ∷ slots) k e
 
-pub last-told : (slots : List Slot) (f : ℕ → Account) → AllTold slots f → AllTold (last_closing slots) f
+pub last-told : (slots : List Slot) (f : ℕ → Account) → AllTold slots f → AllTold (with_last closing_slot slots) f
 last-told slots f h = record {
   here = λ k u e.
       let g = closing-get slots k u e in

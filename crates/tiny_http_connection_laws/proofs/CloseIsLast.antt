@@ -13,7 +13,7 @@ use Rattle.tiny_http_body.specs.declared.body.Remainder.TheVariants as left
 use Rattle.tiny_http_body.specs.Body.{body_finished, is_long, is_skipped}
 use Rattle.tiny_http_open_request.specs.Pipeline.{Item, Asks, Refuses, Request, body_length_or_0}
 use Rattle.tiny_http_connection.specs.Segments.{Slot, Stage, Unanswered, Answered, ByServer, Raw, Upgraded}
-use Rattle.tiny_http_connection.specs.Slots.{is_unanswered, is_end, is_chunked, is_counted, body_is_open, body_was_abandoned, remainder_of, is_last_once_finished, closes_now, last_closing, last_slot}
+use Rattle.tiny_http_connection.specs.Slots.{is_unanswered, is_end, is_chunked, is_counted, body_is_open, body_was_abandoned, remainder_of, is_last_once_finished, closes_now, with_last, last_slot, closing_slot}
 use Rattle.tiny_http_connection.specs.Outcomes.{Outcome, Reached, finished_as}
 use Rattle.tiny_http_connection_laws.specs.Closes.{is_close_printed, says_close_by, NoneFollowsClose}
 use Rattle.tiny_http_connection_laws.proofs.PipelineEnds.{lasts, AllEnd, Owes}
@@ -147,7 +147,7 @@ snoc-fit now rest more [] new h p l = l
 snoc-fit now rest more (x ∷ []) new h p l = (p x refl (h refl), l)
 snoc-fit now rest more (x ∷ y ∷ ys) new h p l = (h.0, snoc-fit now rest more (y ∷ ys) new h.1 p l)
 
-pub closing-fit : (ended : Bool) (rest : List Item) (slots : List Slot) → Fit ended rest slots → Fit true rest (last_closing slots)
+pub closing-fit : (ended : Bool) (rest : List Item) (slots : List Slot) → Fit ended rest slots → Fit true rest (with_last closing_slot slots)
 closing-fit ended rest [] h = tt
 closing-fit ended rest (s ∷ []) h = λ e. cc
 closing-fit ended rest (s ∷ t ∷ []) h = (h.0, λ e. cc)

@@ -13,7 +13,7 @@ use Rattle.tiny_http_body.specs.declared.framing.Profile.{Profile}
 use Rattle.tiny_http_open_request.specs.Pipeline.{Item, Asks, Refuses, Request}
 use Rattle.tiny_http_response.specs.ResponseValue.{ResponseValue}
 use Rattle.tiny_http_connection.specs.Segments.{Slot, Stage, Unanswered, Answered, ByServer, Raw, Upgraded, to_request, text_if}
-use Rattle.tiny_http_connection.specs.Slots.{turn_has_come, new_slot, rest_of, last_slot, last_closing, closing, last_holds_reader, last_was_abandoned, is_last_once_finished, closes_now, refuses_response, refuses_upgrade, upgraded_slot, as_stream}
+use Rattle.tiny_http_connection.specs.Slots.{turn_has_come, new_slot, rest_of, last_slot, with_last, closing_slot, last_holds_reader, last_was_abandoned, is_last_once_finished, closes_now, refuses_response, refuses_upgrade, upgraded_slot, as_stream}
 use Rattle.tiny_http_connection.specs.Steps.{StepValue, Ask, AsReader, Read, Respond, IntoWriter, Write, Flush, Upgrade, Finish, Drop, ReplyValue, Handed, Ended, Given, Fault, NotYet, Done, Refused, NoSuch, Memory, TimedValue, number_of}
 use Rattle.tiny_http_connection.specs.Outcomes.{WriterUse, Unused, Unreported, Reported, Outcome, Reached, unchanged, changes, asks_from, ask, read_reply, finished_as, written_to, stage_closed, fault_in, fault_reply, accepts_step, needs_turn, use_in_turn, ends_asking, is_last_with_stream, asked_to_close, answers_slot, answers, effect, at_item, at_slot, at_number, outcome}
 use Rattle.tiny_http_connection.specs.Conversation.{Failure, State, Fares, MayFare, reply_in, failure_in, is_silent, HasOutcome, FindsNoMemory, answers_to, StepsTo, Run, start_state, IsConversation}
@@ -217,16 +217,16 @@ closed-stage (Upgraded protocol response date written closed) e = cc
 
 record Told (s : Slot) (slots : List Slot) (k : ℕ) : Type 0 where
   slot : Slot
-  get : slice_get (last_closing slots) k ≡ Some slot
+  get : slice_get (with_last closing_slot slots) k ≡ Some slot
   same : Same s slot
 
 told : (s : Slot) (slots : List Slot) (k : ℕ) → slice_get slots k ≡ Some s → Told s slots k
 told s [] k e = cc
 told s (x ∷ []) zero e =
     let is : x ≡ s = same-some x s e in
-    let same : Same x (closing x) = by-closing (λ t. Same x t) x (λ u. record { item = refl; given = refl; stage = λ v. v }) (record { item = refl; given = refl; stage = λ v. v }) in
+    let same : Same x (closing_slot x) = by-closing (λ t. Same x t) x (λ u. record { item = refl; given = refl; stage = λ v. v }) (record { item = refl; given = refl; stage = λ v. v }) in
     let T : Slot → Type 0 = λ y. Told y (x ∷ []) zero in
-    subst T is (record { slot = closing x; get = refl; same = same })
+    subst T is (record { slot = closing_slot x; get = refl; same = same })
 told s (x ∷ []) (suc k) e = cc
 told s (x ∷ y ∷ slots) zero e = record { slot = s; get = e; same = record { item = refl; given = refl; stage = λ v. v } }
 told s (x ∷ y ∷ slots) (suc k) e = let t = told s (y ∷ slots) k e in record { slot = t.slot; get = t.get; same = t.same }
@@ -235,8 +235,8 @@ asked-stands : (k : ℕ) (r : Request) (feed : Feed) (old : Reached) (closes : B
 asked-stands k r feed old false h = h
 asked-stands k r feed old true h =
     ⊎_elim
-    (λ u. let t = told u.slot old.slots k u.get in inl (same-under k r feed old.slots u (last_closing old.slots) t.slot t.get t.same))
-    (λ a. inr (ahead-of k r feed old.slots old.rest a (last_closing old.slots) (closing-length old.slots)))
+    (λ u. let t = told u.slot old.slots k u.get in inl (same-under k r feed old.slots u (with_last closing_slot old.slots) t.slot t.get t.same))
+    (λ a. inr (ahead-of k r feed old.slots old.rest a (with_last closing_slot old.slots) (closing-length old.slots)))
     h
 
 answered-reads : (k : ℕ) (r : Request) (feed : Feed) (found : Bool) (date : HttpDate) (old : Reached) (q : Request) (j : ℕ) (response : ResponseValue)

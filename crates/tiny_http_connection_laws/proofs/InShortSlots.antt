@@ -8,7 +8,7 @@ use Rattle.tiny_http_body.specs.declared.framing.Profile.{Profile}
 use Rattle.tiny_http_open_request.specs.Pipeline.{Item, Asks, Refuses, Request}
 use Rattle.tiny_http_response.specs.ResponseValue.{ResponseValue}
 use Rattle.tiny_http_connection.specs.Segments.{Slot, Stage, Unanswered, Answered, ByServer, Raw, Upgraded, to_request, text_if}
-use Rattle.tiny_http_connection.specs.Slots.{turn_has_come, new_slot, rest_of, last_slot, last_closing, closing, last_holds_reader, last_was_abandoned, is_last_once_finished, closes_now, refuses_response, refuses_upgrade, upgraded_slot, as_stream}
+use Rattle.tiny_http_connection.specs.Slots.{turn_has_come, new_slot, rest_of, last_slot, with_last, closing_slot, last_holds_reader, last_was_abandoned, is_last_once_finished, closes_now, refuses_response, refuses_upgrade, upgraded_slot, as_stream}
 use Rattle.tiny_http_connection.specs.Steps.{StepValue, Ask, AsReader, Read, Respond, IntoWriter, Write, Flush, Upgrade, Finish, Drop, ReplyValue, Ended, Given, Fault, NotYet, Done, Refused, NoSuch, Memory, TimedValue, number_of}
 use Rattle.tiny_http_connection.specs.Outcomes.{WriterUse, Unused, Unreported, Reported, Outcome, Reached, unchanged, changes, asks_from, ask, read_reply, finished_as, written_to, stage_closed, fault_in, fault_reply, accepts_step, needs_turn, use_in_turn, ends_asking, is_last_with_stream, asked_to_close, answers_slot, answers, effect, at_item, at_slot, at_number, outcome}
 use Rattle.tiny_http_connection.specs.Conversation.{State, HasOutcome, FindsNoMemory, answers_to, StepsTo, Run, start_state, IsConversation}
@@ -57,13 +57,13 @@ matches-get (x ∷ xs) (i ∷ items) rest (suc k) s h e = matches-get xs items r
 
 -- ---- the last number is told that the connection ends
 
-closing-item : (s : Slot) → (closing s).item ≡ s.item
+closing-item : (s : Slot) → (closing_slot s).item ≡ s.item
 closing-item s = by-closing (λ t. t.item ≡ s.item) s (λ u. refl) refl
 
-closing-stage : (s : Slot) → (closing s).stage ≡ s.stage
+closing-stage : (s : Slot) → (closing_slot s).stage ≡ s.stage
 closing-stage s = by-closing (λ t. t.stage ≡ s.stage) s (λ u. refl) refl
 
-matches-closing : (slots : List Slot) (items : List Item) → Matches slots items → Matches (last_closing slots) items
+matches-closing : (slots : List Slot) (items : List Item) → Matches slots items → Matches (with_last closing_slot slots) items
 matches-closing [] items h = h
 matches-closing (s ∷ []) [] h = elim h [ ]
 matches-closing (s ∷ []) (i ∷ items) h = (subst (λ x. AreOfOneHead x i) (sym (closing-item s)) h.0, h.1)
@@ -71,10 +71,10 @@ matches-closing (s ∷ t ∷ slots) [] h = elim h [ ]
 matches-closing (s ∷ t ∷ slots) (i ∷ items) h = (h.0, matches-closing (t ∷ slots) items h.1)
 
 -- the stage under a number is as it was
-closing-was : (slots : List Slot) (k : ℕ) (s : Slot) → slice_get (last_closing slots) k ≡ Some s → (was : Slot) × (slice_get slots k ≡ Some was) × (was.stage ≡ s.stage)
+closing-was : (slots : List Slot) (k : ℕ) (s : Slot) → slice_get (with_last closing_slot slots) k ≡ Some s → (was : Slot) × (slice_get slots k ≡ Some was) × (was.stage ≡ s.stage)
 closing-was [] k s e = cc
 closing-was (x ∷ []) zero s e =
-    let is : closing x ≡ s = same-some (closing x) s e in
+    let is : closing_slot x ≡ s = same-some (closing_slot x) s e in
     (x, refl, sym (closing-stage x) ∙ ap (λ (y : Slot). y.stage) is)
 closing-was (x ∷ []) (suc k) s e = cc
 closing-was (x ∷ y ∷ slots) zero s e = (s, e, refl)
@@ -148,7 +148,7 @@ answered-fits found date old r j response = go (slice_get old.slots j) refl
         (changed made old j s t Done w e (kept j made s t refl (λ x m. inl (same-some made x m))))
 
 -- what a step finds of numbers that were told, it finds of them as they were
-told-fits : (made : TimedValue) (old : Reached) (o : Outcome) → Fits made (last_closing old.slots) old.rest o → Fits made old.slots old.rest o
+told-fits : (made : TimedValue) (old : Reached) (o : Outcome) → Fits made (with_last closing_slot old.slots) old.rest o → Fits made old.slots old.rest o
 told-fits made old o h =
     record {
       goes = λ items m. h.goes items (matches-closing old.slots items m);

@@ -7,7 +7,7 @@ use Rattle.tiny_http_io.specs.Device.{Feed, Sink}
 use Rattle.tiny_http_open_request.specs.Pipeline.{Item, Asks, Refuses, Request}
 use Rattle.tiny_http_body.specs.declared.framing.Profile.{Profile}
 use Rattle.tiny_http_connection.specs.Segments.{Slot, Stage, Unanswered, Answered, ByServer, Raw, Upgraded}
-use Rattle.tiny_http_connection.specs.Slots.{turn_has_come, is_last_once_finished, closes_now, refuses_response, new_slot, rest_of, last_slot, last_holds_reader, last_was_abandoned, upgraded_slot, refuses_upgrade, last_closing}
+use Rattle.tiny_http_connection.specs.Slots.{turn_has_come, is_last_once_finished, closes_now, refuses_response, new_slot, rest_of, last_slot, last_holds_reader, last_was_abandoned, upgraded_slot, refuses_upgrade, with_last, closing_slot}
 use Rattle.tiny_http_connection.specs.Steps.{StepValue, Ask, AsReader, Read, Respond, IntoWriter, Write, Flush, Upgrade, Finish, Drop, ReplyValue, Ended, Given, Done, Refused, NoSuch, NotYet, TimedValue, number_of}
 use Rattle.tiny_http_connection.specs.Outcomes.{WriterUse, Unused, Unreported, Outcome, Reached, unchanged, changes, ends_asking, is_last_with_stream, read_reply, finished_as, written_to, stage_closed, accepts_step, needs_turn, use_in_turn, effect, at_item, at_slot, at_number, asks_from, ask, outcome, answers, answers_slot, asked_to_close}
 use Rattle.tiny_http_connection.specs.Conversation.{Failure, State, HasOutcome, FindsNoMemory, StepsTo, Run, start_state, IsOutput, IsConversation}
@@ -61,7 +61,7 @@ answered-readable p found date old r k response (Some s) c h =
     all-set p old.slots k (finished_as (closes_now r s.closes s.owed s.given s.end_reported) s (Answered response date found)) h c
 
 -- the last number is told that the connection ends
-closing-readable : (p : Profile) (slots : List Slot) → CanAllBeRead p slots → CanAllBeRead p (last_closing slots)
+closing-readable : (p : Profile) (slots : List Slot) → CanAllBeRead p slots → CanAllBeRead p (with_last closing_slot slots)
 closing-readable p [] h = h
 closing-readable p (s ∷ []) h = (by-closing (λ t. CanBeReadAt p t) s (λ e. h.0) h.0, h.1)
 closing-readable p (s ∷ t ∷ slots) h = (h.0, closing-readable p (t ∷ slots) h.1)

@@ -10,7 +10,7 @@ use Rattle.tiny_http_io.specs.Device.{IsFront}
 use Rattle.tiny_http_open_request.specs.Pipeline.{Item, Asks, Refuses, Request}
 use Rattle.tiny_http_response.specs.ResponseValue.{ResponseValue, upgrade_text}
 use Rattle.tiny_http_connection.specs.Segments.{is_last_item, Slot, Stage, Unanswered, Answered, ByServer, Raw, Upgraded, printing_for, to_request, text_if, stage_text, opening, segment, is_stage_finished, is_finished}
-use Rattle.tiny_http_connection.specs.Slots.{is_output_broken, joined, turn_has_come, is_last_once_finished, closes_now, refuses_response, rest_of, as_stream, upgraded_slot, refuses_upgrade, last_closing, closing}
+use Rattle.tiny_http_connection.specs.Slots.{is_output_broken, joined, turn_has_come, is_last_once_finished, closes_now, refuses_response, rest_of, as_stream, upgraded_slot, refuses_upgrade, with_last, closing_slot}
 use Rattle.tiny_http_connection.specs.Steps.{number_of, StepValue, Ask, AsReader, Read, Respond, IntoWriter, Write, Flush, Upgrade, Finish, Drop, ReplyValue, Given, Done, Refused, NoSuch, Fault}
 use Rattle.tiny_http_connection.specs.Outcomes.{WriterUse, Unused, Unreported, Reported, Outcome, Reached, unchanged, changes, ends_asking, is_last_with_stream, read_reply, finished_as, written_to, stage_closed, fault_in, fault_reply, accepts_step, needs_turn, use_in_turn, effect, answers, answers_slot, asked_to_close}
 use Rattle.tiny_http_connection_laws.proofs.JoinedGrows.{SendsMore, set-grows, set-own, AddsOwn, Adds, in-turn-ownless, taken-unfinished}
@@ -211,12 +211,12 @@ answered-keeps bs found date old r s k response h here is u turn =
     subst P (sym here) (keeps-ended bs old (is_last_once_finished r s.owed s.given s.end_reported) (changes old k t Done writer) (quiet bs old h k s here t text.bytes Done writer more (settled bs s t i refl refl) (λ none. own-text bs old h k s here t text.bytes more turn none)))
 
 -- the last number is told that the connection ends
-sound-closing : (bs : Bool) (slots : List Slot) → AllSound bs slots → AllSound bs (last_closing slots)
+sound-closing : (bs : Bool) (slots : List Slot) → AllSound bs slots → AllSound bs (with_last closing_slot slots)
 sound-closing bs [] h = h
 sound-closing bs (s ∷ []) h = (by-closing (IsSound bs) s (λ e. record { unsent = h.0.unsent; fits = h.0.fits }) h.0, h.1)
 sound-closing bs (s ∷ t ∷ slots) h = (h.0, sound-closing bs (t ∷ slots) h.1)
 
-turn-closing : (k : ℕ) (slots : List Slot) → turn_has_come k (last_closing slots) ≡ turn_has_come k slots
+turn-closing : (k : ℕ) (slots : List Slot) → turn_has_come k (with_last closing_slot slots) ≡ turn_has_come k slots
 turn-closing k [] = refl
 turn-closing zero (s ∷ []) = refl
 turn-closing (suc k) (s ∷ []) = by-closing (λ t. turn_has_come (suc k) (t ∷ []) ≡ turn_has_come (suc k) (s ∷ [])) s (λ e. refl) refl
@@ -226,7 +226,7 @@ turn-closing (suc k) (s ∷ t ∷ slots) = ap (λ b. is_finished s && b) (turn-c
 -- what stands under its number then
 pub record Told (s : Slot) (slots : List Slot) (k : ℕ) : Type 0 where
   pub slot : Slot
-  pub get : slice_get (last_closing slots) k ≡ Some slot
+  pub get : slice_get (with_last closing_slot slots) k ≡ Some slot
   pub item : slot.item ≡ s.item
   pub stage : slot.stage ≡ s.stage
 
@@ -235,7 +235,7 @@ told s [] k e = cc
 told s (x ∷ []) zero e =
     let same : x ≡ s = cc in
     let T : Slot → Type 0 = λ y. Told y (x ∷ []) zero in
-    subst T same (record { slot = closing x; get = refl; item = closing-item x; stage = closing-stage x })
+    subst T same (record { slot = closing_slot x; get = refl; item = closing-item x; stage = closing-stage x })
 told s (x ∷ []) (suc k) e = cc
 told s (x ∷ y ∷ slots) zero e = record { slot = s; get = e; item = refl; stage = refl }
 told s (x ∷ y ∷ slots) (suc k) e = let t = told s (y ∷ slots) k e in record { slot = t.slot; get = t.get; item = t.item; stage = t.stage }
@@ -250,7 +250,7 @@ keeps-told bs old o h =
       rest = h.rest;
     }
   where
-    own-told : (w : WriterUse) (was slots : List Slot) → AddsOwn w (last_closing was) slots → AddsOwn w was slots
+    own-told : (w : WriterUse) (was slots : List Slot) → AddsOwn w (with_last closing_slot was) slots → AddsOwn w was slots
     own-told Unused was slots a = a
     own-told Unreported was slots a = a
     own-told (Reported own broken flushes report) was slots a =

@@ -5,6 +5,7 @@ use Rattle.httpdate.specs.declared.date.HttpDate.{HttpDate}
 use Rattle.tiny_http_head.specs.declared.common.StatusCode.{StatusCode}
 use Rattle.tiny_http_io.specs.Source.{SourceState}
 use Rattle.tiny_http_body.specs.declared.framing.Profile.{Profile}
+use Rattle.tiny_http_open_request.specs.declared.exchange.Exchange.{Exchange}
 use Rattle.tiny_http_open_request.specs.declared.exchange.HeadRead.{HeadRead}
 use Rattle.tiny_http_open_request.specs.declared.exchange.HeadRead.TheVariants as read
 use Rattle.tiny_http_open_request.specs.declared.exchange.EndOfRequests.TheVariants as because
@@ -39,13 +40,17 @@ abbrev pub FollowsRefusal : StatusCode → Bool → Bool → Found → Type 0
 FollowsRefusal status last true found = found ≡ after_refused status last
 FollowsRefusal status last false found = (e : AllocError) × (found ≡ Some (Err e))
 
+-- a request is handed out as its head and what is kept of it
+abbrev pub next_of : Exchange → NextRequest
+next_of x = next.Request x.head x.open_request
+
 -- place and output are as they were
 abbrev pub Stays : {R P O : Type 0} → At R P O → At R P O → Type 0
 Stays here there = (there.place ≡ here.place) × (there.output ≡ here.output)
 
 -- What follows what was read of a head. Place and output change only where the head is refused.
 abbrev pub Follows : {R P O : Type 0} → Refuses P O → Result HeadRead AllocError → At R P O → Found → At R P O → Type 0
-Follows refuses (Ok (read.Request x)) here found there = (found ≡ Some (Ok (next.Request x))) × Stays here there
+Follows refuses (Ok (read.Request x)) here found there = (found ≡ Some (Ok (next_of x))) × Stays here there
 Follows refuses (Ok (read.Ended why)) here found there = (found ≡ Some (Ok (next.Ended why))) × Stays here there
 Follows refuses (Ok (read.Refused status text last)) here found there =
     (kept : Bool)

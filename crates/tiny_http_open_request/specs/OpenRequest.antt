@@ -44,21 +44,27 @@ is_final code = not (nat_lt code 200) && nat_lt code 1000
 abbrev pub refuses_code : Bool → Bool → ℕ → Bool
 refuses_code by_standard is_connect code = by_standard && (not (is_final code) || (is_connect && nat_lt code 300))
 
--- no head is read behind a request that is finished now: by the standard its 100 is owed, or more is left of its body
--- than is skipped
+-- No head is read after a request that is finished now: by the standard its 100 is owed, so that the client may leave
+-- the body out, or send it; or more is left of its body than is skipped.
+abbrev pub ends_once_finished : Bool → Bool → Remainder → Bool
+ends_once_finished by_standard owed left = by_standard && (owed || is_long left)
+
 abbrev pub is_last_once_finished : {B : Type 0} → OpenRequest B → Remainder → Bool
-is_last_once_finished w left = w.by_standard && (w.owes_continue || is_long left)
+is_last_once_finished w left = ends_once_finished w.by_standard w.owes_continue left
 
 -- none is read behind a request that gets the connection's stream now
 abbrev pub is_last_with_stream : {B : Type 0} → OpenRequest B → Remainder → Bool
 is_last_with_stream w left = w.holds_next_head || is_last_once_finished w left
 
--- How it is answered now. By the standard the answer says that the connection ends where the request is the last by
--- its head, an answer asked for that, its 100 is owed, or what is left of its body isn't skipped: it is long, or its
--- end isn't known.
+-- By the standard the answer to a request says that the connection ends where an answer asked for that, its 100 is
+-- owed, or what is left of its body isn't skipped: it is long, or its end isn't known.
+abbrev pub closes_once_answered : Bool → Bool → Remainder → Bool
+closes_once_answered closes owed left = closes || (owed || not (is_skipped left))
+
+-- how it is answered now; where the request is the last by its head, its context says so already
 abbrev pub final_context : {B : Type 0} → OpenRequest B → Remainder → AnswerContext
 final_context w left =
-    if w.by_standard && (w.closes || (w.owes_continue || not (is_skipped left))) then record w.answer_context
+    if w.by_standard && closes_once_answered w.closes w.owes_continue left then record w.answer_context
     { persistence = Some Close } else w.answer_context
 
 -- a body that goes on up to the end of the connection
@@ -87,6 +93,20 @@ upgrade_check by_standard is_asked protocol code is_whole =
 abbrev pub request_check : {B : Type 0} → OpenRequest B → List ℕ → ℕ → Bool → Result ⊤ UpgradeError
 request_check w protocol code is_whole =
     upgrade_check w.by_standard (w.holds_next_head && names_protocol w.upgrades.items protocol) protocol code is_whole
+
+-- the same request, with this in the place of its body
+abbrev pub with_body : {A B : Type 0} → OpenRequest A → B → OpenRequest B
+with_body w body = record {
+  answer_context = w.answer_context;
+  owes_continue = w.owes_continue;
+  holds_next_head = w.holds_next_head;
+  by_standard = w.by_standard;
+  is_connect = w.is_connect;
+  closes = w.closes;
+  upgrades = w.upgrades;
+  dropped = w.dropped;
+  body = body;
+}
 
 -- the same request, behind which the connection ends
 abbrev pub closing : {B : Type 0} → OpenRequest B → OpenRequest B

@@ -3,12 +3,15 @@
 //! `tiny_http_response`; `tiny_http_core` names what programs use.
 #![tactic(auto)]
 
+pub mod body_start;
 pub mod exchange;
+mod head_faults;
 mod head_values;
 mod heads;
 pub mod laws;
 pub mod next_request;
 pub mod open_request;
 pub mod own_answer;
+mod read_head;
 mod standard;
 pub mod upgrading;

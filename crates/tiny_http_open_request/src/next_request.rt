@@ -2,9 +2,11 @@
 ghost use Rattle.std.specs.Prelude.{ℕ, List, Bool, is_ok};
 ghost use Rattle.tiny_http_open_request.specs.NextRequest.{at, FindsHead, FindsNext};
 
-use crate::exchange::{EndOfRequests, Exchange, HeadRead, read_head_with};
+use crate::exchange::{EndOfRequests, Head, HeadRead, read_head_with};
+use crate::open_request::OpenRequest;
 use httpdate::HttpDate;
 use std::alloc::{AllocError, Global};
+use tiny_http_body::body::UnreadBody;
 use tiny_http_body::framing::Profile;
 use tiny_http_io::device::ReadDevice;
 use tiny_http_io::source::Source;
@@ -12,8 +14,8 @@ use tiny_http_io::source::Source;
 /// What follows on a connection.
 #[derive(Drop)]
 pub enum NextRequest {
-    /// A request.
-    Request(Exchange),
+    /// A request: its head, and what is kept of it until it is answered.
+    Request(Head, OpenRequest<UnreadBody>),
     /// No further request, for this reason.
     Ended(EndOfRequests),
 }
@@ -48,7 +50,10 @@ pub fn next_request<R: ReadDevice, O, P: RefusalPlace<O>>(
     let mut room = u64::MAX;
     loop {
         match read_head_with(alloc, source, profile, now) {
-            Ok(HeadRead::Request(exchange)) => return Ok(NextRequest::Request(exchange)),
+            Ok(HeadRead::Request(exchange)) => {
+                let (head, open_request) = exchange.into_parts();
+                return Ok(NextRequest::Request(head, open_request));
+            }
             Ok(HeadRead::Ended(why)) => return Ok(NextRequest::Ended(why)),
             Ok(HeadRead::Refused { status, text, last }) => match place.refuse(output, text) {
                 Ok(()) if last => return Ok(NextRequest::Ended(EndOfRequests::Refused(status))),

@@ -13,6 +13,7 @@ ghost use Rattle.tiny_http_response.specs.Sending.{FailsOnce, SendsQuietlyOn, Se
 ghost use Rattle.tiny_http_open_request.specs.TextState.{drop_text};
 ghost use Rattle.tiny_http_open_request.specs.OwnAnswer.{own_text_by};
 ghost use Rattle.tiny_http_open_request.specs.OpenRequest.{coding_for, KeepsHead, closing, OwesNoContinue};
+ghost use Rattle.tiny_http_open_request.specs.OpenRequest.{with_body};
 ghost use Rattle.tiny_http_open_request.specs.OpenRequest.{HasNoDropText, HasNoBodyLeft, HasSentAll, final_context};
 ghost use Rattle.tiny_http_open_request.specs.OpenRequest.{streaming_context, is_last_once_finished};
 ghost use Rattle.tiny_http_open_request.specs.OpenRequest.{is_last_with_stream, refuses_code, request_check};
@@ -98,6 +99,26 @@ impl<B: Drop> OpenRequest<B> {
             dropped,
             body,
         })
+    }
+
+    /// The same request, with the body that this function makes of its own.
+    #[inline(always)]
+    pub fn map_body<C: Drop, F: FnOnce(B) -> C>(self, map: F) -> OpenRequest<C>
+        requires { F.pre map self.body }
+        ensures maps { F.post map self.body result.body }
+        ensures same { result ≡ with_body self result.body }
+    {
+        OpenRequest {
+            answer_context: self.answer_context,
+            owes_continue: self.owes_continue,
+            holds_next_head: self.holds_next_head,
+            by_standard: self.by_standard,
+            is_connect: self.is_connect,
+            closes: self.closes,
+            upgrades: self.upgrades,
+            dropped: self.dropped,
+            body: map(self.body),
+        }
     }
 
     /// Has the answer to this request say, by the standard, that the connection ends behind it (RFC 9112, section

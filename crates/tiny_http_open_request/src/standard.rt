@@ -10,7 +10,9 @@ ghost use Rattle.tiny_http_open_request.specs.HeadReads.{ReadsHead, RefusesWith,
 ghost use Rattle.tiny_http_open_request.specs.HeadReads.{IsRefusedUncut, IsOkEnd, head_framing};
 ghost use Rattle.tiny_http_open_request.specs.StandardReads.{AnswersStandardCut, IsHeadOf};
 
-use crate::exchange::{Exchange, Head, HeadRead, answer_cut, begin_body, cut_end, refused_with};
+use crate::body_start::begin_body;
+use crate::exchange::{Exchange, Head, HeadRead};
+use crate::head_faults::{answer_cut, cut_end, refused_with};
 use crate::open_request::OpenRequest;
 use httpdate::HttpDate;
 use std::alloc::{AllocError, Global};

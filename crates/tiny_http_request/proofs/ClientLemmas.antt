@@ -12,7 +12,8 @@ use Rattle.tiny_http_open_request.specs.declared.exchange.HeadRead.TheVariants a
 use Rattle.tiny_http_open_request.specs.declared.next_request.NextRequest.{NextRequest}
 use Rattle.tiny_http_open_request.specs.declared.next_request.NextRequest.TheVariants as next
 use Rattle.tiny_http_open_request.specs.HeadReads.{TakesHead}
-use Rattle.tiny_http_open_request.specs.NextRequest.{At, Refuses, Follows, FollowsRefusal, FindsHead, PassesHeads, PassesTooMany, FindsNext, after_refused}
+use Rattle.tiny_http_open_request.specs.NextRequest.{At, Refuses, Follows, FollowsRefusal, FindsHead, PassesHeads, PassesTooMany, FindsNext, after_refused, next_of}
+use Rattle.tiny_http_open_request.proofs.NextRequestLemmas.{same-next}
 use Rattle.tiny_http_request.specs.Client.{PassesRefused, FindsRequest}
 
 -- a head behind which another one stands was refused
@@ -41,31 +42,25 @@ passes-refused refuses p date (suc n) here there h =
     let one = passed-by refuses p date h.0 there h.2.0 h.2.1 h.2.2 in
     ((h.0).source, one.0, one.1, passes-refused refuses p date n here h.0 h.1, one.2)
 
-abbrev found-of : Exchange → Option (Result NextRequest AllocError)
-found-of x = Some (Ok (next.Request x))
-
-same-request : (x y : Exchange) → found-of x ≡ found-of y → y ≡ x
-same-request x y e = cc
-
 -- a request is what was read of a head
 found-by : {R P O : Type 0} (refuses : Refuses P O) (p : Profile) (date : HttpDate) (here there : At R P O) (x : Exchange) (r : Result HeadRead AllocError)
-    → TakesHead p date here.source there.source r → Follows refuses r here (Some (Ok (next.Request x))) there
+    → TakesHead p date here.source there.source r → Follows refuses r here (Some (Ok (next_of x))) there
     → TakesHead p date here.source there.source (Ok (read.Request x))
-found-by refuses p date here there x (Ok (read.Request y)) t f = subst (λ (z : Exchange). TakesHead p date here.source there.source (Ok (read.Request z))) (same-request x y f.0) t
+found-by refuses p date here there x (Ok (read.Request y)) t f = subst (λ (z : Exchange). TakesHead p date here.source there.source (Ok (read.Request z))) (same-next x y f.0) t
 found-by refuses p date here there x (Ok (read.Ended why)) t f = cc
 found-by refuses p date here there x (Ok (read.Refused status text last)) t f = absurd (by f.0 last f.2)
   where
-    by : (kept last : Bool) → FollowsRefusal status last kept (Some (Ok (next.Request x))) → ⊥
+    by : (kept last : Bool) → FollowsRefusal status last kept (Some (Ok (next_of x))) → ⊥
     by true true e = cc
     by true false e = cc
     by false last e = cc
 found-by refuses p date here there x (Err e) t f = cc
 
 pub finds-request : {R P O : Type 0} (refuses : Refuses P O) (p : Profile) (date : HttpDate) (here there : At R P O) (x : Exchange)
-    → FindsNext refuses p date here (Ok (next.Request x)) there → FindsRequest p date here.source x there.source
+    → FindsNext refuses p date here (Ok (next_of x)) there → FindsRequest p date here.source x there.source
 finds-request refuses p date here there x h = by h.ends
   where
-    by : (FindsHead refuses p date h.mid (Some (Ok (next.Request x))) there ⊎ PassesTooMany h.passed h.mid (Ok (next.Request x)) there) → FindsRequest p date here.source x there.source
+    by : (FindsHead refuses p date h.mid (Some (Ok (next_of x))) there ⊎ PassesTooMany h.passed h.mid (Ok (next_of x)) there) → FindsRequest p date here.source x there.source
     by (inl f) = record {
       passed = h.passed;
       at = (h.mid).source;
@@ -74,5 +69,5 @@ finds-request refuses p date here there x h = by h.ends
     }
     by (inr f) = absurd (never f.1.1)
       where
-        never : Ok (next.Request x) ≡ Err f.1.0 → ⊥
+        never : Ok (next_of x) ≡ Err f.1.0 → ⊥
         never e = cc

@@ -24,6 +24,7 @@ use Rattle.tiny_http_body.specs.FramingReading.{framing}
 use Rattle.tiny_http_open_request.specs.HeadReads.{Begins, IsFramedBy}
 use Rattle.tiny_http_open_request.specs.Pipeline.{IsCutWithHead, body_length_or_0}
 use Rattle.tiny_http_open_request.specs.declared.open_request.OpenRequest.{OpenRequest}
+use Rattle.tiny_http_open_request.specs.OpenRequest.{with_body}
 use Rattle.tiny_http_open_request.specs.declared.upgrading.UpgradeError.{UpgradeError}
 use Rattle.tiny_http_open_request.specs.declared.upgrading.UpgradeError.TheVariants.{TooMany}
 use Rattle.tiny_http_request.specs.Body.{BodyState, KeepsLeft, upgraded_body}
@@ -43,20 +44,6 @@ request_secure r = r.secure
 -- the client's address
 abbrev pub request_address : {R : Type 0} → {W : Type 0} → {Rt : Type 0} → Request R W Rt → Option SocketAddr
 request_address r = r.remote_addr
-
--- what is kept of a request, with this in the place of its body
-abbrev pub with_body : {A B : Type 0} → OpenRequest A → B → OpenRequest B
-with_body w body = record {
-  answer_context = w.answer_context;
-  owes_continue = w.owes_continue;
-  holds_next_head = w.holds_next_head;
-  by_standard = w.by_standard;
-  is_connect = w.is_connect;
-  closes = w.closes;
-  upgrades = w.upgrades;
-  dropped = w.dropped;
-  body = body;
-}
 
 -- what is kept of it until it is answered, with how far its body was read
 abbrev pub request_open : {R : Type 0} → {W : Type 0} → {Rt : Type 0} → Request R W Rt → OpenRequest UnreadBody

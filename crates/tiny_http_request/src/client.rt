@@ -1,7 +1,6 @@
 //! A connection whose requests threads may hold.
 ghost use Rattle.std.specs.Prelude.{◌≡◌, ◌↔◌, ◌||◌, ⊤, true, false, Ok, None, Some, IfOk, OnErr};
 ghost use Rattle.std.specs.Prelude.{IsSome, IfSome, IfNone};
-ghost use Rattle.tiny_http_open_request.specs.Exchange.{exchange_of};
 ghost use Rattle.tiny_http_socket.specs.Stream.{MayHavePeer};
 ghost use Rattle.tiny_http_threads.specs.Turn.{held_item};
 ghost use Rattle.tiny_http_request.specs.Request.{request_head, request_secure, request_address, request_open};
@@ -13,12 +12,14 @@ use httpdate::HttpDate;
 use std::alloc::{AllocError, Global};
 use std::net::SocketAddr;
 use std::sync::{Arc, Wait};
+use tiny_http_body::body::UnreadBody;
 use tiny_http_body::framing::Profile;
 use tiny_http_io::device::{ReadDevice, WriteDevice};
 use tiny_http_io::outlet::Outlet;
 use tiny_http_io::source::Source;
-use tiny_http_open_request::exchange::{EndOfRequests, Exchange};
+use tiny_http_open_request::exchange::{EndOfRequests, Head};
 use tiny_http_open_request::next_request::{NextRequest, RefusalPlace, next_request};
+use tiny_http_open_request::open_request::OpenRequest;
 use tiny_http_socket::cork::FlushPolicy;
 use tiny_http_socket::pace::Pace;
 use tiny_http_socket::refined_tcp_stream::RefinedTcpStream;
@@ -263,11 +264,11 @@ impl<R: ReadDevice + Drop, W: WriteDevice + Drop, Rt: Wait + Copy> ClientConnect
         let sink = &mut self.sink;
         let mut place = NextWriter { pace: &self.pace };
         match next_request(alloc, source, profile, &mut place, sink, now) {
-            Ok(NextRequest::Request(exchange)) => {
+            Ok(NextRequest::Request(head, open_request)) => {
                 let Some(writer) = next_writer(&mut self.sink)? else {
                     return Ok(None);
                 };
-                match self.hand_out(reader, writer, exchange) {
+                match self.hand_out(reader, writer, head, open_request) {
                     Ok(request) => Ok(Some(request)),
                     Err(e) => Err(e),
                 }
@@ -302,11 +303,12 @@ impl<R: ReadDevice + Drop, W: WriteDevice + Drop, Rt: Wait + Copy> ClientConnect
         &mut self,
         reader: HeldReader<Source<R>, Rt>,
         writer: SequentialWriter<Outlet<W>, Rt>,
-        exchange: Exchange,
+        head: Head,
+        open_request: OpenRequest<UnreadBody>,
     ) -> Result<Request<R, W, Rt>, AllocError>
         requires { IsOver self.old }
-        ensures exchange { IfOk result
-            (λ request. exchange ≡ exchange_of (request_head request) (request_open request)) }
+        ensures head { IfOk result (λ request. head ≡ request_head request) }
+        ensures kept { IfOk result (λ request. open_request ≡ request_open request) }
         ensures input { IfOk result (GivesInput (held_item reader) self.new) }
         ensures holds { IfOk result (λ request. (request_body request).holds_input
             ≡ is_streaming (request_open request).body || (request_open request).holds_next_head) }
@@ -319,7 +321,6 @@ impl<R: ReadDevice + Drop, W: WriteDevice + Drop, Rt: Wait + Copy> ClientConnect
             × (client_address self.new ≡ client_address self.old)
             × (client_profile self.new ≡ client_profile self.old) }
     {
-        let (head, open_request) = exchange.into_parts();
         let holds_reader = open_request.body.holds_reader() || open_request.holds_next_head;
         let may_leave = !holds_reader && is_next_writer(&writer);
         let flush_policy = set_policy(&self.flush_policy, may_leave)?;

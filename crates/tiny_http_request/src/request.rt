@@ -50,7 +50,8 @@ use tiny_http_io::custom_stream::CustomStream;
 use tiny_http_io::device::{ReadDevice, Stop, WriteDevice};
 use tiny_http_io::outlet::Outlet;
 use tiny_http_io::source::Source;
-use tiny_http_open_request::exchange::{Head, begin_body};
+use tiny_http_open_request::body_start::begin_body;
+use tiny_http_open_request::exchange::Head;
 use tiny_http_open_request::open_request::OpenRequest;
 pub use tiny_http_open_request::upgrading::UpgradeError;
 use tiny_http_response::response::Response;
@@ -155,33 +156,12 @@ impl<R: ReadDevice + Drop, W: WriteDevice + Drop, Rt: Wait + Drop> Request<R, W,
     {
         let (secure, remote_addr) = client;
         let (flush_policy, pace) = told;
-        let OpenRequest {
-            answer_context,
-            owes_continue,
-            holds_next_head,
-            by_standard,
-            is_connect,
-            closes,
-            upgrades,
-            dropped,
-            body,
-        } = open_request;
-        let gives_on = if holds_next_head {
+        let gives_on = if open_request.holds_next_head {
             GivesOn::AfterAnswer
         } else {
             GivesOn::AfterBody
         };
-        let open_request = OpenRequest {
-            answer_context,
-            owes_continue,
-            holds_next_head,
-            by_standard,
-            is_connect,
-            closes,
-            upgrades,
-            dropped,
-            body: Body::new(body, reader, gives_on),
-        };
+        let open_request = open_request.map_body(|body| Body::new(body, reader, gives_on));
         Request {
             alloc,
             secure,

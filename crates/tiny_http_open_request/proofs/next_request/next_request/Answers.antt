@@ -4,7 +4,7 @@ use Rattle.std.specs.declared.alloc.AllocError.{AllocError}
 use Rattle.tiny_http_open_request.specs.declared.exchange.HeadRead.{HeadRead}
 use Rattle.tiny_http_open_request.specs.declared.exchange.HeadRead.TheVariants as read
 use Rattle.tiny_http_open_request.specs.HeadReads.{TakesHead}
-use Rattle.tiny_http_open_request.specs.NextRequest.{at, after_refused, FindsHead}
+use Rattle.tiny_http_open_request.specs.NextRequest.{at, after_refused, FindsHead, next_of}
 use Rattle.tiny_http_open_request.proofs.next_request.next_request.Goals as goal
 
 pub loop-exchange-init : goal.loop-exchange-init

@@ -8,7 +8,7 @@ use Rattle.tiny_http_open_request.specs.declared.next_request.NextRequest.{NextR
 use Rattle.tiny_http_open_request.specs.declared.next_request.NextRequest.TheVariants as next
 use Rattle.tiny_http_open_request.specs.Exchange.{exchange_of}
 use Rattle.tiny_http_open_request.specs.HeadReads.{head_message, head_framing}
-use Rattle.tiny_http_open_request.specs.NextRequest.{FindsNext, at as at-head}
+use Rattle.tiny_http_open_request.specs.NextRequest.{FindsNext, next_of, at as at-head}
 use Rattle.tiny_http_connection.proofs.Asking.{CanAsk}
 use Rattle.tiny_http_connection.specs.Pending.{RefusesHead}
 use Rattle.tiny_http_connection.specs.Steps.{Ended, NotYet, Memory, Handed}
@@ -61,7 +61,7 @@ pub returns-in-Ok : goal.returns-in-Ok
 returns-in-Ok g c =
     let q = c.self.inside in
     let f = c.next_request.new in
-    let x = exchange_of c.into_parts-head.result.0 c.into_parts-head.result.1 in
+    let x = exchange_of c.in-Ok-Request.head c.in-Ok-Request.request in
     let e = c.in-Ok.ensures in
     let old = viewed q.profile q.source q.outlet q.pending q.end in
     let new = viewed q.profile f.source f.output c.issue.new.self q.end in
@@ -71,11 +71,11 @@ returns-in-Ok g c =
     ] in
     let can : CanAsk old = (none-of q.end (sym c.is_some.ensures ∙ c.if-is_some.false), outside, sym c.last_holds_next_head.ensures ∙ c.if-last_holds_next_head.false) in
     let N : Result NextRequest AllocError → Type 0 = λ r. FindsNext RefusesHead q.profile c.args.now (at-head q.source q.pending q.outlet) r (at-head f.source f.place f.output) in
-    let found : N (Ok (next.Request x)) = subst N (c.in-Ok-Request.is ∙ ap (λ y. Ok y) c.in-Ok-Request.field-0-is ∙ ap (λ y. Ok (next.Request y)) c.into_parts-head.ensures) c.next_request.ensures in
+    let found : N (Ok (next_of x)) = subst N (c.in-Ok-Request.is ∙ ap (λ y. Ok y) c.in-Ok-Request.field-0-is) c.next_request.ensures in
     let shape : AreInShape c.issue.new.self.turns.marks = e.shape in
     let reply = Handed c.in-Ok.number (head_message x.head) (head_framing x.head) in
     record {
-      step = rw (← c.self.view_is) (takes-ask old new c.args.now reply (asks-next q.profile c.args.now (at-head q.source q.pending q.outlet) (at-head f.source f.place f.output) q.end (Ok (next.Request x)) found can new reply
+      step = rw (← c.self.view_is) (takes-ask old new c.args.now reply (asks-next q.profile c.args.now (at-head q.source q.pending q.outlet) (at-head f.source f.place f.output) q.end (Ok (next_of x)) found can new reply
           (λ h may. found-request q.profile c.args.now found.mid (at-head f.source f.place f.output) c.issue.new.self q.end x c.in-Ok.number e.number e.marks shape e.requests h may)));
     }
 
@@ -83,7 +83,7 @@ pub returns-in-Err-issue : goal.returns-in-Err-issue
 returns-in-Err-issue g c =
     let q = c.self.inside in
     let f = c.next_request.new in
-    let x = exchange_of c.into_parts-head.result.0 c.into_parts-head.result.1 in
+    let x = exchange_of c.in-Ok-Request.head c.in-Ok-Request.request in
     let e = c.in-Err-issue.ensures.err in
     let old = viewed q.profile q.source q.outlet q.pending q.end in
     let new = viewed q.profile f.source f.output c.issue.new.self (Some because.Memory) in
@@ -93,9 +93,9 @@ returns-in-Err-issue g c =
     ] in
     let can : CanAsk old = (none-of q.end (sym c.is_some.ensures ∙ c.if-is_some.false), outside, sym c.last_holds_next_head.ensures ∙ c.if-last_holds_next_head.false) in
     let N : Result NextRequest AllocError → Type 0 = λ r. FindsNext RefusesHead q.profile c.args.now (at-head q.source q.pending q.outlet) r (at-head f.source f.place f.output) in
-    let found : N (Ok (next.Request x)) = subst N (c.in-Ok-Request.is ∙ ap (λ y. Ok y) c.in-Ok-Request.field-0-is ∙ ap (λ y. Ok (next.Request y)) c.into_parts-head.ensures) c.next_request.ensures in
+    let found : N (Ok (next_of x)) = subst N (c.in-Ok-Request.is ∙ ap (λ y. Ok y) c.in-Ok-Request.field-0-is) c.next_request.ensures in
     record {
-      step = rw (← c.self.view_is) (takes-ask old new c.args.now Memory (asks-next q.profile c.args.now (at-head q.source q.pending q.outlet) (at-head f.source f.place f.output) q.end (Ok (next.Request x)) found can new Memory
+      step = rw (← c.self.view_is) (takes-ask old new c.args.now Memory (asks-next q.profile c.args.now (at-head q.source q.pending q.outlet) (at-head f.source f.place f.output) q.end (Ok (next_of x)) found can new Memory
           (λ h may. found-no-number q.profile c.args.now found.mid (at-head f.source f.place f.output) c.issue.new.self q.end x e.0 e.1 h may)));
     }
 

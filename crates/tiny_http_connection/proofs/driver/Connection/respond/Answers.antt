@@ -15,7 +15,7 @@ use Rattle.tiny_http_connection.specs.declared.driver.Step.TheVariants as step
 use Rattle.tiny_http_response.specs.Answer.{ResponseState}
 use Rattle.tiny_http_io.specs.Device.{Feed}
 use Rattle.tiny_http_turns.specs.Turns.{Mark, Held}
-use Rattle.tiny_http_connection.specs.Pending.{waiting_answer_context, is_last_once_finished_at as kept_lacks, refuses_at, kept_body, closing_number, asked_to_close, begins_left}
+use Rattle.tiny_http_connection.specs.Pending.{waiting_answer_context, is_last_once_finished_at as kept_lacks, refuses_at, kept_body, closing_number, closing_if_asked, begins_left}
 use Rattle.tiny_http_io.specs.Outlet.{output_of, outlet_ended}
 use Rattle.tiny_http_connection.specs.Connection.{Kept, ConnectionState, kept}
 use Rattle.tiny_http_response.specs.ResponseValue.{printing_in}
@@ -163,7 +163,7 @@ answered-leaves n code old new (Handed k m f) a l = λ z. l
 
 -- what it tells of a failure of the writer
 answered-tells : {R W : Type 0} (n : ℕ) (r : ResponseState (Option Feed)) (old new : ConnectionState R W) (now : HttpDate) (reply : ReplyValue) (context : AnswerContext) → IsAnswered reply
-    → waiting_answer_context (slice_get (asked_to_close r.answer.closes old.requests) n) ≡ Some context
+    → waiting_answer_context (slice_get (closing_if_asked r.answer.closes old.requests) n) ≡ Some context
     → ((output_of new.outlet).failures ≡ (output_of old.outlet).failures)
     ⊎ ((kind : ErrorKind) × (reply ≡ fault_reply kind) × IsHonest (output_of old.outlet) (output_of new.outlet) r.answer r.data_reader (printing_in context now) kind)
     ⊎ ((begins_left (drop (n + 1) old.marks) ≡ true) × AnswerIsSentOn old new now n r)
@@ -245,7 +245,7 @@ unreachable-requires g c =
     let w = waits-some (slice_get q.pending.requests n) (sym c.is_waiting.ensures ∙ c.if-not-is_waiting.false) in
     let b = c.closes-closes.result in
     let is_some_at : Option (Option Unfinished) → Bool = λ o. is_some (waiting_answer_context o) in
-    let none : is_some_at (slice_get (asked_to_close b q.pending.requests) n) ≡ false = ap (λ l. is_some_at (slice_get (asked_to_close b l) n)) (sym c.hold.ensures.requests) ∙ ap (λ l. is_some_at (slice_get l n)) (sym c.close_last.ensures.requests) ∙ ap is_some c.in_default.ensures.none.0 in
+    let none : is_some_at (slice_get (closing_if_asked b q.pending.requests) n) ≡ false = ap (λ l. is_some_at (slice_get (closing_if_asked b l) n)) (sym c.hold.ensures.requests) ∙ ap (λ l. is_some_at (slice_get l n)) (sym c.close_last.ensures.requests) ∙ ap is_some c.in_default.ensures.none.0 in
     let no : true ≡ false = sym (ap is_some_at w.1) ∙ sym (at-asked is_some_at waits-told b q.pending.requests n) ∙ none in cc
 
 pub returns : goal.returns
@@ -265,7 +265,7 @@ returns g c =
     let reply = seen c.answer-reply.result in
     let w0 = c.in-Some.request in
     let some = c.in-Some.ensures.some in
-    let told : c.close_last.new.self.requests ≡ k.requests = c.close_last.ensures.requests ∙ ap (λ b. asked_to_close b c.hold.new.self.requests) c.closes-closes.ensures ∙ ap (asked_to_close asked) c.hold.ensures.requests in
+    let told : c.close_last.new.self.requests ≡ k.requests = c.close_last.ensures.requests ∙ ap (λ b. closing_if_asked b c.hold.new.self.requests) c.closes-closes.ensures ∙ ap (closing_if_asked asked) c.hold.ensures.requests in
     let got : slice_get k.requests n ≡ Some (Some (still.Waiting w0)) = ap (λ l. slice_get l n) (sym told) ∙ some.0 in
     let lacks = kept_lacks (slice_get k.requests n) in
     let same_lacks : lacks ≡ kept_lacks (slice_get k0.requests n) = at-asked kept_lacks lacks-told asked k0.requests n in

@@ -10,7 +10,7 @@ use Rattle.tiny_http_open_request.specs.declared.next_request.NextRequest.{NextR
 use Rattle.tiny_http_open_request.specs.declared.next_request.NextRequest.TheVariants as next
 use Rattle.tiny_http_open_request.specs.Exchange.{exchange_of}
 use Rattle.tiny_http_open_request.specs.HeadReads.{IsFramedRequest}
-use Rattle.tiny_http_open_request.specs.NextRequest.{At, Refuses, FindsNext}
+use Rattle.tiny_http_open_request.specs.NextRequest.{At, Refuses, FindsNext, next_of}
 use Rattle.tiny_http_open_request.proofs.NextRequestLemmas.{next-framed}
 use Rattle.tiny_http_io.specs.Source.{SourceState}
 use Rattle.tiny_http_request.specs.Request.{request_head, request_open}
@@ -21,14 +21,15 @@ use Rattle.tiny_http_request.proofs.client.ClientConnection.next.Goals as goal
 
 -- a request that is found is framed as its version and headers say
 framed-by : {R P O : Type 0} {refuses : Refuses P O} {profile : Profile} {date : HttpDate} {here there : At R P O} {r : Result NextRequest AllocError} (x : Exchange)
-    → r ≡ Ok (next.Request x) → FindsNext refuses profile date here r there → IsFramedRequest profile date (read.Request x)
+    → r ≡ Ok (next_of x) → FindsNext refuses profile date here r there → IsFramedRequest profile date (read.Request x)
 framed-by {refuses = refuses} {profile = profile} {date = date} {here = here} {there = there} x same found =
     next-framed refuses profile date here there x (subst (λ r. FindsNext refuses profile date here r there) same found)
 
 pub returns-in-Ok-clause-handed : goal.returns-in-Ok-clause-handed
 returns-in-Ok-clause-handed g c =
     let x = exchange_of (request_head c.in-Ok.request) (request_open c.in-Ok.request) in
-    let same : c.next_request.result ≡ Ok (next.Request x) = c.in-Ok-Request.is ∙ ap (λ y. Ok y) c.in-Ok-Request.field-0-is ∙ ap (λ y. Ok (next.Request y)) c.in-Ok.ensures.exchange in
+    let same : c.next_request.result ≡ Ok (next_of x) = c.in-Ok-Request.is ∙ ap (λ y. Ok y) c.in-Ok-Request.field-0-is
+      ∙ ap (λ h. Ok (next.Request h c.in-Ok-Request.open_request)) c.in-Ok.ensures.head ∙ ap (λ o. Ok (next.Request x.head o)) c.in-Ok.ensures.kept in
     record {
       framed = framed-by x same c.next_request.ensures;
       client = c.in-Ok.ensures.client;
@@ -38,7 +39,7 @@ returns-in-Ok-clause-handed g c =
     }
 
 found-by : {R P O : Type 0} {refuses : Refuses P O} {profile : Profile} {date : HttpDate} {here there : At R P O} {r : Result NextRequest AllocError} (x : Exchange)
-    → r ≡ Ok (next.Request x) → FindsNext refuses profile date here r there → FindsRequest profile date here.source x there.source
+    → r ≡ Ok (next_of x) → FindsNext refuses profile date here r there → FindsRequest profile date here.source x there.source
 found-by {refuses = refuses} {profile = profile} {date = date} {here = here} {there = there} x same found =
     finds-request refuses profile date here there x (subst (λ r. FindsNext refuses profile date here r there) same found)
 
@@ -52,7 +53,8 @@ here-is (Some x) i s h e = h ∙ some-same x s e
 pub returns-in-Ok-clause-reads : goal.returns-in-Ok-clause-reads
 returns-in-Ok-clause-reads g c = λ source held.
     let x = exchange_of (request_head c.in-Ok.request) (request_open c.in-Ok.request) in
-    let same : c.next_request.result ≡ Ok (next.Request x) = c.in-Ok-Request.is ∙ ap (λ y. Ok y) c.in-Ok-Request.field-0-is ∙ ap (λ y. Ok (next.Request y)) c.in-Ok.ensures.exchange in
+    let same : c.next_request.result ≡ Ok (next_of x) = c.in-Ok-Request.is ∙ ap (λ y. Ok y) c.in-Ok-Request.field-0-is
+      ∙ ap (λ h. Ok (next.Request h c.in-Ok-Request.open_request)) c.in-Ok.ensures.head ∙ ap (λ o. Ok (next.Request x.head o)) c.in-Ok.ensures.kept in
     let taken : c.take.result ≡ c.args.self.now.next_head = search rules in
     let here : source_here c.in-Some.next_head ≡ Some source = ap (option_and_then source_here) (sym c.in-Some.is ∙ taken) ∙ held in
     let mine : c.deref_mut-source.result.now ≡ source = c.deref_mut-source.ensures.value ∙ here-is (source_here c.in-Some.next_head) (held_item c.hold-reader.result) source c.hold-reader.ensures here in

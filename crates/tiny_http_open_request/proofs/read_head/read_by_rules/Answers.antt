@@ -7,7 +7,7 @@ use Rattle.tiny_http_open_request.specs.HeadReads.{ReadsHead, ReadsMessage, Refu
 use Rattle.tiny_http_open_request.specs.Pipeline.{ends_too_new, plainly, profile_of}
 use Rattle.tiny_http_open_request.proofs.HeadReadsServing.{head-closed, head-refused, head-unframed, head-too_new, passed-on, head-cut, head-handed, cut-stop, begun-is, end-unanswered, timed-out, other-rules, cut-passed, fault-passed}
 use Rattle.tiny_http_io.proofs.SourceGoesOn.{goes-on_more}
-use Rattle.tiny_http_open_request.proofs.exchange.read_by_rules.Goals as goal
+use Rattle.tiny_http_open_request.proofs.read_head.read_by_rules.Goals as goal
 
 pub returns-then-not-has_byte-clause-reads : goal.returns-then-not-has_byte-clause-reads
 returns-then-not-has_byte-clause-reads g c =

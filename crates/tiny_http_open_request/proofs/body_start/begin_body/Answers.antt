@@ -6,7 +6,7 @@ use Rattle.tiny_http_io.specs.Source.{TakesExactly}
 use Rattle.std.specs.Global.{Vec}
 use Rattle.std.specs.Io.Cursor.{cursor_inner}
 use Rattle.tiny_http_open_request.proofs.HeadReadsServing.{begins-rest, begins-nothing, begins-counted, begins-chunked, begins-held, begins-cut}
-use Rattle.tiny_http_open_request.proofs.exchange.begin_body.Goals as goal
+use Rattle.tiny_http_open_request.proofs.body_start.begin_body.Goals as goal
 
 pub returns-in-Rest-clause-begins : goal.returns-in-Rest-clause-begins
 returns-in-Rest-clause-begins g c = begins-rest c.args.framing c.args.source.now.feed (search rules)

@@ -8,7 +8,7 @@ use Rattle.tiny_http_open_request.specs.HeadReads.{ReadsHead, end_at}
 use Rattle.tiny_http_io.proofs.SourceGoesOn.{goes-on_more}
 use Rattle.tiny_http_body.proofs.BodyReads.{goes-on_end}
 use Rattle.tiny_http_open_request.proofs.HeadReadsServing.{head-end}
-use Rattle.tiny_http_open_request.proofs.exchange.read_head_with.Goals as goal
+use Rattle.tiny_http_open_request.proofs.read_head.read_head_with.Goals as goal
 
 pub returns-in-Body : goal.returns-in-Body
 returns-in-Body g c =
