@@ -515,6 +515,11 @@ write-honest {T = T} old new (Err x) own kind puts e =
     kind-of : (a b : ErrorKind) → Fault a ≡ Fault b → a ≡ b
     kind-of a b e = cc
 
+-- and the output has ended
+pub write-ended : {T : Type 0} (r : Result T Error) (kind : ErrorKind) (ended : Bool) → OnErr r (ended ≡ true) → write_reply r ≡ Fault kind → ended ≡ true
+write-ended (Ok x) kind ended h e = let no : Done ≡ Fault kind = e in cc
+write-ended (Err x) kind ended h e = h
+
 -- a failure of the writer is reported
 pub write-tells : {T : Type 0} (old new : Sink) (r : Result T Error) (own : List ℕ) → Puts old new r own → ReportsOfWriter old new (write_reply r)
 write-tells {T = T} old new (Ok x) own puts = inl puts.failures

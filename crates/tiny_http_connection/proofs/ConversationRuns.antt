@@ -32,7 +32,7 @@ use Rattle.tiny_http_connection.specs.declared.driver.Reply.{Reply}
 use Rattle.tiny_http_connection.specs.declared.driver.Step.{Step}
 use Rattle.tiny_http_connection.specs.declared.driver.Step.TheVariants as step
 use Rattle.tiny_http_connection.specs.Seen.{seen, all_sent_after, all_sent}
-use Rattle.tiny_http_connection.specs.Driving.{stated_step, MakesStep}
+use Rattle.tiny_http_connection.specs.Driving.{stated_step, MakesStep, StepMeets}
 use Rattle.tiny_http_connection.specs.Runs.{TakesSteps}
 use Rattle.tiny_http_response.specs.Sending.{SinkFailsOnce, FailsOnceUnlessEnded}
 use Rattle.tiny_http_io.proofs.DeviceLemmas.{grown-nil}
@@ -219,12 +219,15 @@ fails-step writer old new false ended (inl e) (inr s) = inr (s.0 ∙ ap next_cou
 fails-step writer old new false ended (inr h) s = let no : false ≡ true = h.1 in cc
 
 -- one step more
-pub takes-snoc : {R W D : Type 0} (feed : D → Option Feed) (a b c : ConnectionState R W) (steps : List (Timed D)) (replies : List Reply) (t : Timed D) (r : Reply) → TakesSteps feed a steps replies b → MakesStep b c t.now (stated_step feed t.step) (seen r)
-    → TakesSteps feed a (steps ++ t ∷ []) (replies ++ r ∷ []) c
-takes-snoc {R = R} {W = W} feed a b c [] [] t r h step = let P : ConnectionState R W → Type 0 = λ x. MakesStep x c t.now (stated_step feed t.step) (seen r) in (c, subst P h step, refl)
-takes-snoc {R = R} {W = W} {D = D} feed a b c [] (x ∷ replies) t r h step = elim h [ ]
-takes-snoc {R = R} {W = W} {D = D} feed a b c (x ∷ steps) [] t r h step = elim h [ ]
-takes-snoc feed a b c (x ∷ steps) (y ∷ replies) t r h step = (h.0, h.1, takes-snoc feed h.0 b c steps replies t r h.2 step)
+pub takes-snoc : {R W D : Type 0} (told : R → ℕ) (feed : D → Option Feed) (a b c : ConnectionState R W) (steps : List (Timed D)) (replies : List Reply) (t : Timed D) (r : Reply) → TakesSteps told feed a steps replies b → MakesStep b c t.now (stated_step feed t.step) (seen r)
+    → StepMeets told (stated_step feed t.step) b c (seen r) → TakesSteps told feed a (steps ++ t ∷ []) (replies ++ r ∷ []) c
+takes-snoc {R = R} {W = W} told feed a b c [] [] t r h step meets =
+    let P : ConnectionState R W → Type 0 = λ x. MakesStep x c t.now (stated_step feed t.step) (seen r) in
+    let M : ConnectionState R W → Type 0 = λ x. StepMeets told (stated_step feed t.step) x c (seen r) in
+    (c, subst P h step, subst M h meets, refl)
+takes-snoc {R = R} {W = W} {D = D} told feed a b c [] (x ∷ replies) t r h step meets = elim h [ ]
+takes-snoc {R = R} {W = W} {D = D} told feed a b c (x ∷ steps) [] t r h step meets = elim h [ ]
+takes-snoc told feed a b c (x ∷ steps) (y ∷ replies) t r h step meets = (h.0, h.1, h.2, takes-snoc told feed h.0 b c steps replies t r h.3 step meets)
 
 -- whether all was sent on after one step more
 pub all-sent-snoc : {D : Type 0} (steps : List (Timed D)) (replies : List Reply) (t : Timed D) (r : Reply) (sent : Bool) → length steps ≡ length replies → all_sent (steps ++ t ∷ []) (replies ++ r ∷ []) sent ≡ all_sent_after t.step (seen r) (all_sent steps replies sent)

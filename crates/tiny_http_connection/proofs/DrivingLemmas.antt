@@ -13,7 +13,7 @@ use Rattle.tiny_http_connection.specs.Outcomes.{fault_reply}
 use Rattle.tiny_http_io.specs.declared.device.Stop.{Stop}
 use Rattle.tiny_http_connection.specs.declared.pending.Unfinished.{Unfinished}
 use Rattle.tiny_http_connection.specs.declared.pending.Unfinished.TheVariants as still
-use Rattle.tiny_http_connection.specs.Replies.{StepReplies, is_waiting}
+use Rattle.tiny_http_connection.specs.Replies.{StepReplies, is_waiting, is_in_turn, is_open_mark}
 use Rattle.tiny_http_connection.proofs.RepliesLemmas.{replied-refused, replied-done}
 use Rattle.tiny_http_connection.specs.Pending.{waiting_answer_context, is_last_once_finished_at as kept_lacks, refuses_at, is_last_with_stream_at, last_holds_next_head, kept_body, GivesUpBody, refuses_upgrade_at}
 use Rattle.std.specs.List.{AllZip}
@@ -44,7 +44,7 @@ use Rattle.tiny_http_connection.proofs.ConversationEnded.{steps-stay, vain-snoc,
 use Rattle.tiny_http_connection.proofs.ConnectionReader.{holds-snoc}
 use Rattle.tiny_http_io.proofs.SourceGoesOn.{goes-on_same, goes-on_more}
 use Rattle.tiny_http_connection.proofs.SeenLemmas.{is-ask, is-as_reader, is-read, is-respond, is-into_writer, is-write, is-flush, is-upgrade, is-finish, is-drop, step-as_reader, step-read, step-respond, step-into_writer, step-write, step-flush, step-upgrade, step-finish, step-drop}
-use Rattle.tiny_http_turns.specs.Turns.{Mark}
+use Rattle.tiny_http_turns.specs.Turns.{Mark, Open, Held, Left, Finished}
 use Rattle.std.specs.Prelude.{is_some, replicate}
 use Rattle.tiny_http_open_request.specs.declared.exchange.EndOfRequests.{EndOfRequests}
 use Rattle.tiny_http_io.specs.declared.source.Standing.{Standing}
@@ -59,7 +59,7 @@ use Rattle.tiny_http_body.specs.declared.framing.Framing.{Framing}
 use Rattle.tiny_http_open_request.specs.HeadReads.{ReadsHead, EndsAt, IsBeforeHead, HasByteOrTimedOut, IsFramedAs, head_message, head_framing}
 use Rattle.tiny_http_body.specs.declared.framing.Profile.{Profile}
 use Rattle.tiny_http_open_request.specs.Pipeline.{OneHead, Request, Item, Refuses, Place, place_feed}
-use Rattle.tiny_http_connection.specs.Driving.{HandsOut, IsFree, IsRefusal, EndsRequestsAt, EndsThere, ArePassedOver, HasByteBehind, standing_behind}
+use Rattle.tiny_http_connection.specs.Driving.{SendsInTurn, HandsOut, IsFree, IsRefusal, EndsRequestsAt, EndsThere, ArePassedOver, HasByteBehind, standing_behind}
 use Rattle.tiny_http_open_request.proofs.PipelineLemmas.{has-pipeline}
 use Rattle.tiny_http_connection.proofs.ConversationRuns.{run-more, stands-begun, split}
 use Rattle.tiny_http_body.proofs.BodyReads.{gives-up}
@@ -244,7 +244,7 @@ Leads client before k s now asked reply =
 
 takes-found : {R W : Type 0} (old new : ConnectionState R W) (now : HttpDate) (x : Step (Option Feed)) (reply : ReplyValue)
     → ((client : Feed) (before : Sink) (s : State) (asked : StepValue) → before.failures < 2 ^ 64 - 1 → IsStep (λ f. f) x asked → Stands client before (kept old) s → Leads client before (kept new) s now asked reply)
-    → (IsDeclined x reply → new ≡ old) → StepReplies old x reply → StepEnds x old new reply → StepLeaves x old new reply → MovesBy x reply old new → ((kind : ErrorKind) → reply ≡ Fault kind → ReportsFault old new now x kind) → StepReports old new now x reply → TakesStep old new now x reply
+    → (IsDeclined x reply → new ≡ old) → StepReplies old x reply → StepEnds x old new reply → StepLeaves x now old new reply → MovesBy x reply old new → ((kind : ErrorKind) → reply ≡ Fault kind → ReportsFault old new now x kind) → StepReports old new now x reply → TakesStep old new now x reply
 takes-found old new now x reply answers declined replies ends leaves moves honest tells =
     record {
       does = λ p client before steps replies asked is done.
@@ -281,7 +281,7 @@ takes-found old new now x reply answers declined replies ends leaves moves hones
 
 pub takes : {R W : Type 0} (old new : ConnectionState R W) (now : HttpDate) (x : Step (Option Feed)) (reply : ReplyValue)
     → ((client : Feed) (before : Sink) (s : State) (asked : StepValue) → before.failures < 2 ^ 64 - 1 → IsStep (λ f. f) x asked → Stands client before (kept old) s → StepIsAnswered client before (kept new) s now asked reply)
-    → (IsDeclined x reply → new ≡ old) → StepReplies old x reply → StepEnds x old new reply → StepLeaves x old new reply → MovesBy x reply old new → ((kind : ErrorKind) → reply ≡ Fault kind → ReportsFault old new now x kind) → StepReports old new now x reply → (IsAskStep x → ⊥) → TakesStep old new now x reply
+    → (IsDeclined x reply → new ≡ old) → StepReplies old x reply → StepEnds x old new reply → StepLeaves x now old new reply → MovesBy x reply old new → ((kind : ErrorKind) → reply ≡ Fault kind → ReportsFault old new now x kind) → StepReports old new now x reply → (IsAskStep x → ⊥) → TakesStep old new now x reply
 takes old new now x reply answers declined replies ends leaves moves honest tells other =
     takes-found old new now x reply
     (λ client before s asked low is st. (let a = answers client before s asked low is st in (a.0, a.1, a.2, λ v. absurd (other (vain-asks x asked reply is v)))))
@@ -490,7 +490,7 @@ asks-behind-head old mid now p = λ new reply a. record {
 
 pub takes-as_reader : {R W : Type 0} (old new : ConnectionState R W) (now : HttpDate) (n : ℕ) (reply : ReplyValue)
     → ((client : Feed) (before : Sink) (s : State) → before.failures < 2 ^ 64 - 1 → Stands client before (kept old) s → StepIsAnswered client before (kept new) s now (AsReader n) reply)
-    → (IsDeclined (step.AsReader n) reply → new ≡ old) → StepReplies old (step.AsReader n) reply → new.end ≡ old.end → StepLeaves (step.AsReader n) old new reply → Moves false old new → ReportsNoFault reply → TakesStep old new now (step.AsReader n) reply
+    → (IsDeclined (step.AsReader n) reply → new ≡ old) → StepReplies old (step.AsReader n) reply → new.end ≡ old.end → StepLeaves (step.AsReader n) now old new reply → Moves false old new → ReportsNoFault reply → TakesStep old new now (step.AsReader n) reply
 takes-as_reader old new now n reply answers declined replies ends leaves moves none =
     takes old new now (step.AsReader n) reply
     (λ client before s asked low is st. step-as_reader {D = Option Feed} (λ f. f) client before (kept new) s now (now, asked) (step.AsReader n) n reply refl refl is (answers client before s low st))
@@ -506,7 +506,7 @@ takes-drop old new now n reply answers declined replies ends leaves moves none =
 
 pub takes-read : {R W : Type 0} (old new : ConnectionState R W) (now : HttpDate) (n m : ℕ) (reply : ReplyValue)
     → ((client : Feed) (before : Sink) (s : State) → Stands client before (kept old) s → StepIsAnswered client before (kept new) s now (Read n m) reply)
-    → (IsDeclined (step.Read n m) reply → new ≡ old) → new.end ≡ old.end → StepLeaves (step.Read n m) old new reply → Moves false old new → TakesStep old new now (step.Read n m) reply
+    → (IsDeclined (step.Read n m) reply → new ≡ old) → new.end ≡ old.end → StepLeaves (step.Read n m) now old new reply → Moves false old new → TakesStep old new now (step.Read n m) reply
 takes-read old new now n m reply answers declined ends leaves moves =
     takes old new now (step.Read n m) reply
     (λ client before s asked low is st. step-read {D = Option Feed} (λ f. f) client before (kept new) s (now, asked) (step.Read n m) n m reply refl is (answers client before s st))
@@ -523,7 +523,7 @@ takes-respond feed all old new now n r reply answers declined replies ends leave
 
 pub takes-into_writer : {R W : Type 0} (old new : ConnectionState R W) (now : HttpDate) (n : ℕ) (reply : ReplyValue)
     → ((client : Feed) (before : Sink) (s : State) → before.failures < 2 ^ 64 - 1 → Stands client before (kept old) s → StepIsAnswered client before (kept new) s now (IntoWriter n) reply)
-    → (IsDeclined (step.IntoWriter n) reply → new ≡ old) → StepReplies old (step.IntoWriter n) reply → EndsBehind (is_last_with_stream_at (slice_get old.requests n)) old new reply → StepLeaves (step.IntoWriter n) old new reply → Moves false old new → ReportsNoFault reply → TakesStep old new now (step.IntoWriter n) reply
+    → (IsDeclined (step.IntoWriter n) reply → new ≡ old) → StepReplies old (step.IntoWriter n) reply → EndsBehind (is_last_with_stream_at (slice_get old.requests n)) old new reply → StepLeaves (step.IntoWriter n) now old new reply → Moves false old new → ReportsNoFault reply → TakesStep old new now (step.IntoWriter n) reply
 takes-into_writer old new now n reply answers declined replies ends leaves moves none =
     takes old new now (step.IntoWriter n) reply
     (λ client before s asked low is st. step-into_writer {D = Option Feed} (λ f. f) client before (kept new) s (now, asked) (step.IntoWriter n) n reply refl is (answers client before s low st))
@@ -531,7 +531,7 @@ takes-into_writer old new now n reply answers declined replies ends leaves moves
 
 pub takes-finish : {R W : Type 0} (old new : ConnectionState R W) (now : HttpDate) (n : ℕ) (reply : ReplyValue)
     → ((client : Feed) (before : Sink) (s : State) → before.failures < 2 ^ 64 - 1 → Stands client before (kept old) s → StepIsAnswered client before (kept new) s now (Finish n) reply)
-    → (IsDeclined (step.Finish n) reply → new ≡ old) → StepReplies old (step.Finish n) reply → new.end ≡ old.end → StepLeaves (step.Finish n) old new reply → Moves false old new → ReportsNoFault reply → TakesStep old new now (step.Finish n) reply
+    → (IsDeclined (step.Finish n) reply → new ≡ old) → StepReplies old (step.Finish n) reply → new.end ≡ old.end → StepLeaves (step.Finish n) now old new reply → Moves false old new → ReportsNoFault reply → TakesStep old new now (step.Finish n) reply
 takes-finish old new now n reply answers declined replies ends leaves moves none =
     takes old new now (step.Finish n) reply
     (λ client before s asked low is st. step-finish {D = Option Feed} (λ f. f) client before (kept new) s (now, asked) (step.Finish n) n reply refl is (answers client before s low st))
@@ -539,7 +539,7 @@ takes-finish old new now n reply answers declined replies ends leaves moves none
 
 pub takes-flush : {R W : Type 0} (all : Bool) (old new : ConnectionState R W) (now : HttpDate) (n : ℕ) (reply : ReplyValue)
     → ((client : Feed) (before : Sink) (s : State) → before.failures < 2 ^ 64 - 1 → Stands client before (kept old) s → StepIsAnswered client before (kept new) s now (Flush n) reply)
-    → (IsDeclined (step.Flush n) reply → new ≡ old) → StepReplies old (step.Flush n) reply → new.end ≡ old.end → StepLeaves (step.Flush n) old new reply → is_done reply ≡ all → Moves all old new → ((kind : ErrorKind) → reply ≡ Fault kind → IsOfWriter (output_of old.outlet) (output_of new.outlet) kind)
+    → (IsDeclined (step.Flush n) reply → new ≡ old) → StepReplies old (step.Flush n) reply → new.end ≡ old.end → StepLeaves (step.Flush n) now old new reply → is_done reply ≡ all → Moves all old new → ((kind : ErrorKind) → reply ≡ Fault kind → (new.outlet.ended ≡ true) × IsOfWriter (output_of old.outlet) (output_of new.outlet) kind)
     → ReportsOfWriter (output_of old.outlet) (output_of new.outlet) reply → TakesStep old new now (step.Flush n) reply
 takes-flush all old new now n reply answers declined replies ends leaves done moves honest tells =
     takes old new now (step.Flush n) reply
@@ -549,8 +549,8 @@ takes-flush all old new now n reply answers declined replies ends leaves done mo
 -- a Write that wasn't done leaves what is sent on as it was; of one that was nothing is said
 pub takes-write : {R W : Type 0} (old new : ConnectionState R W) (now : HttpDate) (n : ℕ) (v : Vec ℕ) (bytes : List ℕ) (reply : ReplyValue)
     → v.items ≡ bytes → ((client : Feed) (before : Sink) (s : State) → before.failures < 2 ^ 64 - 1 → Stands client before (kept old) s → StepIsAnswered client before (kept new) s now (Write n bytes) reply)
-    → (IsDeclined (step.Write n v) reply → new ≡ old) → StepReplies old (step.Write n v) reply → new.end ≡ old.end → StepLeaves (step.Write n v) old new reply → new.profile ≡ old.profile → GoesOn old.source.feed new.source.feed
-    → FailsOnce old.outlet new.outlet → (is_done reply ≡ false → new.outlet ≡ old.outlet) → ((kind : ErrorKind) → reply ≡ Fault kind → IsOfWriter (output_of old.outlet) (output_of new.outlet) kind)
+    → (IsDeclined (step.Write n v) reply → new ≡ old) → StepReplies old (step.Write n v) reply → new.end ≡ old.end → StepLeaves (step.Write n v) now old new reply → new.profile ≡ old.profile → GoesOn old.source.feed new.source.feed
+    → FailsOnce old.outlet new.outlet → (is_done reply ≡ false → new.outlet ≡ old.outlet) → ((kind : ErrorKind) → reply ≡ Fault kind → (new.outlet.ended ≡ true) × IsOfWriter (output_of old.outlet) (output_of new.outlet) kind)
     → ReportsOfWriter (output_of old.outlet) (output_of new.outlet) reply → TakesStep old new now (step.Write n v) reply
 takes-write {W = W} old new now n v bytes reply same answers declined replies ends leaves profile_is goes once still honest tells =
     takes old new now (step.Write n v) reply
@@ -662,6 +662,22 @@ honest-more true ended a b c x feed p kind e k last (inl h) = let K : Option Err
 honest-more true ended a b c x feed p kind e k last (inr h) = inr h
 honest-more false ended a b c x feed p kind e k last h = let no : false ≡ true = e in cc
 
+-- an output that has ended stays so
+pub stays-ended : (was ended : Bool) (b c : Sink) → was ≡ true → FailsOnceUnlessEnded was b c ended → ended ≡ true
+stays-ended true ended b c e k = k.1
+stays-ended false ended b c e k = let no : false ≡ true = e in cc
+
+-- what ends a number is sent in its turn
+pub sends-in_turn : {R W : Type 0} (k : ℕ) (old new : ConnectionState R W) → (slice_get old.marks k ≡ Some Open → is_in_turn old k ≡ true → (new.outlet.held ≡ []) × SentOn new.outlet) → (is_in_turn old k ≡ false → new.outlet ≡ old.outlet) → SendsInTurn k old new
+sends-in_turn k old new sends waits = (λ can. (let h = both (slice_get old.marks k) (is_in_turn old k) can in sends h.0 h.1), waits)
+  where
+    both : (o : Option Mark) (b : Bool) → (is_open_mark o && b) ≡ true → (o ≡ Some Open) × (b ≡ true)
+    both None b e = cc
+    both (Some Open) b e = (refl, e)
+    both (Some Held) b e = cc
+    both (Some (Left text)) b e = cc
+    both (Some Finished) b e = cc
+
 -- what an answer tells of a failure of the writer, before the texts behind it are sent
 abbrev pub AnswerTells : Sink → Sink → Bool → ReplyValue → Answer → Option Feed → Printing → Type 0
 AnswerTells old mid ended reply x feed p = (mid.failures ≡ old.failures) ⊎ ((kind : ErrorKind) × (reply ≡ fault_reply kind) × (ended ≡ true) × IsHonest old mid x feed p kind)
@@ -669,12 +685,12 @@ AnswerTells old mid ended reply x feed p = (mid.failures ≡ old.failures) ⊎ (
 -- and behind them
 pub answer-tells : {W : Type 0} (old : Sink) (mid new : OutletState W) (reply : ReplyValue) (left : Bool) (x : Answer) (feed : Option Feed) (p : Printing) (Own : Type 0)
     → AnswerTells old (output_of mid) mid.ended reply x feed p → FailsOnce mid new → (mid.ended ≡ true → (output_of new).last_kind ≡ (output_of mid).last_kind) → (left ≡ false → new ≡ mid) → (mid.ended ≡ false → Own)
-    → ((output_of new).failures ≡ old.failures) ⊎ ((kind : ErrorKind) × (reply ≡ fault_reply kind) × IsHonest old (output_of new) x feed p kind) ⊎ ((left ≡ true) × Own)
-answer-tells old mid new reply left x feed p Own (inr h) once last idle own = inr (inl (h.0, h.1, honest-more mid.ended new.ended old (output_of mid) (output_of new) x feed p h.0 h.2 once (last h.2) h.3))
+    → ((output_of new).failures ≡ old.failures) ⊎ ((kind : ErrorKind) × (reply ≡ fault_reply kind) × (new.ended ≡ true) × IsHonest old (output_of new) x feed p kind) ⊎ ((left ≡ true) × Own)
+answer-tells old mid new reply left x feed p Own (inr h) once last idle own = inr (inl (h.0, h.1, stays-ended mid.ended new.ended (output_of mid) (output_of new) h.2 once, honest-more mid.ended new.ended old (output_of mid) (output_of new) x feed p h.0 h.2 once (last h.2) h.3))
 answer-tells {W = W} old mid new reply left x feed p Own (inl same) once last idle own = by mid.ended refl left refl
   where
     Tells : Type 0
-    Tells = ((output_of new).failures ≡ old.failures) ⊎ ((kind : ErrorKind) × (reply ≡ fault_reply kind) × IsHonest old (output_of new) x feed p kind) ⊎ ((left ≡ true) × Own)
+    Tells = ((output_of new).failures ≡ old.failures) ⊎ ((kind : ErrorKind) × (reply ≡ fault_reply kind) × (new.ended ≡ true) × IsHonest old (output_of new) x feed p kind) ⊎ ((left ≡ true) × Own)
 
     by : (t : Bool) → mid.ended ≡ t → (u : Bool) → left ≡ u → Tells
     by true e u f = let F : Bool → Type 0 = λ y. FailsOnceUnlessEnded y (output_of mid) (output_of new) new.ended in inl ((subst F e once).0 ∙ same)

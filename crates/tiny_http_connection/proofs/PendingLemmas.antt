@@ -312,6 +312,34 @@ leave-stays front rest marks mid number text was old r before behind e place sta
     by-turn true o = absurd (goes (length front) r none o.1)
     by-turn false o = (o.0, shape, refl, refl)
 
+-- a number whose text comes back is in its turn
+pub leave-in_turn : (marks : List Mark) (n : ℕ) (text : List ℕ) (before behind : Option (Unit {0})) (u : Unit {0}) (back : Vec ℕ) → LeavesTurn (turn_answer (Leave n text) marks) before (LeaveGo u back) behind → (n == first_unfinished marks) ≡ true
+leave-in_turn marks n text before behind u back h = by (slice_get marks n) h
+  where
+    when : (t : Bool) → (n == first_unfinished marks) ≡ t → LeavesTurn ((if t then (Goes n text, slice_set marks n Held) else (Waits, slice_set marks n (Left text))).0) before (LeaveGo u back) behind → (n == first_unfinished marks) ≡ true
+    when true e f = e
+    when false e f = absurd f
+
+    by : (o : Option Mark) → LeavesTurn ((leave_at o n text marks).0) before (LeaveGo u back) behind → (n == first_unfinished marks) ≡ true
+    by None f = absurd f
+    by (Some Open) f = when (n == first_unfinished marks) refl f
+    by (Some Held) f = absurd f
+    by (Some (Left was)) f = absurd f
+    by (Some Finished) f = absurd f
+
+-- and the text of an open number in its turn comes back
+pub leave-comes_back : (marks : List Mark) (n : ℕ) (text : List ℕ) (before behind : Option (Unit {0})) (r : Leaving (Unit {0})) → slice_get marks n ≡ Some Open → (n == first_unfinished marks) ≡ true → LeavesTurn (turn_answer (Leave n text) marks) before r behind
+    → ((u : Unit {0}) (back : Vec ℕ) → r ≡ LeaveGo u back → ⊥) → ⊥
+leave-comes_back marks n text before behind r open_is turn h never =
+    let O : Option Mark → Type 0 = λ o. LeavesTurn ((leave_at o n text marks).0) before r behind in
+    let T : Bool → Type 0 = λ t. LeavesTurn ((if t then (Goes n text, slice_set marks n Held) else (Waits, slice_set marks n (Left text))).0) before r behind in
+    goes r never (subst T turn (subst O open_is h))
+  where
+    goes : (x : Leaving (Unit {0})) → ((u : Unit {0}) (v : Vec ℕ) → x ≡ LeaveGo u v → ⊥) → LeavesTurn (Goes n text) before x behind → ⊥
+    goes IsLeft no f = f
+    goes (LeaveGo u v) no f = no u v refl
+    goes (LeaveStrange v) no f = f
+
 -- a number more doesn't change whose turn it is
 pub first-issued : (marks : List Mark) → first_unfinished (marks ++ (Open ∷ [])) ≡ first_unfinished marks
 first-issued [] = refl

@@ -18,7 +18,8 @@ use Rattle.tiny_http_open_request.specs.declared.exchange.EndOfRequests.{EndOfRe
 use Rattle.tiny_http_open_request.specs.declared.exchange.EndOfRequests.TheVariants as because
 use Rattle.tiny_http_open_request.specs.HeadReads.{EndsAt, IsBeforeHead, HasByteOrTimedOut, ComesWith, IsFramedAs}
 use Rattle.tiny_http_open_request.specs.HeadReads.{head_message, head_framing}
-use Rattle.tiny_http_open_request.specs.OpenRequest.{KeepsHead}
+use Rattle.tiny_http_open_request.specs.OpenRequest.{KeepsHead, HasSentAll}
+use Rattle.tiny_http_open_request.specs.OwnAnswer.{own_text_by}
 use Rattle.tiny_http_open_request.specs.declared.exchange.Head.{Head}
 use Rattle.tiny_http_body.specs.declared.framing.Profile.{Profile}
 use Rattle.tiny_http_body.specs.declared.framing.Framing.{Framing}
@@ -31,7 +32,7 @@ use Rattle.tiny_http_connection.specs.Conversation.{State, Run, start_state, IsF
 use Rattle.tiny_http_connection.specs.Conversation.{BeginsBehind}
 use Rattle.tiny_http_response.specs.declared.answer_context.AnswerContext.{AnswerContext}
 use Rattle.tiny_http_response.specs.ResponseValue.{printing_in}
-use Rattle.tiny_http_response.specs.Sending.{CanSend, IsHonest, FailsOnce}
+use Rattle.tiny_http_response.specs.Sending.{CanSend, IsHonest, FailsOnce, SendsQuietlyOn}
 use Rattle.tiny_http_connection.specs.Pending.{waiting_answer_context, owes_continue, is_last_once_finished_at}
 use Rattle.tiny_http_connection.specs.Pending.{refuses_at, refuses_upgrade_at, is_last_with_stream_at, closing_if_asked}
 use Rattle.tiny_http_connection.specs.Pending.{last_holds_next_head, kept_body, GivesUpBody, with_body, begins_left}
@@ -45,7 +46,7 @@ use Rattle.tiny_http_body.specs.Body.{ReadsOn}
 use Rattle.tiny_http_connection.specs.Seen.{IsStep, IsAnswered, IsOfWriter, ReportsOfWriter, all_sent_after}
 use Rattle.tiny_http_connection.specs.Outcomes.{fault_reply}
 use Rattle.tiny_http_connection.specs.Giving.{TakesNext}
-use Rattle.tiny_http_connection.specs.Replies.{StepReplies}
+use Rattle.tiny_http_connection.specs.Replies.{StepReplies, can_take, is_in_turn}
 use Rattle.tiny_http_connection.specs.Connection.{ConnectionState, kept, Stands}
 
 -- By a connection of this profile, over this client's feed and a fresh writer, these steps were done, with these
@@ -198,10 +199,17 @@ GivesUpKept k old new =
     → slice_get old.requests k ≡ Some (Some u)
     → GivesUpBody (kept_body (Some u)) old.source new.source
 
+-- What ends a number is sent in its turn: then nothing is held back, and all was sent on. Before its turn the output is
+-- left alone.
+abbrev pub SendsInTurn : {R W : Type 0} → ℕ → ConnectionState R W → ConnectionState R W → Type 0
+SendsInTurn k old new =
+    (can_take old k ≡ true → (new.outlet.held ≡ []) × SentOn new.outlet)
+    × (is_in_turn old k ≡ false → new.outlet ≡ old.outlet)
+
 -- nothing is kept of this number any more, and its body was given up
 abbrev pub LetsGo : {R W : Type 0} → ℕ → ConnectionState R W → ConnectionState R W → Type 0
 LetsGo k old new =
-    (new.requests ≡ slice_set old.requests k None) × GivesUpKept k old new
+    (new.requests ≡ slice_set old.requests k None) × GivesUpKept k old new × SendsInTurn k old new
 
 -- nothing is kept of this number any more, and its body was given up; the last number was told that the connection
 -- ends, if it waits and the answer asked for that
@@ -270,17 +278,24 @@ AskLeaves old new _ = ⊥
 abbrev pub StandsAfter : {R : Type 0} → UnreadBody → UnreadBody → SourceState R → SourceState R → Type 0
 StandsAfter was body old new = MatchBool (is_streaming was) (new.standing ≡ body_standing body old.standing) (new ≡ old)
 
--- What becomes of the 100 of a number, by the reply: none is owed any more, and if none was nothing has changed; or
--- one is owed, and waits for its turn; or no such request waits for an answer.
-abbrev pub SendsContinue : {R W : Type 0} → ℕ → ConnectionState R W → ConnectionState R W → ReplyValue → Type 0
-SendsContinue k old new Done =
-    (w : OpenRequest UnreadBody) × (slice_get old.requests k ≡ Some (Some (still.Waiting w)))
-    × MatchBool w.owes_continue
+-- the 100 of this number's request was sent and flushed, and none is owed any more
+abbrev pub ContinueIsSent : {R W : Type 0} → ℕ → HttpDate → OpenRequest UnreadBody → ConnectionState R W
+    → ConnectionState R W → Type 0
+ContinueIsSent k now w old new =
     (new.requests ≡ slice_set old.requests k (Some (still.Waiting (record w { owes_continue = false }))))
-    (new ≡ old)
-SendsContinue k old new NotYet = owes_continue (slice_get old.requests k) ≡ true
-SendsContinue k old new NoSuch = waiting_answer_context (slice_get old.requests k) ≡ None
-SendsContinue k old new _ = ⊥
+    × SendsQuietlyOn old.outlet new.outlet (own_text_by 100 (printing_in w.answer_context now))
+    × HasSentAll new.outlet
+
+-- What becomes of the 100 of a number, by the reply: it was sent, or if none was owed nothing has changed; or one is
+-- owed, and waits for its turn; or no such request waits for an answer.
+abbrev pub SendsContinue : {R W : Type 0} → ℕ → HttpDate → ConnectionState R W → ConnectionState R W → ReplyValue
+    → Type 0
+SendsContinue k now old new Done =
+    (w : OpenRequest UnreadBody) × (slice_get old.requests k ≡ Some (Some (still.Waiting w)))
+    × MatchBool w.owes_continue (ContinueIsSent k now w old new) (new ≡ old)
+SendsContinue k now old new NotYet = owes_continue (slice_get old.requests k) ≡ true
+SendsContinue k now old new NoSuch = waiting_answer_context (slice_get old.requests k) ≡ None
+SendsContinue k now old new _ = ⊥
 
 -- nothing but the output has changed
 abbrev pub LeavesAllButOutlet : {R W : Type 0} → ConnectionState R W → ConnectionState R W → Type 0
@@ -337,26 +352,26 @@ ReadLeaves k n old new NoSuch = is_readable (slice_get old.requests k) ≡ false
 ReadLeaves k n old new Memory = (is_readable (slice_get old.requests k) ≡ true) × (0 < n)
 ReadLeaves k n old new _ = ⊥
 
--- What a step leaves of requests, source and output. An AsReader only clears what its request owes. A read changes no
--- more than the body of its request, and the source if it is read from that. An answer, a drop and a Finish let their
+-- What a step leaves of requests, source and output. An AsReader sends what its request owes. A read changes no more
+-- than the body of its request, and the source if it is read from that. An answer, a drop and a Finish let their
 -- request go. An IntoWriter gives the body up.
-abbrev pub StepLeaves : {R W : Type 0} → Step (Option Feed) → ConnectionState R W → ConnectionState R W → ReplyValue
-    → Type 0
-StepLeaves step.Ask old new reply = AskLeaves old new reply
-StepLeaves (step.AsReader k) old new reply =
-    (new.source ≡ old.source) × (new.marks ≡ old.marks) × SendsContinue k old new reply
-StepLeaves (step.Read k n) old new reply =
+abbrev pub StepLeaves : {R W : Type 0} → Step (Option Feed) → HttpDate → ConnectionState R W → ConnectionState R W
+    → ReplyValue → Type 0
+StepLeaves step.Ask now old new reply = AskLeaves old new reply
+StepLeaves (step.AsReader k) now old new reply =
+    (new.source ≡ old.source) × (new.marks ≡ old.marks) × SendsContinue k now old new reply
+StepLeaves (step.Read k n) now old new reply =
     (new.outlet ≡ old.outlet) × (new.marks ≡ old.marks) × ReadLeaves k n old new reply
-StepLeaves (step.Respond k r) old new reply = AnswerLeaves k r.answer old new reply
-StepLeaves (step.IntoWriter k) old new reply =
+StepLeaves (step.Respond k r) now old new reply = AnswerLeaves k r.answer old new reply
+StepLeaves (step.IntoWriter k) now old new reply =
     (new.outlet ≡ old.outlet)
     × (new.marks ≡ old.marks)
     × (IsAnswered reply → (new.requests ≡ slice_set old.requests k (Some still.Raw)) × GivesUpKept k old new)
-StepLeaves (step.Write k bytes) old new reply = LeavesAllButOutlet old new
-StepLeaves (step.Flush k) old new reply = LeavesAllButOutlet old new
-StepLeaves (step.Upgrade k p r) old new reply = UpgradeLeaves k (string_bytes p) r.answer.status old new reply
-StepLeaves (step.Finish k) old new reply = IsAnswered reply → LetsGo k old new
-StepLeaves (step.Drop k) old new reply = IsAnswered reply → LetsGo k old new
+StepLeaves (step.Write k bytes) now old new reply = LeavesAllButOutlet old new
+StepLeaves (step.Flush k) now old new reply = LeavesAllButOutlet old new
+StepLeaves (step.Upgrade k p r) now old new reply = UpgradeLeaves k (string_bytes p) r.answer.status old new reply
+StepLeaves (step.Finish k) now old new reply = IsAnswered reply → LetsGo k old new
+StepLeaves (step.Drop k) now old new reply = IsAnswered reply → LetsGo k old new
 
 -- the step was not done: it came too early, or no request takes it, or memory for a read was refused
 abbrev pub IsDeclined : Step (Option Feed) → ReplyValue → Type 0
@@ -366,8 +381,8 @@ IsDeclined (step.Read k n) Memory = Unit {0}
 IsDeclined _ _ = ⊥
 
 -- A fault that a step reports, whatever reader, writer and data state: that of a Write or a Flush is the writer's,
--- whose count rose; that of an answer is so too, or that of its own data, printed for its request; that of a read is the
--- body's, as `ReadLeaves` says. The other steps report none.
+-- whose count rose; that of an answer is so too, or that of its own data, printed for its request. Then the output has
+-- ended. That of a read is the body's, as `ReadLeaves` says. The other steps report none.
 abbrev pub ReportsFault : {R W : Type 0} → ConnectionState R W → ConnectionState R W → HttpDate → Step (Option Feed)
     → ErrorKind → Type 0
 ReportsFault old new now step.Ask kind = ⊥
@@ -375,13 +390,16 @@ ReportsFault old new now (step.AsReader k) kind = ⊥
 ReportsFault old new now (step.Read k n) kind = Unit {0}
 ReportsFault old new now (step.Drop k) kind = ⊥
 ReportsFault old new now (step.IntoWriter k) kind = ⊥
-ReportsFault old new now (step.Write k bytes) kind = IsOfWriter (output_of old.outlet) (output_of new.outlet) kind
-ReportsFault old new now (step.Flush k) kind = IsOfWriter (output_of old.outlet) (output_of new.outlet) kind
+ReportsFault old new now (step.Write k bytes) kind =
+    (new.outlet.ended ≡ true) × IsOfWriter (output_of old.outlet) (output_of new.outlet) kind
+ReportsFault old new now (step.Flush k) kind =
+    (new.outlet.ended ≡ true) × IsOfWriter (output_of old.outlet) (output_of new.outlet) kind
 ReportsFault old new now (step.Upgrade k p r) kind = ⊥
 ReportsFault old new now (step.Finish k) kind = ⊥
 ReportsFault old new now (step.Respond k r) kind =
     (context : AnswerContext)
     × (waiting_answer_context (slice_get (closing_if_asked r.answer.closes old.requests) k) ≡ Some context)
+    × (new.outlet.ended ≡ true)
     × IsHonest (output_of old.outlet) (output_of new.outlet) r.answer r.data_reader (printing_in context now) kind
 
 -- The answer's own text was sent on whole, behind all that the writer had taken. This is said where the data state
@@ -422,6 +440,12 @@ ReadMeets told old new k reply =
     × (new.requests ≡ slice_set old.requests k (Some (with_body body u)))
     × (told new.source.reader ≤ told old.source.reader + ends_met was (given_count reply) body))
 
+-- the same of a step; nothing is said of the others
+abbrev pub StepMeets : {R W : Type 0} → (R → ℕ) → Step (Option Feed) → ConnectionState R W → ConnectionState R W
+    → ReplyValue → Type 0
+StepMeets told (step.Read k n) old new reply = ReadMeets told old new k reply
+StepMeets told _ old new reply = ⊤
+
 -- WHERE THE WRITER FAILED in a step its count rose. A Write and a Flush report that, and so does an answer, as above.
 -- The other steps don't report it.
 abbrev pub StepReports : {R W : Type 0} → ConnectionState R W → ConnectionState R W → HttpDate → Step (Option Feed)
@@ -441,7 +465,7 @@ pub record MakesStep {R W : Type 0} (old new : ConnectionState R W) (now : HttpD
   pub replies : StepReplies old step reply
   -- why the requests end, and what becomes of requests, source and output
   pub ends : StepEnds step old new reply
-  pub leaves : StepLeaves step old new reply
+  pub leaves : StepLeaves step now old new reply
   pub goes_on : GoesOn old.source.feed new.source.feed
   -- the writer fails once at most; and what is held and what was sent on, by step and reply
   pub fails_once : FailsOnce old.outlet new.outlet

@@ -1,6 +1,6 @@
 -- What a run of a list of steps comes to.
 -- Nobody needs this file to believe the laws of `InShort`.
-use Rattle.std.specs.Prelude.{◌≡◌, List, map, true, false, [], ◌∷◌, length, Option, Some, None}
+use Rattle.std.specs.Prelude.{◌≡◌, ℕ, List, map, true, false, [], ◌∷◌, length, Option, Some, None}
 use Rattle.std.specs.List.{AllZip}
 use Rattle.tiny_http_io.specs.Device.{Feed, Sink, HoldsNothing}
 use Rattle.tiny_http_io.specs.Source.{GoesOn}
@@ -9,11 +9,11 @@ use Rattle.tiny_http_io.specs.declared.source.Standing.TheVariants as at
 use Rattle.tiny_http_response.specs.Sending.{FailsAtMostOnce}
 use Rattle.tiny_http_body.specs.declared.framing.Profile.{Profile}
 use Rattle.tiny_http_connection.specs.declared.driver.Timed.{Timed}
-use Rattle.tiny_http_connection.specs.declared.driver.Record.{Record}
+use Rattle.tiny_http_connection.specs.declared.run.Record.{Record}
 use Rattle.tiny_http_connection.specs.declared.driver.Reply.{Reply}
 use Rattle.tiny_http_connection.specs.Seen.{IsTimedStep, seen, all_sent}
 use Rattle.tiny_http_connection.specs.Connection.{ConnectionState}
-use Rattle.tiny_http_connection.specs.Driving.{MakesStep, stated_step}
+use Rattle.tiny_http_connection.specs.Driving.{MakesStep, StepMeets, stated_step}
 use Rattle.tiny_http_connection.specs.Conversation.{IsConversation, IsFresh}
 use Rattle.tiny_http_connection.specs.Steps.{TimedValue}
 
@@ -41,30 +41,32 @@ pub record IsNew {R W : Type 0} (p : Profile) (reader : R) (client : Option Feed
   pub unread : (c.source.stop ≡ None) × (c.source.held ≡ []) × (c.source.skip ≡ 0)
   pub outlet : c.outlet ≡ record { held = []; ended = false; writer = writer; sink = before }
 
--- the steps were taken one after another, each with its reply, from one state of a connection to another
-abbrev pub TakesSteps : {R W D : Type 0} → (D → Option Feed) → ConnectionState R W → List (Timed D) → List Reply
-    → ConnectionState R W → Type 0
-TakesSteps stated old [] [] new = new ≡ old
-TakesSteps {R = R} {W = W} stated old (t ∷ steps) (r ∷ replies) new =
+-- the steps were taken one after another, each with its reply, from one state of a connection to another; the reader
+-- states how often it met an end or a fault
+abbrev pub TakesSteps : {R W D : Type 0} → (R → ℕ) → (D → Option Feed) → ConnectionState R W → List (Timed D)
+    → List Reply → ConnectionState R W → Type 0
+TakesSteps told stated old [] [] new = new ≡ old
+TakesSteps {R = R} {W = W} told stated old (t ∷ steps) (r ∷ replies) new =
     (mid : ConnectionState R W)
     × MakesStep old mid t.now (stated_step stated t.step) (seen r)
-    × TakesSteps stated mid steps replies new
-TakesSteps stated old [] (r ∷ replies) new = ⊥
-TakesSteps stated old (t ∷ steps) [] new = ⊥
+    × StepMeets told (stated_step stated t.step) old mid (seen r)
+    × TakesSteps told stated mid steps replies new
+TakesSteps told stated old [] (r ∷ replies) new = ⊥
+TakesSteps told stated old (t ∷ steps) [] new = ⊥
 
 -- WHAT A RUN LEAVES, whatever reader, writer and data state.
-pub record RunsSteps {R W D : Type 0} (client : R → Option Feed) (sink : W → Sink) (stated : D → Option Feed)
-    (p : Profile) (reader : R) (writer : W) (steps : List (Timed D)) (done : Record R W) : Type 0 where
+pub record RunsSteps {R W D : Type 0} (client : R → Option Feed) (told : R → ℕ) (sink : W → Sink)
+    (stated : D → Option Feed) (p : Profile) (reader : R) (writer : W) (steps : List (Timed D)) (done : Record R W) : Type 0 where
   -- one reply a step, as `takes` says too
   pub replies : length done.replies.items ≡ length steps
   -- what the source still gives is the client's bytes from some place on, if the reader states them
   pub source : GoesOn (client reader) done.source.feed
-  -- The steps were taken one after another by a connection that was new. So what `MakesStep` says holds of each step
-  -- and its reply. Source and outlet are as the last step left them, and the outlet states what its writer states.
+  -- The steps were taken one after another by a connection that was new. So what `MakesStep` and `StepMeets` say holds
+  -- of each step and its reply. Source and outlet are as the last step left them, and the outlet states what its writer states.
   pub first : ConnectionState R W
   pub last : ConnectionState R W
   pub begins : IsNew p reader (client reader) writer (sink writer) first
-  pub takes : TakesSteps stated first steps done.replies.items last
+  pub takes : TakesSteps told stated first steps done.replies.items last
   pub leaves : (done.source ≡ last.source) × (done.outlet ≡ last.outlet)
   pub states : done.outlet.sink ≡ sink done.outlet.writer
   -- the writer failed at most once

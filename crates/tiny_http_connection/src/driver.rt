@@ -1,8 +1,7 @@
-//! A connection driven step by step, or by a list of steps, without threads.
+//! A connection driven step by step, without threads.
 ghost use Rattle.std.specs.Global.{Global as Heap, Vec};
 ghost use Rattle.std.specs.Prelude.{◌≡◌, ℕ, ◌+◌, ◌-◌, ◌<◌, ◌≤◌, ◌^◌, true, false, List, [], length, Some, None};
 ghost use Rattle.std.specs.Prelude.{◌⊎◌, Ok, IfOk, IfErr, OnErr, IsTrue, is_some, slice_get, String, string_bytes};
-ghost use Rattle.std.specs.Prelude.{vec_len, vec_capacity};
 ghost use Rattle.tiny_http_io.specs.Device.{Feed, Sink};
 ghost use Rattle.tiny_http_response.specs.ResponseValue.{ResponseValue};
 ghost use Rattle.tiny_http_open_request.specs.OpenRequest.{final_context};
@@ -14,14 +13,15 @@ ghost use Rattle.std.specs.declared.io.ErrorKind.{ErrorKind};
 ghost use Rattle.tiny_http_connection.specs.Outcomes.{fault_reply};
 ghost use Rattle.tiny_http_connection.specs.Pending.{waiting_answer_context};
 ghost use Rattle.tiny_http_connection.specs.Driving.{HasDone, TakesStep, ReadMeets, Drops, ends_behind, stated_response};
+ghost use Rattle.tiny_http_connection.specs.Driving.{StepMeets};
 ghost use Rattle.tiny_http_connection.specs.Driving.{stated_step};
-ghost use Rattle.tiny_http_connection.specs.Runs.{IsConversationOf, RunsSteps};
 ghost use Rattle.tiny_http_response.specs.ResponseValue.{printing_in};
 ghost use Rattle.tiny_http_connection.specs.Seen.{seen, write_reply, Answers, IsAnswered};
 ghost use Rattle.tiny_http_io.specs.Outlet.{output_of, outlet_ended, outlet_held, outlet_writer, SentOn};
 ghost use Rattle.tiny_http_response.specs.Sending.{CanSend, IsHonest, FailsOnce};
 
 use crate::pending::{Pending, Unfinished, close_body};
+pub use crate::run::{Record, RunError, run, run_with};
 use httpdate::HttpDate;
 use std::alloc::{AllocError, Global};
 use std::io;
@@ -103,27 +103,6 @@ pub enum Reply {
     NoSuch,
     /// No memory was found. A `Read` has changed nothing; after an `Ask` every later one is answered `Ended`.
     Memory,
-}
-
-/// What a run leaves: one reply a step, and reader and writer within their buffers.
-#[derive(Drop)]
-pub struct Record<R: ReadDevice, W: WriteDevice> {
-    /// What each step was answered.
-    pub replies: Vec<Reply>,
-    /// The reader, with the bytes that are held. While requests may follow it stands after the last head that was
-    /// read, and after what was read of that request's body.
-    pub source: Source<R>,
-    /// The writer, with what is held back. Its bytes and then those held are the output.
-    pub outlet: Outlet<W>,
-}
-
-/// Room for the replies was refused: nothing was read or written. Where there is no step there is no such error.
-#[derive(Drop)]
-pub struct RunError<R, W> {
-    /// The reader, as it was.
-    pub reader: R,
-    /// The writer, as it was.
-    pub writer: W,
 }
 
 /// A connection over a reader and a writer, without threads. It hands out the client's requests one after another,
@@ -584,6 +563,8 @@ impl<R: ReadDevice, W: WriteDevice> Connection<R, W> {
     // The calls aren't inlined here: the rooms of what all of them may hold would be set to zero at each step.
     pub fn step<D: ReadDevice + Drop>(&mut self, alloc: Global, timed: Timed<D>) -> Reply
         ensures step { TakesStep self.old self.new timed.now (stated_step D.feed timed.step) (seen result) }
+        // The client's reader is asked for no end or fault that a Read doesn't need.
+        ensures meets { StepMeets R.told (stated_step D.feed timed.step) self.old self.new (seen result) }
     {
         let Timed { now, step } = timed;
         match step {
@@ -617,72 +598,4 @@ impl<R: ReadDevice, W: WriteDevice> Connection<R, W> {
         self.outlet.facts();
         (self.source, self.outlet)
     }
-}
-
-// Room for so many replies. For none no memory is asked for.
-fn room_for(alloc: Global, count: usize) -> Result<Vec<Reply>, AllocError>
-    ensures items { IfOk result (λ v. v.items ≡ []) }
-    ensures len { IfOk result (λ v. vec_len v ≡ 0) }
-    ensures room { IfOk result (λ v. count ≤ vec_capacity v) }
-    ensures asked { OnErr result (0 < count) }
-{
-    if count == 0 {
-        return Ok(Vec::new(alloc));
-    }
-    Vec::with_capacity(alloc, count)
-}
-
-/// Runs the steps over a connection under `Lenient`, one reply a step. Where reader, writer and data state their
-/// bytes, it hands out exactly the requests that the grammar finds in the client's bytes, each body gives its own
-/// bytes and reports its end only there, and the output is one segment a request or refused head, in order, whole up
-/// to the first fault.
-pub fn run<R: ReadDevice + Drop, W: WriteDevice + Drop, D: ReadDevice + Drop>(
-    alloc: Global,
-    reader: R,
-    writer: W,
-    steps: Vec<Timed<D>>,
-) -> Result<Record<R, W>, RunError<R, W>>
-    // The connection theorem.
-    ensures conversation { IfOk result
-        (IsConversationOf R.feed W.sink D.feed Profile.Lenient reader writer steps.items) }
-    // Whatever reader, writer and data state.
-    ensures run { IfOk result (RunsSteps R.feed W.sink D.feed Profile.Lenient reader writer steps.items) }
-    ensures err { IfErr result (λ e. (e.reader ≡ reader) × (e.writer ≡ writer)) }
-    ensures asked { OnErr result (0 < length steps.items) }
-{
-    run_with(alloc, Profile::Lenient, reader, writer, steps)
-}
-
-/// Runs the steps over a connection under this profile, one reply a step. Where reader, writer and data state their
-/// bytes, it hands out exactly the requests that the grammar finds in the client's bytes, each body gives its own
-/// bytes and reports its end only there, and the output is one segment a request or refused head, in order, whole up
-/// to the first fault.
-pub fn run_with<R: ReadDevice + Drop, W: WriteDevice + Drop, D: ReadDevice + Drop>(
-    alloc: Global,
-    profile: Profile,
-    reader: R,
-    writer: W,
-    steps: Vec<Timed<D>>,
-) -> Result<Record<R, W>, RunError<R, W>>
-    // The connection theorem.
-    ensures conversation { IfOk result (IsConversationOf R.feed W.sink D.feed profile reader writer steps.items) }
-    // Whatever reader, writer and data state.
-    ensures run { IfOk result (RunsSteps R.feed W.sink D.feed profile reader writer steps.items) }
-    ensures err { IfErr result (λ e. (e.reader ≡ reader) × (e.writer ≡ writer)) }
-    ensures asked { OnErr result (0 < length steps.items) }
-{
-    let Ok(mut replies) = room_for(alloc, steps.len()) else {
-        return Err(RunError { reader, writer });
-    };
-    let mut connection = Connection::new_with(alloc, profile, reader, writer);
-    for timed in steps {
-        let reply = connection.step(alloc, timed);
-        replies.push_reserved(reply);
-    }
-    let (source, outlet) = connection.into_parts();
-    Ok(Record {
-        replies,
-        source,
-        outlet,
-    })
 }

@@ -5,3 +5,4 @@
 
 pub mod driver;
 mod pending;
+mod run;

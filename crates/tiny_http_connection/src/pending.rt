@@ -382,6 +382,11 @@ impl Pending {
             (outlet_ended outlet.old) (output_of outlet.old) (output_of outlet.new) (outlet_ended outlet.new) }
         ensures counts { length self.new.turns.marks ≡ length self.old.turns.marks }
         ensures requests { self.new.requests ≡ self.old.requests }
+        // Whatever the writer states.
+        ensures sends { slice_get self.old.turns.marks number ≡ Some Open
+            → (number == first_unfinished self.old.turns.marks) ≡ true
+            → (outlet_held outlet.new ≡ []) × SentOn outlet.new }
+        ensures waits { (number == first_unfinished self.old.turns.marks) ≡ false → outlet.new ≡ outlet.old }
         ensures fails_once { FailsOnce outlet.old outlet.new }
         ensures flushed { outlet_held outlet.old ≡ [] → outlet_held outlet.new ≡ [] }
         ensures sent_on { SentOn outlet.old → SentOn outlet.new }

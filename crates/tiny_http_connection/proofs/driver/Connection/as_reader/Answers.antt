@@ -66,7 +66,7 @@ returns g c =
           (λ client before s low st.
           continue-done client before k s c.args.now n w.0 w.0.answer_context (output_of sent.new.outlet) (outlet_ended sent.new.outlet) sent.new.self.turns.marks sent.new.self.requests q.source st
           (record { feed = refl; stop = refl; ends = refl; standing = refl }) low w.1 refl owed (sym c.is_in_turn.ensures ∙ c.if-not-is_in_turn.false) marks (sent.ensures.requests w.0 w.1) said.0 said.1.2)
-          (λ no. elim no [ ]) (replied-done _ _ _ Done (sym c.is_waiting.ensures ∙ c.if-not-is_waiting.false) refl (rw (sym c.owes_continue.ensures ∙ c.if-not-owes_continue.false, sym c.is_in_turn.ensures ∙ c.if-not-is_in_turn.false) refl) tt) refl (refl, marks, (w.0, w.1, rw owed (sent.ensures.requests w.0 w.1)))
+          (λ no. elim no [ ]) (replied-done _ _ _ Done (sym c.is_waiting.ensures ∙ c.if-not-is_waiting.false) refl (rw (sym c.owes_continue.ensures ∙ c.if-not-owes_continue.false, sym c.is_in_turn.ensures ∙ c.if-not-is_in_turn.false) refl) tt) refl (refl, marks, (w.0, w.1, rw owed (sent.ensures.requests w.0 w.1, said.0, said.1)))
           (record { profile = refl; goes_on = goes-on_same q.source.feed; fails_once = sent.ensures.fails_once; flushed = λ was. said.1.0; sent_on = λ was. said.1.1 })
           (λ kind e. cc));
     }

@@ -10,7 +10,7 @@ use Rattle.tiny_http_connection.specs.Connection.{Kept, kept}
 use Rattle.tiny_http_connection.proofs.ConnectionAsk.{StepIsAnswered}
 use Rattle.tiny_http_io.proofs.SourceGoesOn.{goes-on_same}
 use Rattle.tiny_http_connection.proofs.ConnectionWriter.{a-finish, no-writer, finish-done}
-use Rattle.tiny_http_connection.proofs.DrivingLemmas.{viewed, same-view, takes-finish, driving-reads-on, gives-up-of, gives-up-body}
+use Rattle.tiny_http_connection.proofs.DrivingLemmas.{viewed, same-view, takes-finish, driving-reads-on, gives-up-of, gives-up-body, sends-in_turn}
 use Rattle.tiny_http_connection.proofs.driver.Connection.finish.Goals as goal
 
 pub returns-in_default : goal.returns-in_default
@@ -52,7 +52,11 @@ returns g c =
           let L : List ℕ → Type 0 = λ x. LeavesText (n == first_unfinished c.close.new.self.turns.marks) front rest left.self.turns.marks x k.output_ended k.sink (output_of left.outlet) (outlet_ended left.outlet) in
           subst T (ap (λ t. t.marks) turns) (subst L c.new.ensures.items (c.leave.ensures.leaves front rest (ap (λ t. t.marks) turns ∙ e) place can))))
           (λ no. elim no [ ]) (replied-done _ _ _ Done (ap is_writable some.0 ∙ some.1) refl refl tt) refl
-          (λ done. (requests, gives-up-of q.source source (slice_get k.requests n) u some.0 c.close_body.ensures.gives_up))
+          (λ done. (
+            requests,
+            gives-up-of q.source source (slice_get k.requests n) u some.0 c.close_body.ensures.gives_up,
+            sends-in_turn n old new (λ open_is turn. c.leave.ensures.sends (ap (λ t. slice_get t.marks n) turns ∙ open_is) (ap (λ t. n == first_unfinished t.marks) turns ∙ turn)) (λ early. c.leave.ensures.waits (ap (λ t. n == first_unfinished t.marks) turns ∙ early)),
+          ))
           (record { profile = refl; goes_on = gives-up-body (kept_body (Some u)) q.source source c.close_body.ensures.gives_up; fails_once = c.leave.ensures.fails_once; flushed = λ was. c.leave.ensures.flushed (was refl); sent_on = λ was. c.leave.ensures.sent_on (was refl) })
           (λ kind e. cc));
     }

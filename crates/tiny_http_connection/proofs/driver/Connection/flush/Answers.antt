@@ -10,7 +10,7 @@ use Rattle.tiny_http_connection.specs.Connection.{Kept, kept}
 use Rattle.tiny_http_io.proofs.SourceGoesOn.{goes-on_same}
 use Rattle.tiny_http_response.proofs.SendingLemmas.{is-flushed}
 use Rattle.tiny_http_connection.proofs.ConnectionOutput.{sink-ended}
-use Rattle.tiny_http_connection.proofs.ConnectionWriter.{a-flush, no-writer, writable-some, writer-not_yet, writes-own, flush-done, write-done_reply, flush-not_declined, write-honest, write-tells, write-once}
+use Rattle.tiny_http_connection.proofs.ConnectionWriter.{a-flush, no-writer, writable-some, writer-not_yet, writes-own, flush-done, write-done_reply, flush-not_declined, write-honest, write-ended, write-tells, write-once}
 use Rattle.tiny_http_connection.proofs.DrivingLemmas.{viewed, takes-flush, moves-none}
 use Rattle.tiny_http_connection.proofs.driver.Connection.flush.Goals as goal
 
@@ -64,6 +64,6 @@ returns g c =
             flushed = λ was. done.held;
             sent_on = λ was. done.sent;
           })
-          (λ kind e. write-honest k.sink (output_of new_outlet) c.flush.result [] kind done.puts e)
+          (λ kind e. (write-ended c.flush.result kind (outlet_ended new_outlet) done.ended e, write-honest k.sink (output_of new_outlet) c.flush.result [] kind done.puts e))
           (write-tells k.sink (output_of new_outlet) c.flush.result [] done.puts)));
     }

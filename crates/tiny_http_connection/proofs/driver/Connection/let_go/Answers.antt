@@ -10,7 +10,7 @@ use Rattle.tiny_http_connection.proofs.ConnectionAsk.{StepIsAnswered}
 use Rattle.tiny_http_io.specs.Outlet.{output_of, outlet_ended}
 use Rattle.tiny_http_connection.specs.Connection.{Kept, kept}
 use Rattle.tiny_http_connection.proofs.ConnectionDrop.{drop-done}
-use Rattle.tiny_http_connection.proofs.DrivingLemmas.{viewed, ends-some, drops-by, gives-up-of}
+use Rattle.tiny_http_connection.proofs.DrivingLemmas.{viewed, ends-some, drops-by, gives-up-of, sends-in_turn}
 use Rattle.tiny_http_body.specs.Body.{remainder, is_long, GivesUp}
 use Rattle.tiny_http_body.proofs.BodyReads.{gives-up}
 use Rattle.tiny_http_connection.proofs.driver.Connection.let_go.Goals as goal
@@ -41,5 +41,9 @@ returns-clause-drops g c = λ yes now.
     let T : List Mark → Type 0 = λ m. LeavesText (n == first_unfinished m) front rest left.self.turns.marks (drop_text w.dropped (final_context w (remainder w.body))) k.output_ended k.sink (output_of left.outlet) (outlet_ended left.outlet) in
     let L : List ℕ → Type 0 = λ x. LeavesText (n == first_unfinished c.take.new.self.turns.marks) front rest left.self.turns.marks x k.output_ended k.sink (output_of left.outlet) (outlet_ended left.outlet) in
     subst T (ap (λ t. t.marks) turns) (subst L (c.into_drop_text-text.ensures.text ∙ ap (λ l. drop_text w.dropped (final_context w l)) c.remainder-left.ensures) (c.leave.ensures.leaves front rest (ap (λ t. t.marks) turns ∙ e) place can)))))
-    (end_is ∙ ap (λ b. ends_behind b q.end) (sym (ap kept_lacks some.0))) (requests, gives-up-of q.source source (slice_get k.requests n) (still.Waiting w) some.0 given_up)
+    (end_is ∙ ap (λ b. ends_behind b q.end) (sym (ap kept_lacks some.0))) (
+      requests,
+      gives-up-of q.source source (slice_get k.requests n) (still.Waiting w) some.0 given_up,
+      sends-in_turn n old new (λ open_is turn. c.leave.ensures.sends (ap (λ t. slice_get t.marks n) turns ∙ open_is) (ap (λ t. n == first_unfinished t.marks) turns ∙ turn)) (λ early. c.leave.ensures.waits (ap (λ t. n == first_unfinished t.marks) turns ∙ early)),
+    )
     (record { profile = refl; goes_on = gives-up w.body q.source source given_up; fails_once = c.leave.ensures.fails_once; flushed = λ was. c.leave.ensures.flushed (was refl); sent_on = λ was. c.leave.ensures.sent_on (was refl) }))

@@ -33,7 +33,7 @@ use Rattle.tiny_http_open_request.specs.declared.open_request.OpenRequest.{OpenR
 use Rattle.tiny_http_body.specs.Body.{remainder, is_long, GivesUp}
 use Rattle.tiny_http_body.proofs.BodyReads.{gives-up}
 use Rattle.tiny_http_response.proofs.SendingLemmas.{once-append, or-parts}
-use Rattle.tiny_http_connection.proofs.DrivingLemmas.{viewed, ends-some, same-view, takes-respond, driving-reads-on, moves-none, honest-more, gives-up-of, AnswerTells, answer-tells, answer-sent_on}
+use Rattle.tiny_http_connection.proofs.DrivingLemmas.{viewed, ends-some, same-view, takes-respond, driving-reads-on, moves-none, honest-more, gives-up-of, AnswerTells, answer-tells, answer-sent_on, stays-ended}
 use Rattle.tiny_http_connection.proofs.PendingLemmas.{around-held, left-kind}
 use Rattle.tiny_http_connection.specs.Outcomes.{fault_reply}
 use Rattle.std.specs.declared.io.ErrorKind.{ErrorKind}
@@ -165,7 +165,7 @@ answered-leaves n code old new (Handed k m f) a l = λ z. l
 answered-tells : {R W : Type 0} (n : ℕ) (r : ResponseState (Option Feed)) (old new : ConnectionState R W) (now : HttpDate) (reply : ReplyValue) (context : AnswerContext) → IsAnswered reply
     → waiting_answer_context (slice_get (closing_if_asked r.answer.closes old.requests) n) ≡ Some context
     → ((output_of new.outlet).failures ≡ (output_of old.outlet).failures)
-    ⊎ ((kind : ErrorKind) × (reply ≡ fault_reply kind) × IsHonest (output_of old.outlet) (output_of new.outlet) r.answer r.data_reader (printing_in context now) kind)
+    ⊎ ((kind : ErrorKind) × (reply ≡ fault_reply kind) × (new.outlet.ended ≡ true) × IsHonest (output_of old.outlet) (output_of new.outlet) r.answer r.data_reader (printing_in context now) kind)
     ⊎ ((begins_left (drop (n + 1) old.marks) ≡ true) × AnswerIsSentOn old new now n r)
     → RespondReports old new now n r reply
 answered-tells n r old new now reply context a waits (inl h) = by reply a
@@ -183,8 +183,8 @@ answered-tells n r old new now reply context a waits (inl h) = by reply a
 answered-tells n r old new now reply context a waits (inr (inl h)) = by reply a h.1
   where
     by : (y : ReplyValue) → IsAnswered y → y ≡ fault_reply h.0 → RespondReports old new now n r y
-    by Done a e = inr (inl (h.0, e, (context, waits, h.2)))
-    by (Fault kind) a e = inr (inl (h.0, e, (context, waits, h.2)))
+    by Done a e = inr (inl (h.0, e, (context, waits, h.2, h.3)))
+    by (Fault kind) a e = inr (inl (h.0, e, (context, waits, h.2, h.3)))
     by NotYet a e = elim a [ ]
     by NoSuch a e = elim a [ ]
     by Memory a e = elim a [ ]
@@ -326,7 +326,7 @@ returns g c =
           })
           (λ kind e.
           let h = c.answer-reply.ensures.honest kind e in
-          (context, waits, honest-more (outlet_ended mid) (outlet_ended last.outlet) k.sink (output_of mid) (output_of last.outlet) c.args.response.answer feed p kind h.0 c.pass.ensures.fails_once (last_kind h.0) (subst (λ l. H l kind) c.remainder-left.ensures h.1)))
+          (context, waits, stays-ended (outlet_ended mid) (outlet_ended last.outlet) (output_of mid) (output_of last.outlet) h.0 c.pass.ensures.fails_once, honest-more (outlet_ended mid) (outlet_ended last.outlet) k.sink (output_of mid) (output_of last.outlet) c.args.response.answer feed p kind h.0 c.pass.ensures.fails_once (last_kind h.0) (subst (λ l. H l kind) c.remainder-left.ensures h.1)))
           (answered-tells n (stated_response g.D.ReadDevice.feed c.args.response) old new c.args.now reply context c.answer-reply.ensures.done waits
           (answer-tells k.sink mid last.outlet reply (begins_left (drop (n + 1) q.pending.turns.marks)) c.args.response.answer feed p (AnswerIsSentOn old new c.args.now n (stated_response g.D.ReadDevice.feed c.args.response))
           (subst (λ l. T (final_context w0 l)) c.remainder-left.ensures c.answer-reply.ensures.tells) c.pass.ensures.fails_once last_kind idle own_sent)));

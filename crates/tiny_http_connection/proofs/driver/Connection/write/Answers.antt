@@ -10,7 +10,7 @@ use Rattle.tiny_http_connection.specs.Connection.{Kept, kept}
 use Rattle.tiny_http_io.proofs.SourceGoesOn.{goes-on_same}
 use Rattle.tiny_http_response.proofs.SendingLemmas.{once-none}
 use Rattle.tiny_http_connection.proofs.ConnectionOutput.{sink-ended}
-use Rattle.tiny_http_connection.proofs.ConnectionWriter.{a-write, no-writer, writable-some, writer-not_yet, writes-own, write-done, write-done_reply, write-not_declined, write-honest, write-tells, write-once}
+use Rattle.tiny_http_connection.proofs.ConnectionWriter.{a-write, no-writer, writable-some, writer-not_yet, writes-own, write-done, write-done_reply, write-not_declined, write-honest, write-ended, write-tells, write-once}
 use Rattle.tiny_http_connection.proofs.DrivingLemmas.{viewed, takes-write}
 use Rattle.tiny_http_connection.proofs.driver.Connection.write.Goals as goal
 
@@ -59,6 +59,6 @@ returns g c =
           (λ no. absurd (write-not_declined n v c.write.result no)) (replied-done _ _ _ (write_reply c.write.result) (sym c.is_writable.ensures ∙ c.if-not-is_writable.false) refl (ap not (sym c.is_in_turn.ensures ∙ c.if-not-is_in_turn.false)) (write-answered c.write.result)) refl (refl, refl, refl) refl (goes-on_same q.source.feed)
           (write-once k.sink (output_of new_outlet) k.output_ended (outlet_ended new_outlet) c.write.result c.args.bytes.now (λ z. rw z refl) done.puts done.ended done.stays)
           (λ none. (let no : true ≡ false = sym (write-done_reply c.write.result) ∙ none in cc))
-          (λ kind e. write-honest k.sink (output_of new_outlet) c.write.result c.args.bytes.now kind done.puts e)
+          (λ kind e. (write-ended c.write.result kind (outlet_ended new_outlet) done.ended e, write-honest k.sink (output_of new_outlet) c.write.result c.args.bytes.now kind done.puts e))
           (write-tells k.sink (output_of new_outlet) c.write.result c.args.bytes.now done.puts)));
     }

@@ -11,7 +11,7 @@ use Rattle.tiny_http_response.specs.Sending.{SinkFailsOnce}
 use Rattle.tiny_http_io.proofs.SourceGoesOn.{goes-on_same, goes-on_more}
 use Rattle.tiny_http_connection.proofs.ConversationRuns.{all-sent-snoc, sent-stated, joins-more, joins-end, fails-step, takes-snoc}
 use Rattle.tiny_http_connection.proofs.DrivingLemmas.{done-none, done-step}
-use Rattle.tiny_http_connection.proofs.driver.run_with.Goals as goal
+use Rattle.tiny_http_connection.proofs.run.run_with.Goals as goal
 
 pub loop-timed-init : goal.loop-timed-init
 loop-timed-init g c =
@@ -58,7 +58,7 @@ loop-timed-preserved g c =
       sent_on = λ none e. step.makes.sent_on (all_sent c.loop-timed.yielded c.loop-timed.replies.items true) (inv.sent_on none) (before e);
       first = inv.first;
       begins = inv.begins;
-      takes = rw c.push_reserved.ensures.items (takes-snoc g.D.ReadDevice.feed inv.first old new done replies c.in-Some.timed c.step-reply.result inv.takes step.makes);
+      takes = rw c.push_reserved.ensures.items (takes-snoc g.R.ReadDevice.told g.D.ReadDevice.feed inv.first old new done replies c.in-Some.timed c.step-reply.result inv.takes step.makes c.step-reply.ensures.meets);
     }
 
 pub returns-clause-conversation : goal.returns-clause-conversation

@@ -1,0 +1,99 @@
+//! A connection driven by a list of steps.
+ghost use Rattle.std.specs.Prelude.{◌≡◌, ◌<◌, ◌≤◌, [], length, IfOk, IfErr, OnErr, vec_len, vec_capacity};
+ghost use Rattle.tiny_http_connection.specs.Runs.{IsConversationOf, RunsSteps};
+
+use crate::driver::{Connection, Reply, Timed};
+use std::alloc::{AllocError, Global};
+use tiny_http_body::framing::Profile;
+use tiny_http_io::device::{ReadDevice, WriteDevice};
+use tiny_http_io::outlet::Outlet;
+use tiny_http_io::source::Source;
+
+/// What a run leaves: one reply a step, and reader and writer within their buffers.
+#[derive(Drop)]
+pub struct Record<R: ReadDevice, W: WriteDevice> {
+    /// What each step was answered.
+    pub replies: Vec<Reply>,
+    /// The reader, with the bytes that are held. While requests may follow it stands after the last head that was
+    /// read, and after what was read of that request's body.
+    pub source: Source<R>,
+    /// The writer, with what is held back. Its bytes and then those held are the output.
+    pub outlet: Outlet<W>,
+}
+
+/// Room for the replies was refused: nothing was read or written. Where there is no step there is no such error.
+#[derive(Drop)]
+pub struct RunError<R, W> {
+    /// The reader, as it was.
+    pub reader: R,
+    /// The writer, as it was.
+    pub writer: W,
+}
+
+// Room for so many replies. For none no memory is asked for.
+fn room_for(alloc: Global, count: usize) -> Result<Vec<Reply>, AllocError>
+    ensures items { IfOk result (λ v. v.items ≡ []) }
+    ensures len { IfOk result (λ v. vec_len v ≡ 0) }
+    ensures room { IfOk result (λ v. count ≤ vec_capacity v) }
+    ensures asked { OnErr result (0 < count) }
+{
+    if count == 0 {
+        return Ok(Vec::new(alloc));
+    }
+    Vec::with_capacity(alloc, count)
+}
+
+/// Runs the steps over a connection under `Lenient`, one reply a step. Where reader, writer and data state their
+/// bytes, it hands out exactly the requests that the grammar finds in the client's bytes, each body gives its own
+/// bytes and reports its end only there, and the output is one segment a request or refused head, in order, whole up
+/// to the first fault.
+pub fn run<R: ReadDevice + Drop, W: WriteDevice + Drop, D: ReadDevice + Drop>(
+    alloc: Global,
+    reader: R,
+    writer: W,
+    steps: Vec<Timed<D>>,
+) -> Result<Record<R, W>, RunError<R, W>>
+    // The connection theorem.
+    ensures conversation { IfOk result
+        (IsConversationOf R.feed W.sink D.feed Profile.Lenient reader writer steps.items) }
+    // Whatever reader, writer and data state.
+    ensures run { IfOk result (RunsSteps R.feed R.told W.sink D.feed Profile.Lenient reader writer steps.items) }
+    ensures err { IfErr result (λ e. (e.reader ≡ reader) × (e.writer ≡ writer)) }
+    ensures asked { OnErr result (0 < length steps.items) }
+{
+    run_with(alloc, Profile::Lenient, reader, writer, steps)
+}
+
+/// Runs the steps over a connection under this profile, one reply a step. Where reader, writer and data state their
+/// bytes, it hands out exactly the requests that the grammar finds in the client's bytes, each body gives its own
+/// bytes and reports its end only there, and the output is one segment a request or refused head, in order, whole up
+/// to the first fault.
+pub fn run_with<R: ReadDevice + Drop, W: WriteDevice + Drop, D: ReadDevice + Drop>(
+    alloc: Global,
+    profile: Profile,
+    reader: R,
+    writer: W,
+    steps: Vec<Timed<D>>,
+) -> Result<Record<R, W>, RunError<R, W>>
+    // The connection theorem.
+    ensures conversation { IfOk result (IsConversationOf R.feed W.sink D.feed profile reader writer steps.items) }
+    // Whatever reader, writer and data state.
+    ensures run { IfOk result (RunsSteps R.feed R.told W.sink D.feed profile reader writer steps.items) }
+    ensures err { IfErr result (λ e. (e.reader ≡ reader) × (e.writer ≡ writer)) }
+    ensures asked { OnErr result (0 < length steps.items) }
+{
+    let Ok(mut replies) = room_for(alloc, steps.len()) else {
+        return Err(RunError { reader, writer });
+    };
+    let mut connection = Connection::new_with(alloc, profile, reader, writer);
+    for timed in steps {
+        let reply = connection.step(alloc, timed);
+        replies.push_reserved(reply);
+    }
+    let (source, outlet) = connection.into_parts();
+    Ok(Record {
+        replies,
+        source,
+        outlet,
+    })
+}
