@@ -22,7 +22,7 @@ use Rattle.tiny_http_connection.specs.Pending.{kept_body, last_body, holds_next_
 use Rattle.tiny_http_connection.specs.Connection.{Kept, IsWaiting, IsRaw, IsUpgraded, IsDone, IsLeft, IsKept, AreKept, HasSentNothing, AreSentInTurn, AreSettled, GivesRest, FollowsLast, behind_body, slot_rest, behind_item, OutputAt, InputStands, Stands}
 use Rattle.tiny_http_connection.specs.Steps.{ReplyValue}
 use Rattle.tiny_http_connection.specs.Outcomes.{asked_to_close, WriterUse, Unused, Unreported, Reported, Outcome}
-use Rattle.tiny_http_connection.specs.Conversation.{Failure, State, finished_front, Fares, Well, FailsWithin, FailsAfter, FallsBetween, MayFare, reply_in, failure_in, is_silent, flushes, HasOutcome}
+use Rattle.tiny_http_connection.specs.Conversation.{Failure, State, finished_front, Fares, Well, FailsWithin, FailsAfter, FallsBetween, MayFare, reply_in, failure_in, writes_nothing, flushes, HasOutcome}
 use Rattle.tiny_http_connection.proofs.SlotsLemmas.{joined-cons}
 
 -- ---- one slot
@@ -300,7 +300,7 @@ stands-asked false client before k s st = subst (λ e. Stands client before (rec
 
 -- ---- what a step comes to doesn't see it
 
-silent-closing : (w : WriterUse) (s : State) → is_silent w (asked_state true s) ≡ is_silent w s
+silent-closing : (w : WriterUse) (s : State) → writes_nothing w (asked_state true s) ≡ writes_nothing w s
 silent-closing Unused s = refl
 silent-closing Unreported s = ap (λ b. is_some s.failure || b) (broken-closing s.reached.slots)
 silent-closing (Reported own broken flushed report) s = ap (λ b. is_some s.failure || b) (broken-closing s.reached.slots)
@@ -327,7 +327,7 @@ outcome-closing o s reply new h =
     let W : Bool → Type 0 = λ b. MatchBool b ((reply ≡ o.reply) × (new.failure ≡ s.failure)) ((fares : Fares) × MayFare o.writer s o.slots fares × (reply ≡ reply_in o.writer o.reply fares) × (new.failure ≡ failure_in fares)) in (
       h.0,
       h.1 ∙ ap (λ b. if (flushes o.writer && not b) then joined o.slots else s.flushed) (silent-closing o.writer s),
-      subst W (silent-closing o.writer s) (writes-closing (is_silent o.writer (asked_state true s)) o.writer s o.reply o.slots reply new.failure h.2),
+      subst W (silent-closing o.writer s) (writes-closing (writes_nothing o.writer (asked_state true s)) o.writer s o.reply o.slots reply new.failure h.2),
     )
 
 pub outcome-asked : (closes : Bool) (o : Outcome) (s : State) (reply : ReplyValue) (new : State) → HasOutcome o (asked_state closes s) reply new → HasOutcome o s reply new

@@ -10,7 +10,7 @@ use Rattle.tiny_http_open_request.specs.Pipeline.{Item, Asks, Request}
 use Rattle.tiny_http_connection.specs.Segments.{Slot, Stage, Unanswered, Raw, Upgraded, stage_text, is_broken, is_stage_finished, is_slot_broken, is_finished}
 use Rattle.tiny_http_turns.specs.Turns.{Mark, Open, Held, Left, Finished, AreInShape, AreOpenOrLeft, first_unfinished}
 use Rattle.tiny_http_connection.specs.Pending.{with_left_finished}
-use Rattle.tiny_http_connection.specs.Connection.{IsUnfinished, IsKept, AreKept}
+use Rattle.tiny_http_connection.specs.Connection.{KeepsUnfinished, IsKept, AreKept}
 
 -- a place of a list
 pub get-at : {X : Type 0} (xs : List X) (x : X) (ys : List X) → slice_get (xs ++ (x ∷ ys)) (length xs) ≡ Some x
@@ -73,7 +73,7 @@ pub record KeptAt (slots : List Slot) (marks : List Mark) (requests : List (Opti
   pub marks_before : length fs ≡ n
   pub requests_before : length us ≡ n
   pub before : AreKept bs fs us
-  pub waiting : IsUnfinished s w
+  pub waiting : KeepsUnfinished s w
   pub behind : AreKept cs rs vs
 
 place-first : (s : Slot) (m : Mark) (x w : Unfinished) (ss : List Slot) (ms : List Mark) (us : List (Option Unfinished)) → IsKept s m (Some x) → AreKept ss ms us → x ≡ w → KeptAt (s ∷ ss) (m ∷ ms) (Some x ∷ us) zero w
@@ -81,7 +81,7 @@ place-first s Held x w ss ms us h k same = absurd h
 place-first s (Left text) x w ss ms us h k same = absurd h
 place-first s Finished x w ss ms us h k same = absurd h
 place-first s Open x w ss ms us h k same =
-    let P : Unfinished → Type 0 = λ y. IsUnfinished s y in
+    let P : Unfinished → Type 0 = λ y. KeepsUnfinished s y in
     record {
       bs = [];
       s = s;
@@ -154,7 +154,7 @@ kept-finished s (Left text) h = h.done.finished
 kept-finished s Finished h = h.finished
 
 -- a number of which something is kept
-kept-unfinished : (s : Slot) (m : Mark) (u : Unfinished) → IsKept s m (Some u) → IsUnfinished s u
+kept-unfinished : (s : Slot) (m : Mark) (u : Unfinished) → IsKept s m (Some u) → KeepsUnfinished s u
 kept-unfinished s Open u h = h
 kept-unfinished s Held u h = absurd h
 kept-unfinished s (Left text) u h = absurd h
@@ -162,7 +162,7 @@ kept-unfinished s Finished u h = absurd h
 
 -- what is kept of a number that was given out
 abbrev pub KeptOf : Slot → Option (Option Unfinished) → Type 0
-KeptOf x o = ((o ≡ Some None) × (is_finished x ≡ true)) ⊎ ((u : Unfinished) × (o ≡ Some (Some u)) × IsUnfinished x u)
+KeptOf x o = ((o ≡ Some None) × (is_finished x ≡ true)) ⊎ ((u : Unfinished) × (o ≡ Some (Some u)) × KeepsUnfinished x u)
 
 kept-of : (s : Slot) (m : Mark) (u : Option Unfinished) → IsKept s m u → KeptOf s (Some u)
 kept-of s m None h = inl (refl, kept-finished s m h)
@@ -176,7 +176,7 @@ kept-slot (s ∷ ss) (m ∷ ms) (u ∷ us) zero h x e = let same : s ≡ x = cc 
 kept-slot (s ∷ ss) (m ∷ ms) (u ∷ us) (suc n) h x e = kept-slot ss ms us n h.1 x e
 
 -- a number that isn't finished, of which what was sent is whole
-pub unfinished-is : (s : Slot) (u : Unfinished) → IsUnfinished s u → is_finished s ≡ false
+pub unfinished-is : (s : Slot) (u : Unfinished) → KeepsUnfinished s u → is_finished s ≡ false
 unfinished-is s (still.Waiting w) h = ap is_finished h.is
 unfinished-is s still.Raw h = ap is_stage_finished h.stage
 unfinished-is s (still.Upgraded b) h = ap is_finished h.opened.is ∙ ap is_stage_finished h.stage
@@ -184,14 +184,14 @@ unfinished-is s (still.Upgraded b) h = ap is_finished h.opened.is ∙ ap is_stag
 whole-stage : (s : Slot) (stage : Stage) → s.stage ≡ stage → ((item : Item) → (stage_text s.closes item s.date stage).ending ≡ Whole) → is_slot_broken s ≡ false
 whole-stage s stage e whole = ap (λ x. is_broken (stage_text s.closes s.item s.date x).ending) e ∙ ap is_broken (whole s.item)
 
-pub unfinished-whole : (s : Slot) (u : Unfinished) → IsUnfinished s u → is_slot_broken s ≡ false
+pub unfinished-whole : (s : Slot) (u : Unfinished) → KeepsUnfinished s u → is_slot_broken s ≡ false
 unfinished-whole s (still.Waiting w) h = whole-stage s Unanswered (ap (λ (x : Slot). x.stage) h.is) (λ item. refl)
 unfinished-whole s still.Raw h = whole-stage s (Raw h.written false) h.stage (λ item. refl)
 unfinished-whole s (still.Upgraded b) h =
     whole-stage s (Upgraded h.protocol h.response h.date h.written false) (ap (λ (x : Slot). x.stage) h.opened.is ∙ h.stage) (λ item. refl)
 
 -- a number that isn't finished has the item of a request
-pub unfinished-asks : (s : Slot) (u : Unfinished) → IsUnfinished s u → (r : Request) × (s.item ≡ Asks r)
+pub unfinished-asks : (s : Slot) (u : Unfinished) → KeepsUnfinished s u → (r : Request) × (s.item ≡ Asks r)
 unfinished-asks s (still.Waiting w) h = (h.request, ap (λ (x : Slot). x.item) h.is)
 unfinished-asks s still.Raw h = (h.request, h.item)
 unfinished-asks s (still.Upgraded b) h = (h.opened.request, ap (λ (x : Slot). x.item) h.opened.is)

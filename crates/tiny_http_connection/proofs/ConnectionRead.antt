@@ -29,7 +29,7 @@ use Rattle.tiny_http_turns.specs.Turns.{Mark, Open}
 use Rattle.tiny_http_connection.specs.declared.pending.Unfinished.{Unfinished}
 use Rattle.tiny_http_connection.specs.declared.pending.Unfinished.TheVariants as still
 use Rattle.tiny_http_connection.specs.Pending.{last_holds_next_head, kept_body, with_body, is_readable, last_body, is_streaming_body, holds_next_head_at}
-use Rattle.tiny_http_connection.specs.Connection.{Kept, open_slot, IsWaiting, IsOpen, IsUpgraded, IsUnfinished, AreSentInTurn, AreKept, AreSettled, behind_body, slot_rest, GivesRest, is_past_last, PlaceIn, InputStands, Stands, FollowsLast, behind_item}
+use Rattle.tiny_http_connection.specs.Connection.{Kept, open_slot, IsWaiting, IsOpen, IsUpgraded, KeepsUnfinished, AreSentInTurn, AreKept, AreSettled, behind_body, slot_rest, GivesRest, is_past_last, PlaceIn, InputStands, Stands, FollowsLast, behind_item}
 use Rattle.tiny_http_io.proofs.SourceGoesOn.{goes-on_more}
 use Rattle.tiny_http_connection.proofs.ConnectionAsk.{StepIsAnswered, step-unchanged, settled-any, stated-feed}
 use Rattle.tiny_http_body.proofs.BodyReads.{stays-settled}
@@ -276,7 +276,7 @@ pub record IsReadable (s : Slot) (u : Unfinished) (b : UnreadBody) : Type 0 wher
   opened : IsOpen s b
   accepts : (k n : ℕ) → accepts_step opened.stage opened.handed.owed (Read k n) ≡ true
   has : kept_body (Some u) ≡ Some b
-  goes_on : (c : UnreadBody) (old new : Option Feed) (n : ℕ) (reply : ReplyValue) → ReadOn b c old new opened.request opened.given opened.end_reported n reply → IsUnfinished (read_slot s b opened n) (with_body c u)
+  goes_on : (c : UnreadBody) (old new : Option Feed) (n : ℕ) (reply : ReplyValue) → ReadOn b c old new opened.request opened.given opened.end_reported n reply → KeepsUnfinished (read_slot s b opened n) (with_body c u)
   has_then : (c : UnreadBody) → kept_body (Some (with_body c u)) ≡ Some c
 
 still-waiting : (s : Slot) (w : OpenRequest UnreadBody) (h : IsWaiting s w) (c : UnreadBody) (old new : Option Feed) (n : ℕ) (reply : ReplyValue) → ReadOn w.body c old new h.request h.given h.end_reported n reply → IsWaiting (read_slot s w.body (open-waiting s w h) n) (record w { body = c })
@@ -332,12 +332,12 @@ one-body x y e = cc
 no-raw : {X : Type 0} → is_readable (Some (Some still.Raw)) ≡ true → X
 no-raw e = cc
 
-readable-of : (s : Slot) (u : Unfinished) → IsUnfinished s u → is_readable (Some (Some u)) ≡ true → (b : UnreadBody) × (kept_body (Some u) ≡ Some b) × IsReadable s u b
+readable-of : (s : Slot) (u : Unfinished) → KeepsUnfinished s u → is_readable (Some (Some u)) ≡ true → (b : UnreadBody) × (kept_body (Some u) ≡ Some b) × IsReadable s u b
 readable-of s (still.Waiting w) h e = (w.body, refl, readable-waiting s w h (not-false w.owes_continue e))
 readable-of s still.Raw h e = no-raw e
 readable-of s (still.Upgraded c) h e = (c, refl, readable-upgraded s c h)
 
-pub readable : (s : Slot) (u : Unfinished) (b : UnreadBody) → IsUnfinished s u → is_readable (Some (Some u)) ≡ true → kept_body (Some u) ≡ Some b → IsReadable s u b
+pub readable : (s : Slot) (u : Unfinished) (b : UnreadBody) → KeepsUnfinished s u → is_readable (Some (Some u)) ≡ true → kept_body (Some u) ≡ Some b → IsReadable s u b
 readable s u b h e has = let q = readable-of s u h e in subst (λ y. IsReadable s u y) (one-body q.0 b (sym q.1 ∙ has)) q.2
 
 with-body-holds : (c : UnreadBody) (u : Unfinished) → holds_next_head_at (Some (Some (with_body c u))) ≡ holds_next_head_at (Some (Some u))
@@ -423,7 +423,7 @@ read-not_taken k n (Upgraded p r d w true) owed e = refl
 read-not_taken k n (Upgraded p r d w false) owed e = cc
 
 -- no number of which this is kept takes a read
-read-unfit : (k n : ℕ) (x : Slot) (u : Unfinished) → IsUnfinished x u → is_readable (Some (Some u)) ≡ false → accepts_step x.stage x.owed (Read k n) ≡ false
+read-unfit : (k n : ℕ) (x : Slot) (u : Unfinished) → KeepsUnfinished x u → is_readable (Some (Some u)) ≡ false → accepts_step x.stage x.owed (Read k n) ≡ false
 read-unfit k n x (still.Waiting w) h e = ap (λ (y : Slot). accepts_step y.stage y.owed (Read k n)) h.is ∙ ap not (sym h.owed) ∙ e
 read-unfit k n x still.Raw h e = ap (λ y. accepts_step y x.owed (Read k n)) h.stage
 read-unfit k n x (still.Upgraded b) h e = let no : true ≡ false = e in cc

@@ -30,7 +30,7 @@ use Rattle.tiny_http_body.specs.Body.{remainder, is_skipped, body_finished, is_w
 use Rattle.tiny_http_turns.specs.Turns.{Mark, Open, Held, Left, Finished}
 use Rattle.tiny_http_body.specs.Body.{Remaining, remaining, is_streaming, Fits}
 use Rattle.tiny_http_connection.specs.Pending.{holds_next_head_at, last_holds_next_head, kept_body, last_body, is_streaming_body}
-use Rattle.tiny_http_connection.specs.Connection.{answer_context_of, IsWaiting, IsOpen, IsUnfinished, IsKept, AreKept, IsSettled, AreSettled, behind_body, slot_rest, GivesRest}
+use Rattle.tiny_http_connection.specs.Connection.{answer_context_of, IsWaiting, IsOpen, KeepsUnfinished, IsKept, AreKept, IsSettled, AreSettled, behind_body, slot_rest, GivesRest}
 use Rattle.std.proofs.Math.Bool.{or-true}
 
 pub and-false : (f : Bool) → (f && false) ≡ false
@@ -52,7 +52,7 @@ LastKept o b =
 abbrev pub open-waiting : (s : Slot) (w : OpenRequest UnreadBody) → IsWaiting s w → IsOpen s w.body
 open-waiting s w h = record { request = h.request; handed = h.handed; stage = Unanswered; given = h.given; end_reported = h.end_reported; is = h.is; rest_is_last = h.rest_is_last; fits = h.fits; settled = h.settled }
 
-last-unfinished : (s : Slot) (u : Unfinished) → IsUnfinished s u → LastKept (Some s) (kept_body (Some u))
+last-unfinished : (s : Slot) (u : Unfinished) → KeepsUnfinished s u → LastKept (Some s) (kept_body (Some u))
 last-unfinished s (still.Waiting w) h = inr (inr (s, w.body, refl, refl, open-waiting s w h))
 last-unfinished s still.Raw h = inr (inl (s, refl, refl, h.given_up))
 last-unfinished s (still.Upgraded b) h = inr (inr (s, b, refl, refl, h.opened))
@@ -99,7 +99,7 @@ done-awaits s d = by s.item
     by (Asks r) = rw (is-answered s.stage d) (and-false (holds_next_head r))
     by (Refuses a b c e) = refl
 
-awaits-unfinished : (s : Slot) (u : Unfinished) → IsUnfinished s u → last_is_holding (Some s) ≡ holds_next_head_at (Some (Some u))
+awaits-unfinished : (s : Slot) (u : Unfinished) → KeepsUnfinished s u → last_is_holding (Some s) ≡ holds_next_head_at (Some (Some u))
 awaits-unfinished s (still.Waiting w) h =
     let P : Slot → Type 0 = λ x. last_is_holding (Some x) ≡ w.holds_next_head in
     subst P (sym h.is) (and-true (holds_next_head h.request) ∙ sym h.holds)

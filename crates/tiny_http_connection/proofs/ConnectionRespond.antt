@@ -30,7 +30,7 @@ use Rattle.tiny_http_connection.specs.Seen.{Answers, reply_to}
 use Rattle.tiny_http_response.specs.Sending.{CanSend, OutletTook, OutletFailed, IsFlushed, SendsText, SendsUnlessEnded}
 use Rattle.tiny_http_turns.specs.Turns.{Mark, Open, Held, Finished, AreInShape, first_unfinished}
 use Rattle.tiny_http_connection.specs.Pending.{is_last_once_finished_at as kept_lacks, refuses_at, left_text, with_left_finished, begins_left, SendsLeft, FinishesFront, waiting_answer_context}
-use Rattle.tiny_http_connection.specs.Connection.{Kept, answer_context_of, HandedOut, open_slot, IsWaiting, IsUnfinished, HasSentNothing, AreSentInTurn, AreKept, OutputAt, InputStands, Stands}
+use Rattle.tiny_http_connection.specs.Connection.{Kept, answer_context_of, HandedOut, open_slot, IsWaiting, KeepsUnfinished, HasSentNothing, AreSentInTurn, AreKept, OutputAt, InputStands, Stands}
 use Rattle.tiny_http_io.specs.Source.{SourceState}
 use Rattle.tiny_http_body.specs.Body.{remainder, is_long, GivesUp}
 use Rattle.tiny_http_connection.proofs.ConnectionBody.{IsInput, with_reader, next-same, reader-given_up}
@@ -82,7 +82,7 @@ respond-nothing-at date old n step free = at (slice_get old.slots n) refl
 
 -- no request of this number takes the step: it is finished, or what is kept of it doesn't take it
 pub not-taken : (client : Feed) (before : Sink) (k : Kept) (s : State) (date : HttpDate) (n : ℕ) (step : StepValue) → outcome true date s.reached step ≡ at_number true date s.reached n step → TakesNone step → Stands client before k s
-    → ((x : Slot) (u : Unfinished) → slice_get k.requests n ≡ Some (Some u) → IsUnfinished x u → accepts_step x.stage x.owed step ≡ false) → StepIsAnswered client before k s date step NoSuch
+    → ((x : Slot) (u : Unfinished) → slice_get k.requests n ≡ Some (Some u) → KeepsUnfinished x u → accepts_step x.stage x.owed step ≡ false) → StepIsAnswered client before k s date step NoSuch
 not-taken client before k s date n step at free st unfit =
     step-unchanged client before k s date step NoSuch st
     (at ∙ respond-nothing-at date s.reached n step (λ x e. ⊎_elim (λ h. free x.stage x.owed h.1) (λ h. unfit x h.0 h.1 h.2) (kept-slot s.reached.slots k.marks k.requests n st.numbers x e)))
@@ -99,7 +99,7 @@ pub no-such : (client : Feed) (before : Sink) (k : Kept) (s : State) (date : Htt
     → StepIsAnswered client before k s date step NoSuch
 no-such client before k s date n step at needs st none = not-taken client before k s date n step at (finished-none step needs) st by
   where
-    by : (x : Slot) (u : Unfinished) → slice_get k.requests n ≡ Some (Some u) → IsUnfinished x u → accepts_step x.stage x.owed step ≡ false
+    by : (x : Slot) (u : Unfinished) → slice_get k.requests n ≡ Some (Some u) → KeepsUnfinished x u → accepts_step x.stage x.owed step ≡ false
     by x (still.Waiting w) e h = let no : Some (final_context w (remainder w.body)) ≡ None = ap waiting_answer_context (sym e) ∙ none in cc
     by x still.Raw e h = needs x.stage x.owed (ap is_unanswered h.stage)
     by x (still.Upgraded b) e h = needs x.stage x.owed (ap (λ (y : Slot). is_unanswered y.stage) h.opened.is ∙ ap is_unanswered h.stage)

@@ -32,7 +32,7 @@ use Rattle.tiny_http_connection.specs.declared.driver.Step.TheVariants as step
 use Rattle.std.specs.Global.{Vec}
 use Rattle.tiny_http_connection.specs.Conversation.{Failure, State, flushed_after, WriterPart, HasOutcome}
 use Rattle.tiny_http_connection.specs.Pending.{kept_body, is_writable, GivesUpBody, LeavesText}
-use Rattle.tiny_http_connection.specs.Connection.{Kept, rest_in, open_slot, IsWaiting, IsRaw, IsUpgraded, IsUnfinished, AreSentInTurn, AreKept, OutputAt, InputStands, Stands, behind_item}
+use Rattle.tiny_http_connection.specs.Connection.{Kept, rest_in, open_slot, IsWaiting, IsRaw, IsUpgraded, KeepsUnfinished, AreSentInTurn, AreKept, OutputAt, InputStands, Stands, behind_item}
 use Rattle.tiny_http_connection.proofs.ConversationWriting.{FailsReported, flushed_if, written, flushed-is}
 use Rattle.tiny_http_connection.proofs.ConnectionAsk.{StepIsAnswered, step-unchanged}
 use Rattle.tiny_http_connection.proofs.ConnectionBody.{IsInput, Alike, with_reader, reader-alike, reader-given_up}
@@ -167,13 +167,13 @@ pub a-finish : (n : ℕ) → OfWriter (Finish n)
 a-finish n = record { finished = finish-not_taken n; waiting = λ owed. refl; raw = λ b owed. refl; upgraded = λ p r d b owed. refl }
 
 -- a number that waits takes none of them
-unfit : (step : StepValue) → OfWriter step → (x : Slot) (u : Unfinished) → IsUnfinished x u → is_writable (Some (Some u)) ≡ false → accepts_step x.stage x.owed step ≡ false
+unfit : (step : StepValue) → OfWriter step → (x : Slot) (u : Unfinished) → KeepsUnfinished x u → is_writable (Some (Some u)) ≡ false → accepts_step x.stage x.owed step ≡ false
 unfit step o x (still.Waiting w) h e = ap (λ (y : Slot). accepts_step y.stage y.owed step) h.is ∙ o.waiting h.handed.owed
 unfit step o x still.Raw h e = cc
 unfit step o x (still.Upgraded b) h e = cc
 
 -- one whose raw writer or stream is in use takes all
-fit : (step : StepValue) → OfWriter step → (x : Slot) (u : Unfinished) → IsUnfinished x u → is_writable (Some (Some u)) ≡ true → accepts_step x.stage x.owed step ≡ true
+fit : (step : StepValue) → OfWriter step → (x : Slot) (u : Unfinished) → KeepsUnfinished x u → is_writable (Some (Some u)) ≡ true → accepts_step x.stage x.owed step ≡ true
 fit step o x (still.Waiting w) h e = cc
 fit step o x still.Raw h e = ap (λ y. accepts_step y x.owed step) h.stage ∙ o.raw h.written x.owed
 fit step o x (still.Upgraded b) h e = ap (λ (y : Slot). accepts_step y.stage x.owed step) h.opened.is ∙ ap (λ y. accepts_step y x.owed step) h.stage ∙ o.upgraded h.protocol h.response h.date h.written x.owed
@@ -226,7 +226,7 @@ alike-by s t r asks item given reported up = record {
 
 -- A step that keeps a number's writer in use, and after which its slot sends this more.
 pub record KeepsOn (s t : Slot) (u : Unfinished) (own : List ℕ) : Type 0 where
-  pub kept : IsUnfinished t u
+  pub kept : KeepsUnfinished t u
   pub sends : segment t ≡ segment s ++ own
   pub alike : Alike s t
 
@@ -273,12 +273,12 @@ keeps-upgraded bytes s b h =
 no-writer_waits : {X : Type 0} (w : OpenRequest UnreadBody) → is_writable (Some (Some (still.Waiting w))) ≡ true → X
 no-writer_waits w e = cc
 
-pub keeps-written : (bytes : List ℕ) (s : Slot) (u : Unfinished) → IsUnfinished s u → is_writable (Some (Some u)) ≡ true → KeepsOn s (written_slot bytes s) u bytes
+pub keeps-written : (bytes : List ℕ) (s : Slot) (u : Unfinished) → KeepsUnfinished s u → is_writable (Some (Some u)) ≡ true → KeepsOn s (written_slot bytes s) u bytes
 keeps-written bytes s (still.Waiting w) h e = no-writer_waits w e
 keeps-written bytes s still.Raw h e = keeps-raw bytes s h
 keeps-written bytes s (still.Upgraded b) h e = keeps-upgraded bytes s b h
 
-pub keeps-same : (s : Slot) (u : Unfinished) → IsUnfinished s u → KeepsOn s s u []
+pub keeps-same : (s : Slot) (u : Unfinished) → KeepsUnfinished s u → KeepsOn s s u []
 keeps-same s u h = record { kept = h; sends = sym (append-nil (segment s)); alike = record { last = refl; abandoned = refl; left = refl; behind = refl } }
 
 -- what the call does: an output that has ended takes nothing; else the bytes were taken, or the writer failed in them
@@ -462,13 +462,13 @@ ends-closed s stage e finished whole same =
       own = ap A e ∙ ap (λ x. opening s.item s.continued ++ x) (same s.item) ∙ ap B (sym e) ∙ sym (append-nil (segment s));
     }
 
-pub closes : (s : Slot) (u : Unfinished) → IsUnfinished s u → is_writable (Some (Some u)) ≡ true → EndsAs s (closed_slot s) []
+pub closes : (s : Slot) (u : Unfinished) → KeepsUnfinished s u → is_writable (Some (Some u)) ≡ true → EndsAs s (closed_slot s) []
 closes s (still.Waiting w) h e = cc
 closes s still.Raw h e = ends-closed s (Raw h.written false) h.stage refl (λ item. refl) (λ item. refl)
 closes s (still.Upgraded b) h e = ends-closed s (Upgraded h.protocol h.response h.date h.written false) (ap (λ (x : Slot). x.stage) h.opened.is ∙ h.stage) refl (λ item. refl) (λ item. refl)
 
 -- the input after a Finish
-reader-closed : {R : Type 0} (client : Feed) (k : Kept) (bs cs : List Slot) (us vs : List (Option Unfinished)) (rest : List Item) (s : Slot) (u : Unfinished) (old source : SourceState R) → IsUnfinished s u → is_writable (Some (Some u)) ≡ true → IsInput k old → InputStands client k (bs ++ (s ∷ cs)) rest → k.requests ≡ us ++ (Some u ∷ vs) → length cs ≡ length vs
+reader-closed : {R : Type 0} (client : Feed) (k : Kept) (bs cs : List Slot) (us vs : List (Option Unfinished)) (rest : List Item) (s : Slot) (u : Unfinished) (old source : SourceState R) → KeepsUnfinished s u → is_writable (Some (Some u)) ≡ true → IsInput k old → InputStands client k (bs ++ (s ∷ cs)) rest → k.requests ≡ us ++ (Some u ∷ vs) → length cs ≡ length vs
     → GivesUpBody (kept_body (Some u)) old source → InputStands client (with_reader k (us ++ (None ∷ vs)) source) (bs ++ (closed_slot s ∷ cs)) rest
 reader-closed client k bs cs us vs rest s (still.Waiting w) old source h e from reader is same closes = cc
 reader-closed {R = R} client k bs cs us vs rest s still.Raw old source h e from reader is same closes =

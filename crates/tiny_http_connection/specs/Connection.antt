@@ -165,10 +165,10 @@ pub record IsUpgraded (s : Slot) (body : UnreadBody) : Type 0 where
   pub stage : opened.stage ≡ Upgraded protocol response date written false
 
 -- a number that isn't finished
-abbrev pub IsUnfinished : Slot → Unfinished → Type 0
-IsUnfinished s (still.Waiting w) = IsWaiting s w
-IsUnfinished s still.Raw = IsRaw s
-IsUnfinished s (still.Upgraded body) = IsUpgraded s body
+abbrev pub KeepsUnfinished : Slot → Unfinished → Type 0
+KeepsUnfinished s (still.Waiting w) = IsWaiting s w
+KeepsUnfinished s still.Raw = IsRaw s
+KeepsUnfinished s (still.Upgraded body) = IsUpgraded s body
 
 -- a number that is finished
 pub record IsDone (s : Slot) : Type 0 where
@@ -183,7 +183,7 @@ pub record IsLeft (s : Slot) (text : List ℕ) : Type 0 where
 
 -- what became of a number, by its turn and by what is kept of it
 abbrev pub IsKept : Slot → Mark → Option Unfinished → Type 0
-IsKept s Open (Some u) = IsUnfinished s u
+IsKept s Open (Some u) = KeepsUnfinished s u
 IsKept s (Left text) None = IsLeft s text
 IsKept s Finished None = IsDone s
 IsKept s _ _ = ⊥

@@ -90,14 +90,14 @@ failure_in (FailsWithin f) = Some f
 failure_in (FailsAfter f) = Some f
 
 -- the step writes nothing
-abbrev pub is_silent : WriterUse → State → Bool
-is_silent Unused old = true
-is_silent writer old = has_output_ended old
+abbrev pub writes_nothing : WriterUse → State → Bool
+writes_nothing Unused old = true
+writes_nothing writer old = has_output_ended old
 
 -- THE WRITER'S PART of a step: its reply, and the writer's failure after it
 abbrev pub WriterPart : WriterUse → State → ReplyValue → List Slot → ReplyValue → Option Failure → Type 0
 WriterPart writer old planned slots reply failure =
-    MatchBool (is_silent writer old)
+    MatchBool (writes_nothing writer old)
     ((reply ≡ planned) × (failure ≡ old.failure))
     ((fares : Fares)
     × MayFare writer old slots fares
@@ -111,7 +111,7 @@ flushes (Reported own broken flushed report) = flushed
 
 -- what has been flushed after a step
 abbrev pub flushed_after : WriterUse → State → List Slot → List ℕ
-flushed_after writer old slots = if (flushes writer && not (is_silent writer old)) then joined slots else old.flushed
+flushed_after writer old slots = if (flushes writer && not (writes_nothing writer old)) then joined slots else old.flushed
 
 abbrev pub reached_by : Outcome → Reached
 reached_by o = record { slots = o.slots; rest = o.rest; asking_ended = o.asking_ended }

@@ -15,7 +15,7 @@ use Rattle.tiny_http_connection.specs.Segments.{Slot, Stage, Unanswered, Answere
 use Rattle.tiny_http_connection.specs.Slots.{turn_has_come, new_slot, rest_of, last_slot, with_last, closing_slot, is_unanswered, last_holds_reader, last_was_abandoned, is_last_once_finished, closes_now, refuses_response, refuses_upgrade, upgraded_slot, as_stream}
 use Rattle.tiny_http_connection.specs.Steps.{StepValue, Ask, AsReader, Read, Respond, IntoWriter, Write, Flush, Upgrade, Finish, Drop, ReplyValue, Handed, Ended, Given, Fault, NotYet, Done, Refused, NoSuch, Memory, TimedValue, number_of, is_done, is_refused}
 use Rattle.tiny_http_connection.specs.Outcomes.{WriterUse, Unused, Unreported, Reported, Outcome, Reached, unchanged, changes, asks_from, ask, read_reply, finished_as, written_to, stage_closed, fault_in, fault_reply, accepts_step, needs_turn, use_in_turn, ends_asking, is_last_with_stream, asked_to_close, answers_slot, answers, effect, at_item, at_slot, at_number, outcome}
-use Rattle.tiny_http_connection.specs.Conversation.{Failure, State, Fares, Well, FailsWithin, FailsAfter, MayFare, reply_in, failure_in, is_silent, HasOutcome, FindsNoMemory, answers_to, StepsTo, Run}
+use Rattle.tiny_http_connection.specs.Conversation.{Failure, State, Fares, Well, FailsWithin, FailsAfter, MayFare, reply_in, failure_in, writes_nothing, HasOutcome, FindsNoMemory, answers_to, StepsTo, Run}
 use Rattle.tiny_http_connection.proofs.ConnectionClosing.{by-closing}
 use Rattle.tiny_http_connection_laws.specs.InShort.{maker}
 use Rattle.tiny_http_connection_laws.specs.Accounts.{Condition, Waits, Writes, Finished, Account, untouched, becomes, first_date, account_after, account_now, account_from, condition_of, written_in}
@@ -147,7 +147,7 @@ part-tells w old planned reply slots failure true p m = alike-same reply planned
 part-tells w old planned reply slots failure false p m = let f = fared w planned p.0 m in record { done = ap is_done p.2 ∙ f.done; refused = ap is_refused p.2 ∙ f.refused }
 
 pub planned-alike : (o : Outcome) (old : State) (reply : ReplyValue) (new : State) → MayTell o.writer o.reply → HasOutcome o old reply new → Alike reply o.reply
-planned-alike o old reply new m has = part-tells o.writer old o.reply reply o.slots new.failure (is_silent o.writer old) has.2 m
+planned-alike o old reply new m has = part-tells o.writer old o.reply reply o.slots new.failure (writes_nothing o.writer old) has.2 m
 
 -- ---- what a step does to the numbers
 

@@ -16,7 +16,7 @@ use Rattle.tiny_http_connection.specs.Segments.{Slot, Stage, Unanswered, Answere
 use Rattle.tiny_http_connection.specs.Slots.{turn_has_come, refuses_response, last_slot, is_last_slot, last_is_open, last_is_holding, last_holds_reader, last_was_abandoned, body_is_open, is_holding, is_form_streamed, is_body_finished, is_unanswered, holds_next_head, refuses_upgrade, upgraded_slot}
 use Rattle.tiny_http_connection.specs.Steps.{StepValue, Ask, AsReader, Read, Respond, IntoWriter, Write, Flush, Upgrade, Finish, Drop, ReplyValue, Ended, Handed, NotYet, Done, Refused, NoSuch, Memory, TimedValue, number_of, is_done, is_refused}
 use Rattle.tiny_http_connection.specs.Outcomes.{WriterUse, Unused, Unreported, Reported, Outcome, Reached, unchanged, changes, asks_from, ask, accepts_step, needs_turn, asked_to_close, answers_slot, answers, drops, streams, effect, at_item, at_slot, at_number, outcome}
-use Rattle.tiny_http_connection.specs.Conversation.{Failure, State, Fares, MayFare, reply_in, failure_in, is_silent, HasOutcome, FindsNoMemory, answers_to, StepsTo, Run, start_state, IsConversation}
+use Rattle.tiny_http_connection.specs.Conversation.{Failure, State, Fares, MayFare, reply_in, failure_in, writes_nothing, HasOutcome, FindsNoMemory, answers_to, StepsTo, Run, start_state, IsConversation}
 use Rattle.tiny_http_connection_laws.specs.InShort.{handed, requests_from, AreOfOneHead}
 use Rattle.std.proofs.lemmas.Option.{slice_get_within}
 use Rattle.tiny_http_connection_laws.specs.Accounts.{Condition, Waits, Writes, Finished, Account, untouched, account, condition_of, takes, is_done_early, IsTaken, is_ask, IsThrough, IsHanded}
@@ -194,7 +194,7 @@ own-part w old planned reply slots failure true p o = p.0
 own-part w old planned reply slots failure false p o = p.2 ∙ own-reply w planned p.0 o
 
 pub own-planned : (o : Outcome) (old : State) (reply : ReplyValue) (new : State) → IsOwn o.writer → HasOutcome o old reply new → reply ≡ o.reply
-own-planned o old reply new own has = own-part o.writer old o.reply reply o.slots new.failure (is_silent o.writer old) has.2 own
+own-planned o old reply new own has = own-part o.writer old o.reply reply o.slots new.failure (writes_nothing o.writer old) has.2 own
 
 -- ---- a step that a number takes
 
@@ -609,7 +609,7 @@ step-waits old date new (inl g) =
     a.1 (sym (own-planned (ask date old.reached) old NotYet new a.0 g.2))
 step-waits old date new (inr m) =
     let slots = m.4 in
-    let same : NotYet ≡ Memory = own-part (answers_to old.reached.slots slots) old Memory NotYet _ new.failure (is_silent (answers_to old.reached.slots slots) old) m.8.2 (own-answers old.reached.slots slots) in
+    let same : NotYet ≡ Memory = own-part (answers_to old.reached.slots slots) old Memory NotYet _ new.failure (writes_nothing (answers_to old.reached.slots slots) old) m.8.2 (own-answers old.reached.slots slots) in
     cc
 
 -- the last of the numbers

@@ -17,7 +17,7 @@ use Rattle.tiny_http_connection.specs.Segments.{Slot, Stage, Answered, ByServer,
 use Rattle.tiny_http_connection.specs.Slots.{turn_has_come, new_slot, rest_of, last_slot, with_last, last_holds_reader, last_was_abandoned, is_last_once_finished, closes_now, refuses_response, refuses_upgrade, upgraded_slot, closing_slot}
 use Rattle.tiny_http_connection.specs.Steps.{StepValue, Ask, AsReader, Read, Respond, IntoWriter, Write, Flush, Upgrade, Finish, Drop, ReplyValue, Handed, Ended, Given, Fault, NotYet, Done, Refused, NoSuch, Memory, TimedValue, number_of}
 use Rattle.tiny_http_connection.specs.Outcomes.{WriterUse, Unused, Unreported, Reported, Outcome, Reached, unchanged, changes, asks_from, ask, read_reply, finished_as, written_to, stage_closed, fault_in, fault_reply, accepts_step, needs_turn, use_in_turn, ends_asking, is_last_with_stream, asked_to_close, answers_slot, answers, effect, at_item, at_slot, at_number, outcome}
-use Rattle.tiny_http_connection.specs.Conversation.{Failure, State, Fares, Well, FailsWithin, FailsAfter, MayFare, reply_in, failure_in, is_silent, HasOutcome, FindsNoMemory, IsPassedOver, answers_to, StepsTo, Run, start_state, IsConversation}
+use Rattle.tiny_http_connection.specs.Conversation.{Failure, State, Fares, Well, FailsWithin, FailsAfter, MayFare, reply_in, failure_in, writes_nothing, HasOutcome, FindsNoMemory, IsPassedOver, answers_to, StepsTo, Run, start_state, IsConversation}
 use Rattle.tiny_http_connection_laws.specs.InShort.{handed, requests_from}
 
 handed-more : (reply : ReplyValue) (replies : List ReplyValue) → handed (reply ∷ replies) ≡ handed (reply ∷ []) ++ handed replies
@@ -247,7 +247,7 @@ pub record StepMoves (old : State) (reply : ReplyValue) (new : State) : Type 0 w
 
 outcome-step : (o : Outcome) (old : State) (reply : ReplyValue) (new : State) → Moves old.reached.slots old.reached.rest o → HasOutcome o old reply new → StepMoves old reply new
 outcome-step o old reply new h has =
-    let same = part-hands o.writer old o.reply reply o.slots new.failure (is_silent o.writer old) has.2 h.reports in
+    let same = part-hands o.writer old o.reply reply o.slots new.failure (writes_nothing o.writer old) has.2 h.reports in
     let requests = h.requests ∙ ap (λ x. x ++ requests_from (length o.slots) o.rest) (sym same) in
     let R : Reached → Type 0 = λ x. requests_from (length old.reached.slots) old.reached.rest ≡ handed (reply ∷ []) ++ requests_from (length x.slots) x.rest in
     record { requests = subst R (sym has.0) requests }

@@ -16,7 +16,7 @@ use Rattle.tiny_http_connection.specs.Segments.{Slot, Stage, Unanswered, Answere
 use Rattle.tiny_http_connection.specs.Slots.{turn_has_come, new_slot, rest_of, last_slot, with_last, closing_slot, last_holds_reader, last_was_abandoned, is_last_once_finished, closes_now, refuses_response, refuses_upgrade, upgraded_slot, as_stream}
 use Rattle.tiny_http_connection.specs.Steps.{StepValue, Ask, AsReader, Read, Respond, IntoWriter, Write, Flush, Upgrade, Finish, Drop, ReplyValue, Handed, Ended, Given, Fault, NotYet, Done, Refused, NoSuch, Memory, TimedValue, number_of}
 use Rattle.tiny_http_connection.specs.Outcomes.{WriterUse, Unused, Unreported, Reported, Outcome, Reached, unchanged, changes, asks_from, ask, read_reply, finished_as, written_to, stage_closed, fault_in, fault_reply, accepts_step, needs_turn, use_in_turn, ends_asking, is_last_with_stream, asked_to_close, answers_slot, answers, effect, at_item, at_slot, at_number, outcome}
-use Rattle.tiny_http_connection.specs.Conversation.{Failure, State, Fares, MayFare, reply_in, failure_in, is_silent, HasOutcome, FindsNoMemory, answers_to, StepsTo, Run, start_state, IsConversation}
+use Rattle.tiny_http_connection.specs.Conversation.{Failure, State, Fares, MayFare, reply_in, failure_in, writes_nothing, HasOutcome, FindsNoMemory, answers_to, StepsTo, Run, start_state, IsConversation}
 use Rattle.tiny_http_connection.proofs.ConnectionClosing.{by-closing}
 use Rattle.tiny_http_connection.specs.Giving.{ReadsNext}
 use Rattle.tiny_http_connection_laws.specs.InShort.{LeavesBody, ReadsInOrder}
@@ -601,7 +601,7 @@ record StepReads (k : ℕ) (r : Request) (feed : Feed) (step : StepValue) (reply
 
 outcome-step : (k : ℕ) (r : Request) (feed : Feed) (step : StepValue) (o : Outcome) (old : State) (reply : ReplyValue) (new : State) → Reads k r feed step o → HasOutcome o old reply new → StepReads k r feed step reply new
 outcome-step k r feed step o old reply new h has =
-    let planned = part-planned o.writer old o.reply reply o.slots new.failure (is_silent o.writer old) has.2 in
+    let planned = part-planned o.writer old o.reply reply o.slots new.failure (writes_nothing o.writer old) has.2 in
     let S : Reached → Type 0 = λ x. Stands k r h.next x.slots x.rest in
     record { next = h.next; leaves = h.leaves reply planned; stands = subst S (sym has.0) h.stands }
 

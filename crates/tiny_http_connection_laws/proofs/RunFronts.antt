@@ -10,7 +10,7 @@ use Rattle.tiny_http_connection.specs.Segments.{Slot}
 use Rattle.tiny_http_connection.specs.Slots.{is_output_broken, joined, turn_has_come, new_slot, last_slot, last_holds_reader, last_was_abandoned}
 use Rattle.tiny_http_connection.specs.Steps.{StepValue, Ask, AsReader, Read, Respond, IntoWriter, Write, Flush, Upgrade, Finish, Drop, ReplyValue, Ended, NotYet, NoSuch, Memory, TimedValue, number_of}
 use Rattle.tiny_http_connection.specs.Outcomes.{WriterUse, Unused, Unreported, Reported, Outcome, Reached, unchanged, asks_from, ask, accepts_step, needs_turn, effect, at_item, at_slot, at_number, outcome}
-use Rattle.tiny_http_connection.specs.Conversation.{Failure, State, Fares, Well, FailsWithin, FailsAfter, MayFare, failure_in, is_silent, reply_in, HasOutcome, FindsNoMemory, answers_to, StepsTo, Run, start_state, IsOutput}
+use Rattle.tiny_http_connection.specs.Conversation.{Failure, State, Fares, Well, FailsWithin, FailsAfter, MayFare, failure_in, writes_nothing, reply_in, HasOutcome, FindsNoMemory, answers_to, StepsTo, Run, start_state, IsOutput}
 use Rattle.tiny_http_connection_laws.proofs.JoinedGrows.{joined-grows, AddsOwn, in-turn-ownless}
 use Rattle.tiny_http_connection_laws.proofs.StepsAdd.{ItemFits, IsSound, AllSound, AllFit, all-append, all-parts, Keeps, Holds, keeps-if, effect-keeps}
 
@@ -123,12 +123,12 @@ fares-front (Reported text broken flushes report) old slots (FailsWithin f) m no
 fares-front (Reported text None flushes report) old slots (FailsAfter f) m none own = m.1.1
 fares-front (Reported text (Some kind) flushes report) old slots (FailsAfter f) m none own = IsFront-append f.output (joined old.reached.slots ++ text) (joined slots) m.1 (own none)
 
-not-silent : (w : WriterUse) (old : State) → is_silent w old ≡ false → is_output_broken old.reached.slots ≡ false
+not-silent : (w : WriterUse) (old : State) → writes_nothing w old ≡ false → is_output_broken old.reached.slots ≡ false
 not-silent Unused old e = cc
 not-silent Unreported old e = (or-parts (is_some old.failure) (is_output_broken old.reached.slots) e).1
 not-silent (Reported own broken flushes report) old e = (or-parts (is_some old.failure) (is_output_broken old.reached.slots) e).1
 
-part-front : (w : WriterUse) (old : State) (planned reply : ReplyValue) (slots : List Slot) (failure : Option Failure) (silent : Bool) → is_silent w old ≡ silent
+part-front : (w : WriterUse) (old : State) (planned reply : ReplyValue) (slots : List Slot) (failure : Option Failure) (silent : Bool) → writes_nothing w old ≡ silent
     → MatchBool silent ((reply ≡ planned) × (failure ≡ old.failure)) ((fares : Fares) × MayFare w old slots fares × (reply ≡ reply_in w planned fares) × (failure ≡ failure_in fares))
     → TookFront old.failure old.reached.slots → IsFront (joined old.reached.slots) (joined slots) → AddsOwn w old.reached.slots slots → TookFront failure slots
 part-front w old planned reply slots failure true e p t g own =
@@ -145,7 +145,7 @@ pub record IsSoundState (bs : Bool) (s : State) : Type 0 where
 
 outcome-sound : (bs : Bool) (o : Outcome) (old new : State) (reply : ReplyValue) → IsSoundState bs old → Keeps bs old.reached o → HasOutcome o old reply new → IsSoundState bs new
 outcome-sound bs o old new reply h k has =
-    let took = part-front o.writer old o.reply reply o.slots new.failure (is_silent o.writer old) refl has.2 h.took k.adds.front k.adds.own in
+    let took = part-front o.writer old o.reply reply o.slots new.failure (writes_nothing o.writer old) refl has.2 h.took k.adds.front k.adds.own in
     let H : Reached → Type 0 = λ x. Holds bs x in
     let T : Reached → Type 0 = λ x. TookFront new.failure x.slots in
     record {

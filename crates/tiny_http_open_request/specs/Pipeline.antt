@@ -167,8 +167,8 @@ IsNotAsciiHead p bytes = (line : Option HTTPVersion) × FaultyHead (seen_within 
 
 -- NO ITEM: the head, or a body that is read with it, is cut, and not by a time-out; or its first faulty line isn't
 -- ASCII.
-abbrev pub IsSilent : HeadRules → List ℕ → Stop → Type 0
-IsSilent p bytes stop = (IsCutHead p bytes × (is_timed_out stop ≡ false)) ⊎ IsNotAsciiHead p bytes
+abbrev pub HasNoItem : HeadRules → List ℕ → Stop → Type 0
+HasNoItem p bytes stop = (IsCutHead p bytes × (is_timed_out stop ≡ false)) ⊎ IsNotAsciiHead p bytes
 
 -- A REFUSAL in this manner, its version that of the request line, or 1.1 where that hasn't ended; a 408 is always in
 -- 1.1. A version that is too new is judged by `item_of`, since a body follows it.
@@ -240,7 +240,7 @@ pub data Heading : Type 0 where
 
 -- WHAT STANDS THERE by the rules of tiny_http
 abbrev pub RulesHeadAt : HeadRules → List ℕ → Stop → Heading → Type 0
-RulesHeadAt p bytes stop Silence = IsSilent p bytes stop
+RulesHeadAt p bytes stop Silence = HasNoItem p bytes stop
 RulesHeadAt p bytes stop (Refused refusal v) = IsRefused p bytes stop refusal v
 RulesHeadAt p bytes stop (Heads m f after) = IsRequestHead p bytes m f after
 
