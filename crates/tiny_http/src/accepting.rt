@@ -337,14 +337,7 @@ impl<R: Wait + Clock + Threads + Copy + Send + 'static> Accepting<R> {
             return None;
         }
         let secure = reader.secure();
-        let writer = PacedWriter::new(rt, writer, Arc::try_clone(&pace).ok()?);
-        let (reader, writer) = halves(rt, alloc, reader, writer).ok()?;
-        let reader = PacedReader::new(
-            rt,
-            reader,
-            Arc::try_clone(&socket).ok()?,
-            Arc::try_clone(&pace).ok()?,
-        );
+        let (reader, writer) = self.timed_halves(reader, writer, &socket, &pace)?;
         let cork = Arc::try_clone(writer.cork()).ok()?;
         let profile = self.profile;
         let made = ClientConnection::over_with(
@@ -367,6 +360,22 @@ impl<R: Wait + Clock + Threads + Copy + Send + 'static> Accepting<R> {
             has_limits: self.limits.is_some(),
             presence,
         })
+    }
+
+    // Reader and writer over the halves of this socket, which keep the times that its clients have.
+    fn timed_halves(
+        &self,
+        reader: RefinedTcpStream,
+        writer: RefinedTcpStream,
+        socket: &Arc<Connection>,
+        pace: &Arc<Pace>,
+    ) -> Option<(ServerReader<R>, ServerWriter<R>)> {
+        let (rt, alloc) = (self.rt, self.alloc);
+        let writer = PacedWriter::new(rt, writer, Arc::try_clone(pace).ok()?);
+        let (reader, writer) = halves(rt, alloc, reader, writer).ok()?;
+        let socket = Arc::try_clone(socket).ok()?;
+        let pace = Arc::try_clone(pace).ok()?;
+        Some((PacedReader::new(rt, reader, socket, pace), writer))
     }
 
     // Has a client of this address count as connected. None where it may not be.
