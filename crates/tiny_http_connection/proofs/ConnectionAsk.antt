@@ -38,7 +38,7 @@ use Rattle.tiny_http_head.specs.declared.common.StatusCode.{StatusCode}
 use Rattle.tiny_http_open_request.specs.Exchange.{KeepsRequest}
 use Rattle.tiny_http_body.specs.Body.{Remaining, remaining, taken_remaining, is_streaming}
 use Rattle.tiny_http_connection.specs.Segments.{Slot, is_finished, is_broken, is_slot_broken, segment}
-use Rattle.tiny_http_connection.specs.Slots.{turn_has_come, closes_now, new_slot, is_chunked, last_slot, last_is_open, last_is_holding, last_holds_reader, last_was_abandoned, is_last_slot}
+use Rattle.tiny_http_connection.specs.Slots.{turn_has_come, closes_now, new_slot, is_chunked_form, last_slot, last_is_open, last_is_holding, last_holds_reader, last_was_abandoned, is_last_slot}
 use Rattle.tiny_http_open_request.specs.OwnAnswer.{persistence_of, refusal_response, refused_text}
 use Rattle.tiny_http_response.specs.declared.answer_context.Persistence.{Persistence}
 use Rattle.tiny_http_connection.specs.Steps.{StepValue, Ask, ReplyValue, Handed, Ended, NotYet, Memory}
@@ -280,7 +280,7 @@ handed-reader client k slots rest more date r w p stop over at close next old qu
       next = λ e. record {
         is_last = stands.past ∙ ap is_last_slot (sym last);
         within = stands.within ∙ ap (λ b. W (Some x) b) (sym content) ∙ ap (λ o. W o (last_body (k.requests ++ (Some (still.Waiting w) ∷ [])))) (sym last);
-        lost = λ lost. (let no : true ≡ false = sym lost ∙ (ap last_was_abandoned last ∙ and-false (is_chunked r.framing.form)) in cc);
+        lost = λ lost. (let no : true ≡ false = sym lost ∙ (ap last_was_abandoned last ∙ and-false (is_chunked_form r.framing.form)) in cc);
         place = λ e. subst (λ y. Q y (last_body (k.requests ++ (Some (still.Waiting w) ∷ [])))) (sym stands.past) (subst (λ y. Q r.framing.is_last y) (sym content) (subst F (sym behind) (handed-of client k.profile r.framing.is_last close next more items begins)));
       };
       follows = λ holds. subst (λ o. L o (last_body (k.requests ++ (Some (still.Waiting w) ∷ [])))) (sym last) (subst (λ b. L (Some x) b) (sym content) (behind ∙ ap Some (sym after)));

@@ -17,7 +17,7 @@ use Rattle.tiny_http_io.specs.Source.{SourceState, GoesOn}
 use Rattle.tiny_http_body.specs.declared.framing.Profile.{Profile}
 use Rattle.tiny_http_open_request.specs.Pipeline.{Item, Request, body_length_or_0}
 use Rattle.tiny_http_connection.specs.Segments.{Slot, Stage, is_last_item}
-use Rattle.tiny_http_connection.specs.Slots.{is_chunked, last_slot, last_was_abandoned, is_last_slot}
+use Rattle.tiny_http_connection.specs.Slots.{is_chunked_form, last_slot, last_was_abandoned, is_last_slot}
 use Rattle.tiny_http_body.specs.Body.{body_finished}
 use Rattle.tiny_http_connection.specs.Outcomes.{finished_as}
 use Rattle.tiny_http_body.specs.Body.{Remaining, remaining, is_streaming, body_standing, Fits, GivesUp}
@@ -32,7 +32,7 @@ use Rattle.tiny_http_connection.proofs.ConnectionReader.{holds-snoc, holds-withi
 abbrev pub with_reader : Kept → List (Option Unfinished) → {R : Type 0} → SourceState R → Kept
 with_reader k requests source = record k { requests = requests; standing = source.standing; feed = source.feed; stop = source.stop; is_over = source.is_over }
 
-over-kept : (form : Form) (n given : ℕ) (end_reported : Bool) → body_finished form n given end_reported ≡ true → (is_chunked form && not end_reported) ≡ true → ⊥
+over-kept : (form : Form) (n given : ℕ) (end_reported : Bool) → body_finished form n given end_reported ≡ true → (is_chunked_form form && not end_reported) ≡ true → ⊥
 over-kept Chunked n given end_reported h lost = let no : true ≡ false = sym lost ∙ rw h refl in cc
 over-kept Rest n given end_reported h lost = cc
 over-kept Nothing n given end_reported h lost = cc
@@ -41,7 +41,7 @@ over-kept Counted n given end_reported h lost = cc
 
 -- after a chunked body that was given up before its end no head follows
 lost-chunked : {R : Type 0} (b : UnreadBody) (old new : SourceState R) (f : Feed) (r : Request) (given : ℕ) (end_reported : Bool) → Fits r.framing.by_standard b r.framing.form (body_length_or_0 r.framing) given end_reported → GivesUp b old new → old.feed ≡ Some f
-    → (is_chunked r.framing.form && not end_reported) ≡ true → ((new.is_over ≡ true) × (new.stop ≡ Some End)) × (new.feed ≡ Some (stopped End))
+    → (is_chunked_form r.framing.form && not end_reported) ≡ true → ((new.is_over ≡ true) × (new.stop ≡ Some End)) × (new.feed ≡ Some (stopped End))
 lost-chunked {R = R} (body.Chunked d) old new f r given end_reported fits h e lost = (h.1, h.0 ∙ ap (λ (o : Option Feed). option_map (λ _. stopped End) o) e)
 lost-chunked {R = R} (body.Counted left by_standard) old new f r given end_reported fits h e lost = let no : true ≡ false = sym lost ∙ rw fits.0 refl in cc
 lost-chunked {R = R} (body.WithHead bytes) old new f r given end_reported fits h e lost = let no : true ≡ false = sym lost ∙ rw fits refl in cc
@@ -50,7 +50,7 @@ lost-chunked {R = R} (body.Over stop) old new f r given end_reported fits h e lo
 
 -- where the next head is read after a body that was given up
 given-place : {R : Type 0} (client : Feed) (profile : Profile) (b : UnreadBody) (old new : SourceState R) (f : Feed) (r : Request) (given : ℕ) (end_reported over : Bool) (rest : List Item) → Fits r.framing.by_standard b r.framing.form (body_length_or_0 r.framing) given end_reported → GivesUp b old new → old.feed ≡ Some f
-    → (is_streaming b ≡ false → (g : Feed) → behind_body (Some b) (Some g) ≡ Some g) → (is_chunked r.framing.form && not end_reported) ≡ false → (r.framing.form ≡ Rest → over ≡ true) → PlaceIn client profile over (behind_body (Some b) old.feed) rest → PlaceIn client profile over new.feed rest
+    → (is_streaming b ≡ false → (g : Feed) → behind_body (Some b) (Some g) ≡ Some g) → (is_chunked_form r.framing.form && not end_reported) ≡ false → (r.framing.form ≡ Rest → over ≡ true) → PlaceIn client profile over (behind_body (Some b) old.feed) rest → PlaceIn client profile over new.feed rest
 given-place client profile b old new f r given end_reported true rest fits h e quiet kept ends place = (place.0, λ no. cc)
 given-place {R = R} client profile (body.Over stop) old new f r given end_reported false rest fits h e quiet kept ends place =
     let P : Option Feed → Type 0 = λ o. PlaceIn client profile false o rest in

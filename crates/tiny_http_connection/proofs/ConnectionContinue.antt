@@ -15,7 +15,7 @@ use Rattle.tiny_http_open_request.specs.OwnAnswer.{own_text_by}
 use Rattle.tiny_http_open_request.specs.Pipeline.{Asks}
 use Rattle.tiny_http_turns.specs.Turns.{Mark, Open, AreInShape, first_unfinished}
 use Rattle.tiny_http_connection.specs.Segments.{Slot, Unanswered, Answered as AnsweredBy, ByServer, Raw, Upgraded, is_finished, segment, opening, to_request}
-use Rattle.tiny_http_connection.specs.Slots.{joined, is_chunked, is_last_slot}
+use Rattle.tiny_http_connection.specs.Slots.{joined, is_chunked_form, is_last_slot}
 use Rattle.tiny_http_connection.specs.Steps.{AsReader, Done, NotYet}
 use Rattle.tiny_http_connection.specs.Outcomes.{Unreported, Outcome, Reached, changes, at_slot, at_number}
 use Rattle.tiny_http_connection.specs.Conversation.{State, flushed_after, WriterPart, HasOutcome}
@@ -124,7 +124,7 @@ continue-done {R = R} client before k s date n w context new ended final request
     alike : Alike p.s s1
     alike = record {
       last = ap (λ (x : Slot). is_last_slot (Some x)) (sym h.is);
-      abandoned = sym (waiting-kept p.s w.body (open-waiting p.s w h) ∙ sym (and-false (is_chunked h.request.framing.form)));
+      abandoned = sym (waiting-kept p.s w.body (open-waiting p.s w h) ∙ sym (and-false (is_chunked_form h.request.framing.form)));
       left = ap slot_rest (sym h.is);
       behind = ap (λ (x : Slot). behind_item x.item) (sym h.is);
     }

@@ -18,7 +18,7 @@ use Rattle.tiny_http_turns.specs.Turns.{Mark, Open, first_unfinished}
 use Rattle.tiny_http_connection.specs.declared.pending.Unfinished.{Unfinished}
 use Rattle.tiny_http_connection.specs.declared.pending.Unfinished.TheVariants as still
 use Rattle.tiny_http_connection.specs.Segments.{stage_text, Slot, Unanswered, Answered as AnsweredBy, ByServer, Raw, Upgraded, opening, segment}
-use Rattle.tiny_http_connection.specs.Slots.{turn_has_come, closes_now, is_last_once_finished, refuses_response, asks_protocol, is_end, is_body_whole, refuses_upgrade}
+use Rattle.tiny_http_connection.specs.Slots.{turn_has_come, closes_now, ends_when_finished, refuses_response, asks_protocol, is_end, is_body_whole, refuses_upgrade}
 use Rattle.tiny_http_connection.specs.Steps.{StepValue, ReplyValue, Respond, Upgrade, Drop, Done, Refused}
 use Rattle.tiny_http_connection.specs.Outcomes.{Reached, changes, ends_asking, use_in_turn, at_slot, outcome}
 use Rattle.tiny_http_connection.specs.Conversation.{State}
@@ -71,7 +71,7 @@ IsKeptOf w r given end_reported =
 
 -- The request of a number that waits is dropped, by whatever step.
 pub drop-done : {R : Type 0} (client : Feed) (before : Sink) (k : Kept) (s : State) (date : HttpDate) (n : ℕ) (step : StepValue) (reply : ReplyValue) (w : OpenRequest UnreadBody) (new : Sink) (ended : Bool) (final : List Mark) (requests : List (Option Unfinished)) (old source : SourceState R)
-    → ((old : Reached) (asked : HandedOut) (r : Request) (given : ℕ) (end_reported : Bool) → IsKeptOf w r given end_reported → slice_get old.slots n ≡ Some (open_slot asked r given end_reported) → outcome true date old step ≡ ends_asking (is_last_once_finished r asked.owed given end_reported) (changes old n (dropped asked r given end_reported) reply (use_in_turn (turn_has_come n old.slots))))
+    → ((old : Reached) (asked : HandedOut) (r : Request) (given : ℕ) (end_reported : Bool) → IsKeptOf w r given end_reported → slice_get old.slots n ≡ Some (open_slot asked r given end_reported) → outcome true date old step ≡ ends_asking (ends_when_finished r asked.owed given end_reported) (changes old n (dropped asked r given end_reported) reply (use_in_turn (turn_has_come n old.slots))))
     → Stands client before k s → IsInput k old → GivesUp w.body old source → before.failures < 2 ^ 64 - 1 → slice_get k.requests n ≡ Some (Some (still.Waiting w)) → requests ≡ slice_set k.requests n None
     → ((front rest : List Mark) → k.marks ≡ front ++ (Open ∷ rest) → length front ≡ n → (k.output_ended ≡ false → CanSend k.sink) → LeavesText (n == first_unfinished k.marks) front rest final (drop_text w.dropped (final_context w (remainder w.body))) k.output_ended k.sink new ended)
     → StepIsAnswered client before (with_asking_ended (w.by_standard && (w.owes_continue || is_long (remainder w.body))) (after_number k final requests source new ended)) s date step reply
@@ -86,7 +86,7 @@ drop-done {R = R} client before k s date n step reply w new ended final requests
     s1 = dropped_slot p.s w p.waiting
 
     lacks : Bool
-    lacks = is_last_once_finished p.waiting.request p.waiting.handed.owed p.waiting.given p.waiting.end_reported
+    lacks = ends_when_finished p.waiting.request p.waiting.handed.owed p.waiting.given p.waiting.end_reported
 
     kept_lacks : Bool
     kept_lacks = w.by_standard && (w.owes_continue || is_long (remainder w.body))
@@ -99,12 +99,12 @@ drop-done {R = R} client before k s date n step reply w new ended final requests
 
 -- a Drop, and an Upgrade that is refused
 pub at-drop : (date : HttpDate) (n : ℕ) (old : Reached) (asked : HandedOut) (r : Request) (given : ℕ) (end_reported : Bool) → slice_get old.slots n ≡ Some (open_slot asked r given end_reported)
-    → outcome true date old (Drop n) ≡ ends_asking (is_last_once_finished r asked.owed given end_reported) (changes old n (dropped asked r given end_reported) Done (use_in_turn (turn_has_come n old.slots)))
+    → outcome true date old (Drop n) ≡ ends_asking (ends_when_finished r asked.owed given end_reported) (changes old n (dropped asked r given end_reported) Done (use_in_turn (turn_has_come n old.slots)))
 at-drop date n old asked r given end_reported e = ap (at_slot true date old n (Drop n)) e
 
 pub at-unanswerable : (date : HttpDate) (n : ℕ) (v : ResponseValue) (w : OpenRequest UnreadBody) → refuses_code w.by_standard w.is_connect v.answer.status ≡ true
     → (old : Reached) (asked : HandedOut) (r : Request) (given : ℕ) (end_reported : Bool) → IsKeptOf w r given end_reported → slice_get old.slots n ≡ Some (open_slot asked r given end_reported)
-    → outcome true date old (Respond n v) ≡ ends_asking (is_last_once_finished r asked.owed given end_reported) (changes old n (dropped asked r given end_reported) Refused (use_in_turn (turn_has_come n old.slots)))
+    → outcome true date old (Respond n v) ≡ ends_asking (ends_when_finished r asked.owed given end_reported) (changes old n (dropped asked r given end_reported) Refused (use_in_turn (turn_has_come n old.slots)))
 at-unanswerable date n v w refused old asked r given end_reported kept e =
     let code = v.answer.status in
     let is : refuses_response r v ≡ true = ap (λ b. refuses_code b (is_connect_method r.message.method) code) (sym kept.0) ∙ ap (λ b. refuses_code w.by_standard b code) (sym kept.1) ∙ refused in
@@ -120,6 +120,6 @@ refusal-same w r given end_reported s protocol v kept g e =
 
 pub at-refused : (date : HttpDate) (n : ℕ) (protocol : List ℕ) (v : ResponseValue) (w : OpenRequest UnreadBody) → is_err (request_check w protocol v.answer.status (is_whole w.body)) ≡ true
     → (old : Reached) (asked : HandedOut) (r : Request) (given : ℕ) (end_reported : Bool) → IsKeptOf w r given end_reported → slice_get old.slots n ≡ Some (open_slot asked r given end_reported)
-    → outcome true date old (Upgrade n protocol v) ≡ ends_asking (is_last_once_finished r asked.owed given end_reported) (changes old n (dropped asked r given end_reported) Refused (use_in_turn (turn_has_come n old.slots)))
+    → outcome true date old (Upgrade n protocol v) ≡ ends_asking (ends_when_finished r asked.owed given end_reported) (changes old n (dropped asked r given end_reported) Refused (use_in_turn (turn_has_come n old.slots)))
 at-refused date n protocol v w refused old asked r given end_reported kept e =
     ap (at_slot true date old n (Upgrade n protocol v)) e ∙ rw (refusal-same w r given end_reported (open_slot asked r given end_reported) protocol v kept refl refl ∙ refused) refl

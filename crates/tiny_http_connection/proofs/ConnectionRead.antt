@@ -19,7 +19,7 @@ use Rattle.tiny_http_io.specs.ToCome.{stopped}
 use Rattle.tiny_http_io.specs.Source.{SourceState, GoesOn}
 use Rattle.tiny_http_open_request.specs.Pipeline.{Item, Request, body_length_or_0}
 use Rattle.tiny_http_connection.specs.Segments.{Slot, Unanswered, Answered as AnsweredBy, ByServer, Raw, Upgraded, is_finished, is_slot_broken, is_last_item}
-use Rattle.tiny_http_connection.specs.Slots.{is_output_broken, joined, turn_has_come, is_chunked, last_slot, last_was_abandoned, is_last_slot, rest_of}
+use Rattle.tiny_http_connection.specs.Slots.{is_output_broken, joined, turn_has_come, is_chunked_form, last_slot, last_was_abandoned, is_last_slot, rest_of}
 use Rattle.tiny_http_body.specs.Body.{body_finished}
 use Rattle.tiny_http_connection.specs.Steps.{Read, ReplyValue, Given, Fault, Memory, NoSuch}
 use Rattle.tiny_http_connection.specs.Outcomes.{accepts_step, Unused, Outcome, Reached, changes, read_reply, effect, at_slot, at_number}
@@ -28,7 +28,7 @@ use Rattle.tiny_http_body.specs.Body.{Remaining, remaining, taken_remaining, pre
 use Rattle.tiny_http_turns.specs.Turns.{Mark, Open}
 use Rattle.tiny_http_connection.specs.declared.pending.Unfinished.{Unfinished}
 use Rattle.tiny_http_connection.specs.declared.pending.Unfinished.TheVariants as still
-use Rattle.tiny_http_connection.specs.Pending.{last_holds_next_head, kept_body, with_body, is_readable, last_body, is_streaming_body, holds_next_head_at}
+use Rattle.tiny_http_connection.specs.Pending.{last_holds_next_head, kept_body, number_with_body, is_readable, last_body, is_streaming_body, holds_next_head_at}
 use Rattle.tiny_http_connection.specs.Connection.{Kept, open_slot, IsWaiting, IsOpen, IsUpgraded, KeepsUnfinished, AreSentInTurn, AreKept, AreSettled, behind_body, slot_rest, GivesRest, is_past_last, PlaceIn, InputStands, Stands, FollowsLast, behind_item}
 use Rattle.tiny_http_io.proofs.SourceGoesOn.{goes-on_more}
 use Rattle.tiny_http_connection.proofs.ConnectionAsk.{StepIsAnswered, step-unchanged, settled-any, stated-feed}
@@ -276,8 +276,8 @@ pub record IsReadable (s : Slot) (u : Unfinished) (b : UnreadBody) : Type 0 wher
   opened : IsOpen s b
   accepts : (k n : ℕ) → accepts_step opened.stage opened.handed.owed (Read k n) ≡ true
   has : kept_body (Some u) ≡ Some b
-  goes_on : (c : UnreadBody) (old new : Option Feed) (n : ℕ) (reply : ReplyValue) → ReadOn b c old new opened.request opened.given opened.end_reported n reply → KeepsUnfinished (read_slot s b opened n) (with_body c u)
-  has_then : (c : UnreadBody) → kept_body (Some (with_body c u)) ≡ Some c
+  goes_on : (c : UnreadBody) (old new : Option Feed) (n : ℕ) (reply : ReplyValue) → ReadOn b c old new opened.request opened.given opened.end_reported n reply → KeepsUnfinished (read_slot s b opened n) (number_with_body c u)
+  has_then : (c : UnreadBody) → kept_body (Some (number_with_body c u)) ≡ Some c
 
 still-waiting : (s : Slot) (w : OpenRequest UnreadBody) (h : IsWaiting s w) (c : UnreadBody) (old new : Option Feed) (n : ℕ) (reply : ReplyValue) → ReadOn w.body c old new h.request h.given h.end_reported n reply → IsWaiting (read_slot s w.body (open-waiting s w h) n) (record w { body = c })
 unfolding still-open
@@ -340,7 +340,7 @@ readable-of s (still.Upgraded c) h e = (c, refl, readable-upgraded s c h)
 pub readable : (s : Slot) (u : Unfinished) (b : UnreadBody) → KeepsUnfinished s u → is_readable (Some (Some u)) ≡ true → kept_body (Some u) ≡ Some b → IsReadable s u b
 readable s u b h e has = let q = readable-of s u h e in subst (λ y. IsReadable s u y) (one-body q.0 b (sym q.1 ∙ has)) q.2
 
-with-body-holds : (c : UnreadBody) (u : Unfinished) → holds_next_head_at (Some (Some (with_body c u))) ≡ holds_next_head_at (Some (Some u))
+with-body-holds : (c : UnreadBody) (u : Unfinished) → holds_next_head_at (Some (Some (number_with_body c u))) ≡ holds_next_head_at (Some (Some u))
 with-body-holds c (still.Waiting w) = refl
 with-body-holds c still.Raw = refl
 with-body-holds c (still.Upgraded b) = refl
@@ -348,12 +348,12 @@ with-body-holds c (still.Upgraded b) = refl
 -- the last number's body is read
 read-last : {R : Type 0} (client : Feed) (k : Kept) (old new : SourceState R) (bs : List Slot) (us : List (Option Unfinished)) (rest : List Item) (s : Slot) (u : Unfinished) (b c : UnreadBody) (n : ℕ) (reply : ReplyValue) → (q : IsReadable s u b) → IsInput k old → InputStands client k (bs ++ (s ∷ [])) rest
     → k.requests ≡ us ++ (Some u ∷ []) → ReadOn b c old.feed new.feed q.opened.request q.opened.given q.opened.end_reported n reply → (is_streaming b ≡ false → new ≡ old) → (is_streaming b ≡ true → new.standing ≡ body_standing c old.standing) → GoesOn old.feed new.feed
-    → InputStands client (with_reader k (us ++ (Some (with_body c u) ∷ [])) new) (bs ++ (read_slot s b q.opened n ∷ [])) rest
+    → InputStands client (with_reader k (us ++ (Some (number_with_body c u) ∷ [])) new) (bs ++ (read_slot s b q.opened n ∷ [])) rest
 read-last {R = R} client k old new bs us rest s u b c n reply q from reader is on leaves stands goes =
     let h = q.opened in
     let t = read_slot s b h n in
     let last : last_slot (bs ++ (t ∷ [])) ≡ Some t = last-snoc None bs t in
-    let content : last_body (us ++ (Some (with_body c u) ∷ [])) ≡ Some c = body-snoc us (Some (with_body c u)) ∙ q.has_then c in
+    let content : last_body (us ++ (Some (number_with_body c u) ∷ [])) ≡ Some c = body-snoc us (Some (number_with_body c u)) ∙ q.has_then c in
     let l = last-waits client k old bs us rest s (Some u) b h q.has from reader is in
     let A : List (Option Unfinished) → Type 0 = λ x. AreSettled x in
     let G : Option UnreadBody → Option Slot → Type 0 = λ b o. GivesRest b o new.feed in
@@ -367,23 +367,23 @@ read-last {R = R} client k old new bs us rest s u b c n reply q from reader is o
     let C : Option Remaining → Option Feed = λ o. option_map (λ (x : Remaining). x.body) o in
     let L : Option UnreadBody → Option Slot → Type 0 = λ b o. FollowsLast b o new.feed in
     record {
-      settled = settled-set us (Some u) (Some (with_body c u)) [] (subst A is reader.settled) (inr refl);
-      gives = subst (λ o. G (last_body (us ++ (Some (with_body c u) ∷ []))) o) (sym last) (subst (λ b. G b (Some t)) (sym content) (ap C on.is ∙ ap Some on.rest));
+      settled = settled-set us (Some u) (Some (number_with_body c u)) [] (subst A is reader.settled) (inr refl);
+      gives = subst (λ o. G (last_body (us ++ (Some (number_with_body c u) ∷ []))) o) (sym last) (subst (λ b. G b (Some t)) (sym content) (ap C on.is ∙ ap Some on.rest));
       next = λ e. record {
         is_last = (same e).past ∙ l.is_last e ∙ item ∙ ap is_last_slot (sym last);
-        within = (same e).within ∙ ap (λ x. not x && is_streaming c) item ∙ ap (λ y. W (Some t) y) (sym content) ∙ ap (λ x. W x (last_body (us ++ (Some (with_body c u) ∷ [])))) (sym last);
-        lost = λ lost. (let no : true ≡ false = sym lost ∙ (ap last_was_abandoned last ∙ and-false (is_chunked h.request.framing.form)) in cc);
-        place = λ kept. subst (λ x. P x (last_body (us ++ (Some (with_body c u) ∷ [])))) (sym (same e).past) (subst (λ y. P (is_past_last old.standing) y) (sym content) (subst Q (sym on.behind) (l.place e)));
+        within = (same e).within ∙ ap (λ x. not x && is_streaming c) item ∙ ap (λ y. W (Some t) y) (sym content) ∙ ap (λ x. W x (last_body (us ++ (Some (number_with_body c u) ∷ [])))) (sym last);
+        lost = λ lost. (let no : true ≡ false = sym lost ∙ (ap last_was_abandoned last ∙ and-false (is_chunked_form h.request.framing.form)) in cc);
+        place = λ kept. subst (λ x. P x (last_body (us ++ (Some (number_with_body c u) ∷ [])))) (sym (same e).past) (subst (λ y. P (is_past_last old.standing) y) (sym content) (subst Q (sym on.behind) (l.place e)));
       };
       follows = λ holds.
-          let held : last_holds_next_head k.requests ≡ true = ap last_holds_next_head is ∙ holds-snoc us (Some u) ∙ sym (with-body-holds c u) ∙ sym (holds-snoc us (Some (with_body c u))) ∙ holds in
+          let held : last_holds_next_head k.requests ≡ true = ap last_holds_next_head is ∙ holds-snoc us (Some u) ∙ sym (with-body-holds c u) ∙ sym (holds-snoc us (Some (number_with_body c u))) ∙ holds in
           subst (λ b. L b (last_slot (bs ++ (t ∷ [])))) (sym content) (subst (λ o. L (Some c) o) (sym last) (on.behind ∙ l.follows held ∙ ap (λ (x : Slot). Some (behind_item x.item)) h.is));
       source = goes-on_more (Some client) k.feed new.feed reader.source (subst S (sym from.feed) goes);
     }
 
 reader-read : {R : Type 0} (client : Feed) (k : Kept) (old new : SourceState R) (bs cs : List Slot) (us vs : List (Option Unfinished)) (rest : List Item) (s : Slot) (u : Unfinished) (b c : UnreadBody) (n : ℕ) (reply : ReplyValue) → (q : IsReadable s u b) → IsInput k old → InputStands client k (bs ++ (s ∷ cs)) rest
     → k.requests ≡ us ++ (Some u ∷ vs) → length cs ≡ length vs → ReadOn b c old.feed new.feed q.opened.request q.opened.given q.opened.end_reported n reply → (is_streaming b ≡ false → new ≡ old) → (is_streaming b ≡ true → new.standing ≡ body_standing c old.standing) → GoesOn old.feed new.feed
-    → InputStands client (with_reader k (us ++ (Some (with_body c u) ∷ vs)) new) (bs ++ (read_slot s b q.opened n ∷ cs)) rest
+    → InputStands client (with_reader k (us ++ (Some (number_with_body c u) ∷ vs)) new) (bs ++ (read_slot s b q.opened n ∷ cs)) rest
 reader-read client k old new bs [] us [] rest s u b c n reply q from reader is same on leaves stands goes = read-last client k old new bs us rest s u b c n reply q from reader is on leaves stands goes
 reader-read client k old new bs [] us (v ∷ vs) rest s u b c n reply q from reader is same on leaves stands goes = absurd (omega (arith, same))
 reader-read client k old new bs (d ∷ cs) us [] rest s u b c n reply q from reader is same on leaves stands goes = absurd (omega (arith, same))
@@ -391,8 +391,8 @@ reader-read {R = R} client k old new bs (d ∷ cs) us (v ∷ vs) rest s u b c n 
     let A : List (Option Unfinished) → Type 0 = λ x. AreSettled x in
     let quiet : is_streaming b ≡ false = ap is_streaming_body (sym q.has) ∙ (settled-place us (Some u) v vs (subst A is reader.settled)).0 in
     let t = read_slot s b q.opened n in
-    let P : SourceState R → Type 0 = λ x. InputStands client (with_reader k (us ++ (Some (with_body c u) ∷ (v ∷ vs))) x) (bs ++ (t ∷ (d ∷ cs))) rest in
-    subst P (sym (leaves quiet)) (reader-within client k old bs cs us vs rest s t d v (Some (with_body c u)) (Some u) from reader is (ap is_streaming_body (q.has_then c) ∙ on.stays quiet, with-body-holds c u ∙ (settled-place us (Some u) v vs (subst A is reader.settled)).1))
+    let P : SourceState R → Type 0 = λ x. InputStands client (with_reader k (us ++ (Some (number_with_body c u) ∷ (v ∷ vs))) x) (bs ++ (t ∷ (d ∷ cs))) rest in
+    subst P (sym (leaves quiet)) (reader-within client k old bs cs us vs rest s t d v (Some (number_with_body c u)) (Some u) from reader is (ap is_streaming_body (q.has_then c) ∙ on.stays quiet, with-body-holds c u ∙ (settled-place us (Some u) v vs (subst A is reader.settled)).1))
 
 -- what is left of a number's body, as its reader sees it
 read-remains-of : {R : Type 0} (client : Feed) (k : Kept) (old : SourceState R) (bs cs : List Slot) (us vs : List (Option Unfinished)) (rest : List Item) (s : Slot) (u : Unfinished) (b : UnreadBody) → (h : IsOpen s b) → kept_body (Some u) ≡ Some b → IsInput k old → InputStands client k (bs ++ (s ∷ cs)) rest
@@ -480,14 +480,14 @@ read-memory client before k s date j n u b st e free has some =
 -- the body was read
 pub read-done : {R : Type 0} (client : Feed) (before : Sink) (k : Kept) (s : State) (date : HttpDate) (j n : ℕ) (u : Unfinished) (b c : UnreadBody) (old new : SourceState R) (requests : List (Option Unfinished)) (result : Result ℕ ErrorKind) (buf : List ℕ) → Stands client before k s → slice_get k.requests j ≡ Some (Some u)
     → is_readable (Some (Some u)) ≡ true → kept_body (Some u) ≡ Some b
-    → requests ≡ slice_set k.requests j (Some (with_body c u)) → IsInput k old → IfBound result buf → length buf ≡ n → 0 < n → FillsFromBody b old.feed c new.feed result buf → (is_streaming b ≡ false → new ≡ old) → (is_streaming b ≡ true → new.standing ≡ body_standing c old.standing) → GoesOn old.feed new.feed
+    → requests ≡ slice_set k.requests j (Some (number_with_body c u)) → IsInput k old → IfBound result buf → length buf ≡ n → 0 < n → FillsFromBody b old.feed c new.feed result buf → (is_streaming b ≡ false → new ≡ old) → (is_streaming b ≡ true → new.standing ≡ body_standing c old.standing) → GoesOn old.feed new.feed
     → StepIsAnswered client before (with_reader k requests new) s date (Read j n) (reply_for result buf)
 read-done {R = R} client before k s date j n u b c old new requests result buf st e free has requests_are from bound size some fills leaves stands goes =
     let R : List (Option Unfinished) → Type 0 = λ l. StepIsAnswered client before (with_reader k l new) s date (Read j n) (reply_for result buf) in
     subst R (sym set) (
       state,
       record {
-        numbers = subst M (sym p.marks_are) (kept-append p.bs p.fs p.us (s1 ∷ p.cs) (Open ∷ p.rs) (Some (with_body c u) ∷ p.vs) p.before (q.goes_on c old.feed new.feed n (reply_for result buf) on, p.behind));
+        numbers = subst M (sym p.marks_are) (kept-append p.bs p.fs p.us (s1 ∷ p.cs) (Open ∷ p.rs) (Some (number_with_body c u) ∷ p.vs) p.before (q.goes_on c old.feed new.feed n (reply_for result buf) on, p.behind));
         shape = st.shape;
         in_turn = turn-set p.bs p.cs s0 s1 (λ sent. sent) (λ done. done) (subst T open_is st.in_turn);
         asking_ended = st.asking_ended;
@@ -516,13 +516,13 @@ read-done {R = R} client before k s date j n u b c old new requests result buf s
     s1 = read_slot p.s b h n
 
     M : List Mark → Type 0
-    M m = AreKept (p.bs ++ (s1 ∷ p.cs)) m (p.us ++ (Some (with_body c u) ∷ p.vs))
+    M m = AreKept (p.bs ++ (s1 ∷ p.cs)) m (p.us ++ (Some (number_with_body c u) ∷ p.vs))
 
     slots : List Slot
     slots = p.bs ++ (s1 ∷ p.cs)
 
-    set : requests ≡ p.us ++ (Some (with_body c u) ∷ p.vs)
-    set = requests_are ∙ set-place k.requests p.us p.vs j (Some u) (Some (with_body c u)) p.requests_are p.requests_before
+    set : requests ≡ p.us ++ (Some (number_with_body c u) ∷ p.vs)
+    set = requests_are ∙ set-place k.requests p.us p.vs j (Some u) (Some (number_with_body c u)) p.requests_are p.requests_before
 
     on : ReadOn b c old.feed new.feed h.request h.given h.end_reported n (reply_for result buf)
     on =

@@ -25,7 +25,7 @@ use Rattle.tiny_http_body.specs.declared.framing.Form.TheVariants as form
 use Rattle.std.specs.Prelude.{if◌then◌else◌, ◌==◌, nat_lt}
 use Rattle.tiny_http_open_request.specs.Pipeline.{Item, Asks, Refuses, body_length_or_0, Request}
 use Rattle.tiny_http_connection.specs.Segments.{Slot, Stage, Unanswered, Answered, ByServer, Raw, Upgraded, is_finished, is_stage_finished, is_last_item}
-use Rattle.tiny_http_connection.specs.Slots.{remainder_of, closes_now, is_counted, is_unanswered, is_form_streamed, is_chunked, is_body_finished, body_is_open, holds_next_head, is_holding, last_slot, last_is_open, last_is_holding, last_holds_reader, last_was_abandoned, is_last_slot, is_end, rest_of}
+use Rattle.tiny_http_connection.specs.Slots.{remainder_of, closes_now, is_counted, is_unanswered, is_form_streamed, is_chunked_form, is_body_finished, body_is_open, holds_next_head, is_holding, last_slot, last_is_open, last_is_holding, last_holds_reader, last_was_abandoned, is_last_slot, is_end, rest_of}
 use Rattle.tiny_http_body.specs.Body.{remainder, is_skipped, body_finished, is_whole, taken_remaining}
 use Rattle.tiny_http_turns.specs.Turns.{Mark, Open, Held, Left, Finished}
 use Rattle.tiny_http_body.specs.Body.{Remaining, remaining, is_streaming, Fits}
@@ -229,7 +229,7 @@ waiting-whole s w h = fits-whole h.request w.body h.given h.end_reported h.fits 
 -- what is left of a body, by what was read of it
 abbrev left_by : Form → ℕ → ℕ → Bool → Bool → Remainder
 left_by form n given end_reported ends =
-    if (is_chunked form && not end_reported) || (body_finished form n given end_reported && not ends) then left.Endless else
+    if (is_chunked_form form && not end_reported) || (body_finished form n given end_reported && not ends) then left.Endless else
     if is_counted form && (not end_reported && nat_lt MOST_SKIPPED (n - given)) then left.Long else left.Skipped
 
 none-left : (n given : ℕ) (end_reported : Bool) → (given == n || end_reported) ≡ true → (not end_reported && nat_lt MOST_SKIPPED (n - given)) ≡ false
@@ -248,7 +248,7 @@ over-end form.Chunked n given end_reported ends h z = rw (h, z) refl
 over-end form.Rest n given end_reported ends h z = rw (h, z) refl
 
 over-fault : (form : Form) (n given : ℕ) (end_reported ends : Bool) → body_finished form n given end_reported ≡ true → ends ≡ false → left_by form n given end_reported ends ≡ left.Endless
-over-fault form n given end_reported ends h z = rw (h, z, or-true (is_chunked form && not end_reported)) refl
+over-fault form n given end_reported ends h z = rw (h, z, or-true (is_chunked_form form && not end_reported)) refl
 
 pub fits-remainder : (r : Request) (b : UnreadBody) (given : ℕ) (end_reported : Bool) → Fits r.framing.by_standard b r.framing.form (body_length_or_0 r.framing) given end_reported
     → (is_streaming b ≡ false → (f : Feed) → remaining b (Some f) ≡ Some (taken_remaining (rest_of r given) f))
@@ -291,7 +291,7 @@ waiting-final s w h =
     ∙ says-cases r.framing.by_standard (h.handed.closes || (h.handed.owed || not_last (remainder_of r h.given h.end_reported))) r.framing.is_last F))))
 
 pub waiting-kept : (s : Slot) (b : UnreadBody) (h : IsOpen s b) → last_was_abandoned (Some s) ≡ false
-waiting-kept s b h = let P : Slot → Type 0 = λ x. last_was_abandoned (Some x) ≡ false in subst P (sym h.is) (and-false (is_chunked h.request.framing.form))
+waiting-kept s b h = let P : Slot → Type 0 = λ x. last_was_abandoned (Some x) ≡ false in subst P (sym h.is) (and-false (is_chunked_form h.request.framing.form))
 
 -- whether the last body is open, and the program's sight of it
 pub waiting-open : (s : Slot) (b : UnreadBody) (h : IsOpen s b) → last_is_open (Some s) ≡ is_streaming b

@@ -20,9 +20,9 @@ use Rattle.tiny_http_open_request.specs.OpenRequest.{coding_for, final_context, 
 use Rattle.tiny_http_response.specs.ResponseValue.{ResponseValue, printing_to}
 use Rattle.tiny_http_response.specs.Answer.{IsGathered, answer_coding}
 use Rattle.tiny_http_connection.specs.Segments.{Slot, Stage, Unanswered, Answered as AnsweredBy, ByServer, Raw, Upgraded, is_stage_finished, is_finished, is_broken, is_slot_broken, segment, stage_text, opening, to_request, text_if}
-use Rattle.tiny_http_connection.specs.Slots.{is_output_broken, joined, turn_has_come, remainder_of, closes_now, is_last_once_finished, refuses_response, last_slot}
+use Rattle.tiny_http_connection.specs.Slots.{is_output_broken, joined, turn_has_come, remainder_of, closes_now, ends_when_finished, refuses_response, last_slot}
 use Rattle.tiny_http_connection.specs.Steps.{StepValue, Respond, ReplyValue, Done, NoSuch, NotYet}
-use Rattle.tiny_http_connection.specs.Outcomes.{outcome, Outcome, Reached, unchanged, changes, ends_asking, is_last_with_stream, finished_as, accepts_step, fault_in, fault_reply, at_item, at_slot, at_number, asked_to_close, answers, answers_slot}
+use Rattle.tiny_http_connection.specs.Outcomes.{outcome, Outcome, Reached, unchanged, changes, ends_asking, ends_with_stream, finished_as, accepts_step, fault_in, fault_reply, at_item, at_slot, at_number, asked_to_close, answers, answers_slot}
 use Rattle.tiny_http_connection.specs.Conversation.{Failure, State, has_output_ended, finished_front, flushed_after, CanMeet, WriterPart, HasOutcome, GathersAt, MayLack, GathersFor, StepsTo}
 use Rattle.tiny_http_connection.proofs.ConversationWriting.{FailsBetween, FailsReported, FailsBehind, broken_reply, used, WritesIf, flushed_if, reported, flushed-is}
 use Rattle.tiny_http_response.specs.ResponseValue.{printing_in}
@@ -176,7 +176,7 @@ at-answers found date old n v r x e item stage takes t =
     ap (at_slot found date old n (Respond n v)) e ∙ ap (at_item found date old n (Respond n v) x) item ∙ rw (stage, takes, t) refl
 
 at-turn : (date : HttpDate) (asked : HandedOut) (old : Reached) (n : ℕ) (v : ResponseValue) (r : Request) (given : ℕ) (end_reported found : Bool) → slice_get old.slots n ≡ Some (open_slot asked r given end_reported) → refuses_response r v ≡ false → turn_has_come n old.slots ≡ true → asked_to_close v.answer.closes old ≡ old
-    → at_number found date old n (Respond n v) ≡ ends_asking (is_last_once_finished r asked.owed given end_reported) (changes old n (answered_slot asked r given end_reported v date found) Done (used (response_sent found v (closes_now r asked.closes asked.owed given end_reported) r date)))
+    → at_number found date old n (Respond n v) ≡ ends_asking (ends_when_finished r asked.owed given end_reported) (changes old n (answered_slot asked r given end_reported v date found) Done (used (response_sent found v (closes_now r asked.closes asked.owed given end_reported) r date)))
 at-turn date asked old n v r given end_reported found e takes t fixed =
     at-answers found date old n v r (open_slot asked r given end_reported) e refl refl takes t
     ∙ ap (λ o. answers found date o r n v) fixed ∙ ap (answers_slot found date old r n v) e
@@ -556,14 +556,14 @@ reader-ended client k ended slots rest stays r =
     record { settled = r.settled; gives = r.gives; next = λ e. next-same client k (with_ended ended k) (last_slot slots) (last_slot slots) rest refl refl refl refl refl refl refl refl (r.next (stays e)); follows = r.follows; source = r.source }
 
 -- whether the asking ends behind a number that waits, by what is kept of it
-pub lacks-same : (s : Slot) (w : OpenRequest UnreadBody) (h : IsWaiting s w) → is_last_once_finished h.request h.handed.owed h.given h.end_reported ≡ (w.by_standard && (w.owes_continue || is_long (remainder w.body)))
+pub lacks-same : (s : Slot) (w : OpenRequest UnreadBody) (h : IsWaiting s w) → ends_when_finished h.request h.handed.owed h.given h.end_reported ≡ (w.by_standard && (w.owes_continue || is_long (remainder w.body)))
 lacks-same s w h =
     ap (λ x. x && (h.handed.owed || is_long (remainder_of h.request h.given h.end_reported))) (sym h.standard)
     ∙ (ap (λ x. w.by_standard && (x || is_long (remainder_of h.request h.given h.end_reported))) (sym h.owed)
     ∙ ap (λ l. w.by_standard && (w.owes_continue || is_long l)) (waiting-remainder s w h))
 
-pub stream-same : (s : Slot) (w : OpenRequest UnreadBody) (h : IsWaiting s w) → is_last_with_stream h.request h.handed.owed h.given h.end_reported ≡ (w.holds_next_head || (w.by_standard && (w.owes_continue || is_long (remainder w.body))))
-stream-same s w h = ap (λ x. x || is_last_once_finished h.request h.handed.owed h.given h.end_reported) (sym h.holds) ∙ ap (λ x. w.holds_next_head || x) (lacks-same s w h)
+pub stream-same : (s : Slot) (w : OpenRequest UnreadBody) (h : IsWaiting s w) → ends_with_stream h.request h.handed.owed h.given h.end_reported ≡ (w.holds_next_head || (w.by_standard && (w.owes_continue || is_long (remainder w.body))))
+stream-same s w h = ap (λ x. x || ends_when_finished h.request h.handed.owed h.given h.end_reported) (sym h.holds) ∙ ap (λ x. w.holds_next_head || x) (lacks-same s w h)
 
 pub both-end : (a b x y : Bool) → a ≡ b → x ≡ y → (a || x) ≡ (b || y)
 both-end a b x y e f = ap (λ z. z || x) e ∙ ap (λ z. b || z) f
@@ -592,7 +592,7 @@ respond-stands client before k s date n v answer_context found mid new mid_ended
     let takes = refuses-same a.slot a.waiting a.waits v ∙ ap (refuses_at v.answer.status) (sym a.kept) ∙ good in
     let is = at-turn date a.waits.handed s.reached n v a.waits.request a.waits.given a.waits.end_reported found a.at.get takes (a.at.turn ∙ a.turn.finished) fixed in
     let slots = a.bs ++ (s1 ∷ a.cs) in
-    let last = is_last_once_finished a.waits.request a.waits.handed.owed a.waits.given a.waits.end_reported in
+    let last = ends_when_finished a.waits.request a.waits.handed.owed a.waits.given a.waits.end_reported in
     let new_state : State = record { reached = record { slots = slots; rest = s.reached.rest; asking_ended = s.reached.asking_ended || last }; flushed = flushed_after (used text) s slots; failure = said.failure } in
     let R : List Slot → Reached = λ l. record { slots = l; rest = s.reached.rest; asking_ended = s.reached.asking_ended || last } in
     let W : List Slot → Type 0 = λ l. WriterPart (used text) s Done l reply said.failure in

@@ -28,9 +28,9 @@ use Rattle.tiny_http_turns.specs.Turns.{Mark, Open, AreInShape, first_unfinished
 use Rattle.tiny_http_connection.specs.declared.pending.Unfinished.{Unfinished}
 use Rattle.tiny_http_connection.specs.declared.pending.Unfinished.TheVariants as still
 use Rattle.tiny_http_connection.specs.Segments.{Slot, Unanswered, Answered as AnsweredBy, ByServer, Raw, Upgraded, is_finished, segment, opening, to_request, Stage, is_slot_broken}
-use Rattle.tiny_http_connection.specs.Slots.{joined, is_chunked, is_last_slot, as_stream, upgraded_slot, refuses_upgrade, last_slot}
+use Rattle.tiny_http_connection.specs.Slots.{joined, is_chunked_form, is_last_slot, as_stream, upgraded_slot, refuses_upgrade, last_slot}
 use Rattle.tiny_http_connection.specs.Steps.{Upgrade, Done, NotYet}
-use Rattle.tiny_http_connection.specs.Outcomes.{Unreported, Outcome, Reached, ends_asking, is_last_with_stream, changes, at_slot, at_number}
+use Rattle.tiny_http_connection.specs.Outcomes.{Unreported, Outcome, Reached, ends_asking, ends_with_stream, changes, at_slot, at_number}
 use Rattle.tiny_http_connection.specs.Conversation.{State, flushed_after, WriterPart, HasOutcome}
 use Rattle.tiny_http_connection.specs.Connection.{Kept, open_slot, IsWaiting, IsUpgraded, AreSentInTurn, AreKept, OutputAt, slot_rest, InputStands, Stands, AreSettled, GivesRest, behind_body, behind_item}
 use Rattle.tiny_http_connection.proofs.SlotsLemmas.{breaks-waits}
@@ -182,7 +182,7 @@ upgraded-lenient client k n source slots rest protocol v date w p from reader =
     let s1 = record (open_slot h.handed h.request h.given h.end_reported) { stage = begun_stage protocol v date; owed = false } in
     let alike : Alike p.s s1 = record {
       last = ap (λ (x : Slot). is_last_slot (Some x)) (sym h.is);
-      abandoned = sym (waiting-kept p.s w.body (open-waiting p.s w h) ∙ sym (and-false (is_chunked h.request.framing.form)));
+      abandoned = sym (waiting-kept p.s w.body (open-waiting p.s w h) ∙ sym (and-false (is_chunked_form h.request.framing.form)));
       left = ap slot_rest (sym h.is);
       behind = ap (λ (x : Slot). behind_item x.item) (sym h.is);
     } in
@@ -357,11 +357,11 @@ upgrade-done {R = R} client before k s date n protocol v w context new ended fin
         let go = output-more before k.sink new k.output_ended ended s.reached.slots slots text s.flushed s.failure st.output m low sent firm in
         let over = ended-is before k.sink k.output_ended s.reached.slots s.flushed s.failure st.output in
         let at = slot-at s.reached.slots p.bs p.cs s0 n slots_are p.slots_before in
-        let is : at_number true date s.reached n (Upgrade n protocol v) ≡ ends_asking (is_last_with_stream h.request h.handed.owed h.given h.end_reported) (changes s.reached n s1 Done Unreported) =
+        let is : at_number true date s.reached n (Upgrade n protocol v) ≡ ends_asking (ends_with_stream h.request h.handed.owed h.given h.end_reported) (changes s.reached n s1 Done Unreported) =
         ap (at_slot true date s.reached n (Upgrade n protocol v)) at.get ∙ rw (refuses-same p.s w h protocol v ∙ granted, at.turn ∙ t.finished) refl in
         let C : List Slot → Type 0 = λ x. AreSentInTurn x in
-        let new_state : State = record { reached = record { slots = slots; rest = s.reached.rest; asking_ended = s.reached.asking_ended || is_last_with_stream h.request h.handed.owed h.given h.end_reported }; flushed = flushed_after Unreported s slots; failure = go.failure } in
-        let L : List Slot → Reached = λ l. record { slots = l; rest = s.reached.rest; asking_ended = s.reached.asking_ended || is_last_with_stream h.request h.handed.owed h.given h.end_reported } in
+        let new_state : State = record { reached = record { slots = slots; rest = s.reached.rest; asking_ended = s.reached.asking_ended || ends_with_stream h.request h.handed.owed h.given h.end_reported }; flushed = flushed_after Unreported s slots; failure = go.failure } in
+        let L : List Slot → Reached = λ l. record { slots = l; rest = s.reached.rest; asking_ended = s.reached.asking_ended || ends_with_stream h.request h.handed.owed h.given h.end_reported } in
         let W : List Slot → Type 0 = λ l. WriterPart Unreported s Done l Done go.failure in
         let G : Outcome → Type 0 = λ x. HasOutcome x s Done new_state in
         let M : List Mark → Type 0 = λ y. AreKept slots y requests in
@@ -373,7 +373,7 @@ upgrade-done {R = R} client before k s date n protocol v w context new ended fin
             numbers = subst M (sym (final_is ∙ p.marks_are)) (subst Q (sym requests_now) (kept-append p.bs p.fs p.us (s1 ∷ p.cs) (Open ∷ p.rs) (Some (still.Upgraded kept_now) ∷ p.vs) p.before (now.upgraded, p.behind)));
             shape = subst K (sym final_is) st.shape;
             in_turn = turn-continued p.bs p.cs s0 s1 t.finished refl now.unfinished (subst C slots_are st.in_turn);
-            asking_ended = both-end s.reached.asking_ended k.asking_ended (is_last_with_stream h.request h.handed.owed h.given h.end_reported) ends st.asking_ended (stream-same p.s w h);
+            asking_ended = both-end s.reached.asking_ended k.asking_ended (ends_with_stream h.request h.handed.owed h.given h.end_reported) ends st.asking_ended (stream-same p.s w h);
             reader = reader;
             output = subst F (sym (flushed-is s k.output_ended slots over)) go.output;
           },

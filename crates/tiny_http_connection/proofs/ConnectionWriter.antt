@@ -25,13 +25,13 @@ use Rattle.tiny_http_connection.specs.declared.pending.Unfinished.TheVariants as
 use Rattle.tiny_http_connection.specs.Segments.{Slot, Stage, Unanswered, Answered as AnsweredBy, ByServer, Raw, Upgraded, is_stage_finished, is_finished, is_broken, is_slot_broken, opening, stage_text, segment, is_last_item}
 use Rattle.tiny_http_connection.specs.Slots.{is_output_broken, joined, turn_has_come, body_was_abandoned}
 use Rattle.tiny_http_connection.specs.Steps.{StepValue, IntoWriter, Write, Flush, Finish, ReplyValue, Done, Fault, NotYet, NoSuch, is_done}
-use Rattle.tiny_http_connection.specs.Outcomes.{WriterUse, Unused, Reported, Outcome, Reached, unchanged, changes, ends_asking, is_last_with_stream, finished_as, written_to, stage_closed, accepts_step, needs_turn, effect, at_item, at_slot, at_number, outcome}
+use Rattle.tiny_http_connection.specs.Outcomes.{WriterUse, Unused, Reported, Outcome, Reached, unchanged, changes, ends_asking, ends_with_stream, finished_as, written_to, stage_closed, accepts_step, needs_turn, effect, at_item, at_slot, at_number, outcome}
 use Rattle.tiny_http_connection.specs.Seen.{write_reply, IsOfWriter, ReportsOfWriter}
 use Rattle.tiny_http_connection.specs.Driving.{IsDeclined}
 use Rattle.tiny_http_connection.specs.declared.driver.Step.TheVariants as step
 use Rattle.std.specs.Global.{Vec}
 use Rattle.tiny_http_connection.specs.Conversation.{Failure, State, flushed_after, WriterPart, HasOutcome}
-use Rattle.tiny_http_connection.specs.Pending.{kept_body, is_writable, GivesUpBody, LeavesText}
+use Rattle.tiny_http_connection.specs.Pending.{kept_body, is_writable, GivesUpIfKept, LeavesText}
 use Rattle.tiny_http_connection.specs.Connection.{Kept, rest_in, open_slot, IsWaiting, IsRaw, IsUpgraded, KeepsUnfinished, AreSentInTurn, AreKept, OutputAt, InputStands, Stands, behind_item}
 use Rattle.tiny_http_connection.proofs.ConversationWriting.{FailsReported, flushed_if, written, flushed-is}
 use Rattle.tiny_http_connection.proofs.ConnectionAsk.{StepIsAnswered, step-unchanged}
@@ -65,7 +65,7 @@ into_writer-done {R = R} client before k s date n w requests old source st from 
         numbers = subst M (sym p.marks_are) (kept-append p.bs p.fs p.us (s1 ∷ p.cs) (Open ∷ p.rs) (Some still.Raw ∷ p.vs) p.before (record { request = h.request; item = refl; written = []; stage = refl; given_up = refl }, p.behind));
         shape = st.shape;
         in_turn = turn-set p.bs p.cs s0 s1 (λ q. (q.0, λ z. refl)) (λ done. done) (subst T open_is st.in_turn);
-        asking_ended = both-end s.reached.asking_ended k.asking_ended (is_last_with_stream h.request h.handed.owed h.given h.end_reported) ends st.asking_ended (stream-same p.s w h);
+        asking_ended = both-end s.reached.asking_ended k.asking_ended (ends_with_stream h.request h.handed.owed h.given h.end_reported) ends st.asking_ended (stream-same p.s w h);
         reader = reader-ended client (with_reader k (p.us ++ (Some still.Raw ∷ p.vs)) source) (k.asking_ended || ends) slots s.reached.rest (neither k.asking_ended ends)
             (reader-given_up p.waiting.handed.closes client k old source p.bs p.cs p.us p.vs s.reached.rest p.s (Some (still.Waiting w)) (Some still.Raw) w.body (Raw [] false) (open-waiting p.s w h) refl refl from (subst P p.slots_are st.reader) p.requests_are (kept-many p.cs p.rs p.vs p.behind) gives);
         output = output-same before k.sink k.output_ended s.reached.slots slots s.flushed s.failure joined_same breaks_same st.output;
@@ -116,15 +116,15 @@ into_writer-done {R = R} client before k s date n w requests old source st from 
     breaks_same = ap is_output_broken open_is ∙ breaks-waits p.bs s0 p.cs refl refl ∙ sym (breaks-waits p.bs s1 p.cs refl refl)
 
     state : State
-    state = record { reached = record { slots = slots; rest = s.reached.rest; asking_ended = s.reached.asking_ended || is_last_with_stream h.request h.handed.owed h.given h.end_reported }; flushed = s.flushed; failure = s.failure }
+    state = record { reached = record { slots = slots; rest = s.reached.rest; asking_ended = s.reached.asking_ended || ends_with_stream h.request h.handed.owed h.given h.end_reported }; flushed = s.flushed; failure = s.failure }
 
     A : List Slot → Reached
-    A l = record { slots = l; rest = s.reached.rest; asking_ended = s.reached.asking_ended || is_last_with_stream h.request h.handed.owed h.given h.end_reported }
+    A l = record { slots = l; rest = s.reached.rest; asking_ended = s.reached.asking_ended || ends_with_stream h.request h.handed.owed h.given h.end_reported }
 
     G : Outcome → Type 0
     G o = HasOutcome o s Done state
 
-    is : at_number true date s.reached n (IntoWriter n) ≡ ends_asking (is_last_with_stream h.request h.handed.owed h.given h.end_reported) (changes s.reached n s1 Done Unused)
+    is : at_number true date s.reached n (IntoWriter n) ≡ ends_asking (ends_with_stream h.request h.handed.owed h.given h.end_reported) (changes s.reached n s1 Done Unused)
     is =
         let B : Slot → Outcome = λ x. at_slot true date s.reached n (IntoWriter n) (Some x) in
         ap (at_slot true date s.reached n (IntoWriter n)) at.get ∙ ap B h.is
@@ -469,7 +469,7 @@ closes s (still.Upgraded b) h e = ends-closed s (Upgraded h.protocol h.response 
 
 -- the input after a Finish
 reader-closed : {R : Type 0} (client : Feed) (k : Kept) (bs cs : List Slot) (us vs : List (Option Unfinished)) (rest : List Item) (s : Slot) (u : Unfinished) (old source : SourceState R) → KeepsUnfinished s u → is_writable (Some (Some u)) ≡ true → IsInput k old → InputStands client k (bs ++ (s ∷ cs)) rest → k.requests ≡ us ++ (Some u ∷ vs) → length cs ≡ length vs
-    → GivesUpBody (kept_body (Some u)) old source → InputStands client (with_reader k (us ++ (None ∷ vs)) source) (bs ++ (closed_slot s ∷ cs)) rest
+    → GivesUpIfKept (kept_body (Some u)) old source → InputStands client (with_reader k (us ++ (None ∷ vs)) source) (bs ++ (closed_slot s ∷ cs)) rest
 reader-closed client k bs cs us vs rest s (still.Waiting w) old source h e from reader is same closes = cc
 reader-closed {R = R} client k bs cs us vs rest s still.Raw old source h e from reader is same closes =
     let P : SourceState R → Type 0 = λ x. InputStands client (with_reader k (us ++ (None ∷ vs)) x) (bs ++ (closed_slot s ∷ cs)) rest in
@@ -479,7 +479,7 @@ reader-closed client k bs cs us vs rest s (still.Upgraded b) old source h e from
     let P : Slot → Type 0 = λ x. InputStands client (with_reader k (us ++ (None ∷ vs)) source) (bs ++ (x ∷ cs)) rest in
     subst P (sym (ap closed_slot o.is)) (reader-given_up o.handed.closes client k old source bs cs us vs rest s (Some (still.Upgraded b)) None b (stage_closed o.stage) o refl refl from reader is same closes)
 
-pub finish-done : {R : Type 0} (client : Feed) (before : Sink) (k : Kept) (s : State) (date : HttpDate) (n : ℕ) (u : Unfinished) (new : Sink) (ended : Bool) (final : List Mark) (requests : List (Option Unfinished)) (old source : SourceState R) → Stands client before k s → IsInput k old → GivesUpBody (kept_body (Some u)) old source → before.failures < 2 ^ 64 - 1
+pub finish-done : {R : Type 0} (client : Feed) (before : Sink) (k : Kept) (s : State) (date : HttpDate) (n : ℕ) (u : Unfinished) (new : Sink) (ended : Bool) (final : List Mark) (requests : List (Option Unfinished)) (old source : SourceState R) → Stands client before k s → IsInput k old → GivesUpIfKept (kept_body (Some u)) old source → before.failures < 2 ^ 64 - 1
     → slice_get k.requests n ≡ Some (Some u) → is_writable (Some (Some u)) ≡ true → requests ≡ slice_set k.requests n None
     → ((front rest : List Mark) → k.marks ≡ front ++ (Open ∷ rest) → length front ≡ n → (k.output_ended ≡ false → CanSend k.sink) → LeavesText (n == first_unfinished k.marks) front rest final [] k.output_ended k.sink new ended)
     → StepIsAnswered client before (after_number k final requests source new ended) s date (Finish n) Done

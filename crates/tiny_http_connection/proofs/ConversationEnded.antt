@@ -9,9 +9,9 @@ use Rattle.tiny_http_open_request.specs.Pipeline.{Item, Asks, Refuses, Request, 
 use Rattle.tiny_http_open_request.proofs.PipelineLemmas.{pipeline-first, pipeline-none}
 use Rattle.tiny_http_response.specs.ResponseValue.{ResponseValue}
 use Rattle.tiny_http_connection.specs.Segments.{Slot}
-use Rattle.tiny_http_connection.specs.Slots.{turn_has_come, refuses_response, refuses_upgrade, is_last_once_finished}
+use Rattle.tiny_http_connection.specs.Slots.{turn_has_come, refuses_response, refuses_upgrade, ends_when_finished}
 use Rattle.tiny_http_connection.specs.Steps.{StepValue, Ask, AsReader, Read, Respond, IntoWriter, Write, Flush, Upgrade, Finish, Drop, ReplyValue, Ended, TimedValue}
-use Rattle.tiny_http_connection.specs.Outcomes.{Reached, Outcome, unchanged, asked_to_close, is_last_with_stream, answers_slot, effect, at_item, at_slot, accepts_step, needs_turn, ask, outcome}
+use Rattle.tiny_http_connection.specs.Outcomes.{Reached, Outcome, unchanged, asked_to_close, ends_with_stream, answers_slot, effect, at_item, at_slot, accepts_step, needs_turn, ask, outcome}
 use Rattle.tiny_http_connection.specs.Conversation.{State, StepsTo, Run, HasAskOutOfMemory, IsAskOutOfMemory, BeginsBehind}
 use Rattle.tiny_http_connection.specs.Connection.{BeginsMore}
 
@@ -33,7 +33,7 @@ asked-rest false old = refl
 
 answers-stay : (found : Bool) (date : HttpDate) (old : Reached) (r : Request) (k : ℕ) (response : ResponseValue) (o : Option Slot) → old.asking_ended ≡ true → Stays old (answers_slot found date old r k response o)
 answers-stay found date old r k response None e = (refl, e)
-answers-stay found date old r k response (Some s) e = (refl, ap (λ x. x || is_last_once_finished r s.owed s.given s.end_reported) e)
+answers-stay found date old r k response (Some s) e = (refl, ap (λ x. x || ends_when_finished r s.owed s.given s.end_reported) e)
 
 -- whatever the step is
 effect-stays : (found : Bool) (date : HttpDate) (old : Reached) (r : Request) (s : Slot) (turn : Bool) (step : StepValue) → old.asking_ended ≡ true → Stays old (effect found date old r s turn step)
@@ -43,14 +43,14 @@ effect-stays found date old r s turn (Read k n) e = if-stays old (n == 0) _ _ (r
 effect-stays found date old r s turn (Respond k response) e =
     let closed = asked_to_close response.answer.closes old in
     let h = answers-stay found date closed r k response (slice_get closed.slots k) (asked-ended response.answer.closes old e) in
-    if-stays old (refuses_response r response) _ _ (refl, ap (λ x. x || is_last_once_finished r s.owed s.given s.end_reported) e) (h.0 ∙ asked-rest response.answer.closes old, h.1)
-effect-stays found date old r s turn (IntoWriter k) e = (refl, ap (λ x. x || is_last_with_stream r s.owed s.given s.end_reported) e)
+    if-stays old (refuses_response r response) _ _ (refl, ap (λ x. x || ends_when_finished r s.owed s.given s.end_reported) e) (h.0 ∙ asked-rest response.answer.closes old, h.1)
+effect-stays found date old r s turn (IntoWriter k) e = (refl, ap (λ x. x || ends_with_stream r s.owed s.given s.end_reported) e)
 effect-stays found date old r s turn (Write k bytes) e = (refl, e)
 effect-stays found date old r s turn (Flush k) e = (refl, e)
 effect-stays found date old r s turn (Upgrade k protocol response) e =
-    if-stays old (refuses_upgrade r s protocol response) _ _ (refl, ap (λ x. x || is_last_once_finished r s.owed s.given s.end_reported) e) (refl, ap (λ x. x || is_last_with_stream r s.owed s.given s.end_reported) e)
+    if-stays old (refuses_upgrade r s protocol response) _ _ (refl, ap (λ x. x || ends_when_finished r s.owed s.given s.end_reported) e) (refl, ap (λ x. x || ends_with_stream r s.owed s.given s.end_reported) e)
 effect-stays found date old r s turn (Finish k) e = (refl, e)
-effect-stays found date old r s turn (Drop k) e = (refl, ap (λ x. x || is_last_once_finished r s.owed s.given s.end_reported) e)
+effect-stays found date old r s turn (Drop k) e = (refl, ap (λ x. x || ends_when_finished r s.owed s.given s.end_reported) e)
 
 item-stays : (found : Bool) (date : HttpDate) (old : Reached) (k : ℕ) (step : StepValue) (s : Slot) (item : Item) → old.asking_ended ≡ true → Stays old (at_item found date old k step s item)
 item-stays found date old k step s (Refuses refusal manner no_body last) e = (refl, e)

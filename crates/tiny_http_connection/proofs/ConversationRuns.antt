@@ -17,7 +17,7 @@ use Rattle.tiny_http_open_request.proofs.BodyRemainsLemmas.{remains-of}
 use Rattle.tiny_http_open_request.proofs.PipelineLemmas.{pipeline-none}
 use Rattle.tiny_http_io.specs.declared.device.Stop.{Stop}
 use Rattle.tiny_http_connection.specs.Segments.{Slot, is_last_item}
-use Rattle.tiny_http_connection.specs.Slots.{joined, last_slot, last_is_open, last_was_abandoned, is_last_slot, body_is_open, body_was_abandoned, is_form_streamed, is_body_finished, is_chunked}
+use Rattle.tiny_http_connection.specs.Slots.{joined, last_slot, last_is_open, last_was_abandoned, is_last_slot, body_is_open, body_was_abandoned, is_form_streamed, is_body_finished, is_chunked_form}
 use Rattle.tiny_http_connection.specs.Steps.{ReplyValue, TimedValue}
 use Rattle.tiny_http_connection.specs.Conversation.{State, Failure, StepsTo, Run, start_state, IsFresh, HasAskOutOfMemory, PlaceAt, WithinBody, WithinLast, InputAt, IsOutput, IsConversation, BeginsBehind}
 use Rattle.tiny_http_connection.specs.Connection.{ConnectionState, Kept, OutputAt, IsOpen, behind_body, slot_rest, GivesRest, PlaceIn, Stands}
@@ -142,7 +142,7 @@ open-not_lost (Some s) h = by s.item h
     one true false false false reported e = refl
 
     by : (item : Item) → body_is_open s item ≡ true → body_was_abandoned s item ≡ false
-    by (Asks r) e = one (is_form_streamed r.framing.form) (is_body_finished r s) s.given_up (is_chunked r.framing.form) s.end_reported e
+    by (Asks r) e = one (is_form_streamed r.framing.form) (is_body_finished r s) s.given_up (is_chunked_form r.framing.form) s.end_reported e
     by (Refuses refusal manner no_body last) e = refl
 
 -- how the input stands at the end

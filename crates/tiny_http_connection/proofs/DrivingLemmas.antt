@@ -15,7 +15,7 @@ use Rattle.tiny_http_connection.specs.declared.pending.Unfinished.{Unfinished}
 use Rattle.tiny_http_connection.specs.declared.pending.Unfinished.TheVariants as still
 use Rattle.tiny_http_connection.specs.Replies.{StepReplies, is_waiting, is_in_turn, is_open_mark}
 use Rattle.tiny_http_connection.proofs.RepliesLemmas.{replied-refused, replied-done}
-use Rattle.tiny_http_connection.specs.Pending.{waiting_answer_context, is_last_once_finished_at as kept_lacks, refuses_at, is_last_with_stream_at, last_holds_next_head, kept_body, GivesUpBody, refuses_upgrade_at}
+use Rattle.tiny_http_connection.specs.Pending.{waiting_answer_context, is_last_once_finished_at as kept_lacks, refuses_at, is_last_with_stream_at, last_holds_next_head, kept_body, GivesUpIfKept, refuses_upgrade_at}
 use Rattle.std.specs.List.{AllZip}
 use Rattle.tiny_http_connection.specs.declared.driver.Timed.{Timed}
 use Rattle.tiny_http_connection.specs.declared.driver.Step.{Step}
@@ -35,7 +35,7 @@ use Rattle.tiny_http_open_request.specs.OpenRequest.{refuses_code, request_check
 use Rattle.tiny_http_body.specs.Body.{Remaining, remaining, is_streaming, body_standing, is_whole}
 use Rattle.std.specs.Prelude.{MatchBool, is_err}
 use Rattle.tiny_http_connection.specs.Connection.{Kept, ConnectionState, kept, Stands, HandedOut, open_slot, dropped, BeginsMore}
-use Rattle.tiny_http_connection.specs.Slots.{turn_has_come, is_last_once_finished}
+use Rattle.tiny_http_connection.specs.Slots.{turn_has_come, ends_when_finished}
 use Rattle.tiny_http_connection.proofs.ConnectionDrop.{IsKeptOf, at-drop, at-unanswerable, at-refused}
 use Rattle.std.specs.Prelude.{String, string_bytes, slice_get}
 use Rattle.tiny_http_connection.specs.Driving.{HasDone, TakesStep, AskEnds, StepEnds, EndsBehind, UpgradeEnds, ends_behind, IsDeclined, stated_response, stated_step, StepLeaves, AskLeaves, LetsGo, StandsAfter, ReportsFault, AnswerLeaves, UpgradeLeaves, IsDropping, RefusesHeads, RespondEnds, StepReports, RespondReports}
@@ -59,7 +59,7 @@ use Rattle.tiny_http_body.specs.declared.framing.Framing.{Framing}
 use Rattle.tiny_http_open_request.specs.HeadReads.{ReadsHead, EndsAt, IsBeforeHead, HasByteOrTimedOut, IsFramedAs, head_message, head_framing}
 use Rattle.tiny_http_body.specs.declared.framing.Profile.{Profile}
 use Rattle.tiny_http_open_request.specs.Pipeline.{OneHead, Request, Item, Refuses, Place, place_feed}
-use Rattle.tiny_http_connection.specs.Driving.{SendsInTurn, HandsOut, IsFree, IsRefusal, EndsRequestsAt, EndsThere, ArePassedOver, HasByteBehind, standing_behind}
+use Rattle.tiny_http_connection.specs.Driving.{SendsInTurn, HandsOutHead, IsFree, IsRefusal, EndsRequestsAt, EndsThere, ArePassedOver, HasByteBehind, standing_behind}
 use Rattle.tiny_http_open_request.proofs.PipelineLemmas.{has-pipeline}
 use Rattle.tiny_http_connection.proofs.ConversationRuns.{run-more, stands-begun, split}
 use Rattle.tiny_http_body.proofs.BodyReads.{gives-up}
@@ -130,16 +130,16 @@ end-behind profile at date o p status text why here h ends = by at here h
     by place.Last here h = elim here [ ]
 
 -- a request stands here
-pub hands-here : (profile : Profile) (at : Standing) (date : HttpDate) (o p : Option Feed) (x : Exchange) → ReadsHead profile at date o p (Ok (read.Request x)) → HandsOut 0 profile o (head_message x.head) (head_framing x.head) (remaining x.open_request.body p)
+pub hands-here : (profile : Profile) (at : Standing) (date : HttpDate) (o p : Option Feed) (x : Exchange) → ReadsHead profile at date o p (Ok (read.Request x)) → HandsOutHead 0 profile o (head_message x.head) (head_framing x.head) (remaining x.open_request.body p)
 hands-here profile at date None p x h = tt
 hands-here profile at date (Some f) p x h = ([], f, refl, refl, h.0, h.1, (h.2, h.3))
 
 -- or behind a head that is passed
 pub hands-behind : (profile : Profile) (at : Standing) (date : HttpDate) (o p : Option Feed) (status : StatusCode) (text : Vec ℕ) (n : ℕ) (message : Message) (framing : Framing) (left : Option Remaining)
-    → ReadsHead profile at date o p (Ok (read.Refused status text false)) → HandsOut n profile p message framing left → HandsOut (suc n) profile o message framing left
+    → ReadsHead profile at date o p (Ok (read.Refused status text false)) → HandsOutHead n profile p message framing left → HandsOutHead (suc n) profile o message framing left
 hands-behind profile at date None p status text n message framing left h hands = tt
 hands-behind profile at date (Some f) p status text n message framing left h hands =
-    let H : Option Feed → Type 0 = λ y. HandsOut n profile y message framing left in
+    let H : Option Feed → Type 0 = λ y. HandsOutHead n profile y message framing left in
     let next = subst H h.7 hands in
     (Refuses h.0 h.1 h.2 false ∷ next.0, next.1, ap suc next.2, (refl, h.3, h.4, next.3), next.4, next.5, next.6)
 
@@ -288,14 +288,14 @@ takes old new now x reply answers declined replies ends leaves moves honest tell
     declined replies ends leaves moves honest tells
 
 -- the body of what is kept under one number was given up
-pub gives-up-of : {R : Type 0} (old new : SourceState R) (o : Option (Option Unfinished)) (u : Unfinished) → o ≡ Some (Some u) → GivesUpBody (kept_body (Some u)) old new → (v : Unfinished) → o ≡ Some (Some v) → GivesUpBody (kept_body (Some v)) old new
-gives-up-of old new o u e gives v f = subst (λ x. GivesUpBody (kept_body (Some x)) old new) (one u v (sym e ∙ f)) gives
+pub gives-up-of : {R : Type 0} (old new : SourceState R) (o : Option (Option Unfinished)) (u : Unfinished) → o ≡ Some (Some u) → GivesUpIfKept (kept_body (Some u)) old new → (v : Unfinished) → o ≡ Some (Some v) → GivesUpIfKept (kept_body (Some v)) old new
+gives-up-of old new o u e gives v f = subst (λ x. GivesUpIfKept (kept_body (Some x)) old new) (one u v (sym e ∙ f)) gives
   where
     one : (x y : Unfinished) → ◌≡◌ {A = Option (Option Unfinished)} (Some (Some x)) (Some (Some y)) → x ≡ y
     one x y h = cc
 
 -- the source goes on where a body is given up
-pub gives-up-body : {R : Type 0} (b : Option UnreadBody) (old new : SourceState R) → GivesUpBody b old new → GoesOn old.feed new.feed
+pub gives-up-body : {R : Type 0} (b : Option UnreadBody) (old new : SourceState R) → GivesUpIfKept b old new → GoesOn old.feed new.feed
 gives-up-body {R = R} None old new h = let P : SourceState R → Type 0 = λ x. GoesOn old.feed x.feed in subst P (sym h) (goes-on_same old.feed)
 gives-up-body (Some b) old new h = gives-up b old new h
 
@@ -393,7 +393,7 @@ pub record PassesHead {R W : Type 0} (old mid : ConnectionState R W) (now : Http
   pub unended : IsAtEnd old.source → ⊥
   pub begins : HasByteBehind mid.profile mid.source.feed → HasByteBehind old.profile old.source.feed
   pub free : IsFree old
-  pub hands : (n : ℕ) (message : Message) (framing : Framing) (left : Option Remaining) → HandsOut n mid.profile mid.source.feed message framing left → HandsOut (suc n) old.profile old.source.feed message framing left
+  pub hands : (n : ℕ) (message : Message) (framing : Framing) (left : Option Remaining) → HandsOutHead n mid.profile mid.source.feed message framing left → HandsOutHead (suc n) old.profile old.source.feed message framing left
   pub stands : mid.source.standing ≡ place.Head
   pub ends : (why : EndOfRequests) → EndsRequestsAt mid.profile place.Head mid.source.feed why → EndsRequestsAt old.profile old.source.standing old.source.feed why
   pub requests : mid.requests ≡ old.requests ++ (None ∷ [])
@@ -419,7 +419,7 @@ one-behind : (a b n : ℕ) → b ≡ a + 1 → b + n ≡ a + suc n
 one-behind a b n e = omega (arith, e)
 
 leaves-behind : {R W : Type 0} (old mid new : ConnectionState R W) (reply : ReplyValue) → mid.requests ≡ old.requests ++ (None ∷ []) → length mid.marks ≡ length old.marks + 1 → IsBeforeHead old.source.standing → (IsAtEnd old.source → ⊥) → mid.profile ≡ old.profile
-    → ((n : ℕ) (message : Message) (framing : Framing) (left : Option Remaining) → HandsOut n mid.profile mid.source.feed message framing left → HandsOut (suc n) old.profile old.source.feed message framing left) → AskLeaves mid new reply → AskLeaves old new reply
+    → ((n : ℕ) (message : Message) (framing : Framing) (left : Option Remaining) → HandsOutHead n mid.profile mid.source.feed message framing left → HandsOutHead (suc n) old.profile old.source.feed message framing left) → AskLeaves mid new reply → AskLeaves old new reply
 leaves-behind old mid new (Handed k message framing) e count here unended same hands h = (
   suc h.0,
   h.1,
@@ -582,7 +582,7 @@ takes-upgrade feed all old new now n p r reply answers declined replies ends lea
 -- a step that drops a request
 pub drops-by : {R W : Type 0} (n : ℕ) (w : OpenRequest UnreadBody) (old new : ConnectionState R W) (now : HttpDate) → slice_get old.requests n ≡ Some (Some (still.Waiting w))
     → ((client : Feed) (before : Sink) (s : State) (asked : StepValue) (reply : ReplyValue)
-    → ((was : Reached) (by : HandedOut) (r : Request) (given : ℕ) (end_reported : Bool) → IsKeptOf w r given end_reported → slice_get was.slots n ≡ Some (open_slot by r given end_reported) → outcome true now was asked ≡ ends_asking (is_last_once_finished r by.owed given end_reported) (changes was n (dropped by r given end_reported) reply (use_in_turn (turn_has_come n was.slots))))
+    → ((was : Reached) (by : HandedOut) (r : Request) (given : ℕ) (end_reported : Bool) → IsKeptOf w r given end_reported → slice_get was.slots n ≡ Some (open_slot by r given end_reported) → outcome true now was asked ≡ ends_asking (ends_when_finished r by.owed given end_reported) (changes was n (dropped by r given end_reported) reply (use_in_turn (turn_has_come n was.slots))))
     → before.failures < 2 ^ 64 - 1 → Stands client before (kept old) s → StepIsAnswered client before (kept new) s now asked reply)
     → new.end ≡ ends_behind (kept_lacks (slice_get old.requests n)) old.end → LetsGo n old new → Moves false old new → (x : Step (Option Feed)) (reply : ReplyValue) → IsDropping old.requests n x reply → TakesStep old new now x reply
 drops-by n w old new now kept answers ends leaves moves = by

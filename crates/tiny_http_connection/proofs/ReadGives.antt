@@ -12,7 +12,7 @@ use Rattle.tiny_http_body.specs.declared.body.UnreadBody.TheVariants as body
 use Rattle.tiny_http_body.specs.Body.{Remaining, remaining, prepended_body, NoneRemains, BodyStops, FillsFromBody, ReadsOn, is_streaming, body_standing}
 use Rattle.tiny_http_connection.specs.declared.pending.Unfinished.{Unfinished}
 use Rattle.tiny_http_connection.specs.declared.pending.Unfinished.TheVariants as still
-use Rattle.tiny_http_connection.specs.Pending.{kept_body, with_body}
+use Rattle.tiny_http_connection.specs.Pending.{kept_body, number_with_body}
 use Rattle.tiny_http_connection.specs.Steps.{Given, Fault}
 use Rattle.tiny_http_connection.specs.Giving.{TakesNext}
 use Rattle.tiny_http_connection.specs.Connection.{ConnectionState}
@@ -25,7 +25,7 @@ same-set [] k x e = cc
 same-set (y ∷ ys) zero x e = let same : y ≡ x = cc in ap (λ z. z ∷ ys) same
 same-set (y ∷ ys) (suc k) x e = ap (λ l. y ∷ l) (same-set ys k x e)
 
-same-body : (u : Unfinished) (b : UnreadBody) → kept_body (Some u) ≡ Some b → u ≡ with_body b u
+same-body : (u : Unfinished) (b : UnreadBody) → kept_body (Some u) ≡ Some b → u ≡ number_with_body b u
 same-body (still.Waiting w) b e = let same : w.body ≡ b = cc in ap (λ x. still.Waiting (record w { body = x })) same
 same-body still.Raw b e = cc
 same-body (still.Upgraded c) b e = let same : c ≡ b = cc in ap still.Upgraded same

@@ -35,7 +35,7 @@ use Rattle.tiny_http_response.specs.ResponseValue.{printing_in}
 use Rattle.tiny_http_response.specs.Sending.{CanSend, IsHonest, FailsOnce, SendsQuietlyOn}
 use Rattle.tiny_http_connection.specs.Pending.{waiting_answer_context, owes_continue, is_last_once_finished_at}
 use Rattle.tiny_http_connection.specs.Pending.{refuses_at, refuses_upgrade_at, is_last_with_stream_at, closing_if_asked}
-use Rattle.tiny_http_connection.specs.Pending.{last_holds_next_head, kept_body, GivesUpBody, with_body, begins_left}
+use Rattle.tiny_http_connection.specs.Pending.{last_holds_next_head, kept_body, GivesUpIfKept, number_with_body, begins_left}
 use Rattle.tiny_http_connection.specs.Pending.{is_readable}
 use Rattle.tiny_http_body.specs.declared.body.UnreadBody.{UnreadBody}
 use Rattle.tiny_http_open_request.specs.declared.open_request.OpenRequest.{OpenRequest}
@@ -197,7 +197,7 @@ abbrev pub GivesUpKept : {R W : Type 0} → ℕ → ConnectionState R W → Conn
 GivesUpKept k old new =
     (u : Unfinished)
     → slice_get old.requests k ≡ Some (Some u)
-    → GivesUpBody (kept_body (Some u)) old.source new.source
+    → GivesUpIfKept (kept_body (Some u)) old.source new.source
 
 -- What ends a number is sent in its turn: then nothing is held back, and all was sent on. Before its turn the output is
 -- left alone.
@@ -228,9 +228,9 @@ RefusesHeads n old new =
 
 -- So many heads are refused, and behind them this request's head stands: this is to come of its body and of what
 -- follows that.
-abbrev pub HandsOut : ℕ → Profile → Option Feed → Message → Framing → Option Remaining → Type 0
-HandsOut n p None message framing left = ⊤
-HandsOut n p (Some f) message framing left =
+abbrev pub HandsOutHead : ℕ → Profile → Option Feed → Message → Framing → Option Remaining → Type 0
+HandsOutHead n p None message framing left = ⊤
+HandsOutHead n p (Some f) message framing left =
     (passed : List Item)
     × (behind : Feed)
     × (length passed ≡ n)
@@ -264,7 +264,7 @@ AskLeaves old new (Handed k message framing) =
     × (new.source.standing ≡ after_head framing w.body)
     × (k ≡ length old.marks + n)
     × (n ≡ 0 → (new.outlet ≡ old.outlet) × (new.source.stop ≡ old.source.stop))
-    × HandsOut n old.profile old.source.feed message framing (remaining w.body new.source.feed)
+    × HandsOutHead n old.profile old.source.feed message framing (remaining w.body new.source.feed)
     × IsFramedAs old.profile message framing
     × KeepsRequestOf w message framing
 AskLeaves old new Memory = (n : ℕ) × RefusesHeads n old new
@@ -337,7 +337,7 @@ ReadsKept k n old new reply =
     × (body : UnreadBody)
     × (slice_get old.requests k ≡ Some (Some u))
     × (kept_body (Some u) ≡ Some was)
-    × (new.requests ≡ slice_set old.requests k (Some (with_body body u)))
+    × (new.requests ≡ slice_set old.requests k (Some (number_with_body body u)))
     × StandsAfter was body old.source new.source
     × TakesNext n (remaining was old.source.feed) reply (remaining body new.source.feed)
     × (0 < n → ReadsOn was (given_count reply) (nat_lt (given_count reply) n) body)
@@ -437,7 +437,7 @@ ReadMeets told old new k reply =
     × (body : UnreadBody)
     × (slice_get old.requests k ≡ Some (Some u))
     × (kept_body (Some u) ≡ Some was)
-    × (new.requests ≡ slice_set old.requests k (Some (with_body body u)))
+    × (new.requests ≡ slice_set old.requests k (Some (number_with_body body u)))
     × (told new.source.reader ≤ told old.source.reader + ends_met was (given_count reply) body))
 
 -- the same of a step; nothing is said of the others

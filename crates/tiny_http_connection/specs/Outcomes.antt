@@ -13,7 +13,7 @@ use Rattle.tiny_http_response.specs.Sending.{is_closed_client}
 use Rattle.tiny_http_connection.specs.Segments.{Answered, ByServer, Raw, Slot, Stage, Unanswered, Upgraded, text_if}
 use Rattle.tiny_http_connection.specs.Segments.{to_request}
 use Rattle.tiny_http_connection.specs.Slots.{turn_has_come, refuses_response, refuses_upgrade, rest_of, upgraded_slot}
-use Rattle.tiny_http_connection.specs.Slots.{closes_now, holds_next_head, is_last_once_finished, with_last}
+use Rattle.tiny_http_connection.specs.Slots.{closes_now, holds_next_head, ends_when_finished, with_last}
 use Rattle.tiny_http_connection.specs.Slots.{closing_slot}
 use Rattle.tiny_http_connection.specs.Slots.{last_holds_reader, last_slot, last_was_abandoned, new_slot}
 use Rattle.tiny_http_connection.specs.Steps.{AsReader, Ask, Done, Drop, Ended, Fault, Finish, Flush, Given, Handed}
@@ -157,8 +157,8 @@ ends_asking ends o = record o { asking_ended = o.asking_ended || ends }
 
 -- No head is read behind a request that gets the connection's stream now, if it holds the next head or would be the
 -- last.
-abbrev pub is_last_with_stream : Request → Bool → ℕ → Bool → Bool
-is_last_with_stream r owed given end_reported = holds_next_head r || is_last_once_finished r owed given end_reported
+abbrev pub ends_with_stream : Request → Bool → ℕ → Bool → Bool
+ends_with_stream r owed given end_reported = holds_next_head r || ends_when_finished r owed given end_reported
 
 -- An answer asks that the connection ends: no further head is read, and the last number that was reached says so in
 -- its answer, if that isn't made yet.
@@ -171,7 +171,7 @@ answers_slot found date old r k response None = unchanged old NoSuch
 answers_slot found date old r k response (Some s) =
     let closes = closes_now r s.closes s.owed s.given s.end_reported in
     let text = text_if found response (to_request closes r date) in
-    ends_asking (is_last_once_finished r s.owed s.given s.end_reported)
+    ends_asking (ends_when_finished r s.owed s.given s.end_reported)
     (changes old k (finished_as closes s (Answered response date found)) Done
     (Reported text.bytes (fault_in text.ending) true fault_reply))
 
@@ -182,7 +182,7 @@ answers found date old r k response = answers_slot found date old r k response (
 -- the request is dropped: the server answers it, in its turn
 abbrev pub drops : Reached → Request → Slot → Bool → ℕ → ReplyValue → Outcome
 drops old r s turn k reply =
-    ends_asking (is_last_once_finished r s.owed s.given s.end_reported)
+    ends_asking (ends_when_finished r s.owed s.given s.end_reported)
     (changes old k (finished_as (closes_now r s.closes s.owed s.given s.end_reported) s ByServer) reply
     (use_in_turn turn))
 
@@ -200,7 +200,7 @@ reads old r s k n =
 -- it gets the connection's stream, by its raw writer or an upgrade
 abbrev pub streams : Reached → Request → Slot → ℕ → Slot → WriterUse → Outcome
 streams old r s k new writer =
-    ends_asking (is_last_with_stream r s.owed s.given s.end_reported) (changes old k new Done writer)
+    ends_asking (ends_with_stream r s.owed s.given s.end_reported) (changes old k new Done writer)
 
 -- a step that the number of a request takes, in its time
 abbrev pub effect : Bool → HttpDate → Reached → Request → Slot → Bool → StepValue → Outcome

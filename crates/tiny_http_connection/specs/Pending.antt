@@ -164,15 +164,15 @@ kept_body (Some still.Raw) = None
 kept_body (Some (still.Upgraded b)) = Some b
 
 -- this body was given up; where none is, the source is left alone
-abbrev pub GivesUpBody : {R : Type 0} → Option UnreadBody → SourceState R → SourceState R → Type 0
-GivesUpBody None old new = new ≡ old
-GivesUpBody (Some b) old new = GivesUp b old new
+abbrev pub GivesUpIfKept : {R : Type 0} → Option UnreadBody → SourceState R → SourceState R → Type 0
+GivesUpIfKept None old new = new ≡ old
+GivesUpIfKept (Some b) old new = GivesUp b old new
 
 -- the same number, with this in place of its body
-abbrev pub with_body : UnreadBody → Unfinished → Unfinished
-with_body b (still.Waiting w) = still.Waiting (record w { body = b })
-with_body b still.Raw = still.Raw
-with_body b (still.Upgraded c) = still.Upgraded b
+abbrev pub number_with_body : UnreadBody → Unfinished → Unfinished
+number_with_body b (still.Waiting w) = still.Waiting (record w { body = b })
+number_with_body b still.Raw = still.Raw
+number_with_body b (still.Upgraded c) = still.Upgraded b
 
 -- the body of the last of these, if one is kept
 abbrev pub last_body : List (Option Unfinished) → Option UnreadBody

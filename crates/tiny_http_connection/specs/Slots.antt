@@ -84,9 +84,9 @@ abbrev pub body_is_open : Slot → Item → Bool
 body_is_open s (Asks r) = is_form_streamed r.framing.form && not (is_body_finished r s || s.given_up)
 body_is_open s (Refuses refusal manner no_body last) = false
 
-abbrev pub is_chunked : Form → Bool
-is_chunked Chunked = true
-is_chunked _ = false
+abbrev pub is_chunked_form : Form → Bool
+is_chunked_form Chunked = true
+is_chunked_form _ = false
 
 abbrev pub is_counted : Form → Bool
 is_counted Counted = true
@@ -104,7 +104,7 @@ holds_next_head r = r.framing.asks_upgrade && not r.framing.is_last
 -- their end, or a read met its cut or its break.
 abbrev pub remainder_of : Request → ℕ → Bool → Remainder
 remainder_of r given end_reported =
-    if (is_chunked r.framing.form && not end_reported)
+    if (is_chunked_form r.framing.form && not end_reported)
     || (body_finished r.framing.form (body_length_or_0 r.framing) given end_reported
     && not (is_end r.body.stop)) then left.Endless else
     if is_counted r.framing.form
@@ -113,8 +113,8 @@ remainder_of r given end_reported =
 
 -- No head is read behind a request that is finished now: by the standard its 100 wasn't sent, so that the client may
 -- leave the body out, or send it; or more is left of its body than is skipped.
-abbrev pub is_last_once_finished : Request → Bool → ℕ → Bool → Bool
-is_last_once_finished r owed given end_reported =
+abbrev pub ends_when_finished : Request → Bool → ℕ → Bool → Bool
+ends_when_finished r owed given end_reported =
     ends_once_finished r.framing.by_standard owed (remainder_of r given end_reported)
 
 -- By the standard the answer of a request that is finished now says that the connection ends: its head ended it, an
@@ -173,7 +173,7 @@ is_holding s (Refuses refusal manner no_body last) = false
 
 -- a chunked body was given up before its end was reported: where the next head begins isn't known
 abbrev pub body_was_abandoned : Slot → Item → Bool
-body_was_abandoned s (Asks r) = is_chunked r.framing.form && (s.given_up && not s.end_reported)
+body_was_abandoned s (Asks r) = is_chunked_form r.framing.form && (s.given_up && not s.end_reported)
 body_was_abandoned s (Refuses refusal manner no_body last) = false
 
 abbrev pub last_slot : List Slot → Option Slot

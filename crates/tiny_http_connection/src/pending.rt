@@ -19,7 +19,7 @@ ghost use Rattle.tiny_http_connection.specs.Pending.{WaitsAt, left_text, SendsLe
 ghost use Rattle.tiny_http_connection.specs.Pending.{waiting_answer_context, is_readable, is_writable, owes_continue};
 ghost use Rattle.tiny_http_connection.specs.Pending.{holds_next_head_at, refuses_at, refuses_upgrade_at};
 ghost use Rattle.tiny_http_connection.specs.Pending.{is_last_with_stream_at, closing_if_asked, last_holds_next_head};
-ghost use Rattle.tiny_http_connection.specs.Pending.{kept_body, GivesUpBody, with_body, begins_left};
+ghost use Rattle.tiny_http_connection.specs.Pending.{kept_body, GivesUpIfKept, number_with_body, begins_left};
 
 use httpdate::HttpDate;
 use std::alloc::{AllocError, Global};
@@ -282,7 +282,7 @@ impl Pending {
         ensures fills { (u : Unfinished) (was : UnreadBody)
             → slice_get self.old.requests number ≡ Some (Some u)
             → kept_body (Some u) ≡ Some was
-            → (body : UnreadBody) × (self.new.requests ≡ slice_set self.old.requests number (Some (with_body body u)))
+            → (body : UnreadBody) × (self.new.requests ≡ slice_set self.old.requests number (Some (number_with_body body u)))
             × FillsFromBody was source.old.feed body source.new.feed result buf.new
             × (is_streaming was ≡ false → source.new ≡ source.old)
             × (is_streaming was ≡ true → source.new.standing ≡ body_standing body source.old.standing)
@@ -420,7 +420,7 @@ fn fill_from<R: ReadDevice>(
 ) -> Result<usize, ErrorKind>
     ensures bound { IfOk result (λ n. n ≤ length buf.new) }
     ensures fills { (was : UnreadBody) → kept_body (Some unfinished.old) ≡ Some was
-        → (body : UnreadBody) × (unfinished.new ≡ with_body body unfinished.old)
+        → (body : UnreadBody) × (unfinished.new ≡ number_with_body body unfinished.old)
         × FillsFromBody was source.old.feed body source.new.feed result buf.new
         × (is_streaming was ≡ false → source.new ≡ source.old)
         × (is_streaming was ≡ true → source.new.standing ≡ body_standing body source.old.standing)
@@ -439,7 +439,7 @@ fn fill_from<R: ReadDevice>(
 
 // Gives up the body of a request that is finished.
 pub(crate) fn close_body<R: ReadDevice>(finished: Unfinished, source: &mut Source<R>)
-    ensures gives_up { GivesUpBody (kept_body (Some finished)) source.old source.new }
+    ensures gives_up { GivesUpIfKept (kept_body (Some finished)) source.old source.new }
 {
     match finished {
         Unfinished::Waiting(mut request) => request.give_up(source),

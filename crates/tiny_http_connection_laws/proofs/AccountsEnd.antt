@@ -11,9 +11,9 @@ use Rattle.tiny_http_body.specs.declared.framing.Profile.{Profile}
 use Rattle.tiny_http_open_request.specs.Pipeline.{Item, Asks, Refuses, Request}
 use Rattle.tiny_http_response.specs.ResponseValue.{ResponseValue}
 use Rattle.tiny_http_connection.specs.Segments.{Slot, Stage, Unanswered, Answered, ByServer, Raw, Upgraded, to_request, text_if}
-use Rattle.tiny_http_connection.specs.Slots.{turn_has_come, new_slot, rest_of, last_slot, with_last, closing_slot, is_unanswered, is_chunked, last_holds_reader, last_was_abandoned, body_was_abandoned, remainder_of, is_last_once_finished, closes_now, holds_next_head, refuses_response, refuses_upgrade, upgraded_slot, as_stream}
+use Rattle.tiny_http_connection.specs.Slots.{turn_has_come, new_slot, rest_of, last_slot, with_last, closing_slot, is_unanswered, is_chunked_form, last_holds_reader, last_was_abandoned, body_was_abandoned, remainder_of, ends_when_finished, closes_now, holds_next_head, refuses_response, refuses_upgrade, upgraded_slot, as_stream}
 use Rattle.tiny_http_connection.specs.Steps.{StepValue, Ask, AsReader, Read, Respond, IntoWriter, Write, Flush, Upgrade, Finish, Drop, ReplyValue, Handed, Ended, Given, NotYet, Done, Refused, NoSuch, Memory, Fault, TimedValue, number_of, is_done}
-use Rattle.tiny_http_connection.specs.Outcomes.{WriterUse, Unused, Unreported, Reported, Outcome, Reached, unchanged, changes, asks_from, ask, read_reply, finished_as, written_to, stage_closed, fault_in, fault_reply, accepts_step, needs_turn, use_in_turn, ends_asking, is_last_with_stream, asked_to_close, answers_slot, answers, effect, at_item, at_slot, at_number, outcome}
+use Rattle.tiny_http_connection.specs.Outcomes.{WriterUse, Unused, Unreported, Reported, Outcome, Reached, unchanged, changes, asks_from, ask, read_reply, finished_as, written_to, stage_closed, fault_in, fault_reply, accepts_step, needs_turn, use_in_turn, ends_asking, ends_with_stream, asked_to_close, answers_slot, answers, effect, at_item, at_slot, at_number, outcome}
 use Rattle.tiny_http_connection.specs.Conversation.{State, HasOutcome, FindsNoMemory, answers_to, StepsTo, Run, start_state, IsConversation}
 use Rattle.tiny_http_connection.proofs.ConnectionClosing.{by-closing}
 use Rattle.tiny_http_connection.proofs.ConversationEnded.{steps-stay}
@@ -142,7 +142,7 @@ owed-unsent k r s a h u owed =
     if-true true x e = refl
     if-true false x e = never e
 
-cut-short : (k : ℕ) (r : Request) (s : Slot) (a : Account) (ab : Bool) → Told k r s a → s.stage ≡ Unanswered → is_last_once_finished r s.owed s.given s.end_reported ≡ true
+cut-short : (k : ℕ) (r : Request) (s : Slot) (a : Account) (ab : Bool) → Told k r s a → s.stage ≡ Unanswered → ends_when_finished r s.owed s.given s.end_reported ≡ true
     → (ab || (r.framing.by_standard && ((r.framing.owes_continue && not (is_some s.continued)) || is_long (remainder_of r s.given s.end_reported)))) ≡ true
 cut-short k r s a ab h u last =
     let unsent = r.framing.owes_continue && not (is_some s.continued) in
@@ -153,10 +153,10 @@ cut-short k r s a ab h u last =
 
 -- the server's answer, or that of a response
 finished-ends : (old : Reached) (step : StepValue) (k : ℕ) (r : Request) (s : Slot) (a : Account) (x : ReplyValue) (w : WriterUse) → slice_get old.slots k ≡ Some s → s.item ≡ Asks r → s.stage ≡ Unanswered → Told k r s a
-    → Ends old step (ends_asking (is_last_once_finished r s.owed s.given s.end_reported) (changes old k (finished_as (closes_now r s.closes s.owed s.given s.end_reported) s ByServer) x w))
+    → Ends old step (ends_asking (ends_when_finished r s.owed s.given s.end_reported) (changes old k (finished_as (closes_now r s.closes s.owed s.given s.end_reported) s ByServer) x w))
 finished-ends old step k r s a x w at is u h =
     let t = finished_as (closes_now r s.closes s.owed s.given s.end_reported) s ByServer in
-    ends-set old step k s t x w (is_last_once_finished r s.owed s.given s.end_reported) at (quiet-keeps s t r is u)
+    ends-set old step k s t x w (ends_when_finished r s.owed s.given s.end_reported) at (quiet-keeps s t r is u)
     (λ last. stops-item t s.item r refl is (cut-short k r s a (body_was_abandoned t (Asks r)) h u last))
 
 answered-ends : (found : Bool) (date : HttpDate) (old : Reached) (r : Request) (s : Slot) (a : Account) (k : ℕ) (response : ResponseValue) → slice_get old.slots k ≡ Some s → s.item ≡ Asks r → s.stage ≡ Unanswered → Told k r s a
@@ -168,7 +168,7 @@ answered-ends found date old r s a k response at is u h =
     let t = finished_as closes s (Answered response date found) in
     let w = Reported text.bytes (fault_in text.ending) true fault_reply in
     subst P (sym at) (
-      ends-set old (Respond k response) k s t Done w (is_last_once_finished r s.owed s.given s.end_reported) at (quiet-keeps s t r is u)
+      ends-set old (Respond k response) k s t Done w (ends_when_finished r s.owed s.given s.end_reported) at (quiet-keeps s t r is u)
           (λ last. stops-item t s.item r refl is (cut-short k r s a (body_was_abandoned t (Asks r)) h u last)),
       refl,
     )
@@ -193,7 +193,7 @@ written-stops s r bytes new (Upgraded protocol response date written closed) = r
 -- a body that was given up counts as one
 abandoned-more : (s t : Slot) (r : Request) → t.given_up ≡ true → t.end_reported ≡ s.end_reported → body_was_abandoned s (Asks r) ≡ true → body_was_abandoned t (Asks r) ≡ true
 abandoned-more s t r given same e =
-    let parts = and_parts (is_chunked r.framing.form) (s.given_up && not s.end_reported) e in
+    let parts = and_parts (is_chunked_form r.framing.form) (s.given_up && not s.end_reported) e in
     let more = and_parts s.given_up (not s.end_reported) parts.1 in
     rw (parts.0, given, same) more.1
 
@@ -222,7 +222,7 @@ read-stops s t r (Upgraded protocol response date written ends) owed k n given t
     or-left r.framing.asks_upgrade (body_was_abandoned t (Asks r))
     (⊎_elim (λ asks. asks)
     (λ lost.
-    let parts = and_parts (is_chunked r.framing.form) (s.given_up && not s.end_reported) lost in
+    let parts = and_parts (is_chunked_form r.framing.form) (s.given_up && not s.end_reported) lost in
     let up = (and_parts s.given_up (not s.end_reported) parts.1).0 in
     let no : not true ≡ true = ap not (sym (sym given ∙ up)) ∙ takes in
     never no)
@@ -262,17 +262,17 @@ effect-ends f found date old r s turn (Read k n) h at is takes =
     (λ e. ends-kept old (Read k n) k s t (read_reply n left r.body.stop) Unused at (λ st. stops-item t s.item r refl is (read-stops s t r s.stage s.owed k n i.given_up takes (item-stops s r is st))))
 effect-ends f found date old r s turn (Respond k response) h at is takes =
     let u = by-respond s.stage s.owed k response takes in
-    ends-if old (Respond k response) (refuses_response r response) (ends_asking (is_last_once_finished r s.owed s.given s.end_reported) (changes old k (finished_as (closes_now r s.closes s.owed s.given s.end_reported) s ByServer) Refused (use_in_turn turn))) (answers found date (asked_to_close response.answer.closes old) r k response)
+    ends-if old (Respond k response) (refuses_response r response) (ends_asking (ends_when_finished r s.owed s.given s.end_reported) (changes old k (finished_as (closes_now r s.closes s.owed s.given s.end_reported) s ByServer) Refused (use_in_turn turn))) (answers found date (asked_to_close response.answer.closes old) r k response)
     (λ e. finished-ends old (Respond k response) k r s (f k) Refused (use_in_turn turn) at is u (told-at old.slots f k s r h at is))
     (λ e. asked-ends f found date old r s k response response.answer.closes refl h at is u)
 effect-ends f found date old r s turn (IntoWriter k) h at is takes =
     let t : Slot = record s { stage = Raw [] false; given_up = true; owed = false } in
     let u = by-writer s.stage s.owed k takes in
-    ends-set old (IntoWriter k) k s t Done Unused (is_last_with_stream r s.owed s.given s.end_reported) at (quiet-keeps s t r is u)
+    ends-set old (IntoWriter k) k s t Done Unused (ends_with_stream r s.owed s.given s.end_reported) at (quiet-keeps s t r is u)
     (λ last. stops-item t s.item r refl is (⊎_elim
     (λ holds. or-left r.framing.asks_upgrade (was_cut_short t r) (stream-asks r holds))
     (λ once. or-right r.framing.asks_upgrade (was_cut_short t r) (cut-short k r s (f k) (body_was_abandoned t (Asks r)) (told-at old.slots f k s r h at is) u once))
-    (or-cases (holds_next_head r) (is_last_once_finished r s.owed s.given s.end_reported) last)))
+    (or-cases (holds_next_head r) (ends_when_finished r s.owed s.given s.end_reported) last)))
 effect-ends f found date old r s turn (Write k bytes) h at is takes =
     let t : Slot = record s { stage = written_to bytes s.stage } in
     ends-kept old (Write k bytes) k s t Done (Reported bytes None false Fault) at (λ st. stops-item t s.item r refl is (written-stops s r bytes (written_to bytes s.stage) s.stage ∙ item-stops s r is st))
@@ -281,14 +281,14 @@ effect-ends f found date old r s turn (Upgrade k protocol response) h at is take
     let u = by-upgrade s.stage s.owed k protocol response takes in
     let stage = Upgraded protocol response date [] false in
     let t = upgraded_slot r s stage in
-    let goes = is_last_with_stream r s.owed s.given s.end_reported in
-    ends-if old (Upgrade k protocol response) (refuses_upgrade r s protocol response) (ends_asking (is_last_once_finished r s.owed s.given s.end_reported) (changes old k (finished_as (closes_now r s.closes s.owed s.given s.end_reported) s ByServer) Refused (use_in_turn turn))) (ends_asking goes (changes old k t Done Unreported))
+    let goes = ends_with_stream r s.owed s.given s.end_reported in
+    ends-if old (Upgrade k protocol response) (refuses_upgrade r s protocol response) (ends_asking (ends_when_finished r s.owed s.given s.end_reported) (changes old k (finished_as (closes_now r s.closes s.owed s.given s.end_reported) s ByServer) Refused (use_in_turn turn))) (ends_asking goes (changes old k t Done Unreported))
     (λ e. finished-ends old (Upgrade k protocol response) k r s (f k) Refused (use_in_turn turn) at is u (told-at old.slots f k s r h at is))
     (λ e. ends-set old (Upgrade k protocol response) k s t Done Unreported goes at (quiet-keeps s t r is u)
     (λ last. upgraded-stops r s stage protocol response date refl is (stream-asks r (⊎_elim
     (λ holds. holds)
     (λ once. upgrade-holds r s protocol response (and_parts r.framing.by_standard _ once).0 e)
-    (or-cases (holds_next_head r) (is_last_once_finished r s.owed s.given s.end_reported) last)))))
+    (or-cases (holds_next_head r) (ends_when_finished r s.owed s.given s.end_reported) last)))))
 effect-ends f found date old r s turn (Finish k) h at is takes =
     let t = finished_as s.closes s (stage_closed s.stage) in
     ends-kept old (Finish k) k s t Done (use_in_turn turn) at (λ st. stops-item t s.item r refl is (closed-stops s t r s.stage refl refl refl refl (item-stops s r is st)))
@@ -318,7 +318,7 @@ number-ends f found date old step h = go (slice_get old.slots (number_of step)) 
 -- a chunked body that was given up stops the requests
 abandoned-stops : (s : Slot) (r : Request) (stage : Stage) → s.given_up ≡ is_given_up stage → body_was_abandoned s (Asks r) ≡ true → stops_by s r stage ≡ true
 abandoned-stops s r Unanswered given lost =
-    let parts = and_parts (is_chunked r.framing.form) (s.given_up && not s.end_reported) lost in
+    let parts = and_parts (is_chunked_form r.framing.form) (s.given_up && not s.end_reported) lost in
     let up = (and_parts s.given_up (not s.end_reported) parts.1).0 in
     never (sym given ∙ up)
 abandoned-stops s r (Answered response date found) given lost = or-left (body_was_abandoned s (Asks r)) _ lost

@@ -12,9 +12,9 @@ use Rattle.tiny_http_open_request.specs.Pipeline.{Item, Asks, Refuses, Request}
 use Rattle.tiny_http_response.specs.Sending.{is_closed_client}
 use Rattle.tiny_http_response.specs.ResponseValue.{ResponseValue}
 use Rattle.tiny_http_connection.specs.Segments.{Slot, Stage, Unanswered, Answered, ByServer, Raw, Upgraded, to_request, text_if}
-use Rattle.tiny_http_connection.specs.Slots.{turn_has_come, new_slot, rest_of, last_slot, with_last, closing_slot, is_unanswered, last_holds_reader, last_was_abandoned, is_last_once_finished, closes_now, refuses_response, refuses_upgrade, upgraded_slot, as_stream}
+use Rattle.tiny_http_connection.specs.Slots.{turn_has_come, new_slot, rest_of, last_slot, with_last, closing_slot, is_unanswered, last_holds_reader, last_was_abandoned, ends_when_finished, closes_now, refuses_response, refuses_upgrade, upgraded_slot, as_stream}
 use Rattle.tiny_http_connection.specs.Steps.{StepValue, Ask, AsReader, Read, Respond, IntoWriter, Write, Flush, Upgrade, Finish, Drop, ReplyValue, Handed, Ended, Given, Fault, NotYet, Done, Refused, NoSuch, Memory, TimedValue, number_of, is_done, is_refused}
-use Rattle.tiny_http_connection.specs.Outcomes.{WriterUse, Unused, Unreported, Reported, Outcome, Reached, unchanged, changes, asks_from, ask, read_reply, finished_as, written_to, stage_closed, fault_in, fault_reply, accepts_step, needs_turn, use_in_turn, ends_asking, is_last_with_stream, asked_to_close, answers_slot, answers, effect, at_item, at_slot, at_number, outcome}
+use Rattle.tiny_http_connection.specs.Outcomes.{WriterUse, Unused, Unreported, Reported, Outcome, Reached, unchanged, changes, asks_from, ask, read_reply, finished_as, written_to, stage_closed, fault_in, fault_reply, accepts_step, needs_turn, use_in_turn, ends_asking, ends_with_stream, asked_to_close, answers_slot, answers, effect, at_item, at_slot, at_number, outcome}
 use Rattle.tiny_http_connection.specs.Conversation.{Failure, State, Fares, Well, FailsWithin, FailsAfter, MayFare, reply_in, failure_in, writes_nothing, HasOutcome, FindsNoMemory, answers_to, StepsTo, Run}
 use Rattle.tiny_http_connection.proofs.ConnectionClosing.{by-closing}
 use Rattle.tiny_http_connection_laws.specs.InShort.{maker}
@@ -423,7 +423,7 @@ answered-tells f found date old r s k response h at is u =
     let t = finished_as closes s (Answered response date found) in
     let w = Reported text.bytes (fault_in text.ending) true fault_reply in
     subst P (sym at)
-    (tells-ended f date (Respond k response) (is_last_once_finished r s.owed s.given s.end_reported) (changes old k t Done w)
+    (tells-ended f date (Respond k response) (ends_when_finished r s.owed s.given s.end_reported) (changes old k t Done w)
     (tells-set f date (Respond k response) old s t Done w at fault-done
     (as-item k t s.item r (record (f k) { condition = Finished; by = Some (date, Respond k response) }) refl is (told-finished k r s t (f k) (Some (date, Respond k response)) u refl refl refl refl refl refl refl (told-at old.slots f k s r h at is))) h))
 
@@ -436,11 +436,11 @@ asked-tells f found date old r s k response true h at is u =
 
 refused-tells : (f : ℕ → Account) (date : HttpDate) (step : StepValue) (old : Reached) (r : Request) (s : Slot) (turn : Bool) (x : ReplyValue) → AllTold old.slots f → slice_get old.slots (number_of step) ≡ Some s → s.item ≡ Asks r → s.stage ≡ Unanswered
     → account_after date step x (f (number_of step)) ≡ record (f (number_of step)) { condition = Finished }
-    → Tells f date step (ends_asking (is_last_once_finished r s.owed s.given s.end_reported) (changes old (number_of step) (finished_as (closes_now r s.closes s.owed s.given s.end_reported) s ByServer) x (use_in_turn turn)))
+    → Tells f date step (ends_asking (ends_when_finished r s.owed s.given s.end_reported) (changes old (number_of step) (finished_as (closes_now r s.closes s.owed s.given s.end_reported) s ByServer) x (use_in_turn turn)))
 refused-tells f date step old r s turn x h at is u after =
     let a = f (number_of step) in
     let t = finished_as (closes_now r s.closes s.owed s.given s.end_reported) s ByServer in
-    tells-ended f date step (is_last_once_finished r s.owed s.given s.end_reported) (changes old (number_of step) t x (use_in_turn turn))
+    tells-ended f date step (ends_when_finished r s.owed s.given s.end_reported) (changes old (number_of step) t x (use_in_turn turn))
     (tells-set f date step old s t x (use_in_turn turn) at (tell-turn turn x)
     (let i = told-at old.slots f (number_of step) s r h at is in
     as-item (number_of step) t s.item r (account_after date step x a) refl is (subst (λ b. Told (number_of step) r t b) (sym after) (told-finished (number_of step) r s t a a.by u (unmade (number_of step) r s a u i) refl refl refl refl refl refl i))) h)
@@ -485,12 +485,12 @@ effect-tells f found date old r s turn (Read k n) h at is takes =
     (λ e. tells-set f date (Read k n) old s t reply Unused at tt (as-item k t s.item r (f k) refl is (told-read k r s given reported (f k) i)) h)
 effect-tells f found date old r s turn (Respond k response) h at is takes =
     let u = by-respond s.stage s.owed k response takes in
-    tells-if f date (Respond k response) (refuses_response r response) (ends_asking (is_last_once_finished r s.owed s.given s.end_reported) (changes old k (finished_as (closes_now r s.closes s.owed s.given s.end_reported) s ByServer) Refused (use_in_turn turn))) (answers found date (asked_to_close response.answer.closes old) r k response)
+    tells-if f date (Respond k response) (refuses_response r response) (ends_asking (ends_when_finished r s.owed s.given s.end_reported) (changes old k (finished_as (closes_now r s.closes s.owed s.given s.end_reported) s ByServer) Refused (use_in_turn turn))) (answers found date (asked_to_close response.answer.closes old) r k response)
     (λ e. refused-tells f date (Respond k response) old r s turn Refused h at is u refl)
     (λ e. asked-tells f found date old r s k response response.answer.closes h at is u)
 effect-tells f found date old r s turn (IntoWriter k) h at is takes =
     let t : Slot = record s { stage = Raw [] false; given_up = true; owed = false } in
-    tells-ended f date (IntoWriter k) (is_last_with_stream r s.owed s.given s.end_reported) (changes old k t Done Unused)
+    tells-ended f date (IntoWriter k) (ends_with_stream r s.owed s.given s.end_reported) (changes old k t Done Unused)
     (tells-set f date (IntoWriter k) old s t Done Unused at tt
     (let i = told-at old.slots f k s r h at is in
     let u = by-writer s.stage s.owed k takes in
@@ -505,8 +505,8 @@ effect-tells f found date old r s turn (Upgrade k protocol response) h at is tak
     let u = by-upgrade s.stage s.owed k protocol response takes in
     let stage = Upgraded protocol response date [] false in
     let t = upgraded_slot r s stage in
-    let goes = is_last_with_stream r s.owed s.given s.end_reported in
-    tells-if f date (Upgrade k protocol response) (refuses_upgrade r s protocol response) (ends_asking (is_last_once_finished r s.owed s.given s.end_reported) (changes old k (finished_as (closes_now r s.closes s.owed s.given s.end_reported) s ByServer) Refused (use_in_turn turn))) (ends_asking goes (changes old k t Done Unreported))
+    let goes = ends_with_stream r s.owed s.given s.end_reported in
+    tells-if f date (Upgrade k protocol response) (refuses_upgrade r s protocol response) (ends_asking (ends_when_finished r s.owed s.given s.end_reported) (changes old k (finished_as (closes_now r s.closes s.owed s.given s.end_reported) s ByServer) Refused (use_in_turn turn))) (ends_asking goes (changes old k t Done Unreported))
     (λ e. refused-tells f date (Upgrade k protocol response) old r s turn Refused h at is u refl)
     (λ e. tells-ended f date (Upgrade k protocol response) goes (changes old k t Done Unreported)
     (tells-set f date (Upgrade k protocol response) old s t Done Unreported at tt (upgraded-told k r s stage (f k) (Some (date, Upgrade k protocol response)) is u refl refl refl refl refl (told-at old.slots f k s r h at is)) h))

@@ -13,7 +13,7 @@ use Rattle.tiny_http_body.specs.declared.body.Remainder.TheVariants as left
 use Rattle.tiny_http_body.specs.Body.{body_finished, is_long, is_skipped}
 use Rattle.tiny_http_open_request.specs.Pipeline.{Item, Asks, Refuses, Request, body_length_or_0}
 use Rattle.tiny_http_connection.specs.Segments.{Slot, Stage, Unanswered, Answered, ByServer, Raw, Upgraded}
-use Rattle.tiny_http_connection.specs.Slots.{is_unanswered, is_end, is_chunked, is_counted, body_is_open, body_was_abandoned, remainder_of, is_last_once_finished, closes_now, with_last, last_slot, closing_slot}
+use Rattle.tiny_http_connection.specs.Slots.{is_unanswered, is_end, is_chunked_form, is_counted, body_is_open, body_was_abandoned, remainder_of, ends_when_finished, closes_now, with_last, last_slot, closing_slot}
 use Rattle.tiny_http_connection.specs.Outcomes.{Outcome, Reached, finished_as}
 use Rattle.tiny_http_connection_laws.specs.Closes.{is_close_printed, says_close_by, NoneFollowsClose}
 use Rattle.tiny_http_connection_laws.proofs.PipelineEnds.{lasts, AllEnd, Owes}
@@ -26,7 +26,7 @@ pub record Settled (r : Request) (s : Slot) : Type 0 where
   pub closes : s.closes ≡ false
   pub owed : s.owed ≡ false
   pub whole : is_end r.body.stop ≡ true
-  pub chunks : is_chunked r.framing.form ≡ true → s.end_reported ≡ true
+  pub chunks : is_chunked_form r.framing.form ≡ true → s.end_reported ≡ true
   pub short : is_counted r.framing.form ≡ true → (s.end_reported ≡ true) ⊎ (body_length_or_0 r.framing ≤ s.given)
 
 pub record IsPassedRequest (r : Request) (s : Slot) : Type 0 where
@@ -88,7 +88,7 @@ not-true false e = cc
 -- what is left, by form, length, what was given, and whether the body ends
 abbrev left_by : Form → ℕ → ℕ → Bool → Bool → Remainder
 left_by f n given reported whole =
-    if (is_chunked f && not reported) || (body_finished f n given reported && not whole) then left.Endless else
+    if (is_chunked_form f && not reported) || (body_finished f n given reported && not whole) then left.Endless else
     if is_counted f && (not reported && nat_lt MOST_SKIPPED (n - given)) then left.Long else left.Skipped
 
 left-cases : (a b c : Bool) → is_skipped (if (a || b) then left.Endless else if c then left.Long else left.Skipped) ≡ false
@@ -101,7 +101,7 @@ left-cases false false false s l = cc
 short-enough : (n given : ℕ) → n ≤ given → nat_lt MOST_SKIPPED (n - given) ≡ false
 short-enough n given e = let zero_left : n - given ≡ 0 = omega (arith, e) in rw zero_left refl
 
-settled-left : (f : Form) (n given : ℕ) (reported : Bool) → (is_chunked f ≡ true → reported ≡ true) → (is_counted f ≡ true → (reported ≡ true) ⊎ (n ≤ given)) → left_by f n given reported true ≡ left.Skipped
+settled-left : (f : Form) (n given : ℕ) (reported : Bool) → (is_chunked_form f ≡ true → reported ≡ true) → (is_counted f ≡ true → (reported ≡ true) ⊎ (n ≤ given)) → left_by f n given reported true ≡ left.Skipped
 settled-left form.Nothing n given reported c s = refl
 settled-left form.WithHead n given reported c s = refl
 settled-left form.Rest n given reported c s = rw (and-false reported) refl
@@ -183,7 +183,7 @@ finished-passed r s stage u done says h = record {
 }
 
 -- a close that is said, where the asking goes on: nothing follows in the pipeline, or the body was given up before its end
-closed-why : (r : Request) (s : Slot) (stage : Stage) (rest : List Item) → s.stage ≡ Unanswered → IsLastRequest r s rest → is_last_once_finished r s.owed s.given s.end_reported ≡ false
+closed-why : (r : Request) (s : Slot) (stage : Stage) (rest : List Item) → s.stage ≡ Unanswered → IsLastRequest r s rest → ends_when_finished r s.owed s.given s.end_reported ≡ false
     → (r.framing.by_standard && closes_now r s.closes s.owed s.given s.end_reported) ≡ true → (lasts (Asks r) ≡ true) ⊎ (body_was_abandoned (finished r s stage) (Asks r) ≡ true)
 closed-why r s stage rest u h goes says = by r.framing.is_last refl
   where
@@ -201,7 +201,7 @@ closed-why r s stage rest u h goes says = by r.framing.is_last refl
     by false e =
         let kept : closes_now r s.closes s.owed s.given s.end_reported ≡ not (is_skipped (remainder_of r s.given s.end_reported)) = rw (e, h.unasked (ap is_unanswered u), quiet.0) refl in
         let left : is_skipped (remainder_of r s.given s.end_reported) ≡ false = so-false (is_skipped (remainder_of r s.given s.end_reported)) (λ k. no-both (not (is_skipped (remainder_of r s.given s.end_reported))) (sym kept ∙ parts.1) (ap not k)) in
-        let a = is_chunked r.framing.form && not s.end_reported in
+        let a = is_chunked_form r.framing.form && not s.end_reported in
         let b = body_finished r.framing.form (body_length_or_0 r.framing) s.given s.end_reported in
         let n = not (is_end r.body.stop) in
         ⊎_elim
@@ -211,7 +211,7 @@ closed-why r s stage rest u h goes says = by r.framing.is_last refl
 
 finished-last : (r : Request) (s : Slot) (stage : Stage) (rest : List Item) → s.stage ≡ Unanswered → is_unanswered stage ≡ false
     → says_close_by (closes_now r s.closes s.owed s.given s.end_reported) (Asks r) stage ≡ (r.framing.by_standard && closes_now r s.closes s.owed s.given s.end_reported)
-    → is_last_once_finished r s.owed s.given s.end_reported ≡ false → IsLastRequest r s rest → IsLastRequest r (finished r s stage) rest
+    → ends_when_finished r s.owed s.given s.end_reported ≡ false → IsLastRequest r s rest → IsLastRequest r (finished r s stage) rest
 finished-last r s stage rest u done says goes h = record {
   ends = h.ends;
   unasked = λ e. no-both (is_unanswered stage) e done;
@@ -243,9 +243,9 @@ change-kept old now r k s t h here is same less p l =
 
 pub finishes : (old : Reached) (r : Request) (k : ℕ) (s : Slot) (stage : Stage) → InvAt old → slice_get old.slots k ≡ Some s → s.item ≡ Asks r → s.stage ≡ Unanswered → is_unanswered stage ≡ false
     → says_close_by (closes_now r s.closes s.owed s.given s.end_reported) (Asks r) stage ≡ (r.framing.by_standard && closes_now r s.closes s.owed s.given s.end_reported)
-    → Inv (old.asking_ended || is_last_once_finished r s.owed s.given s.end_reported) old.rest (slice_set old.slots k (finished r s stage))
+    → Inv (old.asking_ended || ends_when_finished r s.owed s.given s.end_reported) old.rest (slice_set old.slots k (finished r s stage))
 finishes old r k s stage h here is u done says =
-    let ends = is_last_once_finished r s.owed s.given s.end_reported in
+    let ends = ends_when_finished r s.owed s.given s.end_reported in
     change-kept old (old.asking_ended || ends) r k s (finished r s stage) h here is refl (λ e. (or-none old.asking_ended ends e).0)
     (finished-passed r s stage u done says) (λ e. finished-last r s stage old.rest u done says (or-none old.asking_ended ends e).1)
 

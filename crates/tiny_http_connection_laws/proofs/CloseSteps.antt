@@ -16,9 +16,9 @@ use Rattle.tiny_http_body.specs.Body.{body_finished}
 use Rattle.tiny_http_open_request.specs.Pipeline.{Item, Asks, Refuses, Request, body_length_or_0}
 use Rattle.tiny_http_response.specs.ResponseValue.{ResponseValue}
 use Rattle.tiny_http_connection.specs.Segments.{Slot, Stage, Unanswered, Answered, ByServer, Raw, Upgraded, is_last_item}
-use Rattle.tiny_http_connection.specs.Slots.{turn_has_come, is_unanswered, is_end, is_form_streamed, is_chunked, is_counted, body_is_open, body_was_abandoned, is_last_once_finished, closes_now, holds_next_head, asks_protocol, is_body_whole, refuses_response, refuses_upgrade, as_stream, upgraded_slot, rest_of, new_slot, last_slot, is_holding, last_holds_reader, last_was_abandoned}
+use Rattle.tiny_http_connection.specs.Slots.{turn_has_come, is_unanswered, is_end, is_form_streamed, is_chunked_form, is_counted, body_is_open, body_was_abandoned, ends_when_finished, closes_now, holds_next_head, asks_protocol, is_body_whole, refuses_response, refuses_upgrade, as_stream, upgraded_slot, rest_of, new_slot, last_slot, is_holding, last_holds_reader, last_was_abandoned}
 use Rattle.tiny_http_connection.specs.Steps.{StepValue, Ask, AsReader, Read, Respond, IntoWriter, Write, Flush, Upgrade, Finish, Drop, ReplyValue, Given, Done, NoSuch, NotYet, Ended, Refused, TimedValue, number_of}
-use Rattle.tiny_http_connection.specs.Outcomes.{WriterUse, Unused, Unreported, Outcome, Reached, unchanged, changes, ends_asking, is_last_with_stream, finished_as, written_to, stage_closed, accepts_step, needs_turn, use_in_turn, asked_to_close, answers, answers_slot, asks_from, ask, effect, at_item, at_slot, at_number, outcome}
+use Rattle.tiny_http_connection.specs.Outcomes.{WriterUse, Unused, Unreported, Outcome, Reached, unchanged, changes, ends_asking, ends_with_stream, finished_as, written_to, stage_closed, accepts_step, needs_turn, use_in_turn, asked_to_close, answers, answers_slot, asks_from, ask, effect, at_item, at_slot, at_number, outcome}
 use Rattle.tiny_http_connection.specs.Conversation.{State, FindsNoMemory, IsPassedOver, StepsTo, Run, start_state, IsConversation}
 use Rattle.tiny_http_connection.proofs.ConnectionReader.{last-snoc}
 use Rattle.tiny_http_connection_laws.specs.Closes.{says_close_by, NoneFollowsClose}
@@ -143,11 +143,11 @@ effect-inv found date old r s turn (Read k n) h here is takes =
 effect-inv found date old r s turn (Respond k response) h here is takes =
     let u = by-respond s.stage s.owed k response takes in
     let d = finished_as (closes_now r s.closes s.owed s.given s.end_reported) s ByServer in
-    inv-if (refuses_response r response) (ends_asking (is_last_once_finished r s.owed s.given s.end_reported) (changes old k d Refused (use_in_turn turn))) (answers found date (asked_to_close response.answer.closes old) r k response)
+    inv-if (refuses_response r response) (ends_asking (ends_when_finished r s.owed s.given s.end_reported) (changes old k d Refused (use_in_turn turn))) (answers found date (asked_to_close response.answer.closes old) r k response)
     (λ e. finishes old r k s ByServer h here is u refl refl)
     (λ e. asked-inv found date old r s k response response.answer.closes h here is u)
 effect-inv found date old r s turn (IntoWriter k) h here is takes =
-    let ends = is_last_with_stream r s.owed s.given s.end_reported in
+    let ends = ends_with_stream r s.owed s.given s.end_reported in
     streams old (old.asking_ended || ends) r k s (record s { stage = Raw [] false; given_up = true; owed = false }) h here is refl (λ e. (or-none old.asking_ended ends e).0) refl refl (λ o. let no : false ≡ true = o in cc)
 effect-inv found date old r s turn (Write k bytes) h here is takes =
     let quiet = streaming-silent s.stage s.owed s.closes r k bytes takes in
@@ -162,10 +162,10 @@ effect-inv found date old r s turn (Upgrade k protocol response) h here is takes
     let d = finished_as (closes_now r s.closes s.owed s.given s.end_reported) s ByServer in
     let stage = Upgraded protocol response date [] false in
     let t = upgraded_slot r s stage in
-    let ends = is_last_with_stream r s.owed s.given s.end_reported in
-    inv-if (refuses_upgrade r s protocol response) (ends_asking (is_last_once_finished r s.owed s.given s.end_reported) (changes old k d Refused (use_in_turn turn))) (ends_asking ends (changes old k t Done Unreported))
+    let ends = ends_with_stream r s.owed s.given s.end_reported in
+    inv-if (refuses_upgrade r s protocol response) (ends_asking (ends_when_finished r s.owed s.given s.end_reported) (changes old k d Refused (use_in_turn turn))) (ends_asking ends (changes old k t Done Unreported))
     (λ e. finishes old r k s ByServer h here is u refl refl)
-    (λ e. upgraded-inv old r k s stage ends h here is (λ standard. ap (λ b. b || is_last_once_finished r s.owed s.given s.end_reported) (upgrade-holds r s protocol response standard e)) refl (λ i. refl))
+    (λ e. upgraded-inv old r k s stage ends h here is (λ standard. ap (λ b. b || ends_when_finished r s.owed s.given s.end_reported) (upgrade-holds r s protocol response standard e)) refl (λ i. refl))
 effect-inv found date old r s turn (Finish k) h here is takes =
     let quiet = closed-silent s.stage s.owed s.closes r k takes in
     streams old old.asking_ended r k s (finished_as s.closes s (stage_closed s.stage)) h here is refl (λ x. x) quiet.0 quiet.1 (λ o. let no : false ≡ true = o in cc)
@@ -175,7 +175,7 @@ effect-inv found date old r s turn (Drop k) h here is takes = finishes old r k s
 
 -- the last request, once its body doesn't hold the reader
 open-not : (f : Form) (n given : ℕ) (reported given_up : Bool) → (is_form_streamed f && not (body_finished f n given reported || given_up)) ≡ false → given_up ≡ false
-    → (is_chunked f ≡ true → reported ≡ true) × (is_counted f ≡ true → (reported ≡ true) ⊎ (n ≤ given))
+    → (is_chunked_form f ≡ true → reported ≡ true) × (is_counted f ≡ true → (reported ≡ true) ⊎ (n ≤ given))
 open-not form.Nothing n given reported given_up e g = (λ c. cc, λ c. cc)
 open-not form.WithHead n given reported given_up e g = (λ c. cc, λ c. cc)
 open-not form.Rest n given reported given_up e g = (λ c. cc, λ c. cc)

@@ -14,9 +14,9 @@ use Rattle.tiny_http_open_request.specs.Pipeline.{Item, Asks, Refuses, Request}
 use Rattle.tiny_http_response.specs.Sending.{is_closed_client}
 use Rattle.tiny_http_response.specs.ResponseValue.{ResponseValue}
 use Rattle.tiny_http_connection.specs.Segments.{Slot, Stage, Answered, ByServer, Raw, Upgraded, to_request, text_if}
-use Rattle.tiny_http_connection.specs.Slots.{turn_has_come, new_slot, rest_of, last_slot, with_last, last_holds_reader, last_was_abandoned, is_last_once_finished, closes_now, refuses_response, refuses_upgrade, upgraded_slot, closing_slot}
+use Rattle.tiny_http_connection.specs.Slots.{turn_has_come, new_slot, rest_of, last_slot, with_last, last_holds_reader, last_was_abandoned, ends_when_finished, closes_now, refuses_response, refuses_upgrade, upgraded_slot, closing_slot}
 use Rattle.tiny_http_connection.specs.Steps.{StepValue, Ask, AsReader, Read, Respond, IntoWriter, Write, Flush, Upgrade, Finish, Drop, ReplyValue, Handed, Ended, Given, Fault, NotYet, Done, Refused, NoSuch, Memory, TimedValue, number_of}
-use Rattle.tiny_http_connection.specs.Outcomes.{WriterUse, Unused, Unreported, Reported, Outcome, Reached, unchanged, changes, asks_from, ask, read_reply, finished_as, written_to, stage_closed, fault_in, fault_reply, accepts_step, needs_turn, use_in_turn, ends_asking, is_last_with_stream, asked_to_close, answers_slot, answers, effect, at_item, at_slot, at_number, outcome}
+use Rattle.tiny_http_connection.specs.Outcomes.{WriterUse, Unused, Unreported, Reported, Outcome, Reached, unchanged, changes, asks_from, ask, read_reply, finished_as, written_to, stage_closed, fault_in, fault_reply, accepts_step, needs_turn, use_in_turn, ends_asking, ends_with_stream, asked_to_close, answers_slot, answers, effect, at_item, at_slot, at_number, outcome}
 use Rattle.tiny_http_connection.specs.Conversation.{Failure, State, Fares, Well, FailsWithin, FailsAfter, MayFare, reply_in, failure_in, writes_nothing, HasOutcome, FindsNoMemory, IsPassedOver, answers_to, StepsTo, Run, start_state, IsConversation}
 use Rattle.tiny_http_connection_laws.specs.InShort.{handed, requests_from}
 
@@ -104,7 +104,7 @@ answered-moves found date old r k response = go (slice_get old.slots k)
         let text = text_if found response (to_request closes r date) in
         let t = finished_as closes s (Answered response date found) in
         let w = Reported text.bytes (fault_in text.ending) true fault_reply in
-        moves-ended old.slots old.rest (is_last_once_finished r s.owed s.given s.end_reported) (changes old k t Done w) (changed old k t Done w refl (refl, quiet-fault))
+        moves-ended old.slots old.rest (ends_when_finished r s.owed s.given s.end_reported) (changes old k t Done w) (changed old k t Done w refl (refl, quiet-fault))
 
 asked-moves : (found : Bool) (date : HttpDate) (old : Reached) (r : Request) (k : ℕ) (response : ResponseValue) (closes : Bool) → Moves old.slots old.rest (answers found date (asked_to_close closes old) r k response)
 asked-moves found date old r k response false = answered-moves found date old r k response
@@ -128,23 +128,23 @@ effect-moves found date old r s turn (Read k n) =
     moves-if old.slots old.rest (n == 0) (unchanged old (Given [])) (changes old k t reply Unused) (still old (Given []) refl) (changed old k t reply Unused (quiet-read n left r.body.stop) tt)
 effect-moves found date old r s turn (Respond k response) =
     let d = finished_as (closes_now r s.closes s.owed s.given s.end_reported) s ByServer in
-    let ends = is_last_once_finished r s.owed s.given s.end_reported in
+    let ends = ends_when_finished r s.owed s.given s.end_reported in
     let refused = changes old k d Refused (use_in_turn turn) in
     moves-if old.slots old.rest (refuses_response r response) (ends_asking ends refused) (answers found date (asked_to_close response.answer.closes old) r k response)
     (moves-ended old.slots old.rest ends refused (changed old k d Refused (use_in_turn turn) refl (in-turn turn Refused)))
     (asked-moves found date old r k response response.answer.closes)
 effect-moves found date old r s turn (IntoWriter k) =
     let t : Slot = record s { stage = Raw [] false; given_up = true; owed = false } in
-    moves-ended old.slots old.rest (is_last_with_stream r s.owed s.given s.end_reported) (changes old k t Done Unused) (changed old k t Done Unused refl tt)
+    moves-ended old.slots old.rest (ends_with_stream r s.owed s.given s.end_reported) (changes old k t Done Unused) (changed old k t Done Unused refl tt)
 effect-moves found date old r s turn (Write k bytes) =
     changed old k (record s { stage = written_to bytes s.stage }) Done (Reported bytes None false Fault) refl (refl, λ kind. refl)
 effect-moves found date old r s turn (Flush k) = changed old k s Done (Reported [] None true Fault) refl (refl, λ kind. refl)
 effect-moves found date old r s turn (Upgrade k protocol response) =
     let d = finished_as (closes_now r s.closes s.owed s.given s.end_reported) s ByServer in
-    let ends = is_last_once_finished r s.owed s.given s.end_reported in
+    let ends = ends_when_finished r s.owed s.given s.end_reported in
     let refused = changes old k d Refused (use_in_turn turn) in
     let t = upgraded_slot r s (Upgraded protocol response date [] false) in
-    let goes = is_last_with_stream r s.owed s.given s.end_reported in
+    let goes = ends_with_stream r s.owed s.given s.end_reported in
     moves-if old.slots old.rest (refuses_upgrade r s protocol response) (ends_asking ends refused) (ends_asking goes (changes old k t Done Unreported))
     (moves-ended old.slots old.rest ends refused (changed old k d Refused (use_in_turn turn) refl (in-turn turn Refused)))
     (moves-ended old.slots old.rest goes (changes old k t Done Unreported) (changed old k t Done Unreported refl tt))
@@ -152,7 +152,7 @@ effect-moves found date old r s turn (Finish k) =
     changed old k (finished_as s.closes s (stage_closed s.stage)) Done (use_in_turn turn) refl (in-turn turn Done)
 effect-moves found date old r s turn (Drop k) =
     let d = finished_as (closes_now r s.closes s.owed s.given s.end_reported) s ByServer in
-    let ends = is_last_once_finished r s.owed s.given s.end_reported in
+    let ends = ends_when_finished r s.owed s.given s.end_reported in
     moves-ended old.slots old.rest ends (changes old k d Done (use_in_turn turn)) (changed old k d Done (use_in_turn turn) refl (in-turn turn Done))
 
 item-moves : (found : Bool) (date : HttpDate) (old : Reached) (k : ℕ) (step : StepValue) (s : Slot) (item : Item) → Moves old.slots old.rest (at_item found date old k step s item)

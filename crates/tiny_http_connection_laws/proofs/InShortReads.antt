@@ -13,9 +13,9 @@ use Rattle.tiny_http_body.specs.declared.framing.Profile.{Profile}
 use Rattle.tiny_http_open_request.specs.Pipeline.{Item, Asks, Refuses, Request}
 use Rattle.tiny_http_response.specs.ResponseValue.{ResponseValue}
 use Rattle.tiny_http_connection.specs.Segments.{Slot, Stage, Unanswered, Answered, ByServer, Raw, Upgraded, to_request, text_if}
-use Rattle.tiny_http_connection.specs.Slots.{turn_has_come, new_slot, rest_of, last_slot, with_last, closing_slot, last_holds_reader, last_was_abandoned, is_last_once_finished, closes_now, refuses_response, refuses_upgrade, upgraded_slot, as_stream}
+use Rattle.tiny_http_connection.specs.Slots.{turn_has_come, new_slot, rest_of, last_slot, with_last, closing_slot, last_holds_reader, last_was_abandoned, ends_when_finished, closes_now, refuses_response, refuses_upgrade, upgraded_slot, as_stream}
 use Rattle.tiny_http_connection.specs.Steps.{StepValue, Ask, AsReader, Read, Respond, IntoWriter, Write, Flush, Upgrade, Finish, Drop, ReplyValue, Handed, Ended, Given, Fault, NotYet, Done, Refused, NoSuch, Memory, TimedValue, number_of}
-use Rattle.tiny_http_connection.specs.Outcomes.{WriterUse, Unused, Unreported, Reported, Outcome, Reached, unchanged, changes, asks_from, ask, read_reply, finished_as, written_to, stage_closed, fault_in, fault_reply, accepts_step, needs_turn, use_in_turn, ends_asking, is_last_with_stream, asked_to_close, answers_slot, answers, effect, at_item, at_slot, at_number, outcome}
+use Rattle.tiny_http_connection.specs.Outcomes.{WriterUse, Unused, Unreported, Reported, Outcome, Reached, unchanged, changes, asks_from, ask, read_reply, finished_as, written_to, stage_closed, fault_in, fault_reply, accepts_step, needs_turn, use_in_turn, ends_asking, ends_with_stream, asked_to_close, answers_slot, answers, effect, at_item, at_slot, at_number, outcome}
 use Rattle.tiny_http_connection.specs.Conversation.{Failure, State, Fares, MayFare, reply_in, failure_in, writes_nothing, HasOutcome, FindsNoMemory, answers_to, StepsTo, Run, start_state, IsConversation}
 use Rattle.tiny_http_connection.proofs.ConnectionClosing.{by-closing}
 use Rattle.tiny_http_connection.specs.Giving.{ReadsNext}
@@ -250,7 +250,7 @@ answered-reads k r feed found date old q j response h = go (slice_get old.slots 
         let text = text_if found response (to_request closes q date) in
         let t = finished_as closes s (Answered response date found) in
         let w = Reported text.bytes (fault_in text.ending) true fault_reply in
-        reads-ended k r feed (Respond j response) (is_last_once_finished q s.owed s.given s.end_reported) (changes old j t Done w)
+        reads-ended k r feed (Respond j response) (ends_when_finished q s.owed s.given s.end_reported) (changes old j t Done w)
         (changed k r feed (Respond j response) old j s t Done w (λ x. refl) e (finished-same closes s (Answered response date found) (λ v. cc)) h)
 
 -- ---- a read
@@ -461,7 +461,7 @@ effect-reads k r feed found date old q s turn (Respond j response) here is takes
     let step = Respond j response in
     let closes = closes_now q s.closes s.owed s.given s.end_reported in
     let d = finished_as closes s ByServer in
-    let ends = is_last_once_finished q s.owed s.given s.end_reported in
+    let ends = ends_when_finished q s.owed s.given s.end_reported in
     let refused = changes old j d Refused (use_in_turn turn) in
     reads-if k r feed step (refuses_response q response) (ends_asking ends refused) (answers found date (asked_to_close response.answer.closes old) q j response)
     (λ e. reads-ended k r feed step ends refused (changed k r feed step old j s d Refused (use_in_turn turn) (λ x. refl) here (dropped-same closes s) h))
@@ -469,7 +469,7 @@ effect-reads k r feed found date old q s turn (Respond j response) here is takes
 effect-reads k r feed found date old q s turn (IntoWriter j) here is takes h =
     let step = IntoWriter j in
     let t : Slot = record s { stage = Raw [] false; given_up = true; owed = false } in
-    reads-ended k r feed step (is_last_with_stream q s.owed s.given s.end_reported) (changes old j t Done Unused)
+    reads-ended k r feed step (ends_with_stream q s.owed s.given s.end_reported) (changes old j t Done Unused)
     (changed k r feed step old j s t Done Unused (λ x. refl) here (record { item = refl; given = refl; stage = λ v. cc }) h)
 effect-reads k r feed found date old q s turn (Write j bytes) here is takes h =
     let t : Slot = record s { stage = written_to bytes s.stage } in
@@ -480,10 +480,10 @@ effect-reads k r feed found date old q s turn (Upgrade j protocol response) here
     let step = Upgrade j protocol response in
     let closes = closes_now q s.closes s.owed s.given s.end_reported in
     let d = finished_as closes s ByServer in
-    let ends = is_last_once_finished q s.owed s.given s.end_reported in
+    let ends = ends_when_finished q s.owed s.given s.end_reported in
     let refused = changes old j d Refused (use_in_turn turn) in
     let stage = Upgraded protocol response date [] false in
-    let goes = is_last_with_stream q s.owed s.given s.end_reported in
+    let goes = ends_with_stream q s.owed s.given s.end_reported in
     let u = by-upgrade s.stage s.owed j protocol response takes in
     reads-if k r feed step (refuses_upgrade q s protocol response) (ends_asking ends refused) (ends_asking goes (changes old j (upgraded_slot q s stage) Done Unreported))
     (λ e. reads-ended k r feed step ends refused (refused-reads k r feed old j s d protocol response turn here (dropped-same closes s) h))
@@ -495,7 +495,7 @@ effect-reads k r feed found date old q s turn (Drop j) here is takes h =
     let step = Drop j in
     let closes = closes_now q s.closes s.owed s.given s.end_reported in
     let d = finished_as closes s ByServer in
-    reads-ended k r feed step (is_last_once_finished q s.owed s.given s.end_reported) (changes old j d Done (use_in_turn turn))
+    reads-ended k r feed step (ends_when_finished q s.owed s.given s.end_reported) (changes old j d Done (use_in_turn turn))
     (changed k r feed step old j s d Done (use_in_turn turn) (λ x. refl) here (dropped-same closes s) h)
 
 pub not-true : {b : Bool} → not b ≡ false → b ≡ true

@@ -8,9 +8,9 @@ use Rattle.tiny_http_body.specs.declared.framing.Profile.{Profile}
 use Rattle.tiny_http_open_request.specs.Pipeline.{Item, Asks, Refuses, Request}
 use Rattle.tiny_http_response.specs.ResponseValue.{ResponseValue}
 use Rattle.tiny_http_connection.specs.Segments.{Slot, Stage, Unanswered, Answered, ByServer, Raw, Upgraded, to_request, text_if}
-use Rattle.tiny_http_connection.specs.Slots.{turn_has_come, new_slot, rest_of, last_slot, with_last, closing_slot, last_holds_reader, last_was_abandoned, is_last_once_finished, closes_now, refuses_response, refuses_upgrade, upgraded_slot, as_stream}
+use Rattle.tiny_http_connection.specs.Slots.{turn_has_come, new_slot, rest_of, last_slot, with_last, closing_slot, last_holds_reader, last_was_abandoned, ends_when_finished, closes_now, refuses_response, refuses_upgrade, upgraded_slot, as_stream}
 use Rattle.tiny_http_connection.specs.Steps.{StepValue, Ask, AsReader, Read, Respond, IntoWriter, Write, Flush, Upgrade, Finish, Drop, ReplyValue, Ended, Given, Fault, NotYet, Done, Refused, NoSuch, Memory, TimedValue, number_of}
-use Rattle.tiny_http_connection.specs.Outcomes.{WriterUse, Unused, Unreported, Reported, Outcome, Reached, unchanged, changes, asks_from, ask, read_reply, finished_as, written_to, stage_closed, fault_in, fault_reply, accepts_step, needs_turn, use_in_turn, ends_asking, is_last_with_stream, asked_to_close, answers_slot, answers, effect, at_item, at_slot, at_number, outcome}
+use Rattle.tiny_http_connection.specs.Outcomes.{WriterUse, Unused, Unreported, Reported, Outcome, Reached, unchanged, changes, asks_from, ask, read_reply, finished_as, written_to, stage_closed, fault_in, fault_reply, accepts_step, needs_turn, use_in_turn, ends_asking, ends_with_stream, asked_to_close, answers_slot, answers, effect, at_item, at_slot, at_number, outcome}
 use Rattle.tiny_http_connection.specs.Conversation.{State, HasOutcome, FindsNoMemory, answers_to, StepsTo, Run, start_state, IsConversation}
 use Rattle.tiny_http_connection.proofs.ConnectionClosing.{by-closing}
 use Rattle.tiny_http_connection_laws.specs.InShort.{AreOfOneHead, maker, IsAmong}
@@ -144,7 +144,7 @@ answered-fits found date old r j response = go (slice_get old.slots j) refl
         let text = text_if found response (to_request closes r date) in
         let t = finished_as closes s (Answered response date found) in
         let w = Reported text.bytes (fault_in text.ending) true fault_reply in
-        fits-ended made old.slots old.rest (is_last_once_finished r s.owed s.given s.end_reported) (changes old j t Done w)
+        fits-ended made old.slots old.rest (ends_when_finished r s.owed s.given s.end_reported) (changes old j t Done w)
         (changed made old j s t Done w e (kept j made s t refl (λ x m. inl (same-some made x m))))
 
 -- what a step finds of numbers that were told, it finds of them as they were
@@ -214,7 +214,7 @@ effect-fits found date old r s turn (Read j n) here is =
 effect-fits found date old r s turn (Respond j response) here is =
     let made : TimedValue = (date, Respond j response) in
     let d = finished_as (closes_now r s.closes s.owed s.given s.end_reported) s ByServer in
-    let ends = is_last_once_finished r s.owed s.given s.end_reported in
+    let ends = ends_when_finished r s.owed s.given s.end_reported in
     let refused = changes old j d Refused (use_in_turn turn) in
     fits-if made old.slots old.rest (refuses_response r response) (ends_asking ends refused) (answers found date (asked_to_close response.answer.closes old) r j response)
     (fits-ended made old.slots old.rest ends refused (changed made old j s d Refused (use_in_turn turn) here (kept j made s d refl (λ x m. cc))))
@@ -222,7 +222,7 @@ effect-fits found date old r s turn (Respond j response) here is =
 effect-fits found date old r s turn (IntoWriter j) here is =
     let made : TimedValue = (date, IntoWriter j) in
     let t : Slot = record s { stage = Raw [] false; given_up = true; owed = false } in
-    fits-ended made old.slots old.rest (is_last_with_stream r s.owed s.given s.end_reported) (changes old j t Done Unused)
+    fits-ended made old.slots old.rest (ends_with_stream r s.owed s.given s.end_reported) (changes old j t Done Unused)
     (changed made old j s t Done Unused here (kept j made s t refl (λ x m. cc)))
 effect-fits found date old r s turn (Write j bytes) here is =
     let made : TimedValue = (date, Write j bytes) in
@@ -234,10 +234,10 @@ effect-fits found date old r s turn (Flush j) here is =
 effect-fits found date old r s turn (Upgrade j protocol response) here is =
     let made : TimedValue = (date, Upgrade j protocol response) in
     let d = finished_as (closes_now r s.closes s.owed s.given s.end_reported) s ByServer in
-    let ends = is_last_once_finished r s.owed s.given s.end_reported in
+    let ends = ends_when_finished r s.owed s.given s.end_reported in
     let refused = changes old j d Refused (use_in_turn turn) in
     let stage = Upgraded protocol response date [] false in
-    let goes = is_last_with_stream r s.owed s.given s.end_reported in
+    let goes = ends_with_stream r s.owed s.given s.end_reported in
     let t = upgraded_slot r s stage in
     fits-if made old.slots old.rest (refuses_upgrade r s protocol response) (ends_asking ends refused) (ends_asking goes (changes old j t Done Unreported))
     (fits-ended made old.slots old.rest ends refused (changed made old j s d Refused (use_in_turn turn) here (kept j made s d refl (λ x m. cc))))
@@ -249,7 +249,7 @@ effect-fits found date old r s turn (Finish j) here is =
 effect-fits found date old r s turn (Drop j) here is =
     let made : TimedValue = (date, Drop j) in
     let d = finished_as (closes_now r s.closes s.owed s.given s.end_reported) s ByServer in
-    let ends = is_last_once_finished r s.owed s.given s.end_reported in
+    let ends = ends_when_finished r s.owed s.given s.end_reported in
     fits-ended made old.slots old.rest ends (changes old j d Done (use_in_turn turn)) (changed made old j s d Done (use_in_turn turn) here (kept j made s d refl (λ x m. cc)))
 
 number-fits : (found : Bool) (date : HttpDate) (old : Reached) (step : StepValue) → Fits (date, step) old.slots old.rest (at_number found date old (number_of step) step)

@@ -7,9 +7,9 @@ use Rattle.tiny_http_io.specs.Device.{Feed, Sink}
 use Rattle.tiny_http_open_request.specs.Pipeline.{Item, Asks, Refuses, Request}
 use Rattle.tiny_http_body.specs.declared.framing.Profile.{Profile}
 use Rattle.tiny_http_connection.specs.Segments.{Slot, Stage, Unanswered, Answered, ByServer, Raw, Upgraded}
-use Rattle.tiny_http_connection.specs.Slots.{turn_has_come, is_last_once_finished, closes_now, refuses_response, new_slot, rest_of, last_slot, last_holds_reader, last_was_abandoned, upgraded_slot, refuses_upgrade, with_last, closing_slot}
+use Rattle.tiny_http_connection.specs.Slots.{turn_has_come, ends_when_finished, closes_now, refuses_response, new_slot, rest_of, last_slot, last_holds_reader, last_was_abandoned, upgraded_slot, refuses_upgrade, with_last, closing_slot}
 use Rattle.tiny_http_connection.specs.Steps.{StepValue, Ask, AsReader, Read, Respond, IntoWriter, Write, Flush, Upgrade, Finish, Drop, ReplyValue, Ended, Given, Done, Refused, NoSuch, NotYet, TimedValue, number_of}
-use Rattle.tiny_http_connection.specs.Outcomes.{WriterUse, Unused, Unreported, Outcome, Reached, unchanged, changes, ends_asking, is_last_with_stream, read_reply, finished_as, written_to, stage_closed, accepts_step, needs_turn, use_in_turn, effect, at_item, at_slot, at_number, asks_from, ask, outcome, answers, answers_slot, asked_to_close}
+use Rattle.tiny_http_connection.specs.Outcomes.{WriterUse, Unused, Unreported, Outcome, Reached, unchanged, changes, ends_asking, ends_with_stream, read_reply, finished_as, written_to, stage_closed, accepts_step, needs_turn, use_in_turn, effect, at_item, at_slot, at_number, asks_from, ask, outcome, answers, answers_slot, asked_to_close}
 use Rattle.tiny_http_connection.specs.Conversation.{Failure, State, HasOutcome, FindsNoMemory, StepsTo, Run, start_state, IsOutput, IsConversation}
 use Rattle.tiny_http_connection_laws.specs.ClientReads.{CanBeRead, goes_by_standard, IsReadableStage, CanBeReadAt, IsReadableStep, AreReadable}
 use Rattle.tiny_http_connection_laws.proofs.StepsAdd.{all-append}
@@ -83,7 +83,7 @@ effect-readable p found date old r s turn (Read k n) c h here =
     readable-if p (n == 0) (unchanged old (Given [])) (changes old k t (read_reply n left r.body.stop) Unused) (λ e. h) (λ e. all-set p old.slots k t h here)
 effect-readable p found date old r s turn (Respond k response) c h here =
     let d = finished_as (closes_now r s.closes s.owed s.given s.end_reported) s ByServer in
-    readable-if p (refuses_response r response) (ends_asking (is_last_once_finished r s.owed s.given s.end_reported) (changes old k d Refused (use_in_turn turn))) (answers found date (asked_to_close response.answer.closes old) r k response)
+    readable-if p (refuses_response r response) (ends_asking (ends_when_finished r s.owed s.given s.end_reported) (changes old k d Refused (use_in_turn turn))) (answers found date (asked_to_close response.answer.closes old) r k response)
     (λ e. all-set p old.slots k d h tt)
     (λ e. answered-readable p found date (asked_to_close response.answer.closes old) r k response (slice_get (asked_to_close response.answer.closes old).slots k) c (asked-readable p response.answer.closes old h))
 effect-readable p found date old r s turn (IntoWriter k) c h here = elim c [ ]
@@ -93,7 +93,7 @@ effect-readable p found date old r s turn (Upgrade k protocol response) c h here
     let t : Slot = upgraded_slot r s (Upgraded protocol response date [] false) in
     let d = finished_as (closes_now r s.closes s.owed s.given s.end_reported) s ByServer in
     let refused : refuses_upgrade r s protocol response ≡ true = rw c refl in
-    readable-if p (refuses_upgrade r s protocol response) (ends_asking (is_last_once_finished r s.owed s.given s.end_reported) (changes old k d Refused (use_in_turn turn))) (ends_asking (is_last_with_stream r s.owed s.given s.end_reported) (changes old k t Done Unreported)) (λ e. all-set p old.slots k d h tt) (λ e. never (sym e ∙ refused))
+    readable-if p (refuses_upgrade r s protocol response) (ends_asking (ends_when_finished r s.owed s.given s.end_reported) (changes old k d Refused (use_in_turn turn))) (ends_asking (ends_with_stream r s.owed s.given s.end_reported) (changes old k t Done Unreported)) (λ e. all-set p old.slots k d h tt) (λ e. never (sym e ∙ refused))
 effect-readable p found date old r s turn (Finish k) c h here = all-set p old.slots k (finished_as s.closes s (stage_closed s.stage)) h (closed-readable p s.stage here)
 effect-readable p found date old r s turn (Drop k) c h here = all-set p old.slots k (finished_as (closes_now r s.closes s.owed s.given s.end_reported) s ByServer) h tt
 

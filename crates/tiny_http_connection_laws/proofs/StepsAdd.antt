@@ -10,9 +10,9 @@ use Rattle.tiny_http_io.specs.Device.{IsFront}
 use Rattle.tiny_http_open_request.specs.Pipeline.{Item, Asks, Refuses, Request}
 use Rattle.tiny_http_response.specs.ResponseValue.{ResponseValue, upgrade_text}
 use Rattle.tiny_http_connection.specs.Segments.{is_last_item, Slot, Stage, Unanswered, Answered, ByServer, Raw, Upgraded, printing_for, to_request, text_if, stage_text, opening, segment, is_stage_finished, is_finished}
-use Rattle.tiny_http_connection.specs.Slots.{is_output_broken, joined, turn_has_come, is_last_once_finished, closes_now, refuses_response, rest_of, as_stream, upgraded_slot, refuses_upgrade, with_last, closing_slot}
+use Rattle.tiny_http_connection.specs.Slots.{is_output_broken, joined, turn_has_come, ends_when_finished, closes_now, refuses_response, rest_of, as_stream, upgraded_slot, refuses_upgrade, with_last, closing_slot}
 use Rattle.tiny_http_connection.specs.Steps.{number_of, StepValue, Ask, AsReader, Read, Respond, IntoWriter, Write, Flush, Upgrade, Finish, Drop, ReplyValue, Given, Done, Refused, NoSuch, Fault}
-use Rattle.tiny_http_connection.specs.Outcomes.{WriterUse, Unused, Unreported, Reported, Outcome, Reached, unchanged, changes, ends_asking, is_last_with_stream, read_reply, finished_as, written_to, stage_closed, fault_in, fault_reply, accepts_step, needs_turn, use_in_turn, effect, answers, answers_slot, asked_to_close}
+use Rattle.tiny_http_connection.specs.Outcomes.{WriterUse, Unused, Unreported, Reported, Outcome, Reached, unchanged, changes, ends_asking, ends_with_stream, read_reply, finished_as, written_to, stage_closed, fault_in, fault_reply, accepts_step, needs_turn, use_in_turn, effect, answers, answers_slot, asked_to_close}
 use Rattle.tiny_http_connection_laws.proofs.JoinedGrows.{SendsMore, set-grows, set-own, AddsOwn, Adds, in-turn-ownless, taken-unfinished}
 use Rattle.tiny_http_connection.proofs.ConnectionClosing.{by-closing, closing-item, closing-stage, joined-closing, broken-closing}
 
@@ -208,7 +208,7 @@ answered-keeps bs found date old r s k response h here is u turn =
     let own-is : (stage_text closes s.item s.date (Answered response date found)).bytes ≡ text.bytes = ap (λ (x : Item). (text_if found response (printing_for closes x date)).bytes) is in
     let more = unanswered-sends s t text.bytes u (ap (λ x. opening s.item s.continued ++ x) own-is) in
     let P : Option Slot → Type 0 = λ o. Keeps bs old (answers_slot found date old r k response o) in
-    subst P (sym here) (keeps-ended bs old (is_last_once_finished r s.owed s.given s.end_reported) (changes old k t Done writer) (quiet bs old h k s here t text.bytes Done writer more (settled bs s t i refl refl) (λ none. own-text bs old h k s here t text.bytes more turn none)))
+    subst P (sym here) (keeps-ended bs old (ends_when_finished r s.owed s.given s.end_reported) (changes old k t Done writer) (quiet bs old h k s here t text.bytes Done writer more (settled bs s t i refl refl) (λ none. own-text bs old h k s here t text.bytes more turn none)))
 
 -- the last number is told that the connection ends
 sound-closing : (bs : Bool) (slots : List Slot) → AllSound bs slots → AllSound bs (with_last closing_slot slots)
@@ -295,13 +295,13 @@ effect-keeps bs found date old r s turn (Respond k response) h here is takes com
     let closes = closes_now r s.closes s.owed s.given s.end_reported in
     let d = finished_as closes s ByServer in
     let dropped = (stage_text closes s.item s.date ByServer).bytes in
-    keeps-if bs old (refuses_response r response) (ends_asking (is_last_once_finished r s.owed s.given s.end_reported) (changes old k d Refused (use_in_turn turn))) (answers found date (asked_to_close response.answer.closes old) r k response)
-    (λ o. keeps-ended bs old (is_last_once_finished r s.owed s.given s.end_reported) (changes old k d Refused (use_in_turn turn)) (quiet bs old h k s here d dropped Refused (use_in_turn turn) (unanswered-sends s d dropped u refl) (settled bs s d i refl refl) (in-turn-ownless turn old.slots (slice_set old.slots k d))))
+    keeps-if bs old (refuses_response r response) (ends_asking (ends_when_finished r s.owed s.given s.end_reported) (changes old k d Refused (use_in_turn turn))) (answers found date (asked_to_close response.answer.closes old) r k response)
+    (λ o. keeps-ended bs old (ends_when_finished r s.owed s.given s.end_reported) (changes old k d Refused (use_in_turn turn)) (quiet bs old h k s here d dropped Refused (use_in_turn turn) (unanswered-sends s d dropped u refl) (settled bs s d i refl refl) (in-turn-ownless turn old.slots (slice_set old.slots k d))))
     (λ o. asked-keeps bs found date old r s k response response.answer.closes h here is u (comes (ap not o)))
 effect-keeps bs found date old r s turn (IntoWriter k) h here is takes comes =
     let i = all-get bs old.slots k s h.slots here in
     let t : Slot = record s { stage = Raw [] false; given_up = true; owed = false } in
-    keeps-ended bs old (is_last_with_stream r s.owed s.given s.end_reported) (changes old k t Done Unused) (quiet bs old h k s here t [] Done Unused (unanswered-sends s t [] (by-writer s.stage s.owed k takes) refl) (settled bs s t i refl refl) tt)
+    keeps-ended bs old (ends_with_stream r s.owed s.given s.end_reported) (changes old k t Done Unused) (quiet bs old h k s here t [] Done Unused (unanswered-sends s t [] (by-writer s.stage s.owed k takes) refl) (settled bs s t i refl refl) tt)
 effect-keeps bs found date old r s turn (Write k bytes) h here is takes comes =
     let i = all-get bs old.slots k s h.slots here in
     let t : Slot = record s { stage = written_to bytes s.stage } in
@@ -323,9 +323,9 @@ effect-keeps bs found date old r s turn (Upgrade k protocol response) h here is 
     let d = finished_as closes s ByServer in
     let text = (stage_text closes s.item s.date ByServer).bytes in
     let more = upgrade-sends bs r.framing.by_standard r s protocol response date refl i is u in
-    keeps-if bs old (refuses_upgrade r s protocol response) (ends_asking (is_last_once_finished r s.owed s.given s.end_reported) (changes old k d Refused (use_in_turn turn))) (ends_asking (is_last_with_stream r s.owed s.given s.end_reported) (changes old k t Done Unreported))
-    (λ o. keeps-ended bs old (is_last_once_finished r s.owed s.given s.end_reported) (changes old k d Refused (use_in_turn turn)) (quiet bs old h k s here d text Refused (use_in_turn turn) (unanswered-sends s d text u refl) (settled bs s d i refl refl) (in-turn-ownless turn old.slots (slice_set old.slots k d))))
-    (λ o. keeps-ended bs old (is_last_with_stream r s.owed s.given s.end_reported) (changes old k t Done Unreported) (quiet bs old h k s here t own Done Unreported more.0 more.1 tt))
+    keeps-if bs old (refuses_upgrade r s protocol response) (ends_asking (ends_when_finished r s.owed s.given s.end_reported) (changes old k d Refused (use_in_turn turn))) (ends_asking (ends_with_stream r s.owed s.given s.end_reported) (changes old k t Done Unreported))
+    (λ o. keeps-ended bs old (ends_when_finished r s.owed s.given s.end_reported) (changes old k d Refused (use_in_turn turn)) (quiet bs old h k s here d text Refused (use_in_turn turn) (unanswered-sends s d text u refl) (settled bs s d i refl refl) (in-turn-ownless turn old.slots (slice_set old.slots k d))))
+    (λ o. keeps-ended bs old (ends_with_stream r s.owed s.given s.end_reported) (changes old k t Done Unreported) (quiet bs old h k s here t own Done Unreported more.0 more.1 tt))
 effect-keeps bs found date old r s turn (Finish k) h here is takes comes =
     let i = all-get bs old.slots k s h.slots here in
     let t = finished_as s.closes s (stage_closed s.stage) in
@@ -336,5 +336,5 @@ effect-keeps bs found date old r s turn (Drop k) h here is takes comes =
     let closes = closes_now r s.closes s.owed s.given s.end_reported in
     let d = finished_as closes s ByServer in
     let text = (stage_text closes s.item s.date ByServer).bytes in
-    keeps-ended bs old (is_last_once_finished r s.owed s.given s.end_reported) (changes old k d Done (use_in_turn turn))
+    keeps-ended bs old (ends_when_finished r s.owed s.given s.end_reported) (changes old k d Done (use_in_turn turn))
     (quiet bs old h k s here d text Done (use_in_turn turn) (unanswered-sends s d text (by-drop s.stage s.owed k takes) refl) (settled bs s d i refl refl) (in-turn-ownless turn old.slots (slice_set old.slots k d)))

@@ -117,8 +117,8 @@ abbrev pub OwesNoContinue : {B : Type 0} → OpenRequest B → OpenRequest B →
 OwesNoContinue old new = new ≡ record old { owes_continue = false }
 
 -- nothing has changed but that no 100 is owed any more, and that its body is what an upgraded connection reads
-abbrev pub IsUpgraded : OpenRequest UnreadBody → OpenRequest UnreadBody → Type 0
-IsUpgraded old new = new ≡ record old { owes_continue = false; body = stream_body old.by_standard old.body }
+abbrev pub HasBecomeStream : OpenRequest UnreadBody → OpenRequest UnreadBody → Type 0
+HasBecomeStream old new = new ≡ record old { owes_continue = false; body = stream_body old.by_standard old.body }
 
 -- nothing has changed but that the text of its drop was taken, and that no 100 is owed any more
 abbrev pub HasNoDropText : {B : Type 0} → OpenRequest B → OpenRequest B → Type 0

@@ -108,7 +108,7 @@ impl Exchange {
     ghost use Rattle.tiny_http_open_request.specs.Exchange.{exchange_of, exchange_head, exchange_drop_text};
     ghost use Rattle.tiny_http_open_request.specs.Exchange.{exchange_owes_continue, exchange_body, Changes};
     ghost use Rattle.tiny_http_open_request.specs.Exchange.{GivesUpBody, KeepsButBody};
-    ghost use Rattle.tiny_http_open_request.specs.OpenRequest.{OwesNoContinue, IsUpgraded, HasNoDropText};
+    ghost use Rattle.tiny_http_open_request.specs.OpenRequest.{OwesNoContinue, HasBecomeStream, HasNoDropText};
     ghost use Rattle.tiny_http_open_request.specs.OpenRequest.{HasNoBodyLeft};
 
     /// What the request's head says.
@@ -190,7 +190,7 @@ impl Exchange {
         ensures sends { OnOk result ((content : Feed) → SendsQuietlyOn outlet.old outlet.new
             (upgrade_text (record { answer = response.answer; content = content }) protocol.now
             (exchange_printing self.old now))) }
-        ensures once { OnOk result (Changes IsUpgraded self.old self.new) }
+        ensures once { OnOk result (Changes HasBecomeStream self.old self.new) }
         ensures sent { OnOk result (FailsOnce outlet.old outlet.new
             × (outlet_held outlet.new ≡ [])
             × SentOn outlet.new) }
