@@ -383,12 +383,12 @@ impl<T: Drop, R: Wait + Drop> Place<T, R> {
         drop(queue);
     }
 
-    /// Whether the line is closed where its item breaks.
+    /// Whether the line is closed once its item breaks.
     pub fn closes_when_broken(&self) -> bool {
         self.line.closes_when_broken.load(Ordering::SeqCst)
     }
 
-    /// Closes the line, whose item is broken, if it is closed then.
+    /// Closes the line, whose item is broken, if `closes_when_broken` says so.
     pub fn break_line(&self) {
         if self.closes_when_broken() {
             self.line.is_broken.store(true, Ordering::SeqCst);

@@ -1,4 +1,7 @@
 //! A reader or a writer that its holders use one after another, in the order in which they were made.
+//!
+//! The methods that the documentation hides are for a request, which sees to its own turn and to the end of its
+//! connection. `tiny_http` names this module again, and its programs need none of them.
 ghost use Rattle.std.specs.Prelude.{◌≡◌, ⊤, [], length, Ok, None, IfOk, OnOk, false};
 ghost use Rattle.tiny_http_io.specs.Device.{Reads, Puts, PutsFront, HoldsNothing, next_count};
 ghost use Rattle.tiny_http_threads.specs.HeldReader.{held_item};
@@ -33,7 +36,8 @@ impl<I: Read + Drop, R: Wait + Copy> SequentialReaderBuilder<I, R> {
         Ok(SequentialReaderBuilder { rt, alloc, line })
     }
 
-    /// Gives out readers of this one, the first of which has its turn. An error where memory was refused.
+    /// Gives out readers of this one. The first, which is in the result, has its turn. An error where memory was
+    /// refused.
     #[doc(hidden)]
     pub fn begin(
         rt: R,
