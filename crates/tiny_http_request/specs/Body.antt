@@ -9,8 +9,8 @@ use Rattle.tiny_http_io.specs.declared.device.Stop.TheVariants.{End, Fault}
 use Rattle.tiny_http_io.specs.Source.{SourceState}
 use Rattle.tiny_http_io.specs.ToCome.{stopped}
 use Rattle.tiny_http_body.specs.declared.body.UnreadBody.{UnreadBody}
-use Rattle.tiny_http_threads.specs.declared.turn.HeldReader.{HeldReader}
-use Rattle.tiny_http_threads.specs.Turn.{held_item}
+use Rattle.tiny_http_threads.specs.declared.held_reader.HeldReader.{HeldReader}
+use Rattle.tiny_http_threads.specs.HeldReader.{held_item}
 use Rattle.tiny_http_request.specs.declared.remembered.Remembered.{Remembered}
 use Rattle.tiny_http_request.specs.declared.body.GivesOn.{GivesOn}
 use Rattle.tiny_http_request.specs.declared.body.GivesOn.TheVariants.{AfterBody, AfterAnswer, Never}

@@ -14,7 +14,7 @@ use Rattle.tiny_http_open_request.specs.declared.exchange.Exchange.{Exchange}
 use Rattle.tiny_http_open_request.specs.declared.exchange.HeadRead.TheVariants as read
 use Rattle.tiny_http_open_request.specs.Exchange.{exchange_of}
 use Rattle.tiny_http_open_request.specs.HeadReads.{TakesHead}
-use Rattle.tiny_http_threads.specs.Turn.{held_item}
+use Rattle.tiny_http_threads.specs.HeldReader.{held_item}
 use Rattle.tiny_http_request.specs.declared.client.ClientConnection.{ClientConnection}
 use Rattle.tiny_http_request.specs.declared.client.NextHead.{NextHead}
 use Rattle.tiny_http_request.specs.declared.client.NextHead.TheVariants.{Here, Behind}

@@ -8,7 +8,6 @@ use tiny_http_io::device::{ReadDevice, WriteDevice};
 use tiny_http_io::outlet::Outlet;
 use tiny_http_open_request::open_request::OpenRequest;
 use tiny_http_threads::sequential::SequentialWriter;
-use tiny_http_threads::turn::{end_behind_writer, hold_writer, is_last_writer};
 
 /// Has the body read on as the stream of an upgrade. No head follows where that gets the connection.
 pub(crate) fn read_stream<R: ReadDevice + Drop, Rt: Wait + Drop>(
@@ -34,11 +33,11 @@ pub(crate) fn begin_answer<R: ReadDevice + Drop, W: WriteDevice + Drop, Rt: Wait
     if open_request.is_last_once_finished(left) {
         open_request.body.end_requests();
     }
-    let _ = hold_writer(writer);
+    let _ = writer.hold();
     if ends {
-        end_behind_writer(writer);
+        writer.close_line();
     }
-    if is_last_writer(writer) {
+    if writer.is_last() {
         open_request.close();
     }
     left

@@ -17,7 +17,7 @@ use std::sync::Wait;
 use tiny_http_body::body::{Remainder, UnreadBody};
 use tiny_http_io::device::ReadDevice;
 use tiny_http_io::source::{Source, Standing};
-use tiny_http_threads::turn::HeldReader;
+use tiny_http_threads::held_reader::HeldReader;
 
 // When the connection's input is given on to the next head.
 #[derive(Drop)]

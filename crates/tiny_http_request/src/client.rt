@@ -2,7 +2,7 @@
 ghost use Rattle.std.specs.Prelude.{◌≡◌, ◌↔◌, ◌||◌, ⊤, true, false, Ok, None, Some, IfOk, OnErr};
 ghost use Rattle.std.specs.Prelude.{IsSome, IfSome, IfNone};
 ghost use Rattle.tiny_http_socket.specs.Stream.{MayHavePeer};
-ghost use Rattle.tiny_http_threads.specs.Turn.{held_item};
+ghost use Rattle.tiny_http_threads.specs.HeldReader.{held_item};
 ghost use Rattle.tiny_http_request.specs.Request.{request_head, request_secure, request_address, request_open};
 ghost use Rattle.tiny_http_request.specs.Request.{request_body};
 ghost use Rattle.tiny_http_body.specs.Body.{is_streaming};
@@ -23,12 +23,9 @@ use tiny_http_open_request::open_request::OpenRequest;
 use tiny_http_socket::cork::FlushPolicy;
 use tiny_http_socket::pace::Pace;
 use tiny_http_socket::refined_tcp_stream::RefinedTcpStream;
+use tiny_http_threads::held_reader::HeldReader;
 use tiny_http_threads::sequential::{
     SequentialReader, SequentialReaderBuilder, SequentialWriter, SequentialWriterBuilder,
-};
-use tiny_http_threads::turn::{
-    HeldReader, begin_readers, close_when_broken, count_open_writers, hold_reader, hold_writer,
-    is_closed, is_next_writer, leave_writer, next_writer, wait_for_room,
 };
 
 /// A connection, whose requests are handed out one after another. Any thread may hold one, also while the next is read.
@@ -66,7 +63,7 @@ impl<R: ReadDevice + Drop, Rt: Wait + Drop> NextHead<R, Rt> {
     {
         match self {
             NextHead::Here(reader) => reader,
-            NextHead::Behind(reader) => hold_reader(reader),
+            NextHead::Behind(reader) => reader.into_held(),
         }
     }
 }
@@ -163,7 +160,7 @@ impl<R: ReadDevice + Drop, W: WriteDevice + Drop, Rt: Wait + Copy> ClientConnect
         ensures profile { IfOk result (λ c. client_profile c ≡ profile) }
         ensures source { IfOk result (λ c. IsFreshSource R.feed reader (client_source c)) }
     {
-        let (source, first) = begin_readers(rt, alloc, Source::new(reader))?;
+        let (source, first) = SequentialReaderBuilder::begin(rt, alloc, Source::new(reader))?;
         let sink = SequentialWriterBuilder::new(rt, alloc, Outlet::new(writer))?;
         let next_head = Some(NextHead::Here(first));
         Ok(ClientConnection {
@@ -214,9 +211,9 @@ impl<R: ReadDevice + Drop, W: WriteDevice + Drop, Rt: Wait + Copy> ClientConnect
             × (client_address self.new ≡ client_address self.old)
             × (client_profile self.new ≡ client_profile self.old) }
     {
-        count_open_writers(&self.sink, Arc::try_clone(pace.open())?);
+        self.sink.set_open(Arc::try_clone(pace.open())?);
         if pace.limits().is_some() {
-            close_when_broken(&self.sink);
+            self.sink.close_when_broken();
         }
         self.pace = Some(pace);
         Ok(())
@@ -251,21 +248,21 @@ impl<R: ReadDevice + Drop, W: WriteDevice + Drop, Rt: Wait + Copy> ClientConnect
         let Some(next_head) = self.next_head.take() else {
             return Ok(None);
         };
-        if is_closed(&self.sink) {
+        if self.sink.is_closed() {
             return Ok(None);
         }
         wait_if_full(&self.sink, &self.pace);
         let (alloc, profile) = (self.alloc, self.profile);
         let mut reader = next_head.hold();
         let source = &mut *reader.turn.item;
-        if is_closed(&self.sink) || !begins_head(&self.pace, source) {
+        if self.sink.is_closed() || !begins_head(&self.pace, source) {
             return Ok(None);
         }
         let sink = &mut self.sink;
         let mut place = NextWriter { pace: &self.pace };
         match next_request(alloc, source, profile, &mut place, sink, now) {
             Ok(NextRequest::Request(head, open_request)) => {
-                let Some(writer) = next_writer(&mut self.sink)? else {
+                let Some(writer) = self.sink.next_unless_closed()? else {
                     return Ok(None);
                 };
                 match self.hand_out(reader, writer, head, open_request) {
@@ -277,7 +274,7 @@ impl<R: ReadDevice + Drop, W: WriteDevice + Drop, Rt: Wait + Copy> ClientConnect
                 note_end(&self.pace, end);
                 Ok(None)
             }
-            Err(_) if is_closed(&self.sink) => Ok(None),
+            Err(_) if self.sink.is_closed() => Ok(None),
             Err(e) => Err(e),
         }
     }
@@ -293,7 +290,7 @@ impl<R: ReadDevice + Drop, W: WriteDevice + Drop, Rt: Wait + Copy> ClientConnect
             × (client_profile self.new ≡ client_profile self.old) }
     {
         let mut writer = self.sink.next()?;
-        let _ = hold_writer(&mut writer);
+        let _ = writer.hold();
         Ok(())
     }
 
@@ -322,7 +319,7 @@ impl<R: ReadDevice + Drop, W: WriteDevice + Drop, Rt: Wait + Copy> ClientConnect
             × (client_profile self.new ≡ client_profile self.old) }
     {
         let holds_reader = open_request.body.holds_reader() || open_request.holds_next_head;
-        let may_leave = !holds_reader && is_next_writer(&writer);
+        let may_leave = !holds_reader && writer.is_next();
         let flush_policy = set_policy(&self.flush_policy, may_leave)?;
         let pace = begin_body(&self.pace, holds_reader)?;
         let client = (self.secure, self.remote_addr);
@@ -419,7 +416,7 @@ fn wait_if_full<W: WriteDevice + Drop, Rt: Wait + Copy>(
     if let Some(pace) = pace
         && let Some(most) = pace.full_at()
     {
-        wait_for_room(sink, most);
+        sink.wait_for_room(most);
     }
 }
 
@@ -442,10 +439,10 @@ impl<W: WriteDevice + Drop, Rt: Wait + Copy> RefusalPlace<SequentialWriterBuilde
         text: Vec<u8>,
     ) -> Result<(), AllocError> {
         wait_if_full(sink, self.pace);
-        let Some(writer) = next_writer(sink)? else {
+        let Some(writer) = sink.next_unless_closed()? else {
             return Err(AllocError);
         };
-        leave_writer(writer, text);
+        writer.leave(text);
         Ok(())
     }
 }

@@ -27,7 +27,7 @@ ghost use Rattle.tiny_http_request.specs.Body.{body_left, input_of};
 ghost use Rattle.tiny_http_request.specs.StreamedBody.{form_of};
 ghost use Rattle.tiny_http_response.specs.Streaming.{streamed_form};
 ghost use Rattle.tiny_http_request.specs.WholeBody.{FailsWhole, IsWholeOf};
-ghost use Rattle.tiny_http_threads.specs.Turn.{held_item};
+ghost use Rattle.tiny_http_threads.specs.HeldReader.{held_item};
 
 use crate::answering::{begin_answer, read_stream};
 pub use crate::body::Body;
@@ -59,10 +59,9 @@ use tiny_http_response::sending::reported;
 use tiny_http_socket::cork::FlushPolicy;
 use tiny_http_socket::pace::Pace;
 use tiny_http_text::ascii::AsciiString;
-use tiny_http_threads::sequential::{SequentialWriter, SequentialWriterBuilder};
-use tiny_http_threads::turn::{
-    HeldReader, begin_readers, close_if_broken, hold_writer, is_broken_writer, is_last_writer,
-    leave_writer, pass_writer,
+use tiny_http_threads::held_reader::HeldReader;
+use tiny_http_threads::sequential::{
+    SequentialReaderBuilder, SequentialWriter, SequentialWriterBuilder,
 };
 
 /// Why no request is made of its parts.
@@ -305,9 +304,9 @@ impl<R: ReadDevice + Drop, W: WriteDevice + Drop, Rt: Wait + Drop> Request<R, W,
     {
         if self.open_request.owes_continue {
             self.send_at_flush();
-            let outlet = hold_writer(&mut self.writer);
+            let outlet = self.writer.hold();
             self.open_request.send_continue(self.alloc, outlet, now);
-            close_if_broken(&mut self.writer);
+            self.writer.close_if_broken();
         }
     }
 
@@ -429,9 +428,9 @@ impl<R: ReadDevice + Drop, W: WriteDevice + Drop, Rt: Wait + Drop> Request<R, W,
         let alloc = self.alloc;
         let (mut open_request, mut writer) = self.into_parts();
         let left = begin_answer(&mut open_request, &mut writer, response.closes());
-        let sent = open_request.respond(alloc, hold_writer(&mut writer), response, left, now);
-        close_if_broken(&mut writer);
-        pass_writer(writer);
+        let sent = open_request.respond(alloc, writer.hold(), response, left, now);
+        writer.close_if_broken();
+        writer.pass();
         drop(open_request);
         reported(sent)
     }
@@ -467,12 +466,12 @@ impl<R: ReadDevice + Drop, W: WriteDevice + Drop, Rt: Wait + Drop> Request<R, W,
         let ends = response.closes() || form == StreamedForm::Plain;
         let (mut open_request, mut writer) = self.into_parts();
         let left = begin_answer(&mut open_request, &mut writer, ends);
-        let outlet = hold_writer(&mut writer);
+        let outlet = writer.hold();
         if outlet.is_ended() {
             return Err(ErrorKind::BrokenPipe.into());
         }
         if let Err(fault) = open_request.begin_streaming(outlet, &response, left, now) {
-            close_if_broken(&mut writer);
+            writer.close_if_broken();
             return Err(fault);
         }
         Ok(StreamedBody::new(writer, form))
@@ -596,7 +595,7 @@ impl<R: ReadDevice + Drop, W: WriteDevice + Drop, Rt: Wait + Drop> Request<R, W,
     /// Whether its answer would be lost, on a server with limits: an answer before it broke off the output of its
     /// connection, or a raw writer closed it.
     pub fn is_lost(&self) -> bool {
-        is_broken_writer(&self.writer)
+        self.writer.is_broken()
     }
 
     // Sends the answer that upgrades, and gives the stream.
@@ -617,8 +616,8 @@ impl<R: ReadDevice + Drop, W: WriteDevice + Drop, Rt: Wait + Drop> Request<R, W,
         let alloc = self.alloc;
         let (mut open_request, mut writer) = self.into_parts();
         read_stream(&mut open_request);
-        open_request.upgrade(alloc, hold_writer(&mut writer), protocol, response, now);
-        close_if_broken(&mut writer);
+        open_request.upgrade(alloc, writer.hold(), protocol, response, now);
+        writer.close_if_broken();
         CustomStream::new(open_request.body, writer)
     }
 
@@ -638,11 +637,11 @@ impl<R: ReadDevice + Drop, W: WriteDevice + Drop, Rt: Wait + Drop> Drop for Requ
         if open_request.is_last_once_finished(left) {
             open_request.body.end_requests();
         }
-        if is_last_writer(&writer) {
+        if writer.is_last() {
             open_request.close();
         }
         let (text, body) = open_request.into_drop_text(left);
-        leave_writer(writer, text);
+        writer.leave(text);
         drop(body);
     }
 }
@@ -701,7 +700,7 @@ fn alone<R: ReadDevice + Drop, Rt: Wait + Copy>(
     if !body.holds_reader() {
         return Ok(None);
     }
-    let (_, reader) = begin_readers(rt, alloc, source)?;
+    let (_, reader) = SequentialReaderBuilder::begin(rt, alloc, source)?;
     Ok(Some(reader))
 }
 

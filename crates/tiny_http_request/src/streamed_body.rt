@@ -9,7 +9,6 @@ use tiny_http_body::streamed::{Streamed, StreamedForm};
 use tiny_http_io::device::WriteDevice;
 use tiny_http_io::outlet::Outlet;
 use tiny_http_threads::sequential::SequentialWriter;
-use tiny_http_threads::turn::pass_writer;
 
 /// The body of an answer that `Request::respond_streaming` began. It is written in the turn of its request, and is
 /// sent as `Streamed` says: what is written is held until it fills a piece of 8192 bytes, and `flush` sends what is
@@ -55,7 +54,7 @@ impl<W: WriteDevice + Drop, Rt: Wait + Drop> StreamedBody<W, Rt> {
             return writer.close();
         }
         writer.flush()?;
-        pass_writer(writer);
+        writer.pass();
         Ok(())
     }
 }

@@ -2,5 +2,5 @@ pub mod Queue
 pub mod Pool
 pub mod Roster
 pub mod Sequential
-pub mod Turn
+pub mod HeldReader
 pub mod Line

@@ -16,10 +16,10 @@
 //!   meanwhile; or, where memory for a condition was refused, it lets the lock go and tries again.
 #![tactic(auto)]
 
+pub mod held_reader;
 pub mod laws;
 mod line;
 pub mod messages_queue;
 pub mod roster;
 pub mod sequential;
 pub mod task_pool;
-pub mod turn;

@@ -328,57 +328,9 @@ impl<T: Drop> Line<T> {
         self.is_closed.load(Ordering::SeqCst)
     }
 
-    /// Closes the line: `issue_unless_closed` issues no number any more.
-    pub fn close<R: Wait>(&self, rt: &R) {
-        let queue = self.queue.lock(rt);
-        self.is_closed.store(true, Ordering::SeqCst);
-        drop(queue);
-    }
-
     /// From now on the line is closed where its item breaks.
     pub fn close_when_broken(&self) {
         self.closes_when_broken.store(true, Ordering::SeqCst);
-    }
-
-    /// Whether the line is closed where its item breaks.
-    pub fn closes_when_broken(&self) -> bool {
-        self.closes_when_broken.load(Ordering::SeqCst)
-    }
-
-    /// Closes the line, whose item is broken, if it is closed then.
-    pub fn break_off<R: Wait>(&self, rt: &R) {
-        if self.closes_when_broken() {
-            self.is_broken.store(true, Ordering::SeqCst);
-            self.close(rt);
-        }
-    }
-
-    /// Whether it was closed since its item is broken.
-    pub fn is_broken(&self) -> bool {
-        self.is_broken.load(Ordering::SeqCst)
-    }
-
-    /// Whether the line was closed, and this number is the last that `issue_unless_closed` issued.
-    pub fn is_last<R: Wait>(&self, rt: &R, number: u64) -> bool {
-        self.is_closed() && self.queue.lock(rt).last() == Some(number)
-    }
-
-    /// Waits until the number's turn has come, and holds it. Where memory for the wait was refused it tries again and
-    /// again.
-    pub fn take<R: Wait>(&self, rt: &R, alloc: Global, number: u64) -> Box<T> {
-        let mut queue = self.queue.lock(rt);
-        for _ in rt.forever() {
-            match queue.take(alloc, number) {
-                Taking::Held(item) => return item,
-                Taking::Waits(woken) => queue = woken.wait(rt, queue),
-                Taking::Refused => {
-                    drop(queue);
-                    thread::yield_now();
-                    queue = self.queue.lock(rt);
-                }
-            }
-        }
-        unreachable!()
     }
 
     /// Leaves a number with a text, which is written in its turn; or holds it, and gives the item and the text, where
@@ -415,16 +367,56 @@ impl<T: Drop> Line<T> {
     }
 }
 
+/// A number of a line, and the runtime by which its holder locks the line and waits.
+#[derive(Drop)]
+pub(crate) struct Place<T, R: Wait> {
+    rt: R,
+    line: Arc<Line<T>>,
+    number: u64,
+}
+
+impl<T: Drop, R: Wait + Drop> Place<T, R> {
+    /// Closes the line: `issue_unless_closed` issues no number any more.
+    pub fn close_line(&self) {
+        let queue = self.line.queue.lock(&self.rt);
+        self.line.is_closed.store(true, Ordering::SeqCst);
+        drop(queue);
+    }
+
+    /// Whether the line is closed once its item breaks.
+    pub fn closes_when_broken(&self) -> bool {
+        self.line.closes_when_broken.load(Ordering::SeqCst)
+    }
+
+    /// Closes the line, whose item is broken, if `closes_when_broken` says so.
+    pub fn break_line(&self) {
+        if self.closes_when_broken() {
+            self.line.is_broken.store(true, Ordering::SeqCst);
+            self.close_line();
+        }
+    }
+
+    /// Whether the line was closed since its item is broken.
+    pub fn is_broken(&self) -> bool {
+        self.line.is_broken.load(Ordering::SeqCst)
+    }
+
+    /// Whether the line was closed, and this number is the last that `issue_unless_closed` issued.
+    pub fn is_last(&self) -> bool {
+        self.line.is_closed() && self.line.queue.lock(&self.rt).last() == Some(self.number)
+    }
+}
+
 /// A number of a line, and the item while the number is held.
 #[derive(Drop)]
 pub(crate) struct Turn<T, R: Wait> {
-    rt: R,
+    /// Its number, in its line.
+    pub place: Place<T, R>,
     alloc: Global,
-    line: Arc<Line<T>>,
-    number: u64,
     // Its turn had come as the number was issued.
     is_next: bool,
-    item: Option<Box<T>>,
+    /// The item, while the number is held.
+    pub item: Option<Box<T>>,
 }
 
 impl<T: Drop, R: Wait + Drop> Turn<T, R> {
@@ -433,10 +425,8 @@ impl<T: Drop, R: Wait + Drop> Turn<T, R> {
         let line = Arc::try_clone(line)?;
         let (number, is_next) = line.issue(&rt)?;
         Ok(Turn {
-            rt,
+            place: Place { rt, line, number },
             alloc,
-            line,
-            number,
             is_next,
             item: None,
         })
@@ -454,38 +444,11 @@ impl<T: Drop, R: Wait + Drop> Turn<T, R> {
             return Ok(None);
         };
         Ok(Some(Turn {
-            rt,
+            place: Place { rt, line, number },
             alloc,
-            line,
-            number,
             is_next,
             item: None,
         }))
-    }
-
-    /// Closes the line: `new_unless_closed` issues no number any more.
-    pub fn close_line(&self) {
-        self.line.close(&self.rt);
-    }
-
-    /// Whether the line is closed where its item breaks.
-    pub fn closes_when_broken(&self) -> bool {
-        self.line.closes_when_broken()
-    }
-
-    /// Closes the line, whose item is broken, if it is closed then.
-    pub fn break_line(&self) {
-        self.line.break_off(&self.rt);
-    }
-
-    /// Whether the line was closed since its item is broken.
-    pub fn is_broken(&self) -> bool {
-        self.line.is_broken()
-    }
-
-    /// Whether the line was closed, and this number is the last that `new_unless_closed` issued.
-    pub fn is_last(&self) -> bool {
-        self.line.is_last(&self.rt, self.number)
     }
 
     /// The allocator that it was made with.
@@ -498,37 +461,46 @@ impl<T: Drop, R: Wait + Drop> Turn<T, R> {
         self.is_next
     }
 
-    /// Waits for the turn unless it is held, holds it, and lends the item.
-    pub fn hold(&mut self) -> &mut T {
-        if self.item.is_none() {
-            let item = self.line.take(&self.rt, self.alloc, self.number);
-            self.item = Some(item);
+    /// Waits for the turn unless it is held, and holds it. Where memory for the wait was refused it tries again and
+    /// again.
+    pub fn hold(&mut self)
+        ensures { IsSome self.new.item }
+    {
+        if self.item.is_some() {
+            return;
         }
-        match &mut self.item {
-            Some(item) => item,
-            None => unreachable!(),
+        let Place { rt, line, number } = &self.place;
+        let mut queue = line.queue.lock(rt);
+        for _ in rt.forever() {
+            match queue.take(self.alloc, *number) {
+                Taking::Held(item) => {
+                    self.item = Some(item);
+                    return;
+                }
+                Taking::Waits(woken) => queue = woken.wait(rt, queue),
+                Taking::Refused => {
+                    drop(queue);
+                    thread::yield_now();
+                    queue = line.queue.lock(rt);
+                }
+            }
         }
+        unreachable!()
     }
 
     /// Waits for the turn unless it is held, and holds it.
     pub fn into_held(self) -> Held<T, R> {
+        let mut turn = self;
+        turn.hold();
         let Turn {
-            rt,
-            alloc,
-            line,
-            number,
+            place,
+            alloc: _,
             is_next: _,
             item,
-        } = self;
-        let item = match item {
-            Some(item) => item,
-            None => line.take(&rt, alloc, number),
-        };
-        Held {
-            item,
-            rt,
-            line,
-            number,
+        } = turn;
+        match item {
+            Some(item) => Held { item, place },
+            None => unreachable!(),
         }
     }
 
@@ -538,24 +510,16 @@ impl<T: Drop, R: Wait + Drop> Turn<T, R> {
         ensures { IfSome result (λ held. held.1 ≡ text) }
     {
         let Turn {
-            rt,
+            place,
             alloc: _,
-            line,
-            number,
             is_next: _,
             item,
         } = self;
         let (item, text) = match item {
             Some(item) => (item, text),
-            None => line.leave(&rt, number, text)?,
+            None => place.line.leave(&place.rt, place.number, text)?,
         };
-        let held = Held {
-            item,
-            rt,
-            line,
-            number,
-        };
-        Some((held, text))
+        Some((Held { item, place }, text))
     }
 }
 
@@ -564,9 +528,7 @@ impl<T: Drop, R: Wait + Drop> Turn<T, R> {
 pub struct Held<T, R: Wait> {
     /// The item.
     pub item: Box<T>,
-    rt: R,
-    line: Arc<Line<T>>,
-    number: u64,
+    pub(crate) place: Place<T, R>,
 }
 
 impl<T: Drop, R: Wait + Drop> Held<T, R> {
@@ -580,27 +542,13 @@ impl<T: Drop, R: Wait + Drop> Held<T, R> {
             unreachable!()
         };
         let line = share(alloc, queue)?;
-        Ok(Held {
-            item,
-            rt,
-            line,
-            number,
-        })
+        let place = Place { rt, line, number };
+        Ok(Held { item, place })
     }
 
     /// Another handle of its line. An error where none is left.
     pub(crate) fn line(&self) -> Result<Arc<Line<T>>, AllocError> {
-        Ok(Arc::try_clone(&self.line)?)
-    }
-
-    /// Whether the line was closed, and this number is the last that `issue_unless_closed` issued.
-    pub fn is_last(&self) -> bool {
-        self.line.is_last(&self.rt, self.number)
-    }
-
-    /// Closes the line, whose item is broken, if it is closed then.
-    pub fn break_line(&self) {
-        self.line.break_off(&self.rt);
+        Ok(Arc::try_clone(&self.place.line)?)
     }
 
     /// Finishes the number. If the next one was left, that one is held, with the same item and the text that it was
@@ -608,20 +556,11 @@ impl<T: Drop, R: Wait + Drop> Held<T, R> {
     pub fn finish(self) -> Option<(Held<T, R>, Vec<u8>)>
         ensures { IfSome result (λ next. next.0.item ≡ self.item) }
     {
-        let Held {
-            item,
-            rt,
-            line,
-            number,
-        } = self;
+        let Held { item, place } = self;
+        let Place { rt, line, number } = place;
         let (item, text) = line.finish(&rt, number, item)?;
         let number = number.checked_add(1)?;
-        let next = Held {
-            item,
-            rt,
-            line,
-            number,
-        };
-        Some((next, text))
+        let place = Place { rt, line, number };
+        Some((Held { item, place }, text))
     }
 }

@@ -1,4 +1,4 @@
-//! How many entries any number of threads made.
+//! How many entries any number of threads made. Programs may count by it; here only tests use it.
 ghost use Rattle.std.specs.Prelude.{◌≡◌, ◌+◌, ◌-◌, ◌^◌, ◌<◌, false, if◌then◌else◌};
 ghost use Rattle.tiny_http_threads.specs.Roster.{CountsIn};
 

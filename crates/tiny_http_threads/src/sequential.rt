@@ -1,9 +1,13 @@
 //! A reader or a writer that its holders use one after another, in the order in which they were made.
+//!
+//! The methods that the documentation hides are for a request, which sees to its own turn and to the end of its
+//! connection. `tiny_http` names this module again, and its programs need none of them.
 ghost use Rattle.std.specs.Prelude.{◌≡◌, ⊤, [], length, Ok, None, IfOk, OnOk, false};
 ghost use Rattle.tiny_http_io.specs.Device.{Reads, Puts, PutsFront, HoldsNothing, next_count};
+ghost use Rattle.tiny_http_threads.specs.HeldReader.{held_item};
 
+use crate::held_reader::HeldReader;
 use crate::line::{Held, Line, Turn};
-use crate::turn::HeldReader;
 use std::alloc::{AllocError, Global};
 use std::io;
 use std::io::{ErrorKind, Read, Write};
@@ -32,13 +36,15 @@ impl<I: Read + Drop, R: Wait + Copy> SequentialReaderBuilder<I, R> {
         Ok(SequentialReaderBuilder { rt, alloc, line })
     }
 
-    /// Gives out readers of this one, the first of which has its turn. An error where memory was refused.
-    pub(crate) fn begin(
+    /// Gives out readers of this one. The first, which is in the result, has its turn. An error where memory was
+    /// refused.
+    #[doc(hidden)]
+    pub fn begin(
         rt: R,
         alloc: Global,
         reader: I,
     ) -> Result<(SequentialReaderBuilder<I, R>, HeldReader<I, R>), AllocError>
-        ensures { IfOk result (λ made. made.1.turn.item.value ≡ reader) }
+        ensures { IfOk result (λ made. held_item made.1 ≡ reader) }
     {
         let turn = Held::first(rt, alloc, reader)?;
         let line = turn.line()?;
@@ -62,8 +68,9 @@ pub struct SequentialReader<I: Read + Drop, R: Wait + Drop> {
 }
 
 impl<I: Read + Drop, R: Wait + Drop> SequentialReader<I, R> {
-    /// Waits for its turn.
-    pub(crate) fn into_held(self) -> HeldReader<I, R> {
+    /// Waits for its turn, and holds it.
+    #[doc(hidden)]
+    pub fn into_held(self) -> HeldReader<I, R> {
         let Self { turn } = self;
         HeldReader {
             turn: turn.into_held(),
@@ -74,7 +81,11 @@ impl<I: Read + Drop, R: Wait + Drop> SequentialReader<I, R> {
 impl<I: Read + Drop, R: Wait + Drop> Read for SequentialReader<I, R> {
     /// Waits for its turn, and reads once.
     fn read(&mut self, buf: &mut [u8]) -> io::Result<usize> {
-        self.turn.hold().read(buf)
+        self.turn.hold();
+        match &mut self.turn.item {
+            Some(reader) => reader.read(buf),
+            None => unreachable!(),
+        }
     }
 }
 
@@ -113,31 +124,36 @@ impl<W: Write + Drop, R: Wait + Copy> SequentialWriterBuilder<W, R> {
         Ok(SequentialWriter { turn, failures: 0 })
     }
 
-    /// The next writer; none once the line was closed. An error as in `next`.
-    pub(crate) fn next_unless_closed(
-        &mut self,
-    ) -> Result<Option<SequentialWriter<W, R>>, AllocError> {
+    /// The next writer; none once the line was closed: by `close_line` or `close` of a writer, or since the output
+    /// broke (`close_when_broken`). An error as in `next`.
+    #[doc(hidden)]
+    pub fn next_unless_closed(&mut self) -> Result<Option<SequentialWriter<W, R>>, AllocError> {
         let turn = Turn::new_unless_closed(self.rt, self.alloc, &self.line)?;
         Ok(turn.map(|turn| SequentialWriter { turn, failures: 0 }))
     }
 
-    /// Whether the line was closed.
-    pub(crate) fn is_closed(&self) -> bool {
+    /// Whether the line was closed, as `next_unless_closed` reports.
+    #[doc(hidden)]
+    pub fn is_closed(&self) -> bool {
         self.line.is_closed()
     }
 
-    /// From now on the line is closed where the writer breaks.
-    pub(crate) fn close_when_broken(&self) {
+    /// Closes the line, from now on, once one of its writers meets a fault, or `close_if_broken` finds the output
+    /// ended.
+    #[doc(hidden)]
+    pub fn close_when_broken(&self) {
         self.line.close_when_broken();
     }
 
-    /// Has the numbers counted here from now on that were issued and aren't finished.
-    pub(crate) fn set_open(&self, open: Arc<AtomicU64>) {
+    /// Counts here, from now on, the writers that were given out and aren't finished.
+    #[doc(hidden)]
+    pub fn set_open(&self, open: Arc<AtomicU64>) {
         self.line.set_open(&self.rt, open);
     }
 
-    /// Waits until fewer numbers than `most`, or none where that is 0, were issued and aren't finished.
-    pub(crate) fn wait_for_room(&self, most: usize) {
+    /// Waits until fewer writers than `most`, or none where that is 0, were given out and aren't finished.
+    #[doc(hidden)]
+    pub fn wait_for_room(&self, most: usize) {
         self.line.wait_for_room(&self.rt, most);
     }
 }
@@ -221,21 +237,14 @@ fn write_and_flush<W: Write + Drop, R: Wait + Drop>(held: &mut Held<W, R>, text:
     let written = held.item.write_all(text);
     let flushed = held.item.flush();
     if written.is_err() || flushed.is_err() {
-        held.break_line();
+        held.place.break_line();
     }
 }
 
 // Says that no byte follows, where the line was closed and this number is its last.
 fn end_if_last<W: WriteDevice + Drop, R: Wait + Drop>(held: &mut Held<W, R>) {
-    if held.is_last() {
+    if held.place.is_last() {
         held.item.end_out();
-    }
-}
-
-// Ends a turn with a text.
-fn leave_writer<W: Write + Drop, R: Wait + Drop>(turn: Turn<W, R>, text: Vec<u8>) {
-    if let Some((held, text)) = turn.leave(text) {
-        pass_on(&mut Writing { held: Some(held) }, &mut (), &mut (), text);
     }
 }
 
@@ -248,44 +257,55 @@ pub struct SequentialWriter<W: Write + Drop, R: Wait + Drop> {
 }
 
 impl<W: Write + Drop, R: Wait + Drop> SequentialWriter<W, R> {
-    /// Whether its turn had come as it was given out.
-    pub(crate) fn is_next(&self) -> bool {
+    /// Whether its turn had come as it was given out: those before it were finished.
+    #[doc(hidden)]
+    pub fn is_next(&self) -> bool {
         self.turn.is_next()
     }
 
     /// Closes the line: `next_unless_closed` gives out no further writer.
-    pub(crate) fn close_line(&self) {
-        self.turn.close_line();
+    #[doc(hidden)]
+    pub fn close_line(&self) {
+        self.turn.place.close_line();
     }
 
-    /// Whether what is written is lost: the writer broke or was ended by `close`, in a line that is closed where its
-    /// writer breaks.
-    pub(crate) fn is_broken(&self) -> bool {
-        self.turn.is_broken()
+    /// Whether what is written is lost, where `close_when_broken` was called: the output broke, or was ended by
+    /// `close`.
+    #[doc(hidden)]
+    pub fn is_broken(&self) -> bool {
+        self.turn.place.is_broken()
     }
 
     // A fault of the writer breaks it.
     fn note<T>(&self, outcome: &io::Result<T>) {
         if outcome.is_err() {
-            self.turn.break_line();
+            self.turn.place.break_line();
         }
     }
 
     /// Whether the line was closed, and this writer is the last that `next_unless_closed` gave out.
-    pub(crate) fn is_last(&self) -> bool {
-        self.turn.is_last()
+    #[doc(hidden)]
+    pub fn is_last(&self) -> bool {
+        self.turn.place.is_last()
     }
 
-    /// Waits for its turn, and lends the writer.
-    pub(crate) fn hold(&mut self) -> &mut W {
-        self.turn.hold()
+    /// Waits for its turn, and lends what it writes to. A fault that the caller meets there doesn't break the line.
+    #[doc(hidden)]
+    pub fn hold(&mut self) -> &mut W {
+        self.turn.hold();
+        match &mut self.turn.item {
+            Some(writer) => writer,
+            None => unreachable!(),
+        }
     }
 }
 
 impl<W: Write + WriteDevice + Drop, R: Wait + Drop> SequentialWriter<W, R> {
-    /// Ends its turn with a text, which is written once the turn has come. It waits for no turn. Behind the last text
-    /// of a closed line the writer says that no byte follows.
-    pub(crate) fn leave(self, text: Vec<u8>) {
+    /// Ends its turn with a text, which is written and flushed once the turn has come. It waits for no turn. After
+    /// the text of the last writer (`is_last`) `end_out` says that no byte follows, also where the line was closed
+    /// only after this call. It doesn't where the text is written as a `SequentialWriter` before it is dropped.
+    #[doc(hidden)]
+    pub fn leave(self, text: Vec<u8>) {
         let Self { turn, failures: _ } = self;
         if let Some((held, text)) = turn.leave(text) {
             pass_on(
@@ -297,9 +317,10 @@ impl<W: Write + WriteDevice + Drop, R: Wait + Drop> SequentialWriter<W, R> {
         }
     }
 
-    /// Ends its turn. What was written must have been flushed. It waits for no turn. Where it is the last of a closed
-    /// line, the writer says that no byte follows.
-    pub(crate) fn pass(self) {
+    /// Ends its turn, and flushes nothing: the caller has flushed what it wrote. It waits for no turn. Where it is the
+    /// last writer (`is_last`), `end_out` says before that no byte follows.
+    #[doc(hidden)]
+    pub fn pass(self) {
         let Self { turn, failures: _ } = self;
         let none = Vec::new(turn.alloc());
         if let Some((held, _)) = turn.leave(none) {
@@ -320,24 +341,26 @@ impl<W: WriteDevice + Drop, R: Wait + Drop> SequentialWriter<Outlet<W>, R> {
     /// well.
     pub fn close(self) -> io::Result<()> {
         let mut writer = self;
-        writer.turn.close_line();
-        let outlet = writer.turn.hold();
+        writer.close_line();
+        let outlet = writer.hold();
         let sent = outlet.end();
         outlet.end_out();
-        writer.turn.break_line();
+        writer.turn.place.break_line();
         drop(writer);
         sent
     }
 
-    /// Waits for its turn. Where the output has ended, in a line that is closed then, the writer says that no byte
-    /// follows, and the line is closed.
-    pub(crate) fn close_if_broken(&mut self) {
-        if !self.turn.closes_when_broken() {
+    /// Ends the connection after what was sent, where `close_when_broken` was called and the output has ended:
+    /// `end_out` says that no byte follows, and `next_unless_closed` gives out no further writer. It waits for its
+    /// turn, if `close_when_broken` was called.
+    #[doc(hidden)]
+    pub fn close_if_broken(&mut self) {
+        if !self.turn.place.closes_when_broken() {
             return;
         }
-        if self.turn.hold().is_ended() {
-            self.turn.break_line();
-            self.turn.hold().end_out();
+        if self.hold().is_ended() {
+            self.turn.place.break_line();
+            self.hold().end_out();
         }
     }
 }
@@ -345,21 +368,21 @@ impl<W: WriteDevice + Drop, R: Wait + Drop> SequentialWriter<Outlet<W>, R> {
 impl<W: Write + Drop, R: Wait + Drop> Write for SequentialWriter<W, R> {
     /// Waits for its turn, and writes once.
     fn write(&mut self, buf: &[u8]) -> io::Result<usize> {
-        let written = self.turn.hold().write(buf);
+        let written = self.hold().write(buf);
         self.note(&written);
         written
     }
 
     /// Waits for its turn, and flushes.
     fn flush(&mut self) -> io::Result<()> {
-        let flushed = self.turn.hold().flush();
+        let flushed = self.hold().flush();
         self.note(&flushed);
         flushed
     }
 
     /// Waits for its turn, and writes all the bytes as the writer itself does.
     fn write_all(&mut self, buf: &[u8]) -> io::Result<()> {
-        let written = self.turn.hold().write_all(buf);
+        let written = self.hold().write_all(buf);
         self.note(&written);
         written
     }
@@ -377,7 +400,7 @@ impl<W: Write + Drop, R: Wait + Drop> WriteDevice for SequentialWriter<W, R> {
 
     /// Waits for its turn, and writes once. That no byte of some is taken is a fault of kind `WriteZero`.
     fn write_out(&mut self, buf: &[u8]) -> Result<usize, io::Error> {
-        let written = match self.turn.hold().write(buf) {
+        let written = match self.hold().write(buf) {
             Ok(0) if !buf.is_empty() => Err(ErrorKind::WriteZero.into()),
             written => written,
         };
@@ -390,7 +413,7 @@ impl<W: Write + Drop, R: Wait + Drop> WriteDevice for SequentialWriter<W, R> {
 
     /// Waits for its turn, and flushes.
     fn flush_out(&mut self) -> Result<(), io::Error> {
-        let flushed = self.turn.hold().flush();
+        let flushed = self.hold().flush();
         if flushed.is_err() {
             self.failures = self.failures.saturating_add(1);
         }
@@ -403,6 +426,8 @@ impl<W: Write + Drop, R: Wait + Drop> Drop for SequentialWriter<W, R> {
     fn drop(self) {
         let Self { turn, failures: _ } = self;
         let none = Vec::new(turn.alloc());
-        leave_writer(turn, none);
+        if let Some((held, text)) = turn.leave(none) {
+            pass_on(&mut Writing { held: Some(held) }, &mut (), &mut (), text);
+        }
     }
 }

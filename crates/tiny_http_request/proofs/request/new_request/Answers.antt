@@ -1,8 +1,8 @@
 use Rattle.std.proofs.Common.{rules, ◌≡◌, sym, ap, ◌∙◌, subst, true, false, not, ◌&&◌, Option, Some, None, Ok, Err}
 use Rattle.std.specs.Prelude.{is_some, IfSome}
 use Rattle.tiny_http_io.specs.Source.{SourceState}
-use Rattle.tiny_http_threads.specs.declared.turn.HeldReader.{HeldReader}
-use Rattle.tiny_http_threads.specs.Turn.{held_item}
+use Rattle.tiny_http_threads.specs.declared.held_reader.HeldReader.{HeldReader}
+use Rattle.tiny_http_threads.specs.HeldReader.{held_item}
 use Rattle.tiny_http_request.specs.Body.{BodyState, input_of}
 use Rattle.tiny_http_io.specs.Device.{Feed}
 use Rattle.tiny_http_body.specs.declared.body.UnreadBody.{UnreadBody}

@@ -14,7 +14,7 @@ use Rattle.tiny_http_open_request.specs.NextRequest.{At, Refuses, FindsNext, nex
 use Rattle.tiny_http_open_request.proofs.NextRequestLemmas.{next-framed}
 use Rattle.tiny_http_io.specs.Source.{SourceState}
 use Rattle.tiny_http_request.specs.Request.{request_head, request_open}
-use Rattle.tiny_http_threads.specs.Turn.{held_item}
+use Rattle.tiny_http_threads.specs.HeldReader.{held_item}
 use Rattle.tiny_http_request.specs.Client.{FindsRequest, client_profile, client_source, source_here}
 use Rattle.tiny_http_request.proofs.ClientLemmas.{finds-request}
 use Rattle.tiny_http_request.proofs.client.ClientConnection.next.Goals as goal

@@ -1,5 +1,5 @@
 -- What clauses read of a reader whose turn has come.
-use Rattle.tiny_http_threads.specs.declared.turn.HeldReader.{HeldReader}
+use Rattle.tiny_http_threads.specs.declared.held_reader.HeldReader.{HeldReader}
 
 -- what it reads from
 abbrev pub held_item : {I : Type 0} → {R : Type 0} → HeldReader I R → I

@@ -1,0 +1,21 @@
+//! A reader whose turn has come.
+pub use crate::line::Held;
+use crate::sequential::Reading;
+use std::sync::Wait;
+use tiny_http_turns::passing::{HeldTurn, pass_on};
+
+/// A reader whose turn has come, with what it reads from. Dropping it finishes its turn: that waits for nobody's turn.
+pub struct HeldReader<I: Drop, R: Wait + Drop> {
+    /// Its turn, and what it reads from.
+    pub turn: Held<I, R>,
+}
+
+impl<I: Drop, R: Wait + Drop> Drop for HeldReader<I, R> {
+    fn drop(self) {
+        let Self { turn } = self;
+        let mut reading = Reading { held: Some(turn) };
+        if let Some(text) = reading.finish(&mut ()) {
+            pass_on(&mut reading, &mut (), &mut (), text);
+        }
+    }
+}
