@@ -3,8 +3,9 @@ use Rattle.std.specs.Result.{is_ok}
 use Rattle.std.specs.declared.alloc.AllocError.{AllocError}
 use Rattle.tiny_http_open_request.specs.declared.exchange.HeadRead.{HeadRead}
 use Rattle.tiny_http_open_request.specs.declared.exchange.HeadRead.TheVariants as read
+use Rattle.tiny_http_open_request.specs.Exchange.{exchange_of}
 use Rattle.tiny_http_open_request.specs.HeadReads.{TakesHead}
-use Rattle.tiny_http_open_request.specs.NextRequest.{at, after_refused, FindsHead, next_of}
+use Rattle.tiny_http_open_request.specs.NextRequest.{at, after_refused, FindsHead}
 use Rattle.tiny_http_open_request.proofs.next_request.next_request.Goals as goal
 
 pub loop-exchange-init : goal.loop-exchange-init
@@ -14,9 +15,10 @@ pub returns-in-Ok-Request : goal.returns-in-Ok-Request
 returns-in-Ok-Request g c =
     let i = c.loop-exchange.invariant in
     let mid = at c.loop-exchange.source c.loop-exchange.place c.loop-exchange.output in
+    let x = exchange_of c.into_parts-head.result.0 c.into_parts-head.result.1 in
     let T : Result HeadRead AllocError → Type 0 = λ r. TakesHead c.args.profile c.args.now c.loop-exchange.source c.read_head_with.new.source r in
-    let is : c.read_head_with.result ≡ Ok (read.Request c.in-Ok-Request.exchange) = c.in-Ok-Request.is ∙ ap (λ y. Ok y) c.in-Ok-Request.field-0-is in
-    record { passed = i.0; mid = mid; passes = i.2; ends = inl (Ok (read.Request c.in-Ok-Request.exchange), subst T is c.read_head_with.ensures, (refl, (refl, refl))) }
+    let is : c.read_head_with.result ≡ Ok (read.Request x) = c.in-Ok-Request.is ∙ ap (λ y. Ok y) c.in-Ok-Request.field-0-is ∙ ap (λ y. Ok (read.Request y)) c.into_parts-head.ensures in
+    record { passed = i.0; mid = mid; passes = i.2; ends = inl (Ok (read.Request x), subst T is c.read_head_with.ensures, (refl, (refl, refl))) }
 
 pub returns-in-Ok-Ended : goal.returns-in-Ok-Ended
 returns-in-Ok-Ended g c =
