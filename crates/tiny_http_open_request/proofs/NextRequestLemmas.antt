@@ -1,5 +1,5 @@
 -- What is found on a connection is what was read of it.
-use Rattle.std.proofs.Common.{◌≡◌, subst, Bool, true, false, Some, Ok, Err, Result, ⊎_elim}
+use Rattle.std.proofs.Common.{◌≡◌, ap, ◌∙◌, subst, Bool, true, false, Some, Ok, Err, Result, ⊎_elim}
 use Rattle.std.specs.declared.alloc.AllocError.{AllocError}
 use Rattle.httpdate.specs.declared.date.HttpDate.{HttpDate}
 use Rattle.tiny_http_open_request.specs.declared.exchange.Exchange.{Exchange}
@@ -7,6 +7,7 @@ use Rattle.tiny_http_open_request.specs.declared.exchange.HeadRead.{HeadRead}
 use Rattle.tiny_http_open_request.specs.declared.exchange.HeadRead.TheVariants as read
 use Rattle.tiny_http_body.specs.declared.framing.Profile.{Profile}
 use Rattle.tiny_http_open_request.specs.declared.next_request.NextRequest.{NextRequest}
+use Rattle.tiny_http_open_request.specs.Exchange.{exchange_of}
 use Rattle.tiny_http_open_request.specs.HeadReads.{TakesHead, IsFramedRequest}
 use Rattle.tiny_http_open_request.specs.NextRequest.{At, Found, Refuses, Follows, FollowsRefusal, FindsHead, FindsNext, next_of}
 
@@ -15,7 +16,7 @@ pub same-next : (x y : Exchange) → ◌≡◌ {A = Found} (Some (Ok (next_of x)
 same-next x y e =
     let head : y.head ≡ x.head = cc in
     let kept : y.open_request ≡ x.open_request = cc in
-    cc
+    ap (λ h. exchange_of h y.open_request) head ∙ ap (λ o. exchange_of x.head o) kept
 
 -- a request that is found is framed as its version and headers say, and its drop's text is that of its head
 found-framed : {R P O : Type 0} (refuses : Refuses P O) (profile : Profile) (date : HttpDate) (here there : At R P O) (x : Exchange)
