@@ -312,11 +312,15 @@ leave-stays front rest marks mid number text was old r before behind e place sta
     by-turn true o = absurd (goes (length front) r none o.1)
     by-turn false o = (o.0, shape, refl, refl)
 
+-- an open number is left, in its turn or before it
+abbrev left_open : Bool → ℕ → List ℕ → List Mark → TurnOutcome
+left_open t n text marks = if t then (Goes n text, slice_set marks n Held) else (Waits, slice_set marks n (Left text))
+
 -- a number whose text comes back is in its turn
 pub leave-in_turn : (marks : List Mark) (n : ℕ) (text : List ℕ) (before behind : Option (Unit {0})) (u : Unit {0}) (back : Vec ℕ) → LeavesTurn (turn_answer (Leave n text) marks) before (LeaveGo u back) behind → (n == first_unfinished marks) ≡ true
 leave-in_turn marks n text before behind u back h = by (slice_get marks n) h
   where
-    when : (t : Bool) → (n == first_unfinished marks) ≡ t → LeavesTurn ((if t then (Goes n text, slice_set marks n Held) else (Waits, slice_set marks n (Left text))).0) before (LeaveGo u back) behind → (n == first_unfinished marks) ≡ true
+    when : (t : Bool) → (n == first_unfinished marks) ≡ t → LeavesTurn ((left_open t n text marks).0) before (LeaveGo u back) behind → (n == first_unfinished marks) ≡ true
     when true e f = e
     when false e f = absurd f
 
@@ -332,13 +336,13 @@ pub leave-comes_back : (marks : List Mark) (n : ℕ) (text : List ℕ) (before b
     → ((u : Unit {0}) (back : Vec ℕ) → r ≡ LeaveGo u back → ⊥) → ⊥
 leave-comes_back marks n text before behind r open_is turn h never =
     let O : Option Mark → Type 0 = λ o. LeavesTurn ((leave_at o n text marks).0) before r behind in
-    let T : Bool → Type 0 = λ t. LeavesTurn ((if t then (Goes n text, slice_set marks n Held) else (Waits, slice_set marks n (Left text))).0) before r behind in
+    let T : Bool → Type 0 = λ t. LeavesTurn ((left_open t n text marks).0) before r behind in
     goes r never (subst T turn (subst O open_is h))
   where
     goes : (x : Leaving (Unit {0})) → ((u : Unit {0}) (v : Vec ℕ) → x ≡ LeaveGo u v → ⊥) → LeavesTurn (Goes n text) before x behind → ⊥
-    goes IsLeft no f = f
-    goes (LeaveGo u v) no f = no u v refl
-    goes (LeaveStrange v) no f = f
+    goes IsLeft not_go f = f
+    goes (LeaveGo u v) not_go f = not_go u v refl
+    goes (LeaveStrange v) not_go f = f
 
 -- a number more doesn't change whose turn it is
 pub first-issued : (marks : List Mark) → first_unfinished (marks ++ (Open ∷ [])) ≡ first_unfinished marks
