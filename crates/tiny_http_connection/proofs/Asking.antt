@@ -25,7 +25,7 @@ pub record AskStep {R W : Type 0} (old new : ConnectionState R W) (now : HttpDat
   pub profile : new.profile ≡ old.profile
   pub declined : IsDeclined step.Ask reply → new ≡ old
   pub ends : AskEnds old new reply
-  pub leaves : AskLeaves old new reply
+  pub leaves : AskLeaves now old new reply
   pub goes_on : GoesOn old.source.feed new.source.feed
   pub fails_once : FailsOnce old.outlet new.outlet
   pub flushed : old.outlet.held ≡ [] → new.outlet.held ≡ []

@@ -332,7 +332,7 @@ ask-reports-none old new Memory h kind e = cc
 
 pub ask-found : {R W : Type 0} (old new : ConnectionState R W) (now : HttpDate) (reply : ReplyValue)
     → ((client : Feed) (before : Sink) (s : State) → before.failures < 2 ^ 64 - 1 → Stands client before (kept old) s → AskIsAnswered client before (kept new) s now reply)
-    → (IsDeclined step.Ask reply → new ≡ old) → AskEnds old new reply → AskLeaves old new reply → Moves false old new → AskStep old new now reply
+    → (IsDeclined step.Ask reply → new ≡ old) → AskEnds old new reply → AskLeaves now old new reply → Moves false old new → AskStep old new now reply
 ask-found old new now reply answers declined ends leaves moves = record {
   does = answers;
   profile = moves.profile;
@@ -348,7 +348,7 @@ ask-found old new now reply answers declined ends leaves moves = record {
 -- memory was found
 pub ask-step : {R W : Type 0} (old new : ConnectionState R W) (now : HttpDate) (reply : ReplyValue) → ((client : Feed) (p : Profile) (left : State) → FoundHead client p reply left)
     → ((client : Feed) (before : Sink) (s : State) → before.failures < 2 ^ 64 - 1 → Stands client before (kept old) s → StepIsAnswered client before (kept new) s now Ask reply)
-    → (IsDeclined step.Ask reply → new ≡ old) → AskEnds old new reply → AskLeaves old new reply → Moves false old new → AskStep old new now reply
+    → (IsDeclined step.Ask reply → new ≡ old) → AskEnds old new reply → AskLeaves now old new reply → Moves false old new → AskStep old new now reply
 ask-step old new now reply found answers declined ends leaves moves =
     ask-found old new now reply (λ client before s low st. (let a = answers client before s low st in (a.0, a.1, a.2, found client new.profile a.0))) declined ends leaves moves
 
@@ -418,9 +418,9 @@ refuses-more old mid new n e h =
 one-behind : (a b n : ℕ) → b ≡ a + 1 → b + n ≡ a + suc n
 one-behind a b n e = omega (arith, e)
 
-leaves-behind : {R W : Type 0} (old mid new : ConnectionState R W) (reply : ReplyValue) → mid.requests ≡ old.requests ++ (None ∷ []) → length mid.marks ≡ length old.marks + 1 → IsBeforeHead old.source.standing → (IsAtEnd old.source → ⊥) → mid.profile ≡ old.profile
-    → ((n : ℕ) (message : Message) (framing : Framing) (left : Option Remaining) → HandsOutHead n mid.profile mid.source.feed message framing left → HandsOutHead (suc n) old.profile old.source.feed message framing left) → AskLeaves mid new reply → AskLeaves old new reply
-leaves-behind old mid new (Handed k message framing) e count here unended same hands h = (
+leaves-behind : {R W : Type 0} (now : HttpDate) (old mid new : ConnectionState R W) (reply : ReplyValue) → mid.requests ≡ old.requests ++ (None ∷ []) → length mid.marks ≡ length old.marks + 1 → IsBeforeHead old.source.standing → (IsAtEnd old.source → ⊥) → mid.profile ≡ old.profile
+    → ((n : ℕ) (message : Message) (framing : Framing) (left : Option Remaining) → HandsOutHead n mid.profile mid.source.feed message framing left → HandsOutHead (suc n) old.profile old.source.feed message framing left) → AskLeaves now mid new reply → AskLeaves now old new reply
+leaves-behind now old mid new (Handed k message framing) e count here unended same hands h = (
   suc h.0,
   h.1,
   one-more old.requests mid.requests new.requests (Some (still.Waiting h.1) ∷ []) h.0 e h.2,
@@ -430,15 +430,16 @@ leaves-behind old mid new (Handed k message framing) e count here unended same h
   hands h.0 message framing (remaining h.1.body new.source.feed) h.6,
   subst (λ p. IsFramedAs p message framing) same h.7,
   h.8,
+  h.9,
 )
-leaves-behind old mid new Ended e count here unended same hands h = (suc h.0, refuses-more old mid new h.0 e h.1, λ z. absurd (⊎_elim (not-last old.source.standing here) unended z))
-leaves-behind old mid new Memory e count here unended same hands h = (suc h.0, refuses-more old mid new h.0 e h.1)
-leaves-behind old mid new NotYet e count here unended same hands h = tt
-leaves-behind old mid new (Given bytes) e count here unended same hands h = elim h [ ]
-leaves-behind old mid new (Fault x) e count here unended same hands h = elim h [ ]
-leaves-behind old mid new Done e count here unended same hands h = elim h [ ]
-leaves-behind old mid new Refused e count here unended same hands h = elim h [ ]
-leaves-behind old mid new NoSuch e count here unended same hands h = elim h [ ]
+leaves-behind now old mid new Ended e count here unended same hands h = (suc h.0, refuses-more old mid new h.0 e h.1, λ z. absurd (⊎_elim (not-last old.source.standing here) unended z))
+leaves-behind now old mid new Memory e count here unended same hands h = (suc h.0, refuses-more old mid new h.0 e h.1)
+leaves-behind now old mid new NotYet e count here unended same hands h = tt
+leaves-behind now old mid new (Given bytes) e count here unended same hands h = elim h [ ]
+leaves-behind now old mid new (Fault x) e count here unended same hands h = elim h [ ]
+leaves-behind now old mid new Done e count here unended same hands h = elim h [ ]
+leaves-behind now old mid new Refused e count here unended same hands h = elim h [ ]
+leaves-behind now old mid new NoSuch e count here unended same hands h = elim h [ ]
 
 -- behind a refused head no body and no answer is waited for
 never-waits : {R W : Type 0} (old mid : ConnectionState R W) (now : HttpDate) → PassesHead old mid now → (mid.source.standing ≡ place.Body ⊎ last_holds_next_head mid.requests ≡ true) → ⊥
@@ -481,7 +482,7 @@ asks-behind-head old mid now p = λ new reply a. record {
   profile = a.profile ∙ p.moves.profile;
   declined = λ was. absurd (never-declined old mid new now reply p a.ends was);
   ends = ends-behind old mid new now reply p a.ends;
-  leaves = leaves-behind old mid new reply p.requests p.counts p.here p.unended p.moves.profile p.hands a.leaves;
+  leaves = leaves-behind now old mid new reply p.requests p.counts p.here p.unended p.moves.profile p.hands a.leaves;
   goes_on = goes-on_more old.source.feed mid.source.feed new.source.feed p.moves.goes_on a.goes_on;
   fails_once = once-append old.outlet.ended mid.outlet.ended new.outlet.ended (output_of old.outlet) (output_of mid.outlet) (output_of new.outlet) p.moves.fails_once a.fails_once;
   flushed = λ was. a.flushed (p.moves.flushed (λ z. was));

@@ -17,7 +17,7 @@ use Rattle.tiny_http_head.specs.Heads.{Message}
 use Rattle.tiny_http_open_request.specs.declared.exchange.EndOfRequests.{EndOfRequests}
 use Rattle.tiny_http_open_request.specs.declared.exchange.EndOfRequests.TheVariants as because
 use Rattle.tiny_http_open_request.specs.HeadReads.{EndsAt, IsBeforeHead, HasByteOrTimedOut, ComesWith, IsFramedAs}
-use Rattle.tiny_http_open_request.specs.HeadReads.{head_message, head_framing}
+use Rattle.tiny_http_open_request.specs.HeadReads.{head_message, head_framing, FitsFraming}
 use Rattle.tiny_http_open_request.specs.OpenRequest.{KeepsHead, HasSentAll}
 use Rattle.tiny_http_open_request.specs.OwnAnswer.{own_text_by}
 use Rattle.tiny_http_open_request.specs.declared.exchange.Head.{Head}
@@ -243,21 +243,17 @@ HandsOutHead n p (Some f) message framing left =
     (place_after framing.is_last next)
     × ComesWith left behind.stop body next)
 
--- this is kept of a request with this head
-abbrev pub KeepsRequestOf : OpenRequest UnreadBody → Message → Framing → Type 0
-KeepsRequestOf w message framing =
-    (h : Head)
-    × (date : HttpDate)
-    × (head_message h ≡ message)
-    × (head_framing h ≡ framing)
-    × KeepsHead w h date
+-- this is kept of a request with this head that was handed out on this date
+abbrev pub KeepsRequestOf : OpenRequest UnreadBody → Message → Framing → HttpDate → Type 0
+KeepsRequestOf w message framing date =
+    (h : Head) × (head_message h ≡ message) × (head_framing h ≡ framing) × KeepsHead w h date
 
 -- What an Ask leaves of requests, source and output, by its reply: a request was added behind the refused heads, as it
 -- stands in the client's bytes and is framed by its head, and the source stands after its head; where none was refused
 -- nothing is sent, and no end or fault of the reader was met. Or none was added. After the last request, or the end of
 -- the source, no head is refused.
-abbrev pub AskLeaves : {R W : Type 0} → ConnectionState R W → ConnectionState R W → ReplyValue → Type 0
-AskLeaves old new (Handed k message framing) =
+abbrev pub AskLeaves : {R W : Type 0} → HttpDate → ConnectionState R W → ConnectionState R W → ReplyValue → Type 0
+AskLeaves now old new (Handed k message framing) =
     (n : ℕ)
     × (w : OpenRequest UnreadBody)
     × (new.requests ≡ old.requests ++ replicate n None ++ Some (still.Waiting w) ∷ [])
@@ -266,12 +262,13 @@ AskLeaves old new (Handed k message framing) =
     × (n ≡ 0 → (new.outlet ≡ old.outlet) × (new.source.stop ≡ old.source.stop))
     × HandsOutHead n old.profile old.source.feed message framing (remaining w.body new.source.feed)
     × IsFramedAs old.profile message framing
-    × KeepsRequestOf w message framing
-AskLeaves old new Memory = (n : ℕ) × RefusesHeads n old new
-AskLeaves old new Ended =
+    × FitsFraming framing w.body
+    × KeepsRequestOf w message framing now
+AskLeaves now old new Memory = (n : ℕ) × RefusesHeads n old new
+AskLeaves now old new Ended =
     (n : ℕ) × RefusesHeads n old new × (old.source.standing ≡ at.Last ⊎ IsAtEnd old.source → n ≡ 0)
-AskLeaves old new NotYet = Unit {0}
-AskLeaves old new _ = ⊥
+AskLeaves now old new NotYet = Unit {0}
+AskLeaves now old new _ = ⊥
 
 -- A read from the body of a request that leaves this of it: where it is read from the source, that stands by what is
 -- left; else the source is left alone.
@@ -357,7 +354,7 @@ ReadLeaves k n old new _ = ⊥
 -- request go. An IntoWriter gives the body up.
 abbrev pub StepLeaves : {R W : Type 0} → Step (Option Feed) → HttpDate → ConnectionState R W → ConnectionState R W
     → ReplyValue → Type 0
-StepLeaves step.Ask now old new reply = AskLeaves old new reply
+StepLeaves step.Ask now old new reply = AskLeaves now old new reply
 StepLeaves (step.AsReader k) now old new reply =
     (new.source ≡ old.source) × (new.marks ≡ old.marks) × SendsContinue k now old new reply
 StepLeaves (step.Read k n) now old new reply =

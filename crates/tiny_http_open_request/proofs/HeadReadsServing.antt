@@ -49,7 +49,7 @@ use Rattle.tiny_http_open_request.specs.OpenRequest.{KeepsHead}
 use Rattle.tiny_http_io.specs.Source.{TakesExactly, feed_from, IsCutOff}
 use Rattle.tiny_http_body.specs.Framing.{head_limit}
 use Rattle.tiny_http_open_request.specs.Pipeline.{Manner, plainly, Asks, Refusal, BadRequest, RequestTimeout, ExpectationFailed, HeaderFieldsTooLarge, VersionNotSupported, refusal_status, framing_refusal, is_head_method, ends_too_new, Place, BeginsWithin, IsUnfinishedHead, IsCutHead, IsRequestHead, Heading, RulesHeadAt, HeadAt, profile_of, Silence, Refused, Heads, IsCutWithHead, is_timed_out, body_length_or_0, BodyAt, OneHead, item_of, next_place, place_after, place_feed}
-use Rattle.tiny_http_open_request.specs.HeadReads.{ReadsMessage, ReadsHead, RefusesWith, AnswersCut, AnswersFault, RefusesTooNew, IsBadLine, IsRefusedUncut, IsOkEnd, HasByteOrTimedOut, Begins, ComesWith, IsBeforeHead, RulesEndBy, EndsBy, cut_end, end_at, message_of, head_message, head_framing}
+use Rattle.tiny_http_open_request.specs.HeadReads.{ReadsMessage, ReadsHead, RefusesWith, AnswersCut, AnswersFault, RefusesTooNew, IsBadLine, IsRefusedUncut, IsOkEnd, HasByteOrTimedOut, Begins, ComesWith, IsBeforeHead, RulesEndBy, EndsBy, cut_end, end_at, message_of, head_message, head_framing, FitsFraming, FitsHead}
 use Rattle.tiny_http_open_request.specs.declared.exchange.EndOfRequests.{EndOfRequests}
 use Rattle.tiny_http_open_request.specs.declared.exchange.EndOfRequests.TheVariants as because
 use Rattle.tiny_http_io.specs.declared.source.Standing.{Standing}
@@ -282,6 +282,30 @@ begins-cut f None new n e is h = tt
 begins-cut f (Some x) new n e is h =
     let P : Form → Type 0 = λ y. IsCutWithHead y (body_length_or_0 f) x.bytes in
     subst P (sym e) (omega (arith, h.0, is))
+
+-- each body fits its framing, whatever the reader states
+pub fits-rest : (f : Framing) → f.form ≡ Rest → FitsFraming f body.Rest
+fits-rest f e = (e, refl)
+
+pub fits-nothing : (f : Framing) → f.form ≡ Nothing → FitsFraming f (body.Over End)
+fits-nothing f e = rw e refl
+
+pub fits-counted : (f : Framing) (b : UnreadBody) (n : ℕ) → f.form ≡ Counted → n ≡ body_length_or_0 f → ReadsOn (body.Counted n f.by_standard) 0 false b → FitsFraming f b
+fits-counted f b n e is moves =
+    let P : ℕ → Type 0 = λ k. Fits f.by_standard b Counted k 0 false in
+    let Q : Form → Type 0 = λ y. Fits f.by_standard b y (body_length_or_0 f) 0 false in
+    subst Q (sym e) (subst P is (counted-fits f.by_standard b n moves))
+
+pub fits-chunked : (f : Framing) (d : Decoding) → f.form ≡ Chunked → decoding_rules d ≡ chunk_rules f.by_standard → FitsFraming f (body.Chunked d)
+fits-chunked f d e rules = (e, refl, rules)
+
+pub fits-held : (f : Framing) (c : Cursor (Vec ℕ)) → f.form ≡ WithHead → FitsFraming f (body.WithHead c)
+fits-held f c e = e
+
+pub fits-handed : (f : Framing) (b : UnreadBody) (x : Exchange) → head_framing x.head ≡ f → x.open_request.body ≡ b → FitsFraming f b → FitsHead (read.Request x)
+fits-handed f b x e k h =
+    let F : Framing → Type 0 = λ y. FitsFraming y x.open_request.body in
+    subst F (sym e) (subst (λ y. FitsFraming f y) (sym k) h)
 
 -- the request under a message and a framing that are those of a head
 abbrev IsHanded : Profile → Feed → Option Feed → UnreadBody → Texted → Framing → Type 0

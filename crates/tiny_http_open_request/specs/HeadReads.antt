@@ -49,7 +49,7 @@ use Rattle.tiny_http_open_request.specs.Pipeline.{IsCutHead, IsNotAsciiHead, Bod
 use Rattle.tiny_http_open_request.specs.Pipeline.{place_after, served_version, standard_framing}
 use Rattle.tiny_http_open_request.specs.OwnAnswer.{own_text, refusal_response, refused_text}
 use Rattle.tiny_http_body.specs.Body.{Remaining, remaining, Fits}
-use Rattle.tiny_http_open_request.specs.Exchange.{exchange_head, exchange_open, exchange_left, exchange_streams}
+use Rattle.tiny_http_open_request.specs.Exchange.{exchange_head, exchange_open, exchange_left, exchange_streams, exchange_body}
 use Rattle.tiny_http_open_request.specs.Exchange.{KeepsRequest}
 use Rattle.tiny_http_open_request.specs.declared.open_request.OpenRequest.{OpenRequest}
 use Rattle.tiny_http_open_request.specs.OpenRequest.{KeepsHead}
@@ -273,6 +273,10 @@ AnswersFault v fault.Memory stop date r = IsErr r
 abbrev pub ComesWith : Option Remaining → Stop → Feed → Place → Type 0
 ComesWith left stop body next = left ≡ Some (record { body = body; behind = place_feed stop next })
 
+-- a body of which nothing was read fits the framing
+abbrev pub FitsFraming : Framing → UnreadBody → Type 0
+FitsFraming f b = Fits f.by_standard b f.form (body_length_or_0 f) 0 false
+
 -- The body that begins at the input's place, or none: it is read with its head, and cut short.
 abbrev pub Begins : Framing → Option Feed → Option Feed → Option UnreadBody → Type 0
 Begins f None new b = ⊤
@@ -282,7 +286,7 @@ Begins f (Some x) new (Some b) =
     × (body : Feed)
     × (next : Place)
     × BodyAt f.by_standard f.form (body_length_or_0 f) x.bytes x.stop body next
-    × ComesWith (remaining b new) x.stop body next × Fits f.by_standard b f.form (body_length_or_0 f) 0 false
+    × ComesWith (remaining b new) x.stop body next × FitsFraming f b
 
 -- the reader times out
 abbrev pub TimesOut : Option Feed → Type 0
@@ -375,6 +379,11 @@ IsFramedRequest p date (read.Request x) =
     IsFramedBy p date (exchange_head x) (exchange_open x)
 IsFramedRequest p date _ = ⊤
 
+-- the body of a request that was read fits its framing
+abbrev pub FitsHead : HeadRead → Type 0
+FitsHead (read.Request x) = FitsFraming (head_framing (exchange_head x)) (exchange_body x)
+FitsHead _ = ⊤
+
 -- where a source stands after the head of this request
 abbrev pub standing_of : Exchange → Standing
 standing_of x =
@@ -404,9 +413,10 @@ pub record TakesHead {R : Type 0} (p : Profile) (date : HttpDate) (old new : Sou
   -- Unless it is the end, a byte of a head has come; or, but by the standard, the reader timed out. Memory isn't
   -- refused in place of the end.
   pub begun : (IsOkEnd r → ⊥) → HasByteOrTimedOut p old.feed
-  -- whatever the reader states: a request is framed as its version and headers say, and its drop's text is that of
-  -- its head
+  -- whatever the reader states: a request is framed as its version and headers say, its body is so framed, and its
+  -- drop's text is that of its head
   pub framed : IfOk r (IsFramedRequest p date)
+  pub fits : IfOk r FitsHead
   -- nothing is read ahead: where a request was read no end or fault of the reader was met
   pub lazy : IfOk r (λ x. IsRequest x → new.stop ≡ old.stop)
   pub standing : new.standing ≡ standing_read r old.standing

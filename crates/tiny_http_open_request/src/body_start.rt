@@ -1,7 +1,7 @@
 //! How a body begins after its head (RFC 9112, section 6).
-ghost use Rattle.std.specs.Prelude.{◌≡◌, None, IfOk, IsSome};
+ghost use Rattle.std.specs.Prelude.{◌≡◌, None, IfOk, IfSome, IsSome};
 ghost use Rattle.tiny_http_io.specs.Source.{GoesOn, IsCutOff};
-ghost use Rattle.tiny_http_open_request.specs.HeadReads.{Begins};
+ghost use Rattle.tiny_http_open_request.specs.HeadReads.{Begins, FitsFraming};
 
 use std::alloc::{AllocError, Global};
 use std::io::Cursor;
@@ -19,6 +19,7 @@ pub fn begin_body<R: ReadDevice>(
     framing: Framing,
 ) -> Result<Option<UnreadBody>, AllocError>
     ensures begins { IfOk result (Begins framing source.old.feed source.new.feed) }
+    ensures fits { IfOk result (λ body. IfSome body (FitsFraming framing)) }
     ensures goes_on { GoesOn source.old.feed source.new.feed }
     ensures lazy { IfOk result (λ body. IsSome body → source.new.stop ≡ source.old.stop) }
     ensures cut { IfOk result (λ body. body ≡ None → IsCutOff source.old source.new) }

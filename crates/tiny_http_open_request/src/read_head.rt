@@ -2,7 +2,7 @@
 ghost use Rattle.std.specs.Prelude.{◌≡◌, IfOk};
 ghost use Rattle.tiny_http_io.specs.Source.{GoesOn, IsAtEnd};
 ghost use Rattle.tiny_http_open_request.specs.Pipeline.{profile_of};
-ghost use Rattle.tiny_http_open_request.specs.HeadReads.{ReadsHead, TakesHead, HasByteOrTimedOut, IsRequest};
+ghost use Rattle.tiny_http_open_request.specs.HeadReads.{FitsHead, ReadsHead, TakesHead, HasByteOrTimedOut, IsRequest};
 ghost use Rattle.tiny_http_open_request.specs.HeadReads.{IsFramedRequest, IsRefusedUncut, IsOkEnd, end_at};
 ghost use Rattle.tiny_http_open_request.specs.HeadReads.{message_of, head_message, head_framing};
 
@@ -46,6 +46,7 @@ fn read_by_rules<R: ReadDevice>(
     ensures at_end { IsAtEnd source.old → IsOkEnd result × (source.new ≡ source.old) }
     ensures begun { (IsOkEnd result → ⊥) → HasByteOrTimedOut (profile_of rules) source.old.feed }
     ensures framed { IfOk result (IsFramedRequest (profile_of rules) now) }
+    ensures fits { IfOk result FitsHead }
     ensures lazy { IfOk result (λ read. IsRequest read → source.new.stop ≡ source.old.stop) }
     ensures passed { IfOk result (λ read. IsRefusedUncut read → source.new.stop ≡ source.old.stop) }
     ensures standing { source.new.standing ≡ source.old.standing }
@@ -91,6 +92,7 @@ fn read_item<R: ReadDevice>(
     ensures at_end { IsAtEnd source.old → IsOkEnd result × (source.new ≡ source.old) }
     ensures begun { (IsOkEnd result → ⊥) → HasByteOrTimedOut profile source.old.feed }
     ensures framed { IfOk result (IsFramedRequest profile now) }
+    ensures fits { IfOk result FitsHead }
     ensures lazy { IfOk result (λ read. IsRequest read → source.new.stop ≡ source.old.stop) }
     ensures passed { IfOk result (λ read. IsRefusedUncut read → source.new.stop ≡ source.old.stop) }
     ensures standing { source.new.standing ≡ source.old.standing }

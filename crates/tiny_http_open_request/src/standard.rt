@@ -6,7 +6,7 @@ ghost use Rattle.tiny_http_standard_head.specs.Heads.{status_of};
 ghost use Rattle.tiny_http_open_request.specs.Pipeline.{by_the_standard, served_version, standard_form};
 ghost use Rattle.tiny_http_open_request.specs.Pipeline.{standard_framing, standard_heads};
 ghost use Rattle.tiny_http_io.specs.ToCome.{HasByte};
-ghost use Rattle.tiny_http_open_request.specs.HeadReads.{ReadsHead, RefusesWith, IsRequest, IsFramedRequest};
+ghost use Rattle.tiny_http_open_request.specs.HeadReads.{FitsHead, ReadsHead, RefusesWith, IsRequest, IsFramedRequest};
 ghost use Rattle.tiny_http_open_request.specs.HeadReads.{IsRefusedUncut, IsOkEnd, head_framing};
 ghost use Rattle.tiny_http_open_request.specs.StandardReads.{AnswersStandardCut, IsHeadOf};
 
@@ -111,6 +111,7 @@ pub(crate) fn read_standard<R: ReadDevice>(
     ensures at_end { IsAtEnd source.old → IsOkEnd result × (source.new ≡ source.old) }
     ensures begun { (IsOkEnd result → ⊥) → HasByte source.old.feed }
     ensures framed { IfOk result (IsFramedRequest Profile.Standard now) }
+    ensures fits { IfOk result FitsHead }
     ensures lazy { IfOk result (λ read. IsRequest read → source.new.stop ≡ source.old.stop) }
     ensures passed { IfOk result (λ read. IsRefusedUncut read → source.new.stop ≡ source.old.stop) }
     ensures standing { source.new.standing ≡ source.old.standing }

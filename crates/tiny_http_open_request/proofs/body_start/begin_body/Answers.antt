@@ -1,11 +1,11 @@
 use Rattle.std.proofs.Common.{rules, refl, sym, subst, ap, ◌∙◌, ℕ, List, Option, None, Some, drop}
 use Rattle.tiny_http_body.specs.declared.body.UnreadBody.{UnreadBody}
-use Rattle.tiny_http_open_request.specs.HeadReads.{Begins}
+use Rattle.tiny_http_open_request.specs.HeadReads.{Begins, FitsFraming}
 use Rattle.tiny_http_io.specs.Device.{Feed}
 use Rattle.tiny_http_io.specs.Source.{TakesExactly}
 use Rattle.std.specs.Global.{Vec}
 use Rattle.std.specs.Io.Cursor.{cursor_inner}
-use Rattle.tiny_http_open_request.proofs.HeadReadsServing.{begins-rest, begins-nothing, begins-counted, begins-chunked, begins-held, begins-cut}
+use Rattle.tiny_http_open_request.proofs.HeadReadsServing.{begins-rest, begins-nothing, begins-counted, begins-chunked, begins-held, begins-cut, fits-rest, fits-nothing, fits-counted, fits-chunked, fits-held}
 use Rattle.tiny_http_open_request.proofs.body_start.begin_body.Goals as goal
 
 pub returns-in-Rest-clause-begins : goal.returns-in-Rest-clause-begins
@@ -43,3 +43,20 @@ returns-in-Ok-None-clause-cut g c none =
       over = taken.takes.over refl;
       remains = λ f e. let P : Option Feed → Type 0 = λ o. TakesExactly items c.unwrap_or-length.result o c.take_exactly.new.self.feed None in (subst P e taken.takes.takes).1;
     }
+
+pub returns-in-Rest-clause-fits : goal.returns-in-Rest-clause-fits
+returns-in-Rest-clause-fits g c = fits-rest c.args.framing (search rules)
+
+pub returns-in-Nothing-clause-fits : goal.returns-in-Nothing-clause-fits
+returns-in-Nothing-clause-fits g c = fits-nothing c.args.framing (search rules)
+
+pub returns-in-Counted-clause-fits : goal.returns-in-Counted-clause-fits
+returns-in-Counted-clause-fits g c = fits-counted c.args.framing c.counted.result _ (search rules) (search rules) c.counted.ensures.moves
+
+pub returns-in-Chunked-clause-fits : goal.returns-in-Chunked-clause-fits
+returns-in-Chunked-clause-fits g c =
+    let k = c.chunked.ensures in
+    subst (λ b. FitsFraming c.args.framing b) (sym k.1) (fits-chunked c.args.framing k.0 (search rules) k.2.rules)
+
+pub returns-in-Ok-Some-clause-fits : goal.returns-in-Ok-Some-clause-fits
+returns-in-Ok-Some-clause-fits g c = fits-held c.args.framing c.new.result (search rules)

@@ -3,9 +3,9 @@ use Rattle.tiny_http_io.specs.Device.{Feed}
 use Rattle.tiny_http_io.specs.Source.{GoesOn}
 use Rattle.tiny_http_io.specs.declared.source.Standing.TheVariants as at
 use Rattle.tiny_http_open_request.specs.declared.exchange.HeadRead.TheVariants as read
-use Rattle.tiny_http_open_request.specs.HeadReads.{ReadsHead, ReadsMessage, RefusesWith, RefusesTooNew}
+use Rattle.tiny_http_open_request.specs.HeadReads.{ReadsHead, ReadsMessage, RefusesWith, RefusesTooNew, head_framing}
 use Rattle.tiny_http_open_request.specs.Pipeline.{ends_too_new, plainly, profile_of}
-use Rattle.tiny_http_open_request.proofs.HeadReadsServing.{head-closed, head-refused, head-unframed, head-too_new, passed-on, head-cut, head-handed, cut-stop, begun-is, end-unanswered, timed-out, other-rules, cut-passed, fault-passed}
+use Rattle.tiny_http_open_request.proofs.HeadReadsServing.{fits-handed, head-closed, head-refused, head-unframed, head-too_new, passed-on, head-cut, head-handed, cut-stop, begun-is, end-unanswered, timed-out, other-rules, cut-passed, fault-passed}
 use Rattle.tiny_http_io.proofs.SourceGoesOn.{goes-on_more}
 use Rattle.tiny_http_open_request.proofs.read_head.read_by_rules.Goals as goal
 
@@ -120,3 +120,10 @@ pub returns-in-Ok-new-clause-lazy : goal.returns-in-Ok-new-clause-lazy
 returns-in-Ok-new-clause-lazy g c is =
     let taken = rw c.in-Ok-Some.field-0-is at c.in-Ok-Some.ensures in
     taken.lazy refl ∙ c.in-Ok.ensures.lazy ∙ (c.if-not-has_byte.ensures.looks.some refl).1
+
+pub returns-in-Ok-new-clause-fits : goal.returns-in-Ok-new-clause-fits
+returns-in-Ok-new-clause-fits g c =
+    let taken = rw c.in-Ok-Some.field-0-is at c.in-Ok-Some.ensures in
+    let kept = c.in-Ok-new.ensures in
+    let says = c.new-in-Ok-new.ensures in
+    fits-handed c.in-Ok-framing_of.framing c.in-Ok-Some.body c.new-in-Ok-new.result (ap head_framing says.head ∙ c.head_of-head.ensures.framing) (search (rules, says.open, kept.0)) taken.fits

@@ -21,6 +21,7 @@ returns-in-Body g c =
       at_end = search rules;
       begun = search rules;
       framed = search rules;
+      fits = search rules;
       lazy = search rules;
       standing = search rules;
     }
@@ -42,6 +43,7 @@ returns-in-Ok-Ended g c =
       at_end = search rules;
       begun = search rules;
       framed = search rules;
+      fits = search rules;
       lazy = search rules;
       standing = search rules;
     }
@@ -57,6 +59,7 @@ returns-then-last g c =
       at_end = search rules;
       begun = search rules;
       framed = search rules;
+      fits = search rules;
       lazy = search rules;
       standing = search rules;
     }
@@ -72,6 +75,7 @@ returns-in-Err g c =
       at_end = search rules;
       begun = search rules;
       framed = search rules;
+      fits = search rules;
       lazy = search rules;
       standing = search rules;
     }

@@ -1,12 +1,12 @@
-use Rattle.std.proofs.Common.{rules, refl, subst, Option, Ok}
+use Rattle.std.proofs.Common.{rules, refl, ap, ◌∙◌, subst, Option, Ok}
 use Rattle.tiny_http_io.specs.Device.{Feed}
 use Rattle.tiny_http_io.specs.Source.{GoesOn}
 use Rattle.tiny_http_io.specs.declared.source.Standing.TheVariants as at
 use Rattle.tiny_http_io.proofs.SourceGoesOn.{goes-on_more}
 use Rattle.tiny_http_body.specs.declared.framing.Profile.TheVariants.{Standard}
 use Rattle.tiny_http_open_request.specs.declared.exchange.HeadRead.TheVariants as read
-use Rattle.tiny_http_open_request.specs.HeadReads.{ReadsHead}
-use Rattle.tiny_http_open_request.proofs.HeadReadsServing.{cut-stop}
+use Rattle.tiny_http_open_request.specs.HeadReads.{ReadsHead, head_framing}
+use Rattle.tiny_http_open_request.proofs.HeadReadsServing.{cut-stop, fits-handed}
 use Rattle.tiny_http_open_request.proofs.StandardServing.{standard-closed, standard-faulty, standard-unfinished, standard-handed, standard-body_cut, standard-framed}
 use Rattle.tiny_http_open_request.proofs.standard.read_standard.Goals as goal
 
@@ -66,3 +66,10 @@ returns-in-Ok-clause-framed g c =
     let kept = c.in-Ok.ensures in
     let says = c.new-in-Ok.ensures in
     standard-framed c.args.now c.in-Ok-Whole.head c.framing_of-framing.result c.head_of-head.result c.new-in-Ok.result judged c.head_of-head.ensures.message c.framing_of-framing.ensures c.head_of-head.ensures.framing says.head (search (rules, says.open, kept.1))
+
+pub returns-in-Ok-clause-fits : goal.returns-in-Ok-clause-fits
+returns-in-Ok-clause-fits g c =
+    let taken = rw c.in-Ok-Some.field-0-is at c.in-Ok-Some.ensures in
+    let kept = c.in-Ok.ensures in
+    let says = c.new-in-Ok.ensures in
+    fits-handed c.framing_of-framing.result c.in-Ok-Some.body c.new-in-Ok.result (ap head_framing says.head ∙ c.head_of-head.ensures.framing) (search (rules, says.open, kept.0)) taken.fits
