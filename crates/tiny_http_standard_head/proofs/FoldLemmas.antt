@@ -1,5 +1,5 @@
 -- Codings, from element to element.
-use Rattle.std.proofs.Common.{◌≡◌, refl, sym, ap, ◌∙◌, ℕ, ◌+◌, ◌<◌, true, List, [], ◌∷◌, ◌++◌, length, drop, get_or, Option, Some, None, Result, Ok, Err}
+use Rattle.std.proofs.Common.{◌≡◌, refl, sym, ap, ◌∙◌, ℕ, ◌+◌, ◌<◌, true, List, [], ◌∷◌, ◌++◌, length, drop, get_or}
 use Rattle.httparse.specs.Grammar.{is_ows}
 use Rattle.tiny_http_text.specs.Bytes.{trimmed}
 use Rattle.tiny_http_head.specs.declared.common.Header.{Header}
