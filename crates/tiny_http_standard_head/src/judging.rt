@@ -1,6 +1,6 @@
 //! What a whole head says, and why it is refused (RFC 9112, sections 3.2, 6 and 9.3; RFC 9110, sections 7.8, 10.1.1
 //! and 15), and whether it asks for chunks (RFC 9110, section 10.1.4).
-ghost use Rattle.std.specs.Prelude.{◌≡◌, ◌↔◌, ◌==◌, not, IsTrue, IsFalse, IfSome, IfNone, codes, None};
+ghost use Rattle.std.specs.Prelude.{◌≡◌, ◌↔◌, ◌==◌, not, IsTrue, IsFalse, IfSome, IfNone, codes};
 ghost use Rattle.std.specs.List.{list_all, list_any};
 ghost use Rattle.httparse.specs.Grammar.{is_ows};
 ghost use Rattle.tiny_http_text.specs.Bytes.{trimmed, parts};
@@ -13,8 +13,7 @@ ghost use Rattle.tiny_http_standard_head.specs.Judging.{is_protocol, has_body, o
 ghost use Rattle.tiny_http_standard_head.specs.Judging.{asks_upgrade, is_protocol_named, names_protocol, Judges};
 ghost use Rattle.tiny_http_standard_head.specs.Te.{between_semicolons, is_weight, weight_value, is_zero};
 ghost use Rattle.tiny_http_standard_head.specs.Te.{has_zero_weight, element_asks_chunked, asks_chunked};
-ghost use Rattle.tiny_http_standard_head.specs.JudgingReading.{is_wanted, coding_after, codings_on};
-ghost use Rattle.tiny_http_standard_head.specs.JudgingReading.{body_by};
+ghost use Rattle.tiny_http_standard_head.specs.JudgingReading.{is_wanted, coding_after, codings_on, body_by};
 ghost use Rattle.tiny_http_standard_head.specs.declared.judging.Codings.TheVariants.{Absent};
 
 use crate::hosts::is_host_value;
