@@ -1,8 +1,8 @@
 -- How a head is framed: there is one way, and a head that names an upgrade is the last.
-use Rattle.std.proofs.Common.{◌≡◌, refl, sym, ap, ◌∙◌, subst, ℕ, zero, suc, T, Bool, true, false, not, ◌&&◌, ◌||◌, inl, inr, List, [], ◌∷◌, ◌++◌, Option, Some, None, Ok, Err, arith, eqb-true, ⊎_elim, ◌+◌, ◌≤◌, drop, get_or, length}
+use Rattle.std.proofs.Common.{◌≡◌, refl, sym, ap, ◌∙◌, subst, ℕ, zero, suc, Bool, true, false, not, ◌&&◌, ◌||◌, inl, inr, List, [], ◌∷◌, ◌++◌, Option, Some, None, Ok, Err, arith, eqb-true, ⊎_elim, ◌+◌, ◌≤◌, drop, get_or, length}
 use Rattle.std.specs.Prelude.{◌==◌, ◌<◌, ◌⊎◌, nat_le, Result, is_some, codes, if◌then◌else◌}
 use Rattle.std.proofs.lemmas.List.{at_drop_more, at_drop_all}
-use Rattle.std.proofs.Math.Dec.{eqb_refl, eqb-suc-zero}
+use Rattle.std.proofs.Math.Dec.{eqb-suc-zero}
 use Rattle.std.proofs.lemmas.Bool.{and_parts, leb-true, leb-false, le-leb, lt-leb}
 use Rattle.tiny_http_head.specs.Common.{same_name}
 use Rattle.tiny_http_head.specs.declared.content_length.InvalidLength.{InvalidLength}
