@@ -11,7 +11,8 @@ use Rattle.tiny_http_io.specs.declared.device.Stop.{Stop}
 use Rattle.tiny_http_text.specs.Bytes.{crlf, HasNo}
 use Rattle.tiny_http_io.specs.Device.{Feed, prepended, fault_of}
 use Rattle.tiny_http_text.specs.Lines.{has_crlf}
-use Rattle.tiny_http_body.specs.Chunks.{IsShortLine, IsShortLineBy, ChunkLineFault, ChunkLineFaultBy, line_feed, longest_line}
+use Rattle.tiny_http_head.specs.Heads.{line_feed}
+use Rattle.tiny_http_body.specs.Chunks.{IsShortLine, IsShortLineBy, ChunkLineFault, ChunkLineFaultBy, longest_line}
 use Rattle.tiny_http_io.proofs.DeviceFeeds.{given-along}
 use Rattle.tiny_http_body.specs.declared.chunked.ChunkRules.{ChunkRules}
 use Rattle.tiny_http_body.specs.declared.chunked.ChunkRules.TheVariants.{Lenient, Standard}

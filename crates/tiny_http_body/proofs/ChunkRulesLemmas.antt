@@ -8,7 +8,8 @@ use Rattle.std.proofs.lemmas.Bool.{and_parts, ltb-true, lt-ltb}
 use Rattle.httparse.specs.Grammar.{is_token_byte, is_value_byte}
 use Rattle.tiny_http_text.specs.Bytes.{HasNo, colon, crlf}
 use Rattle.tiny_http_text.specs.Lines.{has_crlf}
-use Rattle.tiny_http_body.specs.Chunks.{longest_line, line_feed, LoneFeed, FieldText}
+use Rattle.tiny_http_head.specs.Heads.{line_feed}
+use Rattle.tiny_http_body.specs.Chunks.{longest_line, LoneFeed, FieldText}
 use Rattle.tiny_http_body.specs.ChunkReading.{has_lone_feed, is_field_behind}
 
 -- an LF stands before the first CR LF

@@ -1,12 +1,13 @@
 -- How a head is framed: there is one way, and a head that names an upgrade is the last.
-use Rattle.std.proofs.Common.{◌≡◌, refl, sym, ap, ◌∙◌, subst, ℕ, zero, suc, T, Bool, true, false, not, ◌&&◌, ◌||◌, inl, inr, List, [], ◌∷◌, ◌++◌, Option, Some, None, Ok, Err, arith, eqb-true, ⊎_elim, ◌+◌, ◌≤◌, drop, get_or, length}
+use Rattle.std.proofs.Common.{◌≡◌, refl, sym, ap, ◌∙◌, subst, ℕ, zero, suc, Bool, true, false, not, ◌&&◌, ◌||◌, inl, inr, List, [], ◌∷◌, ◌++◌, Option, Some, None, Ok, Err, arith, eqb-true, ⊎_elim, ◌+◌, ◌≤◌, drop, get_or, length}
 use Rattle.std.specs.Prelude.{◌==◌, ◌<◌, ◌⊎◌, nat_le, Result, is_some, codes, if◌then◌else◌}
-use Rattle.std.specs.List.{list_all}
 use Rattle.std.proofs.lemmas.List.{at_drop_more, at_drop_all}
-use Rattle.std.proofs.Math.Dec.{eqb_refl, eqb-suc-zero}
+use Rattle.std.proofs.Math.Dec.{eqb-suc-zero}
 use Rattle.std.proofs.lemmas.Bool.{and_parts, leb-true, leb-false, le-leb, lt-leb}
 use Rattle.tiny_http_head.specs.Common.{same_name}
-use Rattle.tiny_http_head.specs.Heads.{length_of}
+use Rattle.tiny_http_head.specs.declared.content_length.InvalidLength.{InvalidLength}
+use Rattle.tiny_http_head.specs.ContentLength.{one_length}
+use Rattle.tiny_http_head.proofs.ContentLengthLemmas.{one-is, one-reads}
 use Rattle.tiny_http_head.specs.declared.common.Header.{Header}
 use Rattle.tiny_http_head.specs.declared.common.HTTPVersion.{HTTPVersion}
 use Rattle.tiny_http_body.specs.declared.framing.HeadRules.{HeadRules}
@@ -16,29 +17,10 @@ use Rattle.tiny_http_body.specs.declared.framing.FramingFault.TheVariants.{Inval
 use Rattle.tiny_http_body.specs.declared.framing.Form.{Form}
 use Rattle.tiny_http_body.specs.declared.framing.Form.TheVariants.{Rest, Nothing, WithHead, Counted, Chunked}
 use Rattle.tiny_http_body.specs.declared.framing.Framing.{Framing}
-use Rattle.tiny_http_body.specs.Framing.{mentions, value_of, elements_of, lenient_length, expectation, names_upgrade, names_coding, EachIs, EndsWithChunked, IsStrictLength, IsBodyLength, IsForm, is_last, Frames}
-use Rattle.tiny_http_body.specs.FramingReading.{first_value, framing, framed_if, framed_by, form_by, sized_form, is_number, is_length, one_length, ends_with_chunked, strict_length, body_length}
+use Rattle.tiny_http_body.specs.Framing.{mentions, value_of, elements_of, lenient_length, expectation, names_upgrade, names_coding, EndsWithChunked, IsStrictLength, IsBodyLength, IsForm, is_last, Frames}
+use Rattle.tiny_http_body.specs.FramingReading.{first_value, framing, framed_if, framed_by, form_by, sized_form, uncoded_length, ends_with_chunked, strict_length, body_length}
 
 -- the length that the headers say
-
-each-is : (n : ℕ) (texts : List (List ℕ)) → list_all (is_length n) texts ≡ true → EachIs n texts
-each-is n [] h = tt
-each-is n (text ∷ texts) h = let k = and_parts (is_length n text) (list_all (is_length n) texts) h in (number-is (length_of text) k.0, each-is n texts k.1)
-  where
-    number-is : (o : Option ℕ) → is_number n o ≡ true → o ≡ Some n
-    number-is None e = cc
-    number-is (Some m) e = ap Some (eqb-true m n e)
-
-same-number : (n : ℕ) → (n == n) ≡ true
-same-number n = T-to-path (eqb_refl n)
-  where
-    T-to-path : {t : Bool} → T t → t ≡ true
-    T-to-path {t = true} h = refl
-    T-to-path {t = false} h = absurd h
-
-each-one : (n : ℕ) (texts : List (List ℕ)) → EachIs n texts → list_all (is_length n) texts ≡ true
-each-one n [] h = refl
-each-one n (text ∷ texts) h = rw (h.0, same-number n, each-one n texts h.1) refl
 
 ends-is : (coding : List ℕ) (codings : List (List ℕ)) → ends_with_chunked coding codings ≡ true → EndsWithChunked (coding ∷ codings)
 ends-is coding [] h = ([], coding, refl, h)
@@ -57,17 +39,12 @@ ends-one (b ∷ before) last coding (next ∷ codings) e h = let tail : next ∷
 same-length : {x y : Option ℕ} → ◌≡◌ {A = Result (Option ℕ) FramingFault} (Ok x) (Ok y) → x ≡ y
 same-length e = cc
 
-one-is : (text : List ℕ) (texts : List (List ℕ)) (n : Option ℕ) (o : Option ℕ) → length_of text ≡ o → one_length o texts ≡ Ok n → IsStrictLength (text ∷ texts) [] n
-one-is text texts n None e h = let no : ◌≡◌ {A = Result (Option ℕ) FramingFault} (Err Invalid) (Ok n) = h in cc
-one-is text texts n (Some m) e h = by (list_all (is_length m) texts) refl h
-  where
-    by : (t : Bool) → list_all (is_length m) texts ≡ t → (if t then Ok (Some m) else Err Invalid) ≡ Ok n → IsStrictLength (text ∷ texts) [] n
-    by true all h = (m, (let same : Some m ≡ n = same-length h in sym same), (e, each-is m texts all))
-    by false all h = let no : ◌≡◌ {A = Result (Option ℕ) FramingFault} (Err Invalid) (Ok n) = h in cc
+uncoded-is : (r : Result (Option ℕ) InvalidLength) (n : Option ℕ) → uncoded_length r ≡ Ok n → r ≡ Ok n
+uncoded-is (Ok m) n h = ap Ok (same-length h)
+uncoded-is (Err e) n h = let no : ◌≡◌ {A = Result (Option ℕ) FramingFault} (Err Invalid) (Ok n) = h in cc
 
 once-is : (lengths codings : List (List ℕ)) (n : Option ℕ) → strict_length lengths codings ≡ Ok n → IsStrictLength lengths codings n
-once-is [] [] n h = sym (same-length h)
-once-is (text ∷ texts) [] n h = one-is text texts n (length_of text) refl h
+once-is lengths [] n h = one-is lengths n (uncoded-is (one_length lengths) n h)
 once-is [] (coding ∷ codings) n h = by (ends_with_chunked coding codings) refl h
   where
     by : (t : Bool) → ends_with_chunked coding codings ≡ t → (if t then Ok None else Err Invalid) ≡ Ok n → IsStrictLength [] (coding ∷ codings) n
@@ -76,8 +53,7 @@ once-is [] (coding ∷ codings) n h = by (ends_with_chunked coding codings) refl
 once-is (text ∷ texts) (coding ∷ codings) n h = let no : ◌≡◌ {A = Result (Option ℕ) FramingFault} (Err Invalid) (Ok n) = h in cc
 
 once-one : (lengths codings : List (List ℕ)) (n : Option ℕ) → IsStrictLength lengths codings n → strict_length lengths codings ≡ Ok n
-once-one [] [] n h = ap Ok (sym h)
-once-one (text ∷ texts) [] n h = rw (h.2.0, each-one h.0 texts h.2.1) (ap Ok (sym h.1))
+once-one lengths [] n h = ap uncoded_length (one-reads lengths n h)
 once-one [] (coding ∷ codings) n h = rw (ends-one h.1.0 h.1.1 coding codings h.1.2 h.1.3) (ap Ok (sym h.0))
 once-one (text ∷ texts) (coding ∷ codings) n h = absurd h
 
@@ -163,13 +139,12 @@ only-invalid Strict headers fault e = by (elements_of (codes "Content-Length") h
     chosen true n e = let no : ◌≡◌ {A = Result (Option ℕ) FramingFault} (Ok n) (Err fault) = e in cc
     chosen false n e = same-fault e
 
-    one : (o : Option ℕ) (lengths : List (List ℕ)) → one_length o lengths ≡ Err fault → fault ≡ Invalid
-    one None lengths e = same-fault e
-    one (Some n) lengths e = chosen (list_all (is_length n) lengths) (Some n) e
+    one : (r : Result (Option ℕ) InvalidLength) → uncoded_length r ≡ Err fault → fault ≡ Invalid
+    one (Ok n) e = let no : ◌≡◌ {A = Result (Option ℕ) FramingFault} (Ok n) (Err fault) = e in cc
+    one (Err x) e = same-fault e
 
     by : (lengths codings : List (List ℕ)) → strict_length lengths codings ≡ Err fault → fault ≡ Invalid
-    by [] [] e = let no : ◌≡◌ {A = Result (Option ℕ) FramingFault} (Ok None) (Err fault) = e in cc
-    by (length ∷ lengths) [] e = one (length_of length) lengths e
+    by lengths [] e = one (one_length lengths) e
     by [] (coding ∷ codings) e = chosen (ends_with_chunked coding codings) None e
     by (length ∷ lengths) (coding ∷ codings) e = same-fault e
 

@@ -6,7 +6,7 @@ use Rattle.std.specs.IoError.{error_kind}
 use Rattle.std.specs.declared.io.Error.{Error}
 use Rattle.tiny_http_io.specs.Device.{Sink, Took, Failed}
 use Rattle.tiny_http_io.proofs.DeviceLemmas.{Took-nil, Took-append}
-use Rattle.tiny_http_body.specs.ChunkedPrinting.{printed_chunk, full_chunks, left_over, short_chunk}
+use Rattle.tiny_http_body.specs.ChunkedPrinting.{printed_chunk, full_chunks, short_chunk}
 use Rattle.tiny_http_body.specs.Encoder.{Encodes}
 use Rattle.tiny_http_body.specs.Streamed.{Gathers, piece_text, pieces_text, end_text, joined, IsPiece, SentPieces, EndsStreamed}
 use Rattle.tiny_http_body.specs.declared.streamed.StreamedForm.{StreamedForm}

@@ -4,7 +4,8 @@ use Rattle.std.specs.declared.io.ErrorKind.{ErrorKind}
 use Rattle.tiny_http_io.specs.declared.device.Stop.{Stop}
 use Rattle.tiny_http_text.specs.Bytes.{crlf}
 use Rattle.tiny_http_io.specs.Device.{Feed, prepended, fault_of}
-use Rattle.tiny_http_body.specs.Chunks.{IsShortLineBy, ChunkLineFaultBy, line_feed}
+use Rattle.tiny_http_head.specs.Heads.{line_feed}
+use Rattle.tiny_http_body.specs.Chunks.{IsShortLineBy, ChunkLineFaultBy}
 use Rattle.tiny_http_body.specs.declared.chunked.ChunkRules.{ChunkRules}
 use Rattle.tiny_http_body.specs.declared.chunked.ChunkRules.TheVariants.{Lenient, Standard}
 use Rattle.tiny_http_body.specs.declared.chunked.size.Size.TheVariants as size

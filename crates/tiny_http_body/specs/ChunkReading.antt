@@ -9,7 +9,8 @@ use Rattle.tiny_http_io.specs.declared.device.Stop.{Stop}
 use Rattle.httparse.specs.Grammar.{is_token_byte, is_value_byte}
 use Rattle.tiny_http_text.specs.Bytes.{colon, semicolon, has_bare_front, trimmed}
 use Rattle.tiny_http_io.specs.Device.{fault_of}
-use Rattle.tiny_http_body.specs.Chunks.{is_bws, is_hex, line_feed, longest_line, most_trailers}
+use Rattle.tiny_http_head.specs.Heads.{line_feed}
+use Rattle.tiny_http_body.specs.Chunks.{is_bws, is_hex, longest_line, most_trailers}
 use Rattle.tiny_http_body.specs.declared.chunked.ChunkRules.{ChunkRules}
 use Rattle.tiny_http_body.specs.declared.chunked.ChunkRules.TheVariants.{Lenient, Standard}
 use Rattle.tiny_http_head.specs.HeadReading.{line, front_while}

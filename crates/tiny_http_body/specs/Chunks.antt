@@ -11,6 +11,7 @@ use Rattle.tiny_http_io.specs.Device.{fault_of}
 use Rattle.httparse.specs.Grammar.{is_token, is_value_byte}
 use Rattle.tiny_http_text.specs.Bytes.{crlf, HasNo, Trims, IsEmptyOrBegins, has_bare_front, colon, semicolon}
 use Rattle.tiny_http_text.specs.Lines.{has_crlf}
+use Rattle.tiny_http_head.specs.Heads.{line_feed}
 use Rattle.tiny_http_body.specs.declared.chunked.TheConstants.{LONGEST_LINE, MOST_TRAILERS}
 use Rattle.tiny_http_body.specs.declared.chunked.ChunkRules.{ChunkRules}
 use Rattle.tiny_http_body.specs.declared.chunked.ChunkRules.TheVariants.{Lenient, Standard}
@@ -50,9 +51,6 @@ abbrev pub SizeTextBy : ChunkRules → List ℕ → ℕ → Type 0
 SizeTextBy Lenient text size = SizeText text size
 SizeTextBy Standard text size =
     SizeText text size × IsTrue (has_bare_front is_bws text) × IsTrue (list_all is_value_byte text)
-
-abbrev pub line_feed : ℕ
-line_feed = 10
 
 -- a line that isn't too long
 abbrev pub IsShortLine : List ℕ → Type 0

@@ -1,11 +1,13 @@
 -- How a message is framed, and whether the connection goes on (RFC 9112, sections 6.3 and 9.3; RFC 9110, 10.1.1).
-use Rattle.std.specs.Prelude.{◌≡◌, ℕ, ◌<◌, ◌≤◌, ◌⊎◌, ⊤, Bool, true, false, not, ◌&&◌, ◌||◌, ◌==◌, List, [], ◌∷◌, ◌++◌}
-use Rattle.std.specs.Prelude.{map, Option, Some, None, is_some, Result, Ok, Err, IsTrue, codes, if◌then◌else◌}
+use Rattle.std.specs.Prelude.{◌≡◌, ℕ, ◌<◌, ◌≤◌, ◌⊎◌, Bool, true, false, not, ◌&&◌, ◌||◌, ◌==◌, List, [], ◌∷◌, ◌++◌}
+use Rattle.std.specs.Prelude.{Option, Some, None, is_some, Result, Ok, Err, IsTrue, codes, if◌then◌else◌}
 use Rattle.tiny_http_head.specs.declared.common.Header.{Header}
 use Rattle.tiny_http_head.specs.declared.common.HTTPVersion.{HTTPVersion}
 use Rattle.tiny_http_head.specs.Common.{same_name, lowercase}
-use Rattle.tiny_http_text.specs.Bytes.{contains_word, is_blank, trimmed, parts, comma}
-use Rattle.tiny_http_head.specs.Heads.{length_in, length_of}
+use Rattle.tiny_http_text.specs.Bytes.{contains_word, is_blank}
+use Rattle.tiny_http_head.specs.Heads.{length_in}
+use Rattle.tiny_http_head.specs.Lists.{elements_by_name}
+use Rattle.tiny_http_head.specs.ContentLength.{IsOneLength}
 use Rattle.tiny_http_body.specs.declared.framing.TheConstants.{LONGEST_WITH_HEAD, STRICT_HEAD}
 use Rattle.tiny_http_body.specs.declared.framing.HeadRules.{HeadRules}
 use Rattle.tiny_http_body.specs.declared.framing.HeadRules.TheVariants.{Lenient, Strict}
@@ -25,13 +27,9 @@ abbrev pub value_of : List ℕ → List Header → Option (List ℕ)
 value_of name [] = None
 value_of name (h ∷ hs) = if same_name h.field name then Some h.value else value_of name hs
 
--- the elements of all headers of that name, in their order: each value is split at its commas, and white space (bytes
--- 9 to 13, and 32) is left out round its parts; an empty value is one empty element
+-- the elements of all headers of that name, without white space (bytes 9 to 13, and 32) around them
 abbrev pub elements_of : List ℕ → List Header → List (List ℕ)
-elements_of name [] = []
-elements_of name (h ∷ hs) =
-    if same_name h.field name then map (trimmed is_blank) (parts comma h.value) ++ elements_of name hs
-    else elements_of name hs
+elements_of name headers = elements_by_name is_blank name headers
 
 -- the word stands in the value somewhere, case-insensitively
 abbrev pub mentions : List ℕ → Option (List ℕ) → Bool
@@ -50,11 +48,6 @@ lenient_length headers =
     if is_some (value_of (codes "Transfer-Encoding") headers) then None
     else length_in_value (value_of (codes "Content-Length") headers)
 
--- each of these is this length: digits alone, one or more, below 2^64
-abbrev pub EachIs : ℕ → List (List ℕ) → Type 0
-EachIs n [] = ⊤
-EachIs n (length ∷ lengths) = (length_of length ≡ Some n) × EachIs n lengths
-
 -- the last of these is chunked, case-insensitively
 abbrev pub EndsWithChunked : List (List ℕ) → Type 0
 EndsWithChunked codings =
@@ -64,11 +57,10 @@ EndsWithChunked codings =
     × IsTrue (same_name last (codes "chunked"))
 
 -- THE LENGTH UNDER STRICT (RFC 9112, sections 6.1 to 6.3), by the elements of Content-Length and those of
--- Transfer-Encoding: neither stands there; or lengths alone, all the same one; or codings alone, the last of which is
--- chunked. With elements of both there is none that holds.
+-- Transfer-Encoding: without codings it is the one length, or there is none; or there are codings alone, the last of
+-- which is chunked. With elements of both there is none that holds.
 abbrev pub IsStrictLength : List (List ℕ) → List (List ℕ) → Option ℕ → Type 0
-IsStrictLength [] [] n = n ≡ None
-IsStrictLength (length ∷ lengths) [] n = (m : ℕ) × (n ≡ Some m) × EachIs m (length ∷ lengths)
+IsStrictLength lengths [] n = IsOneLength lengths n
 IsStrictLength [] (coding ∷ codings) n = (n ≡ None) × EndsWithChunked (coding ∷ codings)
 IsStrictLength (length ∷ lengths) (coding ∷ codings) n = ⊥
 

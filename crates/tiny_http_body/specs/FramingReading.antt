@@ -1,11 +1,11 @@
 -- How a head frames its message, computed: one plain reading, by which the law of framing is proved.
 use Rattle.std.specs.Prelude.{ℕ, Bool, true, false, not, ◌&&◌, ◌==◌, nat_le, List, [], ◌∷◌, Option, Some, None}
 use Rattle.std.specs.Prelude.{Result, Ok, Err, codes, if◌then◌else◌}
-use Rattle.std.specs.List.{list_all}
 use Rattle.tiny_http_head.specs.declared.common.Header.{Header}
 use Rattle.tiny_http_head.specs.declared.common.HTTPVersion.{HTTPVersion}
 use Rattle.tiny_http_head.specs.Common.{same_name}
-use Rattle.tiny_http_head.specs.Heads.{length_of}
+use Rattle.tiny_http_head.specs.declared.content_length.InvalidLength.{InvalidLength}
+use Rattle.tiny_http_head.specs.ContentLength.{one_length}
 use Rattle.tiny_http_body.specs.declared.framing.TheConstants.{LONGEST_WITH_HEAD}
 use Rattle.tiny_http_body.specs.declared.framing.HeadRules.{HeadRules}
 use Rattle.tiny_http_body.specs.declared.framing.HeadRules.TheVariants.{Lenient, Strict}
@@ -32,43 +32,21 @@ form_by true coded owed n = Rest
 form_by false true owed n = Chunked
 form_by false false owed n = sized_form owed n
 
-abbrev pub is_number : ℕ → Option ℕ → Bool
-is_number n None = false
-is_number n (Some m) = m == n
-
-abbrev pub is_length : ℕ → List ℕ → Bool
-is_length n text = is_number n (length_of text)
-
--- the one length that these are
-abbrev pub one_length : Option ℕ → List (List ℕ) → Result (Option ℕ) FramingFault
-one_length None lengths = Err Invalid
-one_length (Some n) lengths = if list_all (is_length n) lengths then Ok (Some n) else Err Invalid
+-- the one length, or the framing is invalid
+abbrev pub uncoded_length : Result (Option ℕ) InvalidLength → Result (Option ℕ) FramingFault
+uncoded_length (Ok n) = Ok n
+uncoded_length (Err fault) = Err Invalid
 
 abbrev pub ends_with_chunked : List ℕ → List (List ℕ) → Bool
 ends_with_chunked last [] = same_name last (codes "chunked")
 ends_with_chunked coding (last ∷ codings) = ends_with_chunked last codings
 
 abbrev pub strict_length : List (List ℕ) → List (List ℕ) → Result (Option ℕ) FramingFault
-strict_length [] [] = Ok None
-strict_length (length ∷ lengths) [] = one_length (length_of length) lengths
+strict_length lengths [] = uncoded_length (one_length lengths)
 strict_length [] (coding ∷ codings) = if ends_with_chunked coding codings then Ok None else Err Invalid
 strict_length (length ∷ lengths) (coding ∷ codings) = Err Invalid
 
--- the same, from one element to the next: the length that they are, if it is the one that was found before
-abbrev pub same_length : Option ℕ → Option ℕ → Option ℕ
-same_length None found = None
-same_length (Some m) None = Some m
-same_length (Some m) (Some n) = if m == n then Some m else None
-
-abbrev pub if_length : Option ℕ → (ℕ → Result (Option ℕ) FramingFault) → Result (Option ℕ) FramingFault
-if_length None more = Err Invalid
-if_length (Some n) more = more n
-
-abbrev pub lengths_on : Option ℕ → List (List ℕ) → Result (Option ℕ) FramingFault
-lengths_on found [] = Ok found
-lengths_on found (length ∷ lengths) =
-    if_length (same_length (length_of length) found) (λ n. lengths_on (Some n) lengths)
-
+-- whether the last coding is chunked, from one to the next
 abbrev pub chunked_on : Bool → List (List ℕ) → Bool
 chunked_on was [] = was
 chunked_on was (coding ∷ codings) = chunked_on (same_name coding (codes "chunked")) codings

@@ -1,10 +1,9 @@
 -- What a contract sees of a body that grows.
 use Rattle.std.specs.Prelude.{◌≡◌, ◌⊎◌, ℕ, ◌<◌, ◌≤◌, Bool, false, List, [], ◌++◌, length, take, Result, Ok, Err}
-use Rattle.std.specs.Prelude.{IfErr, IsErr, codes}
+use Rattle.std.specs.Prelude.{codes}
 use Rattle.std.specs.List.{flat_map, AllByRecursion}
 use Rattle.std.specs.IoError.{error_kind}
 use Rattle.std.specs.declared.io.Error.{Error}
-use Rattle.std.specs.declared.io.ErrorKind.TheVariants.{BrokenPipe}
 use Rattle.tiny_http_io.specs.Device.{Sink, Took, Failed}
 use Rattle.tiny_http_body.specs.ChunkedPrinting.{short_chunk}
 use Rattle.tiny_http_body.specs.declared.chunks.TheConstants.{CHUNK}
@@ -79,7 +78,3 @@ Gathers form old new was held (Ok n) text =
     (n ≤ length text) × (0 < length text → 0 < n) × Holds form old new held (was ++ take n text)
 Gathers form old new was held (Err e) text =
     (CHUNK ≤ length (was ++ text)) × Failed old new (piece_text form (take CHUNK (was ++ text))) (error_kind e)
-
--- the answer after the writer's first fault
-abbrev pub IsBroken : {T : Type 0} → Result T Error → Type 0
-IsBroken r = IsErr r × IfErr r (λ e. error_kind e ≡ BrokenPipe)

@@ -1,15 +1,19 @@
 //! How a message is framed, and whether the connection goes on.
-ghost use Rattle.std.specs.Prelude.{◌≡◌, ◌==◌, ◌∷◌, [], if◌then◌else◌, false, map, codes, None, is_some};
+ghost use Rattle.std.specs.Prelude.{◌≡◌, ◌==◌, ◌∷◌, [], if◌then◌else◌, false, codes, None, is_some};
 ghost use Rattle.std.specs.Option.{option_copied};
 ghost use Rattle.std.specs.List.{starts_with};
-ghost use Rattle.tiny_http_text.specs.Bytes.{contains_word, is_blank, trimmed, parts, comma};
+ghost use Rattle.tiny_http_text.specs.Bytes.{contains_word, is_blank};
 ghost use Rattle.tiny_http_head.specs.Common.{lowercase};
-ghost use Rattle.tiny_http_head.specs.Heads.{is_too_new, length_of};
+ghost use Rattle.tiny_http_head.specs.Heads.{is_too_new};
+ghost use Rattle.tiny_http_head.specs.Lists.{elements_in};
+ghost use Rattle.tiny_http_head.specs.ContentLength.{one_length};
 ghost use Rattle.tiny_http_body.specs.Framing.{value_of, elements_of, mentions, length_in_value, expectation, is_last};
-ghost use Rattle.tiny_http_body.specs.FramingReading.{first_value, same_length, lengths_on, chunked_on};
+ghost use Rattle.tiny_http_body.specs.FramingReading.{first_value, chunked_on, uncoded_length};
 ghost use Rattle.tiny_http_body.specs.FramingReading.{strict_length, body_length, sized_form, form_by, framing};
 
+use tiny_http_head::blanks::Blanks;
 use tiny_http_head::common::{HTTPVersion, Header};
+use tiny_http_head::content_length::one_length;
 use tiny_http_head::grammar::parse_content_length;
 use tiny_http_text::ascii::AsciiString;
 use tiny_http_text::text::trim;
@@ -186,66 +190,9 @@ fn lenient_length(coding: Option<&AsciiString>, length: Option<&AsciiString>) ->
     }
 }
 
-// The length that a text is, of digits alone: without a plus.
-fn digits_length(text: &str) -> Option<usize>
-    ensures { result ≡ length_of text.now }
-{
-    let bytes = text.as_bytes();
-    if !bytes.is_empty() && bytes[0] == b'+' {
-        return None;
-    }
-    parse_content_length(text)
-}
-
-// This length, if it is the one that was found before.
-fn same_length(length: Option<usize>, found: Option<usize>) -> Option<usize>
-    ensures { result ≡ same_length length found }
-{
-    match (length, found) {
-        (Some(length), Some(before)) => {
-            if length == before {
-                return Some(length);
-            }
-            None
-        }
-        (Some(length), None) => Some(length),
-        (None, _) => None,
-    }
-}
-
-// The length that the elements of a value are, if it is the one that was found before.
-fn lengths_in(value: &str, found: Option<usize>) -> Result<Option<usize>, FramingFault>
-    ensures { result ≡ lengths_on found (map (trimmed is_blank) (parts comma value.now)) }
-{
-    let mut found = found;
-    for text in value.split(',') {
-        let Some(length) = same_length(digits_length(trim(text)), found) else {
-            return Err(FramingFault::Invalid);
-        };
-        found = Some(length);
-    }
-    Ok(found)
-}
-
-// The one length that all elements of all `Content-Length` headers are, if there is such a header.
-fn one_length(headers: &[Header]) -> Result<Option<usize>, FramingFault>
-    ensures { result ≡ lengths_on None (elements_of (codes "Content-Length") headers.now) }
-{
-    let mut found = None;
-    for header in headers {
-        if header.field.equiv("Content-Length") {
-            match lengths_in(header.value.as_str(), found) {
-                Ok(length) => found = length,
-                Err(fault) => return Err(fault),
-            }
-        }
-    }
-    Ok(found)
-}
-
 // Whether the last element of a value is `chunked`.
 fn ends_chunked(value: &str) -> bool
-    ensures { result ≡ chunked_on false (map (trimmed is_blank) (parts comma value.now)) }
+    ensures { result ≡ chunked_on false (elements_in is_blank value.now) }
 {
     let mut is_chunked = false;
     for text in value.split(',') {
@@ -267,6 +214,13 @@ fn is_chunked(headers: &[Header]) -> bool
     is_chunked
 }
 
+// The length under `Strict`, without a `Transfer-Encoding`.
+fn uncoded_length(headers: &[Header]) -> Result<Option<usize>, FramingFault>
+    ensures { result ≡ uncoded_length (one_length (elements_of (codes "Content-Length") headers.now)) }
+{
+    one_length(headers, Blanks::WhiteSpace).map_err(|_| FramingFault::Invalid)
+}
+
 // The length under `Strict`, where a `Transfer-Encoding` and a `Content-Length` stand there or don't.
 fn strict_length(
     is_coded: bool,
@@ -279,7 +233,7 @@ fn strict_length(
         (elements_of (codes "Transfer-Encoding") headers.now) }
 {
     if !is_coded {
-        return one_length(headers);
+        return uncoded_length(headers);
     }
     if is_sized {
         return Err(FramingFault::Invalid);

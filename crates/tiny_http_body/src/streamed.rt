@@ -106,7 +106,8 @@ pub(crate) fn gather<W: WriteDevice>(
 }
 
 impl<W: WriteDevice> Streamed<W> {
-    ghost use Rattle.tiny_http_body.specs.Streamed.{begun, HasStreamed, EndsStreamed, IsBroken};
+    ghost use Rattle.tiny_http_body.specs.Encoder.{IsBroken};
+    ghost use Rattle.tiny_http_body.specs.Streamed.{begun, HasStreamed, EndsStreamed};
 
     /// A body of this form, of which nothing has come yet, on this writer, which has taken the head of its answer.
     pub fn new(inner: W, form: StreamedForm) -> Streamed<W>
@@ -185,7 +186,8 @@ impl<W: WriteDevice> Streamed<W> {
 
 impl<W: WriteDevice> Write for Streamed<W> {
     ghost use Rattle.std.specs.Io.{WritesAtMost};
-    ghost use Rattle.tiny_http_body.specs.Streamed.{HasStreamed, IsBroken};
+    ghost use Rattle.tiny_http_body.specs.Encoder.{IsBroken};
+    ghost use Rattle.tiny_http_body.specs.Streamed.{HasStreamed};
 
     /// Takes some of the bytes, at least one if there is one, and says how many. Where they fill a piece of 8192
     /// bytes it is sent; else they are held. The error is the writer's first fault, or of kind `BrokenPipe` after it.

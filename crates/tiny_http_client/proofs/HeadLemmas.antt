@@ -1,11 +1,8 @@
 -- What the parsers of an answer's head answer, as the plain reading has it.
 use Rattle.std.proofs.Common.{◌≡◌, refl, sym, ap, ◌∙◌, subst, ℕ, ◌<◌, ◌≤◌, ◌^◌, Bool, true, false, not, List, [], ◌∷◌, ◌++◌, Option, Some, None, arith}
-use Rattle.std.specs.Prelude.{◌==◌, decimal, codes, IsSome}
+use Rattle.std.specs.Prelude.{◌==◌, ◌&&◌, nat_lt, length, decimal, codes, IsSome, if◌then◌else◌}
 use Rattle.std.specs.List.{list_all}
-use Rattle.std.specs.Str.{bytes_eq}
-use Rattle.std.specs.Str.{IsUtf8}
-use Rattle.std.specs.Option.{SomeIff}
-use Rattle.std.proofs.lemmas.Str.{IsUtf8-from_ascii}
+use Rattle.std.specs.Str.{bytes_eq, all_ascii_digits}
 use Rattle.std.specs.Str.Parse.{IsNumeral, digits_value}
 use Rattle.std.proofs.lemmas.Bool.{leb-true, and_parts, not-true, false≢true}
 use Rattle.std.proofs.lemmas.Slice.Eq.{bytes_eq-Decides}
@@ -17,7 +14,7 @@ use Rattle.tiny_http_head.specs.Heads.{length_of}
 use Rattle.tiny_http_text.specs.QualityReading.{cut}
 use Rattle.tiny_http_text.proofs.BytesLemmas.{none-from, ascii-at}
 use Rattle.tiny_http_head.proofs.LinesLemmas.{both}
-use Rattle.tiny_http_head.proofs.HeadsLengths.{length_of-some, length_of-none}
+use Rattle.tiny_http_head.proofs.HeadsLengths.{length_of-some}
 use Rattle.tiny_http_client.specs.ClientReading.{decimal_read, decimal_of, decimal_until, with_rest, status_line_read, protocol_read, major_read, field_line_read, value_read}
 use Rattle.tiny_http_client.proofs.ClientReadingLines.{number-one, number-is, cut-front}
 
@@ -91,14 +88,16 @@ field-line-made text w rest value f v j h e r field is = rw (cut-there colon tex
 pub field-line-good : (text w rest value : List ℕ) → text ≡ w ++ colon ∷ rest → HasNo colon w → list_all (λ b. not (is_blank b)) w ≡ true → value_read rest ≡ Some value → IsSome (field_line_read text)
 field-line-good text w rest value j h e r = rw (cut-there colon text w rest j h, e, r) refl
 
--- the length that a value says
-pub length-said : (ds : List ℕ) (r : Option ℕ) → SomeIff r (IsNumeral 10 ds × (digits_value 10 ds < 2 ^ 64)) (digits_value 10 ds) → r ≡ length_of ds
-length-said ds (Some n) h = length_of-some ds n h.0 h.1
-length-said ds None h = length_of-none ds h
+-- the number that a text writes, and that it writes none
+pub number-value : (text : List ℕ) (n : ℕ) → Some n ≡ length_of text → n ≡ digits_value 10 text
+number-value text n e = by (nat_lt 0 (length text) && (all_ascii_digits text && nat_lt (digits_value 10 text) (2 ^ 64))) e
+  where
+    by : (t : Bool) → ◌≡◌ {A = Option ℕ} (Some n) (if t then Some (digits_value 10 text) else None) → n ≡ digits_value 10 text
+    by true k = cc
+    by false k = cc
 
--- an ASCII text is a text
-pub text-is_utf8 : (text : List ℕ) → AreAscii text → IsUtf8 text
-text-is_utf8 text h = IsUtf8-from_ascii text (λ i. ascii-at text i h)
+pub number-none : (text : List ℕ) → None ≡ length_of text → ¬ (IsNumeral 10 text × (digits_value 10 text < 2 ^ 64))
+number-none text e h = let never : ◌≡◌ {A = Option ℕ} None (Some (digits_value 10 text)) = e ∙ sym (length_of-some text (digits_value 10 text) h refl) in cc
 
 -- the number is at most the most
 pub until-fits : (most n : ℕ) (text : List ℕ) → Some n ≡ decimal_read most text → n ≤ most

@@ -7,12 +7,12 @@ ghost use Rattle.tiny_http_client.specs.ClientAnswer.{BeginsWithBody, LacksBody,
 ghost use Rattle.tiny_http_client.specs.AnswerParts.{head_of, LacksBy, chunk_fault, WantsMemory};
 
 use crate::head::{Fault, HeadParts};
-use crate::number::number_in;
 use crate::rest::Rest;
 use std::alloc::Global;
 use std::io::ErrorKind;
 use tiny_http_body::chunked::Decoding;
 use tiny_http_head::common::{Header, Method, StatusCode};
+use tiny_http_head::content_length::number_in;
 use tiny_http_text::ascii::AsciiString;
 
 // How many bytes of a chunked body are decoded at a time, at most.
@@ -56,11 +56,11 @@ fn first_value<'a>(headers: &'a [Header], name: &str) -> Option<&'a AsciiString>
     None
 }
 
-// What the first Content-Length says. Unlike in a request, no plus may stand before the digits.
+// What the first Content-Length says, by digits alone.
 fn content_length(headers: &[Header]) -> Option<usize>
     ensures { result ≡ content_length headers.now }
 {
-    number_in(first_value(headers, "Content-Length")?.as_str())
+    number_in(first_value(headers, "Content-Length")?.as_str().as_bytes())
 }
 
 // What a fault of this kind says of a chunked body whose bytes end.

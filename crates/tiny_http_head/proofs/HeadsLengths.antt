@@ -1,11 +1,9 @@
 -- The length that a text says.
-use Rattle.std.proofs.Common.{◌≡◌, ℕ, ◌<◌, ◌^◌, Bool, List, length, Some, None, refl, ap}
-use Rattle.std.proofs.Common.{true, false}
-use Rattle.std.proofs.Common.{◌&&◌, ltb, lt-ltb, ltb-true}
-use Rattle.std.proofs.lemmas.Bool.{false≢true}
+use Rattle.std.proofs.Common.{◌≡◌, ℕ, ◌<◌, ◌^◌, List, length, Some, None, ap}
+use Rattle.std.proofs.Common.{true}
+use Rattle.std.proofs.Common.{ltb, lt-ltb, ltb-true}
 use Rattle.std.specs.Str.{all_ascii_digits}
 use Rattle.std.specs.Str.Parse.{IsNumeral, digits_value}
-use Rattle.std.proofs.lemmas.Str.Parse.{IsNumeralModel, numerals_by_value, tells_all_ascii_digits}
 use Rattle.tiny_http_text.proofs.BytesLemmas.{none-from}
 use Rattle.tiny_http_head.specs.Heads.{length_of}
 use Rattle.tiny_http_head.proofs.LinesLemmas.{both}

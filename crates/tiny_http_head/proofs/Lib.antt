@@ -7,3 +7,6 @@ pub mod CommonLemmas
 pub mod HeaderTextsLemmas
 pub mod FirstByte
 pub mod TargetLemmas
+pub mod NumbersLemmas
+pub mod ListsLemmas
+pub mod ContentLengthLemmas

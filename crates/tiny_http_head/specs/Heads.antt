@@ -11,6 +11,10 @@ use Rattle.tiny_http_head.specs.declared.common.Header.{Header}
 use Rattle.tiny_http_text.specs.Bytes.{is_blank, AreAscii, HasNo, HasNoBlank, Trims, IsEmptyOrBegins, space, colon}
 use Rattle.tiny_http_text.specs.Lines.{Line, IsUnfinished}
 
+-- LF, the last byte of a line (RFC 9112, section 2.2)
+abbrev pub line_feed : ℕ
+line_feed = 10
+
 -- the method that a text names: one of the nine names, exactly, or one of its own
 abbrev pub method_of : List ℕ → Method
 method_of text =

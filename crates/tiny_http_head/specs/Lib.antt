@@ -4,3 +4,5 @@ pub mod Heads
 pub mod HeadReading
 pub mod HeaderTexts
 pub mod Target
+pub mod Lists
+pub mod ContentLength

@@ -1,77 +1,28 @@
 -- What frames a body, computed, is what the definitions say.
-use Rattle.std.proofs.Common.{◌≡◌, ◌≢◌, refl, sym, ap, ◌∙◌, subst, ℕ, Bool, true, false, not, ◌&&◌, ◌||◌, ◌⊎◌, List, [], ◌∷◌, ◌++◌, Option, Some, None, Result, Ok, Err, eqb-true, inl, inr, arith}
-use Rattle.std.specs.Prelude.{◌==◌, is_some, IsTrue, if◌then◌else◌}
+use Rattle.std.proofs.Common.{◌≡◌, ◌≢◌, refl, sym, ap, ◌∙◌, subst, ℕ, Bool, true, false, not, ◌||◌, ◌⊎◌, List, [], ◌∷◌, ◌++◌, Option, Some, None, Result, Ok, Err, inl, inr}
+use Rattle.std.specs.Prelude.{is_some, IsTrue, if◌then◌else◌}
 use Rattle.std.specs.List.{list_all}
 use Rattle.std.specs.Str.{bytes_eq}
 use Rattle.std.proofs.lemmas.Bool.{and_parts}
-use Rattle.tiny_http_head.specs.Heads.{length_of}
+use Rattle.tiny_http_head.specs.declared.content_length.InvalidLength.{InvalidLength}
+use Rattle.tiny_http_head.specs.ContentLength.{IsOneLength, one_length}
+use Rattle.tiny_http_head.proofs.ContentLengthLemmas.{one-is, one-reads}
 use Rattle.tiny_http_head.specs.declared.common.HTTPVersion.{HTTPVersion}
 use Rattle.tiny_http_head.proofs.FirstByte.{contrary}
 use Rattle.tiny_http_standard_head.specs.declared.judging.Codings.{Codings}
 use Rattle.tiny_http_standard_head.specs.declared.judging.Codings.TheVariants.{Absent, Others, Chunked, Behind, Bad}
 use Rattle.tiny_http_standard_head.specs.declared.judging.Judgement.{Judgement}
 use Rattle.tiny_http_standard_head.specs.declared.judging.Judgement.TheVariants.{InvalidHead, UnknownCoding}
-use Rattle.tiny_http_standard_head.specs.Judging.{is_number, is_length, is_chunked, is_unknown_coding, is_1_0, IsBodyFraming, HasUnknownCodings}
-use Rattle.tiny_http_standard_head.specs.JudgingReading.{coding_after, codings_on, same_length, if_length, lengths_on, body_by}
+use Rattle.tiny_http_standard_head.specs.Judging.{is_chunked, is_unknown_coding, is_1_0, IsBodyFraming, HasUnknownCodings}
+use Rattle.tiny_http_standard_head.specs.JudgingReading.{coding_after, codings_on, body_by}
 
 not-true : (b : Bool) → not b ≡ true → b ≡ false
 not-true true h = contrary false h refl
 not-true false h = refl
 
--- the one length
-abbrev AllAre : ℕ → List (List ℕ) → Result (Option ℕ) Judgement
-AllAre n texts = if list_all (is_length n) texts then Ok (Some n) else Err InvalidHead
-
-one-more : (n : ℕ) (ts : List (List ℕ)) (o : Option ℕ) (go : ℕ → Result (Option ℕ) Judgement) → go n ≡ AllAre n ts → if_length (same_length o (Some n)) go ≡ (if (is_number n o && list_all (is_length n) ts) then Ok (Some n) else Err InvalidHead)
-one-more n ts None go h = refl
-one-more n ts (Some m) go h = by (m == n) refl
-  where
-    by : (b : Bool) → (m == n) ≡ b → if_length (if b then Some m else None) go ≡ (if (b && list_all (is_length n) ts) then Ok (Some n) else Err InvalidHead)
-    by true e = ap go (eqb-true m n e) ∙ h
-    by false e = refl
-
-all-lengths : (n : ℕ) (texts : List (List ℕ)) → lengths_on (Some n) texts ≡ AllAre n texts
-all-lengths n [] = refl
-all-lengths n (t ∷ ts) = one-more n ts (length_of t) (λ m. lengths_on (Some m) ts) (all-lengths n ts)
-
-first-length : (t : List ℕ) (ts : List (List ℕ)) → lengths_on None (t ∷ ts) ≡ if_length (length_of t) (λ n. AllAre n ts)
-first-length t ts = by (length_of t)
-  where
-    by : (o : Option ℕ) → if_length (same_length o None) (λ m. lengths_on (Some m) ts) ≡ if_length o (λ n. AllAre n ts)
-    by None = refl
-    by (Some n) = all-lengths n ts
-
-same-number : (n : ℕ) → (n == n) ≡ true
-same-number n = by (n == n) refl
-  where
-    by : (b : Bool) → (n == n) ≡ b → (n == n) ≡ true
-    by true e = e
-    by false e = grind (arith, e)
-
--- lengths that are one
-pub some-length : (t : List ℕ) (ts : List (List ℕ)) (o : Option ℕ) → lengths_on None (t ∷ ts) ≡ Ok o → (m : ℕ) × (o ≡ Some m) × IsTrue (list_all (is_length m) (t ∷ ts))
-some-length t ts o e = by (length_of t) refl (sym (first-length t ts) ∙ e)
-  where
-    all : (m : ℕ) → length_of t ≡ Some m → (b : Bool) → list_all (is_length m) ts ≡ b → (if b then Ok (Some m) else Err InvalidHead) ≡ Ok o → (m : ℕ) × (o ≡ Some m) × IsTrue (list_all (is_length m) (t ∷ ts))
-    all m is true h k = (m, cc, rw (is, same-number m, h) refl)
-    all m is false h k = let never : ◌≡◌ {A = Result (Option ℕ) Judgement} (Err InvalidHead) (Ok o) = k in cc
-
-    by : (l : Option ℕ) → length_of t ≡ l → if_length l (λ n. AllAre n ts) ≡ Ok o → (m : ℕ) × (o ≡ Some m) × IsTrue (list_all (is_length m) (t ∷ ts))
-    by None is k = let never : ◌≡◌ {A = Result (Option ℕ) Judgement} (Err InvalidHead) (Ok o) = k in cc
-    by (Some m) is k = all m is (list_all (is_length m) ts) refl k
-
-number-is : (m : ℕ) (o : Option ℕ) → is_number m o ≡ true → o ≡ Some m
-number-is m None h = contrary false h refl
-number-is m (Some n) h = ap Some (eqb-true n m h)
-
-pub lengths-some : (m : ℕ) (t : List ℕ) (ts : List (List ℕ)) → list_all (is_length m) (t ∷ ts) ≡ true → lengths_on None (t ∷ ts) ≡ Ok (Some m)
-lengths-some m t ts h =
-    let k = and_parts (is_length m t) (list_all (is_length m) ts) h in
-    first-length t ts ∙ rw (number-is m (length_of t) k.0, k.1) refl
-
-pub length-none : (lengths : List (List ℕ)) → lengths_on None lengths ≡ Ok None → lengths ≡ []
+length-none : (lengths : List (List ℕ)) → one_length lengths ≡ Ok None → lengths ≡ []
 length-none [] e = refl
-length-none (t ∷ ts) e = let s = some-length t ts None e in let never : ◌≡◌ {A = Option ℕ} None (Some s.0) = s.1 in cc
+length-none (t ∷ ts) e = let s = one-is (t ∷ ts) None e in let never : ◌≡◌ {A = Option ℕ} None (Some s.0) = s.1 in cc
 
 -- codings
 bad-stays : (xs : List (List ℕ)) → codings_on Bad xs ≡ Bad
@@ -187,17 +138,16 @@ not-old false h = refl
 ok-pair : (n : Option ℕ) (b : Bool) (k : Option ℕ × Bool) → ◌≡◌ {A = Read} (Ok (n, b)) (Ok k) → (k.0 ≡ n) × (k.1 ≡ b)
 ok-pair n b k h = let same : ◌≡◌ {A = Option ℕ × Bool} (n, b) k = cc in (ap (λ x. x.0) (sym same), ap (λ x. x.1) (sym same))
 
-uncoded : (v : HTTPVersion) (lengths : List (List ℕ)) (n : Option ℕ) (k : Option ℕ × Bool) → lengths_on None lengths ≡ Ok n → (k.0 ≡ n) × (k.1 ≡ false) → IsBodyFraming v lengths [] k.0 k.1
-uncoded v [] n k is p = let same : n ≡ None = cc in (p.0 ∙ same, p.1)
-uncoded v (t ∷ ts) n k is p = let s = some-length t ts n is in (s.0, p.0 ∙ s.1, s.2, p.1)
+uncoded : (v : HTTPVersion) (lengths : List (List ℕ)) (n : Option ℕ) (k : Option ℕ × Bool) → one_length lengths ≡ Ok n → (k.0 ≡ n) × (k.1 ≡ false) → IsBodyFraming v lengths [] k.0 k.1
+uncoded v lengths n k is p = (subst (IsOneLength lengths) (sym p.0) (one-is lengths n is), p.1)
 
 -- what the codings make of a length
 with_codings : (v : HTTPVersion) (codings : List (List ℕ)) (n : Option ℕ) (x : Codings) (r : Read) → codings_on Absent codings ≡ x → body_by v (codings_on Absent codings) (Ok n) ≡ r → body_by v x (Ok n) ≡ r
 with_codings v codings n x r o h = subst (λ (y : Codings). body_by v y (Ok n) ≡ r) o h
 
 -- a body that is framed, by the codings and the length that were found
-framed : (v : HTTPVersion) (lengths codings : List (List ℕ)) (r : Result (Option ℕ) Judgement) (k : Option ℕ × Bool) → lengths_on None lengths ≡ r → FromAbsent codings → body_by v (codings_on Absent codings) r ≡ Ok k → IsBodyFraming v lengths codings k.0 k.1
-framed v lengths codings (Err e) k is f h = ok-no_err k e (sym h)
+framed : (v : HTTPVersion) (lengths codings : List (List ℕ)) (r : Result (Option ℕ) InvalidLength) (k : Option ℕ × Bool) → one_length lengths ≡ r → FromAbsent codings → body_by v (codings_on Absent codings) r ≡ Ok k → IsBodyFraming v lengths codings k.0 k.1
+framed v lengths codings (Err e) k is f h = ok-no_err k InvalidHead (sym h)
 framed v lengths codings (Ok n) k is (None-came c) h =
     let plain : ◌≡◌ {A = Read} (Ok (n, false)) (Ok k) = subst (λ (cs : List (List ℕ)). body_by v (codings_on Absent cs) (Ok n) ≡ Ok k) c h in
     subst (λ (cs : List (List ℕ)). IsBodyFraming v lengths cs k.0 k.1) (sym c) (uncoded v lengths n k is (ok-pair n false k plain))
@@ -217,20 +167,9 @@ framed v lengths codings (Ok n) k is (Unfit x (inr w) o) h =
 ok-no_unknown : {G : Type 0} (x : Option ℕ × Bool) → ◌≡◌ {A = Read} (Ok x) (Err UnknownCoding) → G
 ok-no_unknown x h = cc
 
--- lengths fail in one way
-lengths-fail : (found : Option ℕ) (lengths : List (List ℕ)) (e : Judgement) → lengths_on found lengths ≡ Err e → e ≡ InvalidHead
-lengths-fail found [] e h = let never : ◌≡◌ {A = Result (Option ℕ) Judgement} (Ok found) (Err e) = h in cc
-lengths-fail found (t ∷ ts) e h = by (same_length (length_of t) found) (λ n. lengths-fail (Some n) ts e) h
-  where
-    by : (o : Option ℕ) → ((n : ℕ) → lengths_on (Some n) ts ≡ Err e → e ≡ InvalidHead) → if_length o (λ n. lengths_on (Some n) ts) ≡ Err e → e ≡ InvalidHead
-    by None go g = cc
-    by (Some n) go g = go n g
-
 -- codings that aren't understood
-unknown : (v : HTTPVersion) (lengths codings : List (List ℕ)) (r : Result (Option ℕ) Judgement) → lengths_on None lengths ≡ r → FromAbsent codings → body_by v (codings_on Absent codings) r ≡ Err UnknownCoding → HasUnknownCodings v lengths codings
-unknown v lengths codings (Err e) is f h =
-    let invalid : e ≡ InvalidHead = lengths-fail None lengths e is in
-    invalid-no_unknown (subst (λ (x : Judgement). ◌≡◌ {A = Read} (Err x) (Err UnknownCoding)) invalid h)
+unknown : (v : HTTPVersion) (lengths codings : List (List ℕ)) (r : Result (Option ℕ) InvalidLength) → one_length lengths ≡ r → FromAbsent codings → body_by v (codings_on Absent codings) r ≡ Err UnknownCoding → HasUnknownCodings v lengths codings
+unknown v lengths codings (Err e) is f h = invalid-no_unknown h
 unknown v lengths codings (Ok n) is (None-came c) h =
     ok-no_unknown (n, false) (subst (λ (cs : List (List ℕ)). body_by v (codings_on Absent cs) (Ok n) ≡ Err UnknownCoding) c h)
 unknown v lengths codings (Ok n) is (Alone x c a o) h =
@@ -253,9 +192,8 @@ unknown v lengths codings (Ok n) is (Unfit x (inr w) o) h =
     invalid-no_unknown (coded-unknown (is_1_0 v) n (Err InvalidHead) (with_codings v codings n Bad (Err UnknownCoding) (o ∙ w) h)).2
 
 -- and the other way round
-pub framed-reads : (v : HTTPVersion) (lengths codings : List (List ℕ)) (n : Option ℕ) (chunked : Bool) → IsBodyFraming v lengths codings n chunked → body_by v (codings_on Absent codings) (lengths_on None lengths) ≡ Ok (n, chunked)
-framed-reads v [] [] n chunked b = rw (b.0, b.1) refl
-framed-reads v (t ∷ ts) [] n chunked b = rw (lengths-some b.0 t ts b.2, b.1, b.3) refl
+pub framed-reads : (v : HTTPVersion) (lengths codings : List (List ℕ)) (n : Option ℕ) (chunked : Bool) → IsBodyFraming v lengths codings n chunked → body_by v (codings_on Absent codings) (one_length lengths) ≡ Ok (n, chunked)
+framed-reads v lengths [] n chunked b = rw (one-reads lengths n b.0, b.1) refl
 framed-reads v [] (x ∷ xs) n chunked b = rw (b.2, b.1, not-true (is_1_0 v) b.0, b.3, b.4) refl
 framed-reads v (t ∷ ts) (x ∷ xs) n chunked b = absurd b
 
@@ -265,19 +203,19 @@ split-reads (x ∷ xs) last some h c =
     let k = and_parts (is_unknown_coding x) (list_all is_unknown_coding xs) h in
     ap (λ (o : Codings). codings_on o (xs ++ last ∷ [])) (first-unknown x k.0) ∙ behind-of xs last k.1 c
 
-pub unknown-reads : (v : HTTPVersion) (lengths codings : List (List ℕ)) → HasUnknownCodings v lengths codings → body_by v (codings_on Absent codings) (lengths_on None lengths) ≡ Err UnknownCoding
+pub unknown-reads : (v : HTTPVersion) (lengths codings : List (List ℕ)) → HasUnknownCodings v lengths codings → body_by v (codings_on Absent codings) (one_length lengths) ≡ Err UnknownCoding
 unknown-reads v lengths codings u =
     let behind : codings_on Absent codings ≡ Behind = ap (codings_on Absent) u.joins ∙ split-reads u.others u.last u.not_empty u.named u.chunked in
-    ap (λ (ls : List (List ℕ)). body_by v (codings_on Absent codings) (lengths_on None ls)) u.no_length ∙ rw (behind, not-true (is_1_0 v) u.later) refl
+    ap (λ (ls : List (List ℕ)). body_by v (codings_on Absent codings) (one_length ls)) u.no_length ∙ rw (behind, not-true (is_1_0 v) u.later) refl
 
 -- WHAT WAS READ of lengths and codings, by the definitions
-pub body-framed : (v : HTTPVersion) (lengths codings : List (List ℕ)) (n : Option ℕ) (chunked : Bool) → body_by v (codings_on Absent codings) (lengths_on None lengths) ≡ Ok (n, chunked) → IsBodyFraming v lengths codings n chunked
-body-framed v lengths codings n chunked h = framed v lengths codings (lengths_on None lengths) (n, chunked) refl (from-absent codings) h
+pub body-framed : (v : HTTPVersion) (lengths codings : List (List ℕ)) (n : Option ℕ) (chunked : Bool) → body_by v (codings_on Absent codings) (one_length lengths) ≡ Ok (n, chunked) → IsBodyFraming v lengths codings n chunked
+body-framed v lengths codings n chunked h = framed v lengths codings (one_length lengths) (n, chunked) refl (from-absent codings) h
 
-pub body-unknown : (v : HTTPVersion) (lengths codings : List (List ℕ)) → body_by v (codings_on Absent codings) (lengths_on None lengths) ≡ Err UnknownCoding → HasUnknownCodings v lengths codings
-body-unknown v lengths codings h = unknown v lengths codings (lengths_on None lengths) refl (from-absent codings) h
+pub body-unknown : (v : HTTPVersion) (lengths codings : List (List ℕ)) → body_by v (codings_on Absent codings) (one_length lengths) ≡ Err UnknownCoding → HasUnknownCodings v lengths codings
+body-unknown v lengths codings h = unknown v lengths codings (one_length lengths) refl (from-absent codings) h
 
-pub body-invalid : (v : HTTPVersion) (lengths codings : List (List ℕ)) → body_by v (codings_on Absent codings) (lengths_on None lengths) ≡ Err InvalidHead
+pub body-invalid : (v : HTTPVersion) (lengths codings : List (List ℕ)) → body_by v (codings_on Absent codings) (one_length lengths) ≡ Err InvalidHead
     → (HasUnknownCodings v lengths codings → ⊥) × ((n : Option ℕ) (chunked : Bool) → IsBodyFraming v lengths codings n chunked → ⊥)
 body-invalid v lengths codings h = (
   (λ u. invalid-no_unknown (sym h ∙ unknown-reads v lengths codings u)),
@@ -293,8 +231,8 @@ coded-fails false (Some x) r e h = inl (same-refusal InvalidHead e h)
 coded-fails false None r e h = inr h
 
 -- a body is refused in two ways
-pub body-fails : (v : HTTPVersion) (lengths : List (List ℕ)) (o : Codings) (r : Result (Option ℕ) Judgement) (e : Judgement) → lengths_on None lengths ≡ r → body_by v o r ≡ Err e → (e ≡ InvalidHead) ⊎ (e ≡ UnknownCoding)
-body-fails v lengths o (Err x) e is h = inl (same-refusal x e h ∙ lengths-fail None lengths x is)
+pub body-fails : (v : HTTPVersion) (lengths : List (List ℕ)) (o : Codings) (r : Result (Option ℕ) InvalidLength) (e : Judgement) → one_length lengths ≡ r → body_by v o r ≡ Err e → (e ≡ InvalidHead) ⊎ (e ≡ UnknownCoding)
+body-fails v lengths o (Err x) e is h = inl (same-refusal InvalidHead e h)
 body-fails v lengths Absent (Ok n) e is h = ok-no_err (n, false) e h
 body-fails v lengths Others (Ok n) e is h = elim (coded-fails (is_1_0 v) n (Err InvalidHead) e h) [ inl i ↦ inl i | inr g ↦ inl (same-refusal InvalidHead e g) ]
 body-fails v lengths Chunked (Ok n) e is h = elim (coded-fails (is_1_0 v) n (Ok (None, true)) e h) [ inl i ↦ inl i | inr g ↦ ok-no_err (None, true) e g ]

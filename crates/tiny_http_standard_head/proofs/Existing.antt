@@ -17,7 +17,8 @@ use Rattle.tiny_http_standard_head.specs.declared.judging.Judgement.TheVariants.
 use Rattle.tiny_http_standard_head.specs.Lines.{percent_encoded, ReadsFieldLine}
 use Rattle.tiny_http_standard_head.specs.Lists.{values_of, has_element_that}
 use Rattle.tiny_http_standard_head.specs.Judging.{is_1_0, HasValidHost, Judges, owes_continue, asks_upgrade, is_last, is_unknown_expectation}
-use Rattle.tiny_http_standard_head.specs.Heads.{line_feed, is_carriage_return, Line, BeginsWithBareLine, behind_empty_line, BeginsWithRequestLine, BeginsWithFieldLines, BeginsWithHead, ComesToField, HasBadLine, HasOpenRequestLine, HasOpenField, HasTooManyFields, Reading, ReadWhole, ReadBad, ReadTooMany, ReadOpen, AreReadAs}
+use Rattle.tiny_http_head.specs.Heads.{line_feed}
+use Rattle.tiny_http_standard_head.specs.Heads.{is_carriage_return, Line, BeginsWithBareLine, behind_empty_line, BeginsWithRequestLine, BeginsWithFieldLines, BeginsWithHead, ComesToField, HasBadLine, HasOpenRequestLine, HasOpenField, HasTooManyFields, Reading, ReadWhole, ReadBad, ReadTooMany, ReadOpen, AreReadAs}
 use Rattle.tiny_http_standard_head.proofs.HeadsLemmas.{line-shorter}
 use Rattle.tiny_http_standard_head.proofs.JudgeLemmas.{body_read, judge-served, judge-fails}
 use Rattle.tiny_http_standard_head.proofs.ReadingLemmas.{Ending, Finished, Bad, Open, EndsAs, AreFields}

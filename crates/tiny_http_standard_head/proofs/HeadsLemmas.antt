@@ -19,7 +19,8 @@ use Rattle.tiny_http_standard_head.specs.declared.heads.NoHead.{NoHead}
 use Rattle.tiny_http_standard_head.specs.declared.heads.NoHead.TheVariants as stop
 use Rattle.tiny_http_standard_head.specs.HeadParts.{HasGoodFieldLine, StopsFields, EndsFields, StopsHead, ReadsWhole}
 use Rattle.tiny_http_standard_head.specs.Lines.{ReadsFieldLine, IsNoFieldLine}
-use Rattle.tiny_http_standard_head.specs.Heads.{line_feed, is_carriage_return, Line, BeginsWithBareLine, behind_empty_line, BeginsWithRequestLine, BeginsWithFieldLines, BeginsWithHead, ComesToField, HasOpenRequestLine, HasOpenField, is_begun, Reads}
+use Rattle.tiny_http_head.specs.Heads.{line_feed}
+use Rattle.tiny_http_standard_head.specs.Heads.{is_carriage_return, Line, BeginsWithBareLine, behind_empty_line, BeginsWithRequestLine, BeginsWithFieldLines, BeginsWithHead, ComesToField, HasOpenRequestLine, HasOpenField, is_begun, Reads}
 
 front-without : (n : ℕ) (text : List ℕ) → HasNo line_feed text → HasNo line_feed (take n text)
 front-without n text h =

@@ -1,5 +1,5 @@
 -- A head that is refused for its body, and one that is served.
-use Rattle.std.proofs.Common.{◌≡◌, refl, sym, subst, ℕ, Bool, List, Option, None, Result, Ok, Err, inl, inr}
+use Rattle.std.proofs.Common.{◌≡◌, refl, sym, subst, ℕ, Bool, List, Option, Result, Ok, Err, inl, inr}
 use Rattle.std.specs.Prelude.{codes}
 use Rattle.tiny_http_head.specs.declared.common.Header.{Header}
 use Rattle.tiny_http_head.specs.declared.common.HTTPVersion.{HTTPVersion}
@@ -9,11 +9,12 @@ use Rattle.tiny_http_standard_head.specs.declared.judging.Judgement.{Judgement}
 use Rattle.tiny_http_standard_head.specs.declared.judging.Judgement.TheVariants.{InvalidHead}
 use Rattle.tiny_http_standard_head.specs.Lists.{values_of, elements_of}
 use Rattle.tiny_http_standard_head.specs.Judging.{HasValidHost, IsFramedRequest, Judges}
-use Rattle.tiny_http_standard_head.specs.JudgingReading.{codings_on, lengths_on, body_by}
+use Rattle.tiny_http_standard_head.specs.JudgingReading.{codings_on, body_by}
+use Rattle.tiny_http_head.specs.ContentLength.{one_length}
 use Rattle.tiny_http_standard_head.proofs.BodyLemmas.{body-framed, body-unknown, body-invalid, body-fails}
 
 abbrev pub body_read : HTTPVersion → List Header → Result (Option ℕ × Bool) Judgement
-body_read v headers = body_by v (codings_on Absent (elements_of (codes "Transfer-Encoding") headers)) (lengths_on None (elements_of (codes "Content-Length") headers))
+body_read v headers = body_by v (codings_on Absent (elements_of (codes "Transfer-Encoding") headers)) (one_length (elements_of (codes "Content-Length") headers))
 
 pub judge-served : (v : HTTPVersion) (headers : List Header) (n : Option ℕ) (chunked : Bool) → v.0 ≡ 1 → HasValidHost v (values_of (codes "Host") headers) → body_read v headers ≡ Ok (n, chunked) → IsFramedRequest v headers n chunked
 judge-served v headers n chunked one host h = record {
@@ -33,7 +34,7 @@ judge-fails v method headers e one host h =
     let codings = elements_of (codes "Transfer-Encoding") headers in
     let Is : Judgement → Type 0 = λ x. Judges v method headers (Err x) in
     let Reads : Judgement → Type 0 = λ x. body_read v headers ≡ Err x in
-    elim (body-fails v lengths (codings_on Absent codings) (lengths_on None lengths) e refl h) [
+    elim (body-fails v lengths (codings_on Absent codings) (one_length lengths) e refl h) [
       | inl is ↦ subst Is (sym is) (invalid v method headers one (subst Reads is h))
       | inr is ↦ subst Is (sym is) (one, host, body-unknown v lengths codings (subst Reads is h))
     ]

@@ -9,7 +9,8 @@ use Rattle.tiny_http_head.specs.declared.common.HTTPVersion.{HTTPVersion}
 use Rattle.tiny_http_head.specs.Common.{same_name}
 use Rattle.std.proofs.lemmas.List.{at_drop_more, at_drop_all}
 use Rattle.tiny_http_standard_head.specs.Lists.{values_of}
-use Rattle.tiny_http_standard_head.specs.Hosts.{slash, IsHostValue}
+use Rattle.tiny_http_head.specs.Target.{slash}
+use Rattle.tiny_http_standard_head.specs.Hosts.{IsHostValue}
 use Rattle.tiny_http_standard_head.specs.Judging.{is_one_or_two_tokens, HasValidHost, is_1_0}
 use Rattle.tiny_http_head.proofs.HeaderTextsLemmas.{token-bytes}
 use Rattle.tiny_http_head.proofs.FirstByte.{all-without}

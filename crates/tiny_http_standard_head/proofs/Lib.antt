@@ -1,6 +1,5 @@
 pub mod HostsLemmas
 pub mod LinesLemmas
-pub mod NumbersLemmas
 pub mod ListsLemmas
 pub mod TeLemmas
 pub mod TeRows

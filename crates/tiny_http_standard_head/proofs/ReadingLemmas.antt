@@ -17,7 +17,8 @@ use Rattle.tiny_http_standard_head.specs.declared.heads.StandardRead.{StandardRe
 use Rattle.tiny_http_standard_head.specs.declared.heads.StandardRead.TheVariants.{Whole, Refused, Unfinished}
 use Rattle.tiny_http_standard_head.specs.Lines.{percent_encoded, ReadsFieldLine, ReadsRequestLine, IsNoRequestLine}
 use Rattle.tiny_http_standard_head.specs.Judging.{Judges}
-use Rattle.tiny_http_standard_head.specs.Heads.{line_feed, is_carriage_return, Line, BeginsWithBareLine, behind_empty_line, BeginsWithRequestLine, BeginsWithFieldLines, BeginsWithHead, BeginsWithBadLine, IsNoFieldOrEnd, ComesToField, HasOpenRequestLine, HasOpenField, HasTooManyFields, message_of, is_begun, Reads, IsSameRead, Reading, ReadWhole, ReadBad, ReadTooMany, ReadOpen, AreReadAs}
+use Rattle.tiny_http_head.specs.Heads.{line_feed}
+use Rattle.tiny_http_standard_head.specs.Heads.{is_carriage_return, Line, BeginsWithBareLine, behind_empty_line, BeginsWithRequestLine, BeginsWithFieldLines, BeginsWithHead, BeginsWithBadLine, IsNoFieldOrEnd, ComesToField, HasOpenRequestLine, HasOpenField, HasTooManyFields, message_of, is_begun, Reads, IsSameRead, Reading, ReadWhole, ReadBad, ReadTooMany, ReadOpen, AreReadAs}
 use Rattle.tiny_http_standard_head.proofs.HostsLemmas.{one-last}
 use Rattle.tiny_http_standard_head.proofs.LawsLemmas.{request-line-once, field-line-once, judged-once}
 

@@ -18,7 +18,8 @@ use Rattle.tiny_http_standard_head.specs.declared.source_heads.NoHead.{NoHead}
 use Rattle.tiny_http_standard_head.specs.declared.source_heads.NoHead.TheVariants.{Refused, Unfinished, Memory}
 use Rattle.tiny_http_standard_head.specs.Lines.{IsNoRequestLine, IsNoFieldLine}
 use Rattle.tiny_http_standard_head.specs.SourceLines.{EndsLine, TakesLine, HasNoLine}
-use Rattle.tiny_http_standard_head.specs.Heads.{line_feed, carriage_return, Line, BeginsWithBadLine, IsNoFieldOrEnd}
+use Rattle.tiny_http_head.specs.Heads.{line_feed}
+use Rattle.tiny_http_standard_head.specs.Heads.{carriage_return, Line, BeginsWithBadLine, IsNoFieldOrEnd}
 use Rattle.tiny_http_standard_head.specs.SourceHeads.{IsBadLine, IsGoodLine, LacksMemory, IsNoRequestOrEmpty, RequestIn, FieldIn, no_head, IsSpent, TakesText, IsLong, ReadsRequest, ReadsField}
 
 -- what a limit lets through of a line and what is behind it

@@ -6,7 +6,7 @@ use Rattle.std.proofs.Math.Seq.{take-suc}
 use Rattle.std.proofs.lemmas.List.Folds.{list_all-append}
 use Rattle.memchr.specs.Find.{IsFirstByte, is_byte}
 use Rattle.tiny_http_text.specs.Bytes.{HasNo}
-use Rattle.tiny_http_standard_head.specs.Heads.{line_feed}
+use Rattle.tiny_http_head.specs.Heads.{line_feed}
 use Rattle.tiny_http_standard_head.specs.SourceLines.{EndsLine}
 
 -- no LF stands among so many bytes

@@ -12,7 +12,8 @@ use Rattle.tiny_http_standard_head.specs.declared.heads.NoLine.TheVariants as no
 use Rattle.tiny_http_standard_head.specs.declared.heads.NoHead.{NoHead}
 use Rattle.tiny_http_standard_head.specs.declared.heads.NoHead.TheVariants as stop
 use Rattle.tiny_http_standard_head.specs.Lines.{IsNoRequestLine, IsNoFieldLine}
-use Rattle.tiny_http_standard_head.specs.Heads.{Line, line_feed, BeginsWithBareLine, behind_empty_line}
+use Rattle.tiny_http_head.specs.Heads.{line_feed}
+use Rattle.tiny_http_standard_head.specs.Heads.{Line, BeginsWithBareLine, behind_empty_line}
 use Rattle.tiny_http_standard_head.specs.Heads.{BeginsWithFieldLines, BeginsWithBadLine, IsNoFieldOrEnd, HasBadLine}
 use Rattle.tiny_http_standard_head.specs.Heads.{HasOpenRequestLine, HasOpenField, HasTooManyFields, BeginsWithHead}
 use Rattle.tiny_http_standard_head.specs.Heads.{HasGoodRequestLine, message_of}

@@ -6,7 +6,7 @@ use Rattle.tiny_http_text.specs.Bytes.{HasNo, has_bare_end}
 use Rattle.tiny_http_head.specs.declared.common.Method.{Method}
 use Rattle.tiny_http_head.specs.declared.common.HTTPVersion.{HTTPVersion}
 use Rattle.tiny_http_head.specs.declared.common.Header.{Header}
-use Rattle.tiny_http_head.specs.Heads.{Message}
+use Rattle.tiny_http_head.specs.Heads.{Message, line_feed}
 use Rattle.tiny_http_standard_head.specs.declared.heads.TheConstants.{MOST_HEADERS}
 use Rattle.tiny_http_standard_head.specs.declared.heads.StandardHead.{StandardHead}
 use Rattle.tiny_http_standard_head.specs.declared.heads.StandardFault.{StandardFault}
@@ -21,9 +21,6 @@ use Rattle.tiny_http_standard_head.specs.declared.judging.Judgement.TheVariants.
 use Rattle.tiny_http_standard_head.specs.declared.judging.Judgement.TheVariants.{UnknownCoding, UnknownExpectation}
 use Rattle.tiny_http_standard_head.specs.Lines.{ReadsRequestLine, IsNoRequestLine, ReadsFieldLine, IsNoFieldLine}
 use Rattle.tiny_http_standard_head.specs.Judging.{Judges}
-
-abbrev pub line_feed : ℕ
-line_feed = 10
 
 abbrev pub carriage_return : ℕ
 carriage_return = 13

@@ -9,9 +9,6 @@ use Rattle.tiny_http_head.specs.Heads.{length_of}
 abbrev pub percent : ℕ
 percent = 37
 
-abbrev pub slash : ℕ
-slash = 47
-
 -- two hexadecimal digits stand in front
 abbrev pub begins_with_two_hexadecimal_digits : List ℕ → Bool
 begins_with_two_hexadecimal_digits [] = false

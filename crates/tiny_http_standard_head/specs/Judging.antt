@@ -10,12 +10,13 @@ use Rattle.tiny_http_head.specs.declared.common.Method.{Method}
 use Rattle.tiny_http_head.specs.declared.common.HTTPVersion.{HTTPVersion}
 use Rattle.tiny_http_head.specs.declared.common.Header.{Header}
 use Rattle.tiny_http_head.specs.Common.{same_name, method_text}
-use Rattle.tiny_http_head.specs.Heads.{length_of}
+use Rattle.tiny_http_head.specs.ContentLength.{IsOneLength}
 use Rattle.tiny_http_standard_head.specs.declared.judging.HeadSummary.{HeadSummary}
 use Rattle.tiny_http_standard_head.specs.declared.judging.Judgement.{Judgement}
 use Rattle.tiny_http_standard_head.specs.declared.judging.Judgement.TheVariants.{UnsupportedVersion, InvalidHead}
 use Rattle.tiny_http_standard_head.specs.declared.judging.Judgement.TheVariants.{UnknownCoding, UnknownExpectation}
-use Rattle.tiny_http_standard_head.specs.Hosts.{percent, slash, IsHostValue}
+use Rattle.tiny_http_head.specs.Target.{slash}
+use Rattle.tiny_http_standard_head.specs.Hosts.{percent, IsHostValue}
 use Rattle.tiny_http_standard_head.specs.Lists.{values_of, elements_of, has_element_that, has_element}
 
 -- version 1.0. Each later minor version counts as 1.1, and below 1.1 stands for all of them.
@@ -28,15 +29,6 @@ HasValidHost v [] = IsTrue (is_1_0 v)
 HasValidHost v (value ∷ []) = IsHostValue value
 HasValidHost v (value ∷ another ∷ more) = ⊥
 
--- the number that was read is this one
-abbrev pub is_number : ℕ → Option ℕ → Bool
-is_number n None = false
-is_number n (Some m) = m == n
-
--- the text is this length: digits alone, one or more, below 2^64
-abbrev pub is_length : ℕ → List ℕ → Bool
-is_length n text = is_number n (length_of text)
-
 -- the coding is chunked, without case
 abbrev pub is_chunked : List ℕ → Bool
 is_chunked coding = same_name coding (codes "chunked")
@@ -45,12 +37,10 @@ is_chunked coding = same_name coding (codes "chunked")
 abbrev pub is_unknown_coding : List ℕ → Bool
 is_unknown_coding coding = not (is_chunked coding) && not (bytes_eq coding [])
 
--- THE BODY, by the elements of Content-Length and of Transfer-Encoding: neither stands there; or lengths alone, all
--- the same one; or chunked alone, in version 1.1.
+-- THE BODY, by the elements of Content-Length and of Transfer-Encoding: without codings its length is the one length,
+-- or there is none; or there is chunked alone, in version 1.1.
 abbrev pub IsBodyFraming : HTTPVersion → List (List ℕ) → List (List ℕ) → Option ℕ → Bool → Type 0
-IsBodyFraming v [] [] n chunked = (n ≡ None) × (chunked ≡ false)
-IsBodyFraming v (length ∷ lengths) [] n chunked =
-    (m : ℕ) × (n ≡ Some m) × IsTrue (list_all (is_length m) (length ∷ lengths)) × (chunked ≡ false)
+IsBodyFraming v lengths [] n chunked = IsOneLength lengths n × (chunked ≡ false)
 IsBodyFraming v [] (coding ∷ codings) n chunked =
     IsTrue (not (is_1_0 v)) × IsTrue (is_chunked coding) × (codings ≡ []) × (n ≡ None) × (chunked ≡ true)
 IsBodyFraming v (length ∷ lengths) (coding ∷ codings) n chunked = ⊥

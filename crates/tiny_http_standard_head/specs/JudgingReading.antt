@@ -1,10 +1,10 @@
 -- What a whole head says, computed from element to element.
-use Rattle.std.specs.Prelude.{ℕ, Bool, true, false, ◌||◌, ◌==◌, List, [], ◌∷◌, Option, Some, None, is_some, Result}
+use Rattle.std.specs.Prelude.{ℕ, Bool, true, false, ◌||◌, List, [], ◌∷◌, Option, None, is_some, Result}
 use Rattle.std.specs.Prelude.{Ok, Err, codes, if◌then◌else◌}
 use Rattle.std.specs.Str.{bytes_eq}
 use Rattle.tiny_http_head.specs.declared.common.HTTPVersion.{HTTPVersion}
 use Rattle.tiny_http_head.specs.Common.{same_name}
-use Rattle.tiny_http_head.specs.Heads.{length_of}
+use Rattle.tiny_http_head.specs.declared.content_length.InvalidLength.{InvalidLength}
 use Rattle.tiny_http_standard_head.specs.declared.judging.Wanted.{Wanted}
 use Rattle.tiny_http_standard_head.specs.declared.judging.Wanted.TheVariants.{Close, KeepAlive, Upgrade, Continue}
 use Rattle.tiny_http_standard_head.specs.declared.judging.Wanted.TheVariants.{Protocol, UnknownExpectation, Chunks}
@@ -24,21 +24,6 @@ is_wanted Continue element = same_name element (codes "100-continue")
 is_wanted Protocol element = is_protocol element
 is_wanted UnknownExpectation element = is_unknown_expectation element
 is_wanted Chunks element = element_asks_chunked element
-
--- the length that a text is, if none was found before, or the same
-abbrev pub same_length : Option ℕ → Option ℕ → Option ℕ
-same_length None found = None
-same_length (Some m) None = Some m
-same_length (Some m) (Some n) = if m == n then Some m else None
-
-abbrev pub if_length : Option ℕ → (ℕ → Result (Option ℕ) Judgement) → Result (Option ℕ) Judgement
-if_length None more = Err InvalidHead
-if_length (Some n) more = more n
-
-abbrev pub lengths_on : Option ℕ → List (List ℕ) → Result (Option ℕ) Judgement
-lengths_on found [] = Ok found
-lengths_on found (length ∷ lengths) =
-    if_length (same_length (length_of length) found) (λ n. lengths_on (Some n) lengths)
 
 -- what the codings are after a further one
 abbrev pub coding_after : Codings → List ℕ → Codings
@@ -62,6 +47,6 @@ abbrev pub body_with : HTTPVersion → Codings → Option ℕ → Result (Option
 body_with v Absent n = Ok (n, false)
 body_with v codings n = if (is_1_0 v || is_some n) then Err InvalidHead else coded_body codings
 
-abbrev pub body_by : HTTPVersion → Codings → Result (Option ℕ) Judgement → Result (Option ℕ × Bool) Judgement
-body_by v codings (Err fault) = Err fault
+abbrev pub body_by : HTTPVersion → Codings → Result (Option ℕ) InvalidLength → Result (Option ℕ × Bool) Judgement
+body_by v codings (Err fault) = Err InvalidHead
 body_by v codings (Ok n) = body_with v codings n

@@ -12,10 +12,8 @@ use Rattle.tiny_http_head.specs.declared.common.Method.{Method}
 use Rattle.tiny_http_head.specs.declared.common.Header.{Header}
 use Rattle.tiny_http_head.specs.Common.{same_name}
 use Rattle.tiny_http_head.specs.Heads.{method_of}
-use Rattle.tiny_http_standard_head.specs.Hosts.{percent, slash, IsHostWithPort, IsAuthority}
-
-abbrev pub question_mark : ℕ
-question_mark = 63
+use Rattle.tiny_http_head.specs.Target.{slash, question_mark}
+use Rattle.tiny_http_standard_head.specs.Hosts.{percent, IsHostWithPort, IsAuthority}
 
 abbrev pub digit_zero : ℕ
 digit_zero = 48

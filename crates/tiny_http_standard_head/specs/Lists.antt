@@ -1,25 +1,23 @@
 -- The lists that headers are (RFC 9110, sections 5.3 and 5.6.1).
-use Rattle.std.specs.Prelude.{ℕ, Bool, List, [], ◌∷◌, ◌++◌, map, if◌then◌else◌}
+use Rattle.std.specs.Prelude.{ℕ, Bool, List, [], ◌∷◌, if◌then◌else◌}
 use Rattle.std.specs.List.{list_any}
 use Rattle.httparse.specs.Grammar.{is_ows}
-use Rattle.tiny_http_text.specs.Bytes.{trimmed, parts, comma}
 use Rattle.tiny_http_head.specs.declared.common.Header.{Header}
 use Rattle.tiny_http_head.specs.Common.{same_name}
+use Rattle.tiny_http_head.specs.Lists.{elements_in, elements_by_name}
 
 -- the values of all headers of that name, in their order
 abbrev pub values_of : List ℕ → List Header → List (List ℕ)
 values_of name [] = []
 values_of name (h ∷ hs) = if same_name h.field name then h.value ∷ values_of name hs else values_of name hs
 
--- what stands between the commas of a value, without white space (space and tab) round it
+-- the elements of a value, without spaces and tabs around them
 abbrev pub between_commas : List ℕ → List (List ℕ)
-between_commas value = map (trimmed is_ows) (parts comma value)
+between_commas value = elements_in is_ows value
 
 -- the elements of all headers of that name, the empty ones too
 abbrev pub elements_of : List ℕ → List Header → List (List ℕ)
-elements_of name [] = []
-elements_of name (h ∷ hs) =
-    if same_name h.field name then between_commas h.value ++ elements_of name hs else elements_of name hs
+elements_of name headers = elements_by_name is_ows name headers
 
 -- some element of the headers of that name passes the test
 abbrev pub has_element_that : List ℕ → (List ℕ → Bool) → List Header → Bool

@@ -23,7 +23,8 @@ use Rattle.tiny_http_standard_head.specs.Lines.{ReadsRequestLine, IsNoRequestLin
 use Rattle.tiny_http_standard_head.specs.declared.heads.NoHead.TheVariants as stop
 use Rattle.tiny_http_standard_head.specs.Judging.{Judges}
 use Rattle.tiny_http_standard_head.specs.HeadParts.{StopsFields, EndsFields}
-use Rattle.tiny_http_standard_head.specs.Heads.{line_feed, carriage_return, is_carriage_return, Line}
+use Rattle.tiny_http_head.specs.Heads.{line_feed}
+use Rattle.tiny_http_standard_head.specs.Heads.{carriage_return, is_carriage_return, Line}
 use Rattle.tiny_http_standard_head.specs.Heads.{behind_empty_line, BeginsWithRequestLine, BeginsWithFieldLines}
 use Rattle.tiny_http_standard_head.specs.Heads.{BeginsWithBadLine, IsNoFieldOrEnd, HasOpenRequestLine, is_begun}
 use Rattle.tiny_http_standard_head.specs.Heads.{HasGoodRequestLine, Reads}

@@ -7,7 +7,7 @@ use Rattle.tiny_http_standard_head.specs.declared.source_lines.FoundLine.{FoundL
 use Rattle.tiny_http_standard_head.specs.declared.source_lines.FoundLine.TheVariants.{Held, Taken}
 use Rattle.tiny_http_standard_head.specs.declared.source_lines.NoLine.{NoLine}
 use Rattle.tiny_http_standard_head.specs.declared.source_lines.NoLine.TheVariants.{Cut, TooLong, Memory}
-use Rattle.tiny_http_standard_head.specs.Heads.{line_feed}
+use Rattle.tiny_http_head.specs.Heads.{line_feed}
 
 -- the first LF of the bytes stands behind n of them
 pub record EndsLine (bytes : List ℕ) (n : ℕ) : Type 0 where

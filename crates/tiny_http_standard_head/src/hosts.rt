@@ -9,7 +9,7 @@ ghost use Rattle.tiny_http_standard_head.specs.Hosts.{is_registered_name, is_add
 ghost use Rattle.tiny_http_standard_head.specs.Hosts.{IsHost, IsHostWithPort, IsHostValue, IsAuthority};
 ghost use Rattle.tiny_http_standard_head.specs.Hosts.{is_port_number};
 
-use crate::numbers::number_in;
+use tiny_http_head::content_length::number_in;
 
 // Whether two hexadecimal digits stand in front.
 fn begins_with_two_hexadecimal_digits(text: &[u8]) -> bool

@@ -1,25 +1,26 @@
 //! What a whole head says, and why it is refused (RFC 9112, sections 3.2, 6 and 9.3; RFC 9110, sections 7.8, 10.1.1
 //! and 15), and whether it asks for chunks (RFC 9110, section 10.1.4).
-ghost use Rattle.std.specs.Prelude.{◌≡◌, ◌↔◌, ◌==◌, not, IsTrue, IsFalse, IfSome, IfNone, codes, None};
+ghost use Rattle.std.specs.Prelude.{◌≡◌, ◌↔◌, ◌==◌, not, IsTrue, IsFalse, IfSome, IfNone, codes};
 ghost use Rattle.std.specs.List.{list_all, list_any};
 ghost use Rattle.httparse.specs.Grammar.{is_ows};
 ghost use Rattle.tiny_http_text.specs.Bytes.{trimmed, parts};
-ghost use Rattle.tiny_http_standard_head.specs.Hosts.{percent, slash};
+ghost use Rattle.tiny_http_head.specs.ContentLength.{one_length};
+ghost use Rattle.tiny_http_head.specs.Target.{slash};
+ghost use Rattle.tiny_http_standard_head.specs.Hosts.{percent};
 ghost use Rattle.tiny_http_standard_head.specs.Lists.{values_of, between_commas, elements_of, has_element_that};
 ghost use Rattle.tiny_http_standard_head.specs.Judging.{HasValidHost, is_1_0, is_chunked, is_one_or_two_tokens};
 ghost use Rattle.tiny_http_standard_head.specs.Judging.{is_protocol, has_body, owes_continue, is_connect, is_last};
 ghost use Rattle.tiny_http_standard_head.specs.Judging.{asks_upgrade, is_protocol_named, names_protocol, Judges};
 ghost use Rattle.tiny_http_standard_head.specs.Te.{between_semicolons, is_weight, weight_value, is_zero};
 ghost use Rattle.tiny_http_standard_head.specs.Te.{has_zero_weight, element_asks_chunked, asks_chunked};
-ghost use Rattle.tiny_http_standard_head.specs.JudgingReading.{is_wanted, same_length, lengths_on, coding_after};
-ghost use Rattle.tiny_http_standard_head.specs.JudgingReading.{codings_on, body_by};
+ghost use Rattle.tiny_http_standard_head.specs.JudgingReading.{is_wanted, coding_after, codings_on, body_by};
 ghost use Rattle.tiny_http_standard_head.specs.declared.judging.Codings.TheVariants.{Absent};
 
 use crate::hosts::is_host_value;
-use crate::lines::{trim_end, trim_front};
-use crate::numbers::number_in;
 use httparse::is_token;
+use tiny_http_head::blanks::{Blanks, trim_space_and_tab};
 use tiny_http_head::common::{HTTPVersion, Header, Method};
+use tiny_http_head::content_length::one_length;
 use tiny_http_text::bytes::{cut, is};
 
 /// What a head says of its body, and of the connection.
@@ -79,18 +80,11 @@ enum Codings {
     Bad,
 }
 
-// The bytes without spaces and tabs at their ends.
-fn trim_bytes(text: &[u8]) -> &[u8]
-    ensures { result.now ≡ trimmed is_ows text.now }
-{
-    trim_end(trim_front(text))
-}
-
 // The text without spaces and tabs at its ends.
 pub(crate) fn trim(text: &str) -> &[u8]
     ensures { result.now ≡ trimmed is_ows text.now }
 {
-    trim_bytes(text.as_bytes())
+    trim_space_and_tab(text.as_bytes())
 }
 
 // Whether this is a token, or two with a slash between.
@@ -126,7 +120,7 @@ fn weight_value(parameter: &[u8]) -> Option<&[u8]>
     if parameter.len() < 2 || !parameter[..2].eq_ignore_ascii_case(b"q=") {
         return None;
     }
-    Some(trim_bytes(&parameter[2..]))
+    Some(trim_space_and_tab(&parameter[2..]))
 }
 
 // Whether the value of a weight is a zero with at most three digits behind the point (RFC 9110, section 12.4.2).
@@ -141,7 +135,7 @@ fn has_zero_weight(parameters: &[u8]) -> bool
     ensures { result ≡ has_zero_weight (between_semicolons parameters.now) }
 {
     for text in parameters.split(|b| *b == b';') {
-        if let Some(value) = weight_value(trim_bytes(text)) {
+        if let Some(value) = weight_value(trim_space_and_tab(text)) {
             return is_zero(value);
         }
     }
@@ -160,9 +154,9 @@ fn element_asks_chunked(element: &[u8]) -> bool
     ensures { result ≡ element_asks_chunked element.now }
 {
     let Some((coding, parameters)) = cut(element, b';') else {
-        return is_chunked(trim_bytes(element));
+        return is_chunked(trim_space_and_tab(element));
     };
-    is_chunked(trim_bytes(coding)) && !has_zero_weight(parameters)
+    is_chunked(trim_space_and_tab(coding)) && !has_zero_weight(parameters)
 }
 
 // Whether an element is what is wanted.
@@ -221,52 +215,6 @@ fn has_valid_host(version: HTTPVersion, headers: &[Header]) -> bool
     has_one || is_1_0(version)
 }
 
-// This length, if none was found before, or the same.
-fn same_length(length: Option<usize>, found: Option<usize>) -> Option<usize>
-    ensures { result ≡ same_length length found }
-{
-    match (length, found) {
-        (Some(length), Some(before)) => {
-            if length == before {
-                return Some(length);
-            }
-            None
-        }
-        (Some(length), None) => Some(length),
-        (None, _) => None,
-    }
-}
-
-// The length that the elements of a value are, if none was found before, or the same.
-fn lengths_in(value: &str, found: Option<usize>) -> Result<Option<usize>, Judgement>
-    ensures { result ≡ lengths_on found (between_commas value.now) }
-{
-    let mut found = found;
-    for text in value.split(',') {
-        let Some(length) = same_length(number_in(trim(text)), found) else {
-            return Err(Judgement::InvalidHead);
-        };
-        found = Some(length);
-    }
-    Ok(found)
-}
-
-// The one length that all elements of all `Content-Length` headers are, if there is such a header.
-fn one_length(headers: &[Header]) -> Result<Option<usize>, Judgement>
-    ensures { result ≡ lengths_on None (elements_of (codes "Content-Length") headers.now) }
-{
-    let mut found = None;
-    for header in headers {
-        if header.field.equiv("Content-Length") {
-            match lengths_in(header.value.as_str(), found) {
-                Ok(length) => found = length,
-                Err(fault) => return Err(fault),
-            }
-        }
-    }
-    Ok(found)
-}
-
 // What the codings are after a further one.
 fn coding_after(was: Codings, coding: &[u8]) -> Codings
     ensures { result ≡ coding_after was coding.now }
@@ -307,9 +255,11 @@ fn codings_of(headers: &[Header]) -> Codings
 // The body by the codings and the length: its length, and whether it comes in chunks.
 fn body_of(version: HTTPVersion, headers: &[Header]) -> Result<(Option<usize>, bool), Judgement>
     ensures { result ≡ body_by version (codings_on Absent (elements_of (codes "Transfer-Encoding") headers.now))
-        (lengths_on None (elements_of (codes "Content-Length") headers.now)) }
+        (one_length (elements_of (codes "Content-Length") headers.now)) }
 {
-    let length = one_length(headers)?;
+    let Ok(length) = one_length(headers, Blanks::SpaceAndTab) else {
+        return Err(Judgement::InvalidHead);
+    };
     let codings = codings_of(headers);
     if codings == Codings::Absent {
         return Ok((length, false));

@@ -8,6 +8,5 @@ pub mod judging;
 pub mod laws;
 pub mod lines;
 pub mod lists;
-mod numbers;
 pub mod source_heads;
 mod source_lines;

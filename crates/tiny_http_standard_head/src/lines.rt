@@ -2,8 +2,6 @@
 ghost use Rattle.std.specs.Prelude.{◌≡◌, ◌↔◌, ◌<◌, ◌++◌, IsTrue, IfOk, OnOk, OnErr, IfSome, IfNone, None, Ok};
 ghost use Rattle.std.specs.List.{list_all};
 ghost use Rattle.std.specs.Char.{is_ascii_graphic};
-ghost use Rattle.httparse.specs.Grammar.{is_ows};
-ghost use Rattle.tiny_http_text.specs.Bytes.{skip_while, skip_end_while};
 ghost use Rattle.tiny_http_standard_head.specs.Lines.{IsVersion, IsNoVersion, authority_in, HasScheme};
 ghost use Rattle.tiny_http_standard_head.specs.Lines.{IsAbsoluteForm, is_asterisk_form, IsTarget, RequestLine};
 ghost use Rattle.tiny_http_standard_head.specs.Lines.{ReadsRequestLine, IsNoRequestLine, must_be_ascii};
@@ -11,8 +9,9 @@ ghost use Rattle.tiny_http_standard_head.specs.Lines.{uppercase_hexadecimal_digi
 ghost use Rattle.tiny_http_standard_head.specs.Lines.{percent_encoded, FieldLine, ReadsFieldLine, IsNoFieldLine};
 
 use crate::hosts::{is_authority, is_host_with_port};
-use httparse::{is_header_value, is_space_or_tab, is_token};
+use httparse::{is_header_value, is_token};
 use std::alloc::{AllocError, Global};
+use tiny_http_head::blanks::trim_space_and_tab;
 use tiny_http_head::common::{HTTPVersion, Header, HeaderField, Method, method_of};
 use tiny_http_text::ascii::AsciiString;
 use tiny_http_text::bytes::{are_ascii, cut, is};
@@ -131,28 +130,6 @@ pub fn parse_request_line(
     Ok(Some((method, target, version)))
 }
 
-// The text without white space at its end.
-pub(crate) fn trim_end(text: &[u8]) -> &[u8]
-    ensures { result.now ≡ skip_end_while is_ows text.now }
-{
-    let mut end = text.len();
-    while end > 0 && is_space_or_tab(text[end - 1]) {
-        end -= 1;
-    }
-    &text[..end]
-}
-
-// The text without white space at its front.
-pub(crate) fn trim_front(text: &[u8]) -> &[u8]
-    ensures { result.now ≡ skip_while is_ows text.now }
-{
-    let mut start = 0;
-    while start < text.len() && is_space_or_tab(text[start]) {
-        start += 1;
-    }
-    &text[start..]
-}
-
 // A hexadecimal digit, with a capital letter.
 fn uppercase_hexadecimal_digit(d: u8) -> u8
     requires { d < 16 }
@@ -207,7 +184,7 @@ fn split_field_line(text: &[u8]) -> Option<(&[u8], &[u8])>
     if !is_token(field) || !is_header_value(padded) {
         return None;
     }
-    let value = trim_end(trim_front(padded));
+    let value = trim_space_and_tab(padded);
     if must_be_ascii(field) && !are_ascii(value) {
         return None;
     }

@@ -2,7 +2,7 @@
 ghost use Rattle.std.specs.Prelude.{◌≡◌, ◌<◌, IfSome, IfNone, IfOk, IfErr, OnOk, true, length, take};
 ghost use Rattle.tiny_http_text.specs.Bytes.{HasNo};
 ghost use Rattle.tiny_http_io.specs.Source.{GoesOn, IsCutOff};
-ghost use Rattle.tiny_http_standard_head.specs.Heads.{line_feed};
+ghost use Rattle.tiny_http_head.specs.Heads.{line_feed};
 ghost use Rattle.tiny_http_standard_head.specs.SourceLines.{EndsLine, TakesLine, FindsLine, HasNoLine, IsCut};
 
 use memchr::memchr;

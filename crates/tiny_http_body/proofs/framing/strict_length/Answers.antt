@@ -8,7 +8,7 @@ pub returns-then-not-is_coded : goal.returns-then-not-is_coded
 returns-then-not-is_coded c coded sized =
     let hs = c.args.headers.now in
     let none : is_some (value_of (codes "Transfer-Encoding") hs) ≡ false = sym coded ∙ c.if-not-is_coded.true in
-    c.one_length.ensures ∙ strict-uncoded (elements_of (codes "Content-Length") hs) (elements_of (codes "Transfer-Encoding") hs) (none-named (codes "Transfer-Encoding") hs none)
+    c.uncoded_length.ensures ∙ strict-uncoded (elements_of (codes "Content-Length") hs) (elements_of (codes "Transfer-Encoding") hs) (none-named (codes "Transfer-Encoding") hs none)
 
 pub returns-then-is_sized : goal.returns-then-is_sized
 returns-then-is_sized c coded sized =

@@ -18,7 +18,7 @@ loop-text-preserved c =
     in
     let t = YieldsList-turn road c.loop-text.yielded _ c.loop-text.yielded_by _ _ c.in-Some.text c.in-Some.is c.next.ensures.steps in
     let n = length_push c.loop-text.yielded c.in-Some.text in
-    let passes : is_weight (trimmed is_ows c.in-Some.text.now) ≡ false = ap is_weight (sym c.trim_bytes.ensures) ∙ c.in_default.ensures.none in
+    let passes : is_weight (trimmed is_ows c.in-Some.text.now) ≡ false = ap is_weight (sym c.trim_space_and_tab.ensures) ∙ c.in_default.ensures.none in
     rw n (weight-passed (parts semicolon c.args.parameters.now) (length c.loop-text.yielded) c.in-Some.text.now t passes ∙ c.loop-text.invariant)
 
 pub returns-in-Some-weight_value : goal.returns-in-Some-weight_value
@@ -28,8 +28,8 @@ returns-in-Some-weight_value c =
     in
     let t = YieldsList-turn road c.loop-text.yielded _ c.loop-text.yielded_by _ _ c.in-Some.text c.in-Some.is c.next.ensures.steps in
     let weighs = c.in-Some-weight_value.ensures.some in
-    let found : is_weight (trimmed is_ows c.in-Some.text.now) ≡ true = ap is_weight (sym c.trim_bytes.ensures) ∙ weighs.0 in
-    c.is_zero.ensures ∙ ap is_zero (weighs.1 ∙ ap weight_value c.trim_bytes.ensures)
+    let found : is_weight (trimmed is_ows c.in-Some.text.now) ≡ true = ap is_weight (sym c.trim_space_and_tab.ensures) ∙ weighs.0 in
+    c.is_zero.ensures ∙ ap is_zero (weighs.1 ∙ ap weight_value c.trim_space_and_tab.ensures)
     ∙ weight-found (parts semicolon c.args.parameters.now) (length c.loop-text.yielded) c.in-Some.text.now t found ∙ c.loop-text.invariant
 
 pub returns : goal.returns

@@ -1,6 +1,6 @@
-use Rattle.std.proofs.Common.{◌≡◌, sym, ap, subst, ◌∙◌}
+use Rattle.std.proofs.Common.{◌≡◌, sym, subst, ◌∙◌}
 use Rattle.httparse.specs.Grammar.{is_ows}
-use Rattle.tiny_http_text.specs.Bytes.{AreAscii, Trims, trimmed, skip_end_while}
+use Rattle.tiny_http_text.specs.Bytes.{AreAscii, Trims, trimmed}
 use Rattle.tiny_http_text.proofs.BytesLemmas.{trims-is}
 use Rattle.tiny_http_standard_head.proofs.LinesLemmas.{no-colon, field-parts}
 use Rattle.tiny_http_standard_head.proofs.lines.split_field_line.Goals.{then-not-is_token-via-then-not-is_token, then-not-is_token-via-else-not-is_token+then-not-is_header_value, else-must_be_ascii-via-then-must_be_ascii+else-not-are_ascii, else-must_be_ascii-via-else-must_be_ascii}
@@ -23,7 +23,7 @@ pub returns-then-not-are_ascii-clause-none : goal.returns-then-not-are_ascii-cla
 returns-then-not-are_ascii-clause-none c field value l =
     let a = c.in-Some.ensures.some in
     let parts = field-parts c.args.text.now c.in-Some.field.now c.in-Some.padded.now a.0 a.1 field value l in
-    let same : c.trim_end-value.result.now ≡ trimmed is_ows c.in-Some.padded.now = c.trim_end-value.ensures ∙ ap (skip_end_while is_ows) c.trim_front.ensures in
+    let same : c.trim_space_and_tab-value.result.now ≡ trimmed is_ows c.in-Some.padded.now = c.trim_space_and_tab-value.ensures in
     let ascii = parts.2 (sym c.must_be_ascii.ensures ∙ c.if-must_be_ascii.true) in
     contrary c.are_ascii.result (c.are_ascii.ensures ∙ subst AreAscii (sym same) ascii) c.if-not-are_ascii.true
 
@@ -31,7 +31,7 @@ pub returns-clause-some : goal.returns-clause-some
 returns-clause-some c =
     let a = c.in-Some.ensures.some in
     let padded = c.in-Some.padded.now in
-    let same : c.trim_end-value.result.now ≡ trimmed is_ows padded = c.trim_end-value.ensures ∙ ap (skip_end_while is_ows) c.trim_front.ensures in
+    let same : c.trim_space_and_tab-value.result.now ≡ trimmed is_ows padded = c.trim_space_and_tab-value.ensures in
     record {
       padded = padded;
       joins = a.0;

@@ -1,6 +1,6 @@
 use Rattle.std.proofs.Common.{◌≡◌, ◌-◌, ◌<◌, [], length, take}
 use Rattle.tiny_http_text.specs.Bytes.{HasNo}
-use Rattle.tiny_http_standard_head.specs.Heads.{line_feed}
+use Rattle.tiny_http_head.specs.Heads.{line_feed}
 use Rattle.tiny_http_standard_head.specs.SourceLines.{Passes}
 use Rattle.tiny_http_standard_head.proofs.source_lines.take_line.Given as goal
 

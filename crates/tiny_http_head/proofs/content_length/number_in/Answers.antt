@@ -1,8 +1,8 @@
 use Rattle.std.proofs.Common.{rules, ℕ, ◌+◌, ◌-◌, ◌*◌, ◌≤◌, sym, ap, ◌∙◌, take, get_or}
 use Rattle.std.specs.Prelude.{◌^◌}
 use Rattle.std.specs.Str.Parse.{digits_value}
-use Rattle.tiny_http_standard_head.proofs.NumbersLemmas.{one-digit, more-digits, other-byte, no-digits, too-large, has-number}
-use Rattle.tiny_http_standard_head.proofs.numbers.number_in.Goals as goal
+use Rattle.tiny_http_head.proofs.NumbersLemmas.{one-digit, more-digits, other-byte, no-digits, too-large, has-number}
+use Rattle.tiny_http_head.proofs.content_length.number_in.Goals as goal
 
 pub returns-then-not-is_ascii_digit : goal.returns-then-not-is_ascii_digit
 returns-then-not-is_ascii_digit c = no-digits c.args.text.now (other-byte c.args.text.now c.loop-digit.digit-index (search rules) (search rules))

@@ -1,8 +1,8 @@
 use Rattle.std.proofs.Common.{rules, arith}
 use Rattle.httparse.specs.Grammar.{is_ows}
 use Rattle.tiny_http_text.proofs.BytesTrimming.{end-here, end-none}
-use Rattle.tiny_http_standard_head.proofs.lines.trim_end.Goals.{then-loop-end-test+else-is_space_or_tab, else-loop-end-test}
-use Rattle.tiny_http_standard_head.proofs.lines.trim_end.Goals as goal
+use Rattle.tiny_http_head.proofs.blanks.trim_end.Goals.{then-loop-end-test+else-is_space_or_tab, else-loop-end-test}
+use Rattle.tiny_http_head.proofs.blanks.trim_end.Goals as goal
 
 pub returns : goal.returns
 returns c =

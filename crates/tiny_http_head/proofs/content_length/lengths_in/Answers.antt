@@ -1,14 +1,13 @@
-use Rattle.std.proofs.Common.{◌≡◌, sym, ap, ◌∙◌, Some, None, length, lit<, arith}
+use Rattle.std.proofs.Common.{◌≡◌, sym, ap, ◌∙◌, ◌∷◌, [], Ok, length, lit<, arith}
 use Rattle.std.proofs.lemmas.Iterator.Consumers.{YieldsList-turn, YieldsList-end, YieldsList-at}
 use Rattle.std.proofs.lemmas.Iterator.Splits.{YieldsList-from_str_split}
 use Rattle.std.proofs.lemmas.List.{length_push}
-use Rattle.httparse.specs.Grammar.{is_ows}
 use Rattle.tiny_http_text.specs.Bytes.{trimmed, parts, comma}
-use Rattle.tiny_http_standard_head.proofs.ListsLemmas.{elements-end}
-use Rattle.tiny_http_head.specs.Heads.{length_of}
-use Rattle.tiny_http_standard_head.specs.JudgingReading.{same_length, lengths_on}
-use Rattle.tiny_http_standard_head.proofs.FoldLemmas.{lengths-step, lengths-stop}
-use Rattle.tiny_http_standard_head.proofs.judging.lengths_in.Goals as goal
+use Rattle.tiny_http_head.specs.Lists.{is_left_out}
+use Rattle.tiny_http_head.specs.ContentLength.{lengths_after}
+use Rattle.tiny_http_head.proofs.ListsLemmas.{elements-end}
+use Rattle.tiny_http_head.proofs.ContentLengthLemmas.{lengths-step, lengths-stop, nothing-after}
+use Rattle.tiny_http_head.proofs.content_length.lengths_in.Goals as goal
 
 pub loop-text-preserved : goal.loop-text-preserved
 loop-text-preserved c =
@@ -17,19 +16,22 @@ loop-text-preserved c =
     in
     let t = YieldsList-turn road c.loop-text.yielded _ c.loop-text.yielded_by _ _ c.in-Some.text c.in-Some.is c.next.ensures.steps in
     let n = length_push c.loop-text.yielded c.in-Some.text in
+    let p = is_left_out c.args.blanks in
     let text = c.in-Some.text.now in
-    let is : same_length (length_of (trimmed is_ows text)) c.loop-text.found ≡ Some c.in-Some-same_length.length = ap (λ x. same_length (length_of x) c.loop-text.found) (sym c.trim.ensures) ∙ ap (λ x. same_length x c.loop-text.found) (sym c.number_in.ensures) ∙ sym c.in-Some-same_length.ensures in
-    rw n (lengths-step c.loop-text.found (parts comma c.args.value.now) (length c.loop-text.yielded) text c.in-Some-same_length.length t is ∙ c.loop-text.invariant)
+    let is : lengths_after c.loop-text.found (trimmed p text ∷ []) ≡ Ok c.in-Ok.length =
+    ap (λ x. lengths_after c.loop-text.found (trimmed p x ∷ [])) (sym c.as_bytes.ensures.value) ∙ ap (λ x. lengths_after c.loop-text.found (x ∷ [])) (sym c.trim.ensures) ∙ sym c.length_after.ensures ∙ c.in-Ok.is in
+    rw n (lengths-step p c.loop-text.found c.in-Ok.length (parts comma c.args.value.now) (length c.loop-text.yielded) text t is ∙ c.loop-text.invariant)
 
-pub returns-in_default : goal.returns-in_default
-returns-in_default c =
+pub returns-in-Err : goal.returns-in-Err
+returns-in-Err c =
     let road = YieldsList-at c.into_iter-text-iterator.ensures.into_iter_gives
     (YieldsList-from_str_split 44 c.args.value.now (lit< tt) c.split-text-items.ensures.text c.split-text-items.ensures.has_more c.split-text-items.ensures.pattern)
     in
     let t = YieldsList-turn road c.loop-text.yielded _ c.loop-text.yielded_by _ _ c.in-Some.text c.in-Some.is c.next.ensures.steps in
+    let p = is_left_out c.args.blanks in
     let text = c.in-Some.text.now in
-    let is : same_length (length_of (trimmed is_ows text)) c.loop-text.found ≡ None = ap (λ x. same_length (length_of x) c.loop-text.found) (sym c.trim.ensures) ∙ ap (λ x. same_length x c.loop-text.found) (sym c.number_in.ensures) ∙ sym c.in_default.ensures in
-    lengths-stop c.loop-text.found (parts comma c.args.value.now) (length c.loop-text.yielded) text t is ∙ c.loop-text.invariant
+    lengths-stop p c.loop-text.found c.in-Err.fault (parts comma c.args.value.now) (length c.loop-text.yielded) text t
+    (ap (λ x. lengths_after c.loop-text.found (trimmed p x ∷ [])) (sym c.as_bytes.ensures.value) ∙ ap (λ x. lengths_after c.loop-text.found (x ∷ [])) (sym c.trim.ensures) ∙ sym c.length_after.ensures ∙ c.in-Err.is) ∙ c.loop-text.invariant
 
 pub returns : goal.returns
 returns c =
@@ -37,4 +39,4 @@ returns c =
     (YieldsList-from_str_split 44 c.args.value.now (lit< tt) c.split-text-items.ensures.text c.split-text-items.ensures.has_more c.split-text-items.ensures.pattern)
     in
     let t = YieldsList-end road c.loop-text.yielded _ c.loop-text.yielded_by _ _ c.in-None.is c.next.ensures.steps in
-    sym (elements-end (lengths_on c.loop-text.found) (parts comma c.args.value.now) (length c.loop-text.yielded) (omega (arith, t.1))) ∙ c.loop-text.invariant
+    nothing-after c.loop-text.found ∙ sym (elements-end (is_left_out c.args.blanks) (lengths_after c.loop-text.found) (parts comma c.args.value.now) (length c.loop-text.yielded) (omega (arith, t.1))) ∙ c.loop-text.invariant
