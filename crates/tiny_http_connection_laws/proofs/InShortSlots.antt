@@ -25,7 +25,7 @@ Matches [] (item ∷ items) = ⊥
 Matches (s ∷ slots) [] = ⊥
 
 own-head : (item : Item) → AreOfOneHead item item
-own-head (Asks r) = (refl, refl)
+own-head (Asks r) = (refl, refl, refl, refl)
 own-head (Refuses refusal manner no_body last) = refl
 
 -- what becomes of a number that a step changes: its head stays, and its answer is its own, or that of the step
@@ -271,7 +271,7 @@ number-fits found date old step = go (slice_get old.slots (number_of step)) refl
 -- ---- an Ask
 
 new-item : (date : HttpDate) (item : Item) → AreOfOneHead (new_slot date item).item item
-new-item date (Asks r) = (refl, refl)
+new-item date (Asks r) = (refl, refl, refl, refl)
 new-item date (Refuses refusal manner no_body last) = refl
 
 new-made : (k : ℕ) (date : HttpDate) (item : Item) (x : TimedValue) → maker k (new_slot date item).stage ≡ Some x → Some x ≡ None

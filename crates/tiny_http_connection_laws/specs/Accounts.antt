@@ -131,6 +131,14 @@ is_done_early (Drop k) = true
 is_done_early (Finish k) = true
 is_done_early _ = false
 
+-- the step is done in the turn of its number alone
+abbrev pub waits_its_turn : StepValue → Bool
+waits_its_turn (Respond k response) = true
+waits_its_turn (Write k bytes) = true
+waits_its_turn (Flush k) = true
+waits_its_turn (Upgrade k protocol response) = true
+waits_its_turn _ = false
+
 -- a step that was taken is done or refused; of a read nothing is said, which waits for its 100, and may find no memory
 abbrev pub IsTaken : StepValue → ReplyValue → Type 0
 IsTaken (Read k n) reply = ⊤

@@ -62,7 +62,11 @@ segment_of s = record { bytes = segment s; is_whole = is_finished s && not (is_s
 
 -- items with one head, read by the same rules: an upgrade changes only how what follows the head is read
 abbrev pub AreOfOneHead : Item → Item → Type 0
-AreOfOneHead (Asks q) (Asks r) = (q.message ≡ r.message) × (q.framing.by_standard ≡ r.framing.by_standard)
+AreOfOneHead (Asks q) (Asks r) =
+    (q.message ≡ r.message)
+    × (q.framing.by_standard ≡ r.framing.by_standard)
+    × (q.framing.owes_continue ≡ r.framing.owes_continue)
+    × (q.framing.asks_upgrade ≡ r.framing.asks_upgrade)
 AreOfOneHead item other = item ≡ other
 
 -- the step that made the answer of number k, with its date, where a step of the program made it by a response

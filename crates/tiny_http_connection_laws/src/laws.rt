@@ -9,6 +9,7 @@ ghost use Rattle.tiny_http_body.specs.declared.framing.Framing.{Framing};
 ghost use Rattle.tiny_http_open_request.specs.Pipeline.{Item, Request, Asks};
 ghost use Rattle.tiny_http_connection.specs.Segments.{Slot, is_finished};
 ghost use Rattle.tiny_http_connection.specs.Steps.{StepValue, ReplyValue, TimedValue, Ask, NotYet, NoSuch, number_of};
+ghost use Rattle.tiny_http_connection.specs.Steps.{is_done};
 ghost use Rattle.tiny_http_body.specs.declared.framing.Profile.{Profile};
 ghost use Rattle.tiny_http_connection.specs.Conversation.{IsConversation};
 ghost use Rattle.tiny_http_client.specs.ClientAnswer.{ClientAnswer, ReadsAnswers};
@@ -17,6 +18,7 @@ ghost use Rattle.tiny_http_response.specs.Readable.{IsReadable};
 ghost use Rattle.tiny_http_connection_laws.specs.InShort.{handed, requests_from, ReadsInOrder, sent, segment_of};
 ghost use Rattle.tiny_http_connection_laws.specs.InShort.{AreOfOneHead, maker, IsAmong};
 ghost use Rattle.tiny_http_connection_laws.specs.Accounts.{Finished, account, IsAsTold, IsThrough, IsHanded, takes};
+ghost use Rattle.tiny_http_connection_laws.specs.Accounts.{waits_its_turn};
 ghost use Rattle.tiny_http_connection_laws.specs.Accounts.{is_done_early, IsTaken, is_ask, HasEnd, OneEndsRequests};
 ghost use Rattle.tiny_http_connection_laws.specs.Accounts.{OneStops};
 ghost use Rattle.httpdate.specs.declared.date.HttpDate.{HttpDate};
@@ -104,8 +106,8 @@ pub fn numbers_are_as_told()
 {}
 
 /// STEPS ARE TAKEN IN TURN. A step for a request that was handed out is done or refused where the request takes it,
-/// once the numbers before it are finished; it is not put off. A step that is neither done, refused nor put off finds
-/// no such request. An `Ask` is put off only while the last request that was handed out isn't finished.
+/// once the numbers before it are finished; it is not put off. An answer, a write, a flush and an upgrade are done only
+/// then. A step that is neither done, refused nor put off finds no such request. An `Ask` is put off only while the last request that was handed out isn't finished.
 pub fn steps_are_taken_in_turn()
     ensures done { (p : Profile) (feed : Feed) (before after : Sink) (steps later : List TimedValue)
         (replies more : List ReplyValue) (held : List ℕ) (ended : Bool) (unread : Option Feed) (date : HttpDate)
@@ -118,6 +120,17 @@ pub fn steps_are_taken_in_turn()
         → (is_done_early step ≡ false
         → (j : ℕ) → j < number_of step → IsThrough (slice_get c.items j) (account j steps replies))
         → IsTaken step reply }
+    ensures waits { (p : Profile) (feed : Feed) (before after : Sink) (steps later : List TimedValue)
+        (replies more : List ReplyValue) (held : List ℕ) (ended : Bool) (unread : Option Feed) (date : HttpDate)
+        (step : StepValue) (reply : ReplyValue)
+        → (c : IsConversation p feed before (steps ++ (date, step) ∷ later) (replies ++ reply ∷ more) after held ended
+        unread)
+        → length replies ≡ length steps
+        → waits_its_turn step ≡ true
+        → is_done reply ≡ true
+        → (j : ℕ)
+        → j < number_of step
+        → IsThrough (slice_get c.items j) (account j steps replies) }
     ensures found { (p : Profile) (feed : Feed) (before after : Sink) (steps later : List TimedValue)
         (replies more : List ReplyValue) (held : List ℕ) (ended : Bool) (unread : Option Feed) (date : HttpDate)
         (step : StepValue) (reply : ReplyValue)

@@ -1,9 +1,13 @@
-use Rattle.tiny_http_connection_laws.proofs.AccountsTurns.{step-done, step-found, ask-waits-for}
+use Rattle.tiny_http_connection_laws.proofs.AccountsTurns.{step-done, done-in_turn, step-found, ask-waits-for}
 use Rattle.tiny_http_connection_laws.proofs.laws.steps_are_taken_in_turn.Goals as goal
 
 pub returns-clause-done : goal.returns-clause-done
 returns-clause-done c = λ p feed before after steps later replies more held ended unread date step reply x count known can through.
     step-done p feed before after steps later replies more held ended unread date step reply x count known can through
+
+pub returns-clause-waits : goal.returns-clause-waits
+returns-clause-waits c = λ p feed before after steps later replies more held ended unread date step reply x count waits done j low.
+    done-in_turn p feed before after steps later replies more held ended unread date step reply x count waits done j low
 
 pub returns-clause-found : goal.returns-clause-found
 returns-clause-found c = λ p feed before after steps later replies more held ended unread date step reply x count other some.
