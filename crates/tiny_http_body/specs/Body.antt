@@ -231,14 +231,16 @@ Fits standard (Chunked decoding) shape n given end_reported =
 Fits standard Rest shape n given end_reported = (shape ≡ form.Rest) × (end_reported ≡ false)
 
 -- A buffer was filled from the body: with all its bytes; or with fewer, and none is left; or a fault came before any
--- byte.
+-- byte, and stays. One with room that got none met the end of a body that has come whole.
 abbrev pub FillsFromBody : UnreadBody → Option Feed → UnreadBody → Option Feed → Result ℕ ErrorKind → List ℕ → Type 0
 FillsFromBody old from new to (Ok n) buf =
     (remaining old from ≡ prepended_body (take n buf) (remaining new to))
     × (0 < length buf → ReadsOn old n (nat_lt n (length buf)) new)
     × (n < length buf → NoneRemains (remaining new to)) × (n ≡ 0 → 0 < length buf → BodyStops End (remaining old from))
+    × (n ≡ 0 → 0 < length buf → is_whole new ≡ true)
 FillsFromBody old from new to (Err kind) buf =
     (remaining new to ≡ remaining old from) × ReadsOn old 0 true new × BodyStops (Fault kind) (remaining old from)
+    × (new ≡ Over (Fault kind))
 
 -- Where a source stands after a read that left this of the body.
 abbrev pub body_standing : UnreadBody → Standing → Standing
@@ -310,7 +312,8 @@ GivesUp (WithHead bytes) old new = new ≡ old
 GivesUp Rest old new = new ≡ old
 GivesUp (Counted left by_standard) old new =
     (new.feed ≡ option_map (skipped left) old.feed) × (new.standing ≡ after_body old.standing)
-    × (old.skip + left < 2 ^ 64 → (new.reader ≡ old.reader) × (new.stop ≡ old.stop))
+    × (old.skip + left < 2 ^ 64
+    → (new.reader ≡ old.reader) × (new.stop ≡ old.stop) × (new.skip ≡ old.skip + left) × (new.held ≡ old.held))
 GivesUp (Chunked decoding) old new =
     (new.feed ≡ option_map (λ _. stopped End) old.feed)
     × IsAtEnd new

@@ -16,7 +16,7 @@ use Rattle.tiny_http_connection.specs.Pending.{kept_body, number_with_body}
 use Rattle.tiny_http_connection.specs.Steps.{Given, Fault}
 use Rattle.tiny_http_connection.specs.Giving.{TakesNext}
 use Rattle.tiny_http_connection.specs.Connection.{ConnectionState}
-use Rattle.tiny_http_connection.specs.Driving.{ReadsKept, StandsAfter}
+use Rattle.tiny_http_connection.specs.Driving.{ReadsKept, StandsAfter, ClosesBody}
 
 -- ---- a read of no bytes
 
@@ -41,9 +41,13 @@ takes-none : (n : ℕ) (bytes : List ℕ) (o : Option Remaining) → n ≡ 0 →
 takes-none n bytes None none empty = tt
 takes-none n bytes (Some r) none empty = rw (none, sym empty) (r.body, (refl, refl, λ e. inl refl), refl)
 
+closes-none : (n : ℕ) (bytes : List ℕ) (b : UnreadBody) → n ≡ 0 → ClosesBody n (Given bytes) b
+closes-none n [] b none = λ some. absurd (omega (arith, some, none))
+closes-none n (x ∷ xs) b none = tt
+
 pub reads-nothing : {R W : Type 0} (c : ConnectionState R W) (k n : ℕ) (bytes : List ℕ) (u : Unfinished) (b : UnreadBody) → slice_get c.requests k ≡ Some (Some u) → kept_body (Some u) ≡ Some b → n ≡ 0 → [] ≡ bytes → ReadsKept k n c c (Given bytes)
 reads-nothing c k n bytes u b e has none empty =
-    (u, b, b, e, has, same-set c.requests k (Some u) e ∙ ap (λ x. slice_set c.requests k (Some x)) (same-body u b has), stands-still b c.source, takes-none n bytes (remaining b c.source.feed) none empty, λ some. absurd (omega (arith, some, none)))
+    (u, b, b, e, has, same-set c.requests k (Some u) e ∙ ap (λ x. slice_set c.requests k (Some x)) (same-body u b has), stands-still b c.source, takes-none n bytes (remaining b c.source.feed) none empty, λ some. absurd (omega (arith, some, none)), closes-none n bytes b none)
 
 -- ---- a read into a buffer
 

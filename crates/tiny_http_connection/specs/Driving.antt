@@ -38,11 +38,13 @@ use Rattle.tiny_http_connection.specs.Pending.{refuses_at, refuses_upgrade_at, i
 use Rattle.tiny_http_connection.specs.Pending.{last_holds_next_head, kept_body, GivesUpIfKept, number_with_body, begins_left}
 use Rattle.tiny_http_connection.specs.Pending.{is_readable}
 use Rattle.tiny_http_body.specs.declared.body.UnreadBody.{UnreadBody}
+use Rattle.tiny_http_body.specs.declared.body.UnreadBody.TheVariants.{Over}
+use Rattle.tiny_http_io.specs.declared.device.Stop.TheVariants.{Fault as Faults}
 use Rattle.tiny_http_open_request.specs.declared.open_request.OpenRequest.{OpenRequest}
 use Rattle.tiny_http_connection.specs.declared.pending.Unfinished.{Unfinished}
 use Rattle.tiny_http_connection.specs.declared.pending.Unfinished.TheVariants as still
 use Rattle.tiny_http_body.specs.Body.{Remaining, remaining, is_streaming, stream_body, body_standing, ends_met}
-use Rattle.tiny_http_body.specs.Body.{ReadsOn}
+use Rattle.tiny_http_body.specs.Body.{ReadsOn, is_whole}
 use Rattle.tiny_http_connection.specs.Seen.{IsStep, IsAnswered, IsOfWriter, ReportsOfWriter, all_sent_after}
 use Rattle.tiny_http_connection.specs.Outcomes.{fault_reply}
 use Rattle.tiny_http_connection.specs.Giving.{TakesNext}
@@ -325,6 +327,12 @@ abbrev pub given_count : ReplyValue → ℕ
 given_count (Given bytes) = length bytes
 given_count _ = 0
 
+-- a read that gave no byte where one was asked for met the end of a body that has come whole, and a fault stays
+abbrev pub ClosesBody : ℕ → ReplyValue → UnreadBody → Type 0
+ClosesBody n (Given []) body = 0 < n → is_whole body ≡ true
+ClosesBody n (Fault kind) body = body ≡ Over (Faults kind)
+ClosesBody n _ body = ⊤
+
 -- A read of n bytes gave the next of the body that is kept of this number, as far as the reader states them; and the
 -- source stands by what is left of the body.
 abbrev pub ReadsKept : {R W : Type 0} → ℕ → ℕ → ConnectionState R W → ConnectionState R W → ReplyValue → Type 0
@@ -338,6 +346,7 @@ ReadsKept k n old new reply =
     × StandsAfter was body old.source new.source
     × TakesNext n (remaining was old.source.feed) reply (remaining body new.source.feed)
     × (0 < n → ReadsOn was (given_count reply) (nat_lt (given_count reply) n) body)
+    × ClosesBody n reply body
 
 -- What a read leaves of requests and source, by its reply. A fault is met, and memory refused, for a byte at least.
 abbrev pub ReadLeaves : {R W : Type 0} → ℕ → ℕ → ConnectionState R W → ConnectionState R W → ReplyValue → Type 0

@@ -61,6 +61,7 @@ returns-in-Ok-eq0-clause-fills g c =
       λ some. subst (λ t. F at t) (sym (lt-ltb at (length buf) less)) (subst (λ k. F k true) zero_more on),
       λ lt. subst P (sym same) (stops-none-left old End end),
       λ first some. subst Q (bytes-none was old c.loop-at.buf at inv.given first) end,
+      λ first full. h.ended zero some,
     )
 
 pub returns-in-Ok-eq0-clause-goes_on : goal.returns-in-Ok-eq0-clause-goes_on

@@ -1,4 +1,4 @@
-use Rattle.std.proofs.Common.{rules, ◌≡◌, refl, sym, ap, ◌∙◌, subst, List, [], ◌∷◌, Ok, Err, ℕ, ◌+◌, ◌++◌, ◌≤◌, length, take, drop, arith, inl, inr}
+use Rattle.std.proofs.Common.{rules, ◌≡◌, refl, sym, ap, ◌∙◌, subst, List, [], ◌∷◌, Ok, Err, ℕ, ◌+◌, ◌++◌, ◌<◌, ◌≤◌, true, length, take, drop, arith, inl, inr}
 use Rattle.std.proofs.lemmas.Grind.{common_steps}
 use Rattle.std.specs.Prelude.{slice_get}
 use Rattle.std.specs.declared.io.ErrorKind.{ErrorKind}
@@ -6,8 +6,9 @@ use Rattle.tiny_http_connection.specs.Steps.{Read, Given, Fault, NoSuch, Memory}
 use Rattle.tiny_http_turns.specs.Turns.{Mark}
 use Rattle.tiny_http_connection.specs.Connection.{Kept, kept}
 use Rattle.tiny_http_connection.specs.Seen.{seen}
-use Rattle.tiny_http_connection.specs.Driving.{given_count}
-use Rattle.tiny_http_body.specs.Body.{ends_met}
+use Rattle.tiny_http_connection.specs.Driving.{given_count, ClosesBody}
+use Rattle.tiny_http_body.specs.Body.{ends_met, is_whole}
+use Rattle.tiny_http_body.specs.declared.body.UnreadBody.{UnreadBody}
 use Rattle.tiny_http_connection.proofs.ConnectionAsk.{StepIsAnswered}
 use Rattle.tiny_http_connection.proofs.ConnectionBody.{with_reader}
 use Rattle.tiny_http_connection.proofs.ConnectionRead.{read-nothing, readable-some, read-none, read-memory, read-done}
@@ -37,6 +38,11 @@ all-came buf bytes n count came size bound all = grind (arith, common_steps)
 none : (l : List ℕ) → length l ≡ 0 → [] ≡ l
 none [] e = refl
 none (x ∷ xs) e = absurd (omega (arith, e))
+
+-- a read that gave nothing met the end of a whole body
+closes-ok : (body : UnreadBody) (n count : ℕ) (buf bytes : List ℕ) → length bytes ≡ n → length buf ≡ count → (n ≡ 0 → 0 < length buf → is_whole body ≡ true) → ClosesBody count (Given bytes) body
+closes-ok body n count buf [] many size h = λ some. h (sym many) (omega (arith, size, some))
+closes-ok body n count buf (x ∷ xs) many size h = tt
 
 pub returns-then-not-is_readable-clause-step : goal.returns-then-not-is_readable-clause-step
 returns-then-not-is_readable-clause-step g c date =
@@ -117,6 +123,7 @@ returns-clause-step g c date =
                 stands-after w.1 fills.0 q.source c.fill.new.source fills.3 fills.4,
                 fills-next w.1 fills.0 q.source.feed c.fill.new.source.feed b.in-Ok-fill.n c.args.count c.fill.new.buf _ size few (sym came) (omega (arith, c.if-count-eq0.false)) fills.2,
                 λ some. fills-on w.1 fills.0 q.source.feed c.fill.new.source.feed b.in-Ok-fill.n c.args.count c.fill.new.buf _ size many some fills.2,
+                closes-ok fills.0 b.in-Ok-fill.n c.args.count c.fill.new.buf _ many size fills.2.4,
               ),
             )
         | in-Err b ↦
@@ -134,6 +141,7 @@ returns-clause-step g c date =
                 stands-after w.1 fills.0 q.source c.fill.new.source fills.3 fills.4,
                 fails-next w.1 fills.0 q.source.feed c.fill.new.source.feed b.in-Err.kind c.args.count c.fill.new.buf fills.2,
                 λ some. fails-on w.1 fills.0 q.source.feed c.fill.new.source.feed b.in-Err.kind c.args.count c.fill.new.buf some fills.2,
+                fills.2.3,
               ),
             )
       ],
