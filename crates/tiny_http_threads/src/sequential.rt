@@ -400,12 +400,15 @@ impl<W: Write + Drop, R: Wait + Drop> WriteDevice for SequentialWriter<W, R> {
 
     /// Waits for its turn, and writes once. That no byte of some is taken is a fault of kind `WriteZero`.
     fn write_out(&mut self, buf: &[u8]) -> Result<usize, io::Error> {
+        // No clause says that `hold` keeps the count.
+        let failures = self.failures;
         let written = match self.hold().write(buf) {
             Ok(0) if !buf.is_empty() => Err(ErrorKind::WriteZero.into()),
             written => written,
         };
+        self.failures = failures;
         if written.is_err() {
-            self.failures = self.failures.saturating_add(1);
+            self.failures = failures.saturating_add(1);
         }
         self.note(&written);
         written
@@ -413,9 +416,11 @@ impl<W: Write + Drop, R: Wait + Drop> WriteDevice for SequentialWriter<W, R> {
 
     /// Waits for its turn, and flushes.
     fn flush_out(&mut self) -> Result<(), io::Error> {
+        let failures = self.failures;
         let flushed = self.hold().flush();
+        self.failures = failures;
         if flushed.is_err() {
-            self.failures = self.failures.saturating_add(1);
+            self.failures = failures.saturating_add(1);
         }
         self.note(&flushed);
         flushed
