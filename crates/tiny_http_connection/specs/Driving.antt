@@ -129,7 +129,7 @@ EndsRequestsAt p standing feed why =
     × ArePassedOver p f passed behind
     × EndsThere p (standing_behind standing passed) behind why
 
--- no request waits, but for its turn, before whose answer the next head isn't read, and no body holds the reader
+-- the next head needn't wait for the answer of the last request, and no body holds the reader
 abbrev pub IsFree : {R W : Type 0} → ConnectionState R W → Type 0
 IsFree c = (c.source.standing ≡ at.Body → ⊥) × (last_holds_next_head c.requests ≡ false)
 
@@ -161,7 +161,7 @@ ends_behind false end = end
 ends_behind true None = Some because.LastRequest
 ends_behind true (Some why) = Some why
 
--- Where the step was done, the requests end behind its number, if this holds; else nothing has changed.
+-- Where the step was done or refused, the requests end behind its number, if this holds; else they go on as before.
 abbrev pub EndsBehind : {R W : Type 0} → Bool → ConnectionState R W → ConnectionState R W → ReplyValue → Type 0
 EndsBehind ends old new NotYet = new.end ≡ old.end
 EndsBehind ends old new NoSuch = new.end ≡ old.end

@@ -563,7 +563,7 @@ impl<R: ReadDevice, W: WriteDevice> Connection<R, W> {
     // The calls aren't inlined here: the rooms of what all of them may hold would be set to zero at each step.
     pub fn step<D: ReadDevice + Drop>(&mut self, alloc: Global, timed: Timed<D>) -> Reply
         ensures step { TakesStep self.old self.new timed.now (stated_step D.feed timed.step) (seen result) }
-        // The client's reader is asked for no end or fault that a Read doesn't need.
+        // How many ends and faults of the client's reader a Read meets. Of the other steps nothing is said.
         ensures meets { StepMeets R.told (stated_step D.feed timed.step) self.old self.new (seen result) }
     {
         let Timed { now, step } = timed;
