@@ -29,7 +29,7 @@ pub returns-in-Ok-clause-handed : goal.returns-in-Ok-clause-handed
 returns-in-Ok-clause-handed g c =
     let x = exchange_of (request_head c.in-Ok.request) (request_open c.in-Ok.request) in
     let same : c.next_request.result ≡ Ok (next_of x) = c.in-Ok-Request.is ∙ ap (λ y. Ok y) c.in-Ok-Request.field-0-is
-      ∙ ap (λ h. Ok (next.Request h c.in-Ok-Request.open_request)) c.in-Ok.ensures.head ∙ ap (λ o. Ok (next.Request x.head o)) c.in-Ok.ensures.kept in
+    ∙ ap (λ h. Ok (next.Request h c.in-Ok-Request.open_request)) c.in-Ok.ensures.head ∙ ap (λ o. Ok (next.Request x.head o)) c.in-Ok.ensures.kept in
     record {
       framed = framed-by x same c.next_request.ensures;
       client = c.in-Ok.ensures.client;
@@ -54,7 +54,7 @@ pub returns-in-Ok-clause-reads : goal.returns-in-Ok-clause-reads
 returns-in-Ok-clause-reads g c = λ source held.
     let x = exchange_of (request_head c.in-Ok.request) (request_open c.in-Ok.request) in
     let same : c.next_request.result ≡ Ok (next_of x) = c.in-Ok-Request.is ∙ ap (λ y. Ok y) c.in-Ok-Request.field-0-is
-      ∙ ap (λ h. Ok (next.Request h c.in-Ok-Request.open_request)) c.in-Ok.ensures.head ∙ ap (λ o. Ok (next.Request x.head o)) c.in-Ok.ensures.kept in
+    ∙ ap (λ h. Ok (next.Request h c.in-Ok-Request.open_request)) c.in-Ok.ensures.head ∙ ap (λ o. Ok (next.Request x.head o)) c.in-Ok.ensures.kept in
     let taken : c.take.result ≡ c.args.self.now.next_head = search rules in
     let here : source_here c.in-Some.next_head ≡ Some source = ap (option_and_then source_here) (sym c.in-Some.is ∙ taken) ∙ held in
     let mine : c.deref_mut-source.result.now ≡ source = c.deref_mut-source.ensures.value ∙ here-is (source_here c.in-Some.next_head) (held_item c.hold-reader.result) source c.hold-reader.ensures here in
