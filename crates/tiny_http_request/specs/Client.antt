@@ -13,7 +13,7 @@ use Rattle.tiny_http_head.specs.declared.common.StatusCode.{StatusCode}
 use Rattle.tiny_http_open_request.specs.declared.exchange.Exchange.{Exchange}
 use Rattle.tiny_http_open_request.specs.declared.exchange.HeadRead.TheVariants as read
 use Rattle.tiny_http_open_request.specs.Exchange.{exchange_of}
-use Rattle.tiny_http_open_request.specs.HeadReads.{TakesHead}
+use Rattle.tiny_http_open_request.specs.HeadReads.{TakesHead, FitsFraming, head_framing}
 use Rattle.tiny_http_threads.specs.HeldReader.{held_item}
 use Rattle.tiny_http_request.specs.declared.client.ClientConnection.{ClientConnection}
 use Rattle.tiny_http_request.specs.declared.client.NextHead.{NextHead}
@@ -39,11 +39,12 @@ client_address c = c.remote_addr
 abbrev pub client_profile : {R : Type 0} → {W : Type 0} → {Rt : Type 0} → ClientConnection R W Rt → Profile
 client_profile c = c.profile
 
--- A request that was handed out on this date, and whether another may follow. It holds the input while its body is
--- read from there, and if the next head waits for its answer.
+-- A request that was handed out on this date, whose body fits its head, and whether another may follow. It holds the
+-- input while its body is read from there, and if the next head waits for its answer.
 pub record HandsOut {R W Rt : Type 0} (old new : ClientConnection R W Rt) (date : HttpDate)
     (r : Request R W Rt) : Type 0 where
   pub framed : IsFramed r (client_profile old) date
+  pub fits : FitsFraming (head_framing (request_head r)) (request_open r).body
   pub client : (request_secure r ≡ client_secure old) × (request_address r ≡ client_address old)
   pub holds : (request_body r).holds_input ≡ is_streaming (request_open r).body || (request_open r).holds_next_head
   pub last : (request_head r).framing.is_last ≡ true → IsOver new

@@ -21,7 +21,7 @@ use Rattle.tiny_http_body.specs.declared.framing.HeadRules.TheVariants.{Lenient}
 use Rattle.tiny_http_standard_head.specs.Lists.{has_element}
 use Rattle.tiny_http_open_request.specs.HeadValues.{is_upgrade}
 use Rattle.tiny_http_body.specs.FramingReading.{framing}
-use Rattle.tiny_http_open_request.specs.HeadReads.{Begins, IsFramedBy}
+use Rattle.tiny_http_open_request.specs.HeadReads.{Begins, FitsFraming, IsFramedBy}
 use Rattle.tiny_http_open_request.specs.Pipeline.{IsCutWithHead, body_length_or_0}
 use Rattle.tiny_http_open_request.specs.declared.open_request.OpenRequest.{OpenRequest}
 use Rattle.tiny_http_open_request.specs.OpenRequest.{with_body}
@@ -84,9 +84,9 @@ IsCutShort f (Some x) kind = IsCutWithHead f.form (body_length_or_0 f) x.bytes �
 abbrev pub CutsShort : HTTPVersion → List Header → Option Feed → ErrorKind → Type 0
 CutsShort v headers feed kind = (f : Framing) × (framing Lenient v headers ≡ Ok f) × IsCutShort f feed kind
 
--- the body that is so framed begins where the reader gives this
+-- the body that is so framed, and fits that, begins where the reader gives this
 abbrev pub BeginsWith : Framing → Option Feed → UnreadBody → Type 0
-BeginsWith f feed body = (left : Option Feed) × Begins f feed left (Some body)
+BeginsWith f feed body = (left : Option Feed) × Begins f feed left (Some body) × FitsFraming f body
 
 -- of its client, and of its request line, a request says this
 abbrev pub Says : {R : Type 0} → {W : Type 0} → {Rt : Type 0} → Request R W Rt → Bool → Option SocketAddr → Method

@@ -17,7 +17,7 @@ ghost use Rattle.tiny_http_body.specs.FramingReading.{framing};
 ghost use Rattle.tiny_http_body.specs.Body.{is_streaming, is_whole, bytes_left, body_stop, IsBodyOver, remaining};
 ghost use Rattle.tiny_http_body.specs.Body.{prepended_body};
 ghost use Rattle.tiny_http_open_request.specs.OpenRequest.{request_check, refuses_code};
-ghost use Rattle.tiny_http_open_request.specs.HeadReads.{head_framing, Begins};
+ghost use Rattle.tiny_http_open_request.specs.HeadReads.{head_framing, Begins, FitsFraming};
 ghost use Rattle.tiny_http_request.specs.Request.{IsInvalidInput, asks_for, request_head, request_secure};
 ghost use Rattle.tiny_http_request.specs.Request.{request_address, request_open, is_expectation_failed, IfCreationIo};
 ghost use Rattle.tiny_http_request.specs.Request.{cut_kind, IsCutShort, BeginsWith, Says, IsFramed, FailsBy};
@@ -674,6 +674,7 @@ fn body_of<R: ReadDevice>(
     framing: Framing,
 ) -> Result<UnreadBody, RequestCreationError>
     ensures begins { IfOk result (λ body. Begins framing source.old.feed source.new.feed (Some body)) }
+    ensures fits { IfOk result (FitsFraming framing) }
     ensures cut { IfErr result (λ e. IfCreationIo e (λ fault. IsCutShort framing source.old.feed (error_kind fault))) }
     ensures no_expectation { IfErr result (λ e. is_expectation_failed e ≡ false) }
 {

@@ -415,8 +415,8 @@ pub(crate) struct Turn<T, R: Wait> {
     alloc: Global,
     // Its turn had come as the number was issued.
     is_next: bool,
-    /// The item, while the number is held.
-    pub item: Option<Box<T>>,
+    // The item, while the number is held.
+    item: Option<Box<T>>,
 }
 
 impl<T: Drop, R: Wait + Drop> Turn<T, R> {
@@ -461,9 +461,9 @@ impl<T: Drop, R: Wait + Drop> Turn<T, R> {
         self.is_next
     }
 
-    /// Waits for the turn unless it is held, and holds it. Where memory for the wait was refused it tries again and
-    /// again.
-    pub fn hold(&mut self)
+    // Waits for the turn unless it is held, and holds it. Where memory for the wait was refused it tries again and
+    // again.
+    fn wait(&mut self)
         ensures { IsSome self.new.item }
     {
         if self.item.is_some() {
@@ -488,10 +488,20 @@ impl<T: Drop, R: Wait + Drop> Turn<T, R> {
         unreachable!()
     }
 
+    /// Waits for the turn unless it is held, and lends the item. Where memory for the wait was refused it tries again
+    /// and again.
+    pub fn hold(&mut self) -> &mut T {
+        self.wait();
+        match &mut self.item {
+            Some(item) => item,
+            None => unreachable!(),
+        }
+    }
+
     /// Waits for the turn unless it is held, and holds it.
     pub fn into_held(self) -> Held<T, R> {
         let mut turn = self;
-        turn.hold();
+        turn.wait();
         let Turn {
             place,
             alloc: _,

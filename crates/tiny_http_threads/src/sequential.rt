@@ -81,11 +81,7 @@ impl<I: Read + Drop, R: Wait + Drop> SequentialReader<I, R> {
 impl<I: Read + Drop, R: Wait + Drop> Read for SequentialReader<I, R> {
     /// Waits for its turn, and reads once.
     fn read(&mut self, buf: &mut [u8]) -> io::Result<usize> {
-        self.turn.hold();
-        match &mut self.turn.item {
-            Some(reader) => reader.read(buf),
-            None => unreachable!(),
-        }
+        self.turn.hold().read(buf)
     }
 }
 
@@ -292,11 +288,7 @@ impl<W: Write + Drop, R: Wait + Drop> SequentialWriter<W, R> {
     /// Waits for its turn, and lends what it writes to. A fault that the caller meets there doesn't break the line.
     #[doc(hidden)]
     pub fn hold(&mut self) -> &mut W {
-        self.turn.hold();
-        match &mut self.turn.item {
-            Some(writer) => writer,
-            None => unreachable!(),
-        }
+        self.turn.hold()
     }
 }
 
@@ -368,21 +360,21 @@ impl<W: WriteDevice + Drop, R: Wait + Drop> SequentialWriter<Outlet<W>, R> {
 impl<W: Write + Drop, R: Wait + Drop> Write for SequentialWriter<W, R> {
     /// Waits for its turn, and writes once.
     fn write(&mut self, buf: &[u8]) -> io::Result<usize> {
-        let written = self.hold().write(buf);
+        let written = self.turn.hold().write(buf);
         self.note(&written);
         written
     }
 
     /// Waits for its turn, and flushes.
     fn flush(&mut self) -> io::Result<()> {
-        let flushed = self.hold().flush();
+        let flushed = self.turn.hold().flush();
         self.note(&flushed);
         flushed
     }
 
     /// Waits for its turn, and writes all the bytes as the writer itself does.
     fn write_all(&mut self, buf: &[u8]) -> io::Result<()> {
-        let written = self.hold().write_all(buf);
+        let written = self.turn.hold().write_all(buf);
         self.note(&written);
         written
     }
@@ -400,15 +392,12 @@ impl<W: Write + Drop, R: Wait + Drop> WriteDevice for SequentialWriter<W, R> {
 
     /// Waits for its turn, and writes once. That no byte of some is taken is a fault of kind `WriteZero`.
     fn write_out(&mut self, buf: &[u8]) -> Result<usize, io::Error> {
-        // No clause says that `hold` keeps the count.
-        let failures = self.failures;
-        let written = match self.hold().write(buf) {
+        let written = match self.turn.hold().write(buf) {
             Ok(0) if !buf.is_empty() => Err(ErrorKind::WriteZero.into()),
             written => written,
         };
-        self.failures = failures;
         if written.is_err() {
-            self.failures = failures.saturating_add(1);
+            self.failures = self.failures.saturating_add(1);
         }
         self.note(&written);
         written
@@ -416,11 +405,9 @@ impl<W: Write + Drop, R: Wait + Drop> WriteDevice for SequentialWriter<W, R> {
 
     /// Waits for its turn, and flushes.
     fn flush_out(&mut self) -> Result<(), io::Error> {
-        let failures = self.failures;
-        let flushed = self.hold().flush();
-        self.failures = failures;
+        let flushed = self.turn.hold().flush();
         if flushed.is_err() {
-            self.failures = failures.saturating_add(1);
+            self.failures = self.failures.saturating_add(1);
         }
         self.note(&flushed);
         flushed

@@ -11,7 +11,7 @@ use Rattle.tiny_http_body.specs.declared.framing.Framing.{Framing}
 use Rattle.tiny_http_body.specs.FramingReading.{framing}
 use Rattle.tiny_http_body.proofs.FramingLemmas.{lenient-fault, asks-none}
 use Rattle.tiny_http_body.specs.Body.{is_streaming}
-use Rattle.tiny_http_open_request.specs.HeadReads.{Begins, head_framing}
+use Rattle.tiny_http_open_request.specs.HeadReads.{Begins, FitsFraming, head_framing}
 use Rattle.std.proofs.Math.Bool.{or-false}
 use Rattle.tiny_http_request.specs.Request.{request_head, request_open, request_body}
 use Rattle.tiny_http_request.proofs.request.new_request.Goals as goal
@@ -24,6 +24,10 @@ begins-by f f' feed feed' left b b' same-f same-feed same-b begins =
     let B : UnreadBody → Type 0 = λ x. Begins f feed left (Some x) in
     subst F (sym same-f) (subst O (sym same-feed) (subst B (sym same-b) begins))
 
+fits-by : (f f' : Framing) (b b' : UnreadBody) → f' ≡ f → b' ≡ b → FitsFraming f b → FitsFraming f' b'
+fits-by f f' b b' same-f same-b fits =
+    subst (λ x. FitsFraming x b') (sym same-f) (subst (λ x. FitsFraming f x) (sym same-b) fits)
+
 pub from_parts-requires : goal.from_parts-requires
 from_parts-requires g c =
     let w = c.in_ok-open_request.open_request in
@@ -35,7 +39,8 @@ from_parts-requires g c =
 
 pub returns-clause-body : goal.returns-clause-body
 returns-clause-body g c =
-    (c.body_of.new.source.feed, begins-by c.in-Ok.framing (head_framing (request_head c.from_parts.result)) c.new-source.result.feed (g.R.ReadDevice.feed c.args.source_data) c.body_of.new.source.feed c.in_ok-body.body c.from_parts.result.open_request.body.unread (search rules) (search rules) (search rules) c.in_ok-body.ensures.begins)
+    (c.body_of.new.source.feed, begins-by c.in-Ok.framing (head_framing (request_head c.from_parts.result)) c.new-source.result.feed (g.R.ReadDevice.feed c.args.source_data) c.body_of.new.source.feed c.in_ok-body.body c.from_parts.result.open_request.body.unread (search rules) (search rules) (search rules) c.in_ok-body.ensures.begins,
+    fits-by c.in-Ok.framing (head_framing (request_head c.from_parts.result)) c.in_ok-body.body c.from_parts.result.open_request.body.unread (search rules) (search rules) c.in_ok-body.ensures.fits)
 
 -- a reader that holds the source gives what that gives
 input-is : {R Rt : Type 0} (reader : Option (HeldReader (SourceState R) Rt)) (source : SourceState R) → IfSome reader (λ held. held_item held ≡ source)
@@ -51,7 +56,7 @@ returns-clause-input g c = λ holds.
     let input : (request_body c.from_parts.result).input ≡ c.body_of.new.source.feed =
     ap (λ (b : BodyState). b.input) body ∙ input-is c.in_ok-reader.reader c.body_of.new.source c.in_ok-reader.ensures.1 some in
     subst (λ left. Begins (head_framing (request_head c.from_parts.result)) (g.R.ReadDevice.feed c.args.source_data) left (Some (request_open c.from_parts.result).body))
-    (sym input) ((returns-clause-body g c).1)
+    (sym input) ((returns-clause-body g c).1.0)
 
 pub returns-in-Err-clause-fails : goal.returns-in-Err-clause-fails
 returns-in-Err-clause-fails g c = (

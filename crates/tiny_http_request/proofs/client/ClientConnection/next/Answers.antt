@@ -25,6 +25,11 @@ framed-by : {R P O : Type 0} {refuses : Refuses P O} {profile : Profile} {date :
 framed-by {refuses = refuses} {profile = profile} {date = date} {here = here} {there = there} x same found =
     next-framed refuses profile date here there x (subst (λ r. FindsNext refuses profile date here r there) same found)
 
+found-by : {R P O : Type 0} {refuses : Refuses P O} {profile : Profile} {date : HttpDate} {here there : At R P O} {r : Result NextRequest AllocError} (x : Exchange)
+    → r ≡ Ok (next_of x) → FindsNext refuses profile date here r there → FindsRequest profile date here.source x there.source
+found-by {refuses = refuses} {profile = profile} {date = date} {here = here} {there = there} x same found =
+    finds-request refuses profile date here there x (subst (λ r. FindsNext refuses profile date here r there) same found)
+
 pub returns-in-Ok-clause-handed : goal.returns-in-Ok-clause-handed
 returns-in-Ok-clause-handed g c =
     let x = exchange_of (request_head c.in-Ok.request) (request_open c.in-Ok.request) in
@@ -32,16 +37,12 @@ returns-in-Ok-clause-handed g c =
     ∙ ap (λ h. Ok (next.Request h c.in-Ok-Request.open_request)) c.in-Ok.ensures.head ∙ ap (λ o. Ok (next.Request x.head o)) c.in-Ok.ensures.kept in
     record {
       framed = framed-by x same c.next_request.ensures;
+      fits = (found-by x same c.next_request.ensures).reads.fits;
       client = c.in-Ok.ensures.client;
       holds = c.in-Ok.ensures.holds;
       last = c.in-Ok.ensures.last;
       goes_on = c.in-Ok.ensures.open;
     }
-
-found-by : {R P O : Type 0} {refuses : Refuses P O} {profile : Profile} {date : HttpDate} {here there : At R P O} {r : Result NextRequest AllocError} (x : Exchange)
-    → r ≡ Ok (next_of x) → FindsNext refuses profile date here r there → FindsRequest profile date here.source x there.source
-found-by {refuses = refuses} {profile = profile} {date = date} {here = here} {there = there} x same found =
-    finds-request refuses profile date here there x (subst (λ r. FindsNext refuses profile date here r there) same found)
 
 here-is : {S : Type 0} (o : Option S) (i s : S) → IfSome o (λ s. i ≡ s) → o ≡ Some s → i ≡ s
 here-is None i s h e = cc
