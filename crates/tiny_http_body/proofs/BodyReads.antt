@@ -14,7 +14,7 @@ use Rattle.tiny_http_body.specs.declared.body.UnreadBody.TheVariants.{Over, With
 use Rattle.tiny_http_io.specs.ToCome.{skipped, stopped}
 use Rattle.tiny_http_io.specs.FeedParts.{feed_front}
 use Rattle.tiny_http_body.specs.declared.chunked.ChunkRules.{ChunkRules}
-use Rattle.tiny_http_body.specs.Body.{Remaining, remaining, cut_stop, cut_feed, counted_remaining, taken_remaining, prepend_body, prepended_body, BodyStops, NoneRemains, is_streaming, body_standing, IsBodyOver, IsChunkedBy, ReadsOn, GivesUp, over_count, ends_met}
+use Rattle.tiny_http_body.specs.Body.{Remaining, remaining, cut_stop, cut_feed, counted_remaining, taken_remaining, prepend_body, prepended_body, BodyStops, NoneRemains, is_streaming, body_standing, IsBodyOver, IsCountedOver, IsChunkedBy, ReadsOn, GivesUp, over_count, ends_met}
 use Rattle.tiny_http_io.specs.declared.source.Standing.{Standing}
 use Rattle.tiny_http_io.specs.Source.{SourceState, GoesOn, IsRestOf}
 use Rattle.tiny_http_io.proofs.SourceGoesOn.{goes-on_same}
@@ -102,6 +102,14 @@ cut-stops standard b old left stop e some stops =
 pub read-nothing : (r q : Option Remaining) → r ≡ q → r ≡ prepended_body [] q
 read-nothing r q e = e ∙ nothing-read q [] refl
 
+-- a counted body that is over is over
+pub counted-over : (standard has_come : Bool) (b : UnreadBody) → IsCountedOver standard has_come b → IsBodyOver b
+counted-over standard has_come (Over stop) h = tt
+counted-over standard has_come (WithHead bytes) h = absurd h
+counted-over standard has_come (Counted l by_standard) h = absurd h
+counted-over standard has_come (Chunked d) h = absurd h
+counted-over standard has_come Rest h = absurd h
+
 -- reads one after another
 pub reads-on : (a b c : UnreadBody) (m n : ℕ) (end_reported : Bool) → ReadsOn a m false b → ReadsOn b n end_reported c → ReadsOn a (m + n) end_reported c
 reads-on (Over stop) b c m n end_reported h k =
@@ -121,15 +129,17 @@ reads-on (Chunked d) (WithHead bytes) c m n end_reported h k = absurd h
 reads-on (Chunked d) Rest c m n end_reported h k = absurd h
 reads-on (Counted left standard) b c m n end_reported h k = by (m == left) refl h
   where
-    by : (t : Bool) → (m == left) ≡ t → MatchBool t (IsBodyOver b) ((b ≡ Counted (left - m) standard) × (m < left)) → ReadsOn (Counted left standard) (m + n) end_reported c
+    by : (t : Bool) → (m == left) ≡ t → MatchBool t (IsCountedOver standard t b) ((b ≡ Counted (left - m) standard) × (m < left)) → ReadsOn (Counted left standard) (m + n) end_reported c
     by true e h = over b e h k
       where
-        over : (b : UnreadBody) → (m == left) ≡ true → IsBodyOver b → ReadsOn b n end_reported c → ReadsOn (Counted left standard) (m + n) end_reported c
-        over (Over stop) e h k =
+        over : (b : UnreadBody) → (m == left) ≡ true → IsCountedOver standard true b → ReadsOn b n end_reported c → ReadsOn (Counted left standard) (m + n) end_reported c
+        over (Over End) e h k =
             let all : ((m + n) == left) ≡ true = eq-eqb (m + n) left (omega (arith, eqb-true m left e, k.1)) in
-            let P : Bool → Type 0 = λ t. MatchBool t (IsBodyOver c) ((c ≡ Counted (left - (m + n)) standard) × (m + n < left)) in
-            let over_now : IsBodyOver c = (let Q : UnreadBody → Type 0 = λ x. IsBodyOver x in subst Q (sym k.0) tt) in
-            subst P (sym (ap (λ x. end_reported || x) all ∙ or-true end_reported)) over_now
+            let P : Bool → Type 0 = λ t. MatchBool t (IsCountedOver standard ((m + n) == left) c) ((c ≡ Counted (left - (m + n)) standard) × (m + n < left)) in
+            let Q : UnreadBody → Type 0 = λ x. IsCountedOver standard true x in
+            let T : Bool → Type 0 = λ t. IsCountedOver standard t c in
+            subst P (sym (ap (λ x. end_reported || x) all ∙ or-true end_reported)) (subst T (sym all) (subst Q (sym k.0) refl))
+        over (Over (Fault kind)) e h k = cc
         over (WithHead bytes) e h k = absurd h
         over (Counted l standard) e h k = absurd h
         over (Chunked d) e h k = absurd h
@@ -139,10 +149,6 @@ reads-on (Counted left standard) b c m n end_reported h k = by (m == left) refl 
         let l = subst P h.0 k in
         more (end_reported || (n == (left - m))) refl l
       where
-        to : (t : Bool) → MatchBool t (IsBodyOver c) ((c ≡ Counted ((left - m) - n) standard) × (n < left - m)) → MatchBool t (IsBodyOver c) ((c ≡ Counted (left - (m + n)) standard) × (m + n < left))
-        to true l = l
-        to false l = (l.0 ∙ ap (λ x. Counted x standard) (omega arith), omega (arith, l.1, h.1))
-
         same : (n == (left - m)) ≡ ((m + n) == left)
         same = at (n == (left - m)) refl
           where
@@ -150,9 +156,13 @@ reads-on (Counted left standard) b c m n end_reported h k = by (m == left) refl 
             at true x = sym (eq-eqb (m + n) left (omega (arith, eqb-true n (left - m) x, h.1)))
             at false x = sym (ne_eqb (m + n) left (λ y. (let no : true ≡ false = sym (eq-eqb n (left - m) (omega (arith, y, h.1))) ∙ x in cc)))
 
-        more : (t : Bool) → (end_reported || (n == (left - m))) ≡ t → MatchBool t (IsBodyOver c) ((c ≡ Counted ((left - m) - n) standard) × (n < left - m)) → ReadsOn (Counted left standard) (m + n) end_reported c
+        to : (t : Bool) → MatchBool t (IsCountedOver standard (n == (left - m)) c) ((c ≡ Counted ((left - m) - n) standard) × (n < left - m)) → MatchBool t (IsCountedOver standard ((m + n) == left) c) ((c ≡ Counted (left - (m + n)) standard) × (m + n < left))
+        to true l = let T : Bool → Type 0 = λ u. IsCountedOver standard u c in subst T same l
+        to false l = (l.0 ∙ ap (λ x. Counted x standard) (omega arith), omega (arith, l.1, h.1))
+
+        more : (t : Bool) → (end_reported || (n == (left - m))) ≡ t → MatchBool t (IsCountedOver standard (n == (left - m)) c) ((c ≡ Counted ((left - m) - n) standard) × (n < left - m)) → ReadsOn (Counted left standard) (m + n) end_reported c
         more t x l =
-            let P : Bool → Type 0 = λ t. MatchBool t (IsBodyOver c) ((c ≡ Counted (left - (m + n)) standard) × (m + n < left)) in
+            let P : Bool → Type 0 = λ t. MatchBool t (IsCountedOver standard ((m + n) == left) c) ((c ≡ Counted (left - (m + n)) standard) × (m + n < left)) in
             subst P (sym (ap (λ y. end_reported || y) (sym same) ∙ x)) (to t l)
 
 -- a body that isn't read from the input stays so
@@ -220,8 +230,8 @@ pub gives-up : {R : Type 0} (b : UnreadBody) (old new : SourceState R) → Gives
 gives-up (Over stop) old new h = goes-on_equal old new h
 gives-up (WithHead bytes) old new h = goes-on_equal old new h
 gives-up Rest old new h = goes-on_equal old new h
-gives-up (Counted left standard) old new h = goes-on_skips old.feed new.feed left h.0
-gives-up (Chunked d) old new h = let P : Option Feed → Type 0 = λ x. GoesOn old.feed x in subst P (sym h.0) (goes-on_stopped old.feed)
+gives-up (Counted left standard) old new h = goes-on_skips old.feed new.feed left h.feed
+gives-up (Chunked d) old new h = let P : Option Feed → Type 0 = λ x. GoesOn old.feed x in subst P (sym h.feed) (goes-on_stopped old.feed)
 
 -- reads after each other, the first of which may be none
 pub moves-more : (a b c : UnreadBody) (at n : ℕ) (end_reported : Bool) → (at ≡ 0 → b ≡ a) → (0 < at → ReadsOn a at false b) → ReadsOn b n end_reported c → ReadsOn a (at + n) end_reported c
@@ -251,14 +261,14 @@ ends-behind (Counted left standard) b c m h = by (m == left) refl h
     to true = omega arith
     to false = omega arith
 
-    over : (b : UnreadBody) (k : ℕ) → IsBodyOver b → ends_met b 0 c ≤ k
+    over : (b : UnreadBody) (k : ℕ) → IsCountedOver standard true b → ends_met b 0 c ≤ k
     over (Over stop) k h = omega arith
     over (WithHead bytes) k h = absurd h
     over (Counted l standard) k h = absurd h
     over (Chunked d) k h = absurd h
     over Rest k h = absurd h
 
-    by : (t : Bool) → (m == left) ≡ t → MatchBool t (IsBodyOver b) ((b ≡ Counted (left - m) standard) × (m < left)) → ends_met b 0 c ≤ ends_met (Counted left standard) m c
+    by : (t : Bool) → (m == left) ≡ t → MatchBool t (IsCountedOver standard t b) ((b ≡ Counted (left - m) standard) × (m < left)) → ends_met b 0 c ≤ ends_met (Counted left standard) m c
     by true e h = over b _ h
     by false e h =
         let P : UnreadBody → Type 0 = λ x. ends_met x 0 c ≤ ends_met (Counted left standard) m c in

@@ -1,5 +1,5 @@
 -- What is still to come of a request's body, and where the input stands after it.
-use Rattle.std.specs.Prelude.{◌≡◌, ℕ, ◌+◌, ◌-◌, ◌^◌, ◌<◌, ◌≤◌, Bool, true, false, ◌||◌, ◌==◌, nat_lt, List, []}
+use Rattle.std.specs.Prelude.{◌≡◌, ℕ, ◌+◌, ◌-◌, ◌<◌, ◌≤◌, Bool, true, false, not, ◌||◌, ◌==◌, nat_lt, List, []}
 use Rattle.std.specs.Prelude.{length, take, Option, Some, None, Result, Ok, Err, IfOk, IfErr, OnErr, IfSome}
 use Rattle.std.specs.Prelude.{MatchBool, ⊤, if◌then◌else◌}
 use Rattle.std.specs.Option.{option_map}
@@ -24,7 +24,7 @@ use Rattle.tiny_http_body.specs.declared.framing.Form.{Form}
 use Rattle.tiny_http_body.specs.declared.framing.Form.TheVariants as form
 use Rattle.tiny_http_io.specs.ToCome.{skipped, stopped}
 use Rattle.tiny_http_io.specs.FeedParts.{feed_front}
-use Rattle.tiny_http_io.specs.Source.{SourceState, GoesOn, IsAtEnd}
+use Rattle.tiny_http_io.specs.Source.{SourceState, GoesOn, IsAtEnd, SkipsBytes, EndsHere}
 use Rattle.tiny_http_io.specs.declared.source.Standing.{Standing}
 use Rattle.tiny_http_io.specs.Standing.{after_body, after_fault, after_abandoned}
 
@@ -118,7 +118,7 @@ is_streaming (Counted n by_standard) = true
 is_streaming (Chunked decoding) = true
 is_streaming Rest = true
 
--- the body has come whole, and none of it is read from the input any more
+-- the body's end stands, or will after what is held: none of it is read from the input any more, and no fault ends it
 abbrev pub is_whole : UnreadBody → Bool
 is_whole (Over End) = true
 is_whole (Over (Fault kind)) = false
@@ -178,13 +178,21 @@ abbrev pub IsChunkedBy : ChunkRules → UnreadBody → Type 0
 IsChunkedBy rules (Chunked decoding) = decoding_rules decoding ≡ rules
 IsChunkedBy rules _ = ⊥
 
+-- A counted body is over, by its end or a fault, and all its bytes had come or not. One whose bytes haven't ends by a
+-- fault by the standard; one whose bytes have doesn't.
+abbrev pub IsCountedOver : Bool → Bool → UnreadBody → Type 0
+IsCountedOver by_standard has_come (Over End) = (has_come || not by_standard) ≡ true
+IsCountedOver by_standard has_come (Over (Fault kind)) = has_come ≡ false
+IsCountedOver by_standard has_come _ = ⊥
+
 -- So many bytes were read, and the end or the fault was reported or not. A counted body is over with its last byte,
 -- another one that is read from the input once its end or fault was reported.
 abbrev pub ReadsOn : UnreadBody → ℕ → Bool → UnreadBody → Type 0
 ReadsOn (Over stop) n end_reported new = (new ≡ Over stop) × (n ≡ 0)
 ReadsOn (WithHead bytes) n end_reported new = IsWithHead new
 ReadsOn (Counted left by_standard) n end_reported new =
-    MatchBool (end_reported || n == left) (IsBodyOver new) ((new ≡ Counted (left - n) by_standard) × (n < left))
+    MatchBool (end_reported || n == left) (IsCountedOver by_standard (n == left) new)
+    ((new ≡ Counted (left - n) by_standard) × (n < left))
 ReadsOn (Chunked decoding) n end_reported new =
     MatchBool end_reported (IsBodyOver new) (IsChunkedBy (decoding_rules decoding) new)
 ReadsOn Rest n end_reported new = MatchBool end_reported (IsBodyOver new) (new ≡ Rest)
@@ -231,7 +239,7 @@ Fits standard (Chunked decoding) shape n given end_reported =
 Fits standard Rest shape n given end_reported = (shape ≡ form.Rest) × (end_reported ≡ false)
 
 -- A buffer was filled from the body: with all its bytes; or with fewer, and none is left; or a fault came before any
--- byte, and stays. One with room that got none met the end of a body that has come whole.
+-- byte, and stays. One with room that got none met the body's end.
 abbrev pub FillsFromBody : UnreadBody → Option Feed → UnreadBody → Option Feed → Result ℕ ErrorKind → List ℕ → Type 0
 FillsFromBody old from new to (Ok n) buf =
     (remaining old from ≡ prepended_body (take n buf) (remaining new to))
@@ -252,9 +260,9 @@ body_standing (Chunked decoding) standing = standing
 body_standing Rest standing = standing
 
 -- WHAT A READ GIVES of a body, and what it leaves: the bytes that came are the next of the body, no more than the
--- buffer has room for; no byte into a buffer with room is the end of the body, which has then come whole, and a fault
--- is its own. A counted body is over with its last byte, another one that is read from the input once its end or fault
--- was reported. After the first fault the source has ended. The input goes on, or stays.
+-- buffer has room for; no byte into a buffer with room is the end of the body, and a fault is its own. A counted body is
+-- over with its last byte, another one that is read from the input once its end or fault was reported. After the first
+-- fault the source has ended. The input goes on, or stays.
 pub record ReadsRemaining {R : Type 0} (old new : UnreadBody) (from to : SourceState R) (r : Result ℕ Error)
     (buf : List ℕ) : Type 0 where
   pub bound : IfOk r (λ n. n ≤ length buf)
@@ -295,10 +303,7 @@ pub record ReadsHeld (old new : UnreadBody) (r : Result ℕ Error) (buf : List �
 -- A body of which nothing was read is passed over: the bytes of a counted one are skipped before the next head. Else
 -- nothing changes: they were read with the head, or there are none.
 abbrev pub PassesOver : {R : Type 0} → UnreadBody → SourceState R → SourceState R → Type 0
-PassesOver (Counted left by_standard) old new =
-    (new.feed ≡ option_map (skipped left) old.feed)
-    × (new.standing ≡ old.standing)
-    × (old.skip + left < 2 ^ 64 → (new.reader ≡ old.reader) × (new.stop ≡ old.stop))
+PassesOver (Counted left by_standard) old new = SkipsBytes left old new
 PassesOver (Over stop) old new = new ≡ old
 PassesOver (WithHead bytes) old new = new ≡ old
 PassesOver (Chunked decoding) old new = new ≡ old
@@ -311,11 +316,5 @@ GivesUp (Over stop) old new = new ≡ old
 GivesUp (WithHead bytes) old new = new ≡ old
 GivesUp Rest old new = new ≡ old
 GivesUp (Counted left by_standard) old new =
-    (new.feed ≡ option_map (skipped left) old.feed) × (new.standing ≡ after_body old.standing)
-    × (old.skip + left < 2 ^ 64
-    → (new.reader ≡ old.reader) × (new.stop ≡ old.stop) × (new.skip ≡ old.skip + left) × (new.held ≡ old.held))
-GivesUp (Chunked decoding) old new =
-    (new.feed ≡ option_map (λ _. stopped End) old.feed)
-    × IsAtEnd new
-    × (new.standing ≡ after_abandoned old.standing)
-    × (new.reader ≡ old.reader)
+    SkipsBytes left (record old { standing = after_body old.standing }) new
+GivesUp (Chunked decoding) old new = EndsHere (record old { standing = after_abandoned old.standing }) new

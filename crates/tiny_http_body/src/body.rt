@@ -1,5 +1,5 @@
 //! The body of a request, read from the connection's input.
-ghost use Rattle.std.specs.Prelude.{◌≡◌, ◌<◌, ◌≤◌, ◌+◌, ◌==◌, true, false, length, take, drop, Option, Ok, IfOk};
+ghost use Rattle.std.specs.Prelude.{◌≡◌, ◌<◌, ◌≤◌, ◌+◌, ◌==◌, true, false, length, take, drop, Option, Ok, IfOk, OnErr};
 ghost use Rattle.std.specs.Option.{option_map};
 ghost use Rattle.tiny_http_io.specs.Device.{AnswersStop, Feed, Tells};
 ghost use Rattle.tiny_http_io.specs.Source.{GoesOn};
@@ -95,6 +95,7 @@ impl UnreadBody {
         requires counted { self.old ≡ UnreadBody.Counted left by_standard }
         requires room { 0 < length buf.old }
         ensures reads { ReadsRemaining self.old self.new source.old source.new result buf.new }
+        ensures broken { OnErr result (ReadsOn self.old 0 true self.new) }
         ensures told { Tells (R.told source.old.reader) (R.told source.new.reader) result }
         ensures whole { R.told source.new.reader
             ≤ R.told source.old.reader + ends_met self.old (bytes_given result) self.new }
@@ -335,7 +336,7 @@ impl UnreadBody {
         }
     }
 
-    /// Whether the body has come whole, and none of it is read from the input any more.
+    /// Whether none of it is read from the input any more, and no fault ends it.
     pub fn is_whole(&self) -> bool
         ensures { result ≡ is_whole self.now }
     {

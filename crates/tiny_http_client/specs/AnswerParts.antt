@@ -62,7 +62,8 @@ chunk_fault _ = IsCut
 -- the bytes begin with a field-line, which memory is wanted for
 abbrev pub HasFieldLine : List ℕ → Type 0
 HasFieldLine bytes =
-    (text : List ℕ) × (rest : List ℕ) × Line bytes text rest × AreAscii text × ((header : Header) × FieldLine text header)
+    (text : List ℕ) × (rest : List ℕ) × Line bytes text rest × AreAscii text
+    × ((header : Header) × FieldLine text header)
 
 -- a call takes the next field-line, or the empty line
 abbrev pub ReadsFieldLine : List ℕ → List ℕ → Result (Option Header) Fault → Type 0

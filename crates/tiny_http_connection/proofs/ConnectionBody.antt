@@ -42,7 +42,7 @@ over-kept Counted n given end_reported h lost = cc
 -- after a chunked body that was given up before its end no head follows
 lost-chunked : {R : Type 0} (b : UnreadBody) (old new : SourceState R) (f : Feed) (r : Request) (given : ℕ) (end_reported : Bool) → Fits r.framing.by_standard b r.framing.form (body_length_or_0 r.framing) given end_reported → GivesUp b old new → old.feed ≡ Some f
     → (is_chunked_form r.framing.form && not end_reported) ≡ true → ((new.is_over ≡ true) × (new.stop ≡ Some End)) × (new.feed ≡ Some (stopped End))
-lost-chunked {R = R} (body.Chunked d) old new f r given end_reported fits h e lost = (h.1, h.0 ∙ ap (λ (o : Option Feed). option_map (λ _. stopped End) o) e)
+lost-chunked {R = R} (body.Chunked d) old new f r given end_reported fits h e lost = (h.at_end, h.feed ∙ ap (λ (o : Option Feed). option_map (λ _. stopped End) o) e)
 lost-chunked {R = R} (body.Counted left by_standard) old new f r given end_reported fits h e lost = let no : true ≡ false = sym lost ∙ rw fits.0 refl in cc
 lost-chunked {R = R} (body.WithHead bytes) old new f r given end_reported fits h e lost = let no : true ≡ false = sym lost ∙ rw fits refl in cc
 lost-chunked {R = R} body.Rest old new f r given end_reported fits h e lost = let no : true ≡ false = sym lost ∙ rw fits.0 refl in cc
@@ -61,7 +61,7 @@ given-place {R = R} client profile (body.WithHead bytes) old new f r given end_r
 given-place {R = R} client profile (body.Counted left by_standard) old new f r given end_reported false rest fits h e quiet kept ends place =
     let P : Option Feed → Type 0 = λ o. PlaceIn client profile false o rest in
     let skips : behind_body (Some (body.Counted left by_standard)) old.feed ≡ option_map (skipped left) old.feed = rw e refl in
-    subst P (skips ∙ sym h.0) place
+    subst P (skips ∙ sym h.feed) place
 given-place {R = R} client profile (body.Chunked d) old new f r given end_reported false rest fits h e quiet kept ends place =
     let no : true ≡ false = rw (fits.0, fits.1) refl ∙ kept in cc
 given-place {R = R} client profile body.Rest old new f r given end_reported false rest fits h e quiet kept ends place = let no : false ≡ true = ends fits.0 in cc
@@ -113,14 +113,14 @@ given-past : {R : Type 0} (b : UnreadBody) (old new : SourceState R) → GivesUp
 given-past {R = R} (body.Over stop) old new h = ap (λ (x : SourceState R). is_past_last x.standing) h
 given-past {R = R} (body.WithHead bytes) old new h = ap (λ (x : SourceState R). is_past_last x.standing) h
 given-past {R = R} body.Rest old new h = ap (λ (x : SourceState R). is_past_last x.standing) h
-given-past (body.Counted left by_standard) old new h = ap is_past_last h.1 ∙ past-body old.standing
-given-past (body.Chunked d) old new h = ap is_past_last h.2 ∙ past-loss old.standing
+given-past (body.Counted left by_standard) old new h = ap is_past_last h.standing ∙ past-body old.standing
+given-past (body.Chunked d) old new h = ap is_past_last h.standing ∙ past-loss old.standing
 
 given-within : {R : Type 0} (b : UnreadBody) (old new : SourceState R) (last : Bool) → GivesUp b old new → (b ≡ body.Rest → last ≡ true) → is_in_body old.standing ≡ (not last && is_streaming b) → is_in_body new.standing ≡ false
 given-within {R = R} (body.Over stop) old new last h ends e = ap (λ (x : SourceState R). is_in_body x.standing) h ∙ e ∙ and-false (not last)
 given-within {R = R} (body.WithHead bytes) old new last h ends e = ap (λ (x : SourceState R). is_in_body x.standing) h ∙ e ∙ and-false (not last)
-given-within (body.Counted left by_standard) old new last h ends e = ap is_in_body h.1 ∙ out-body old.standing
-given-within (body.Chunked d) old new last h ends e = ap is_in_body h.2 ∙ out-loss old.standing
+given-within (body.Counted left by_standard) old new last h ends e = ap is_in_body h.standing ∙ out-body old.standing
+given-within (body.Chunked d) old new last h ends e = ap is_in_body h.standing ∙ out-loss old.standing
 given-within {R = R} body.Rest old new last h ends e = ap (λ (x : SourceState R). is_in_body x.standing) h ∙ e ∙ ap (λ x. not x && true) (ends refl)
 
 -- a body that is all the rest of the input is that of a request of that form

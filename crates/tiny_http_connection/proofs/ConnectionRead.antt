@@ -24,7 +24,7 @@ use Rattle.tiny_http_body.specs.Body.{body_finished}
 use Rattle.tiny_http_connection.specs.Steps.{Read, ReplyValue, Given, Fault, Memory, NoSuch}
 use Rattle.tiny_http_connection.specs.Outcomes.{accepts_step, Unused, Outcome, Reached, changes, read_reply, effect, at_slot, at_number}
 use Rattle.tiny_http_connection.specs.Conversation.{State, HasOutcome}
-use Rattle.tiny_http_body.specs.Body.{Remaining, remaining, taken_remaining, prepend_body, prepended_body, BodyStops, NoneRemains, is_streaming, body_standing, IsBodyOver, ReadsOn, Fits, FillsFromBody}
+use Rattle.tiny_http_body.specs.Body.{Remaining, remaining, taken_remaining, prepend_body, prepended_body, BodyStops, NoneRemains, is_streaming, body_standing, IsBodyOver, IsCountedOver, ReadsOn, Fits, FillsFromBody}
 use Rattle.tiny_http_turns.specs.Turns.{Mark, Open}
 use Rattle.tiny_http_connection.specs.declared.pending.Unfinished.{Unfinished}
 use Rattle.tiny_http_connection.specs.declared.pending.Unfinished.TheVariants as still
@@ -32,7 +32,7 @@ use Rattle.tiny_http_connection.specs.Pending.{last_holds_next_head, kept_body, 
 use Rattle.tiny_http_connection.specs.Connection.{Kept, open_slot, IsWaiting, IsOpen, IsUpgraded, KeepsUnfinished, AreSentInTurn, AreKept, AreSettled, behind_body, slot_rest, GivesRest, is_past_last, PlaceIn, InputStands, Stands, FollowsLast, behind_item}
 use Rattle.tiny_http_io.proofs.SourceGoesOn.{goes-on_more}
 use Rattle.tiny_http_connection.proofs.ConnectionAsk.{StepIsAnswered, step-unchanged, settled-any, stated-feed}
-use Rattle.tiny_http_body.proofs.BodyReads.{stays-settled}
+use Rattle.tiny_http_body.proofs.BodyReads.{stays-settled, counted-over}
 use Rattle.tiny_http_connection.proofs.ConnectionBody.{IsInput, StandsOn, stands-on, last-waits, with_reader, reader-within}
 use Rattle.tiny_http_connection.proofs.ConnectionKept.{KeptAt, place-of, kept-append, kept-many, unfinished-is, unfinished-whole}
 use Rattle.tiny_http_connection.proofs.ConnectionOutput.{output-same}
@@ -119,8 +119,8 @@ fits-on standard (body.Counted left by_standard) c form n given m end_reported m
     neither true b e = cc
     neither false b e = refl
 
-    by : (t : Bool) → (more || (m == left)) ≡ t → MatchBool t (IsBodyOver c) ((c ≡ body.Counted (left - m) by_standard) × (m < left)) → Fits standard c form n (given + m) (end_reported || more)
-    by true e k = over c k e
+    by : (t : Bool) → (more || (m == left)) ≡ t → MatchBool t (IsCountedOver by_standard (m == left) c) ((c ≡ body.Counted (left - m) by_standard) × (m < left)) → Fits standard c form n (given + m) (end_reported || more)
+    by true e k = over c (counted-over by_standard (m == left) c k) e
     by false e k =
         let P : UnreadBody → Type 0 = λ x. Fits standard x form n (given + m) (end_reported || more) in
         let unreported : (end_reported || more) ≡ false = rw (fits.3, neither more (m == left) e) refl in

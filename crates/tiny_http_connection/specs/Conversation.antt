@@ -111,7 +111,8 @@ flushes (Reported own broken flushed report) = flushed
 
 -- what has been flushed after a step
 abbrev pub flushed_after : WriterUse → State → List Slot → List ℕ
-flushed_after writer old slots = if (flushes writer && not (writes_nothing writer old)) then joined slots else old.flushed
+flushed_after writer old slots =
+    if (flushes writer && not (writes_nothing writer old)) then joined slots else old.flushed
 
 abbrev pub reached_by : Outcome → Reached
 reached_by o = record { slots = o.slots; rest = o.rest; asking_ended = o.asking_ended }

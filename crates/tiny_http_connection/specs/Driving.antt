@@ -35,8 +35,8 @@ use Rattle.tiny_http_response.specs.ResponseValue.{printing_in}
 use Rattle.tiny_http_response.specs.Sending.{CanSend, IsHonest, FailsOnce, SendsQuietlyOn}
 use Rattle.tiny_http_connection.specs.Pending.{waiting_answer_context, owes_continue, is_last_once_finished_at}
 use Rattle.tiny_http_connection.specs.Pending.{refuses_at, refuses_upgrade_at, is_last_with_stream_at, closing_if_asked}
-use Rattle.tiny_http_connection.specs.Pending.{last_holds_next_head, kept_body, GivesUpIfKept, number_with_body, begins_left}
-use Rattle.tiny_http_connection.specs.Pending.{is_readable}
+use Rattle.tiny_http_connection.specs.Pending.{last_holds_next_head, kept_body, GivesUpIfKept, number_with_body}
+use Rattle.tiny_http_connection.specs.Pending.{begins_left, is_readable}
 use Rattle.tiny_http_body.specs.declared.body.UnreadBody.{UnreadBody}
 use Rattle.tiny_http_body.specs.declared.body.UnreadBody.TheVariants.{Over}
 use Rattle.tiny_http_io.specs.declared.device.Stop.TheVariants.{Fault as Faults}
@@ -208,7 +208,7 @@ SendsInTurn k old new =
     (can_take old k ≡ true → (new.outlet.held ≡ []) × SentOn new.outlet)
     × (is_in_turn old k ≡ false → new.outlet ≡ old.outlet)
 
--- nothing is kept of this number any more, and its body was given up
+-- nothing is kept of this number any more, and its body was given up; what ends it was sent, if its turn has come
 abbrev pub LetsGo : {R W : Type 0} → ℕ → ConnectionState R W → ConnectionState R W → Type 0
 LetsGo k old new =
     (new.requests ≡ slice_set old.requests k None) × GivesUpKept k old new × SendsInTurn k old new
@@ -327,7 +327,7 @@ abbrev pub given_count : ReplyValue → ℕ
 given_count (Given bytes) = length bytes
 given_count _ = 0
 
--- a read that gave no byte where one was asked for met the end of a body that has come whole, and a fault stays
+-- a read that gave no byte where one was asked for met the body's end, and a fault stays
 abbrev pub ClosesBody : ℕ → ReplyValue → UnreadBody → Type 0
 ClosesBody n (Given []) body = 0 < n → is_whole body ≡ true
 ClosesBody n (Fault kind) body = body ≡ Over (Faults kind)

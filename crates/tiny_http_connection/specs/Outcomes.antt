@@ -163,7 +163,8 @@ ends_with_stream r owed given end_reported = holds_next_head r || ends_when_fini
 -- An answer asks that the connection ends: no further head is read, and the last number that was reached says so in
 -- its answer, if that isn't made yet.
 abbrev pub asked_to_close : Bool → Reached → Reached
-asked_to_close closes old = if closes then record old { slots = with_last closing_slot old.slots; asking_ended = true } else old
+asked_to_close closes old =
+    if closes then record old { slots = with_last closing_slot old.slots; asking_ended = true } else old
 
 -- this slot of a request is answered by the response
 abbrev pub answers_slot : Bool → HttpDate → Reached → Request → ℕ → ResponseValue → Option Slot → Outcome

@@ -56,13 +56,15 @@ TakesSteps told stated old (t ∷ steps) [] new = ⊥
 
 -- WHAT A RUN LEAVES, whatever reader, writer and data state.
 pub record RunsSteps {R W D : Type 0} (client : R → Option Feed) (told : R → ℕ) (sink : W → Sink)
-    (stated : D → Option Feed) (p : Profile) (reader : R) (writer : W) (steps : List (Timed D)) (done : Record R W) : Type 0 where
+    (stated : D → Option Feed) (p : Profile) (reader : R) (writer : W) (steps : List (Timed D))
+    (done : Record R W) : Type 0 where
   -- one reply a step, as `takes` says too
   pub replies : length done.replies.items ≡ length steps
   -- what the source still gives is the client's bytes from some place on, if the reader states them
   pub source : GoesOn (client reader) done.source.feed
   -- The steps were taken one after another by a connection that was new. So what `MakesStep` and `StepMeets` say holds
-  -- of each step and its reply. Source and outlet are as the last step left them, and the outlet states what its writer states.
+  -- of each step and its reply. Source and outlet are as the last step left them, and the outlet states what its
+  -- writer states.
   pub first : ConnectionState R W
   pub last : ConnectionState R W
   pub begins : IsNew p reader (client reader) writer (sink writer) first

@@ -14,7 +14,8 @@ ghost use Rattle.tiny_http_open_request.specs.OpenRequest.{HasSentAll};
 ghost use Rattle.tiny_http_body.specs.declared.body.UnreadBody.{UnreadBody};
 ghost use Rattle.tiny_http_open_request.specs.declared.open_request.OpenRequest.{OpenRequest};
 ghost use Rattle.tiny_http_io.specs.Source.{GoesOn};
-ghost use Rattle.tiny_http_body.specs.Body.{bytes_given, ends_met, is_streaming, stream_body, body_standing, FillsFromBody};
+ghost use Rattle.tiny_http_body.specs.Body.{bytes_given, ends_met, is_streaming, stream_body, body_standing};
+ghost use Rattle.tiny_http_body.specs.Body.{FillsFromBody};
 ghost use Rattle.tiny_http_connection.specs.Pending.{WaitsAt, left_text, SendsLeft, FinishesFront, LeavesText};
 ghost use Rattle.tiny_http_connection.specs.Pending.{waiting_answer_context, is_readable, is_writable, owes_continue};
 ghost use Rattle.tiny_http_connection.specs.Pending.{holds_next_head_at, refuses_at, refuses_upgrade_at};
@@ -282,7 +283,8 @@ impl Pending {
         ensures fills { (u : Unfinished) (was : UnreadBody)
             → slice_get self.old.requests number ≡ Some (Some u)
             → kept_body (Some u) ≡ Some was
-            → (body : UnreadBody) × (self.new.requests ≡ slice_set self.old.requests number (Some (number_with_body body u)))
+            → (body : UnreadBody)
+            × (self.new.requests ≡ slice_set self.old.requests number (Some (number_with_body body u)))
             × FillsFromBody was source.old.feed body source.new.feed result buf.new
             × (is_streaming was ≡ false → source.new ≡ source.old)
             × (is_streaming was ≡ true → source.new.standing ≡ body_standing body source.old.standing)

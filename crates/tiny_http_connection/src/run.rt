@@ -30,7 +30,7 @@ pub struct RunError<R, W> {
     pub writer: W,
 }
 
-// Room for so many replies. For none no memory is asked for.
+// An empty vector with room for `count` replies. For none no memory is asked for.
 fn room_for(alloc: Global, count: usize) -> Result<Vec<Reply>, AllocError>
     ensures items { IfOk result (λ v. v.items ≡ []) }
     ensures len { IfOk result (λ v. vec_len v ≡ 0) }

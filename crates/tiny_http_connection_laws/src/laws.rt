@@ -107,7 +107,8 @@ pub fn numbers_are_as_told()
 
 /// STEPS ARE TAKEN IN TURN. A step for a request that was handed out is done or refused where the request takes it,
 /// once the numbers before it are finished; it is not put off. An answer, a write, a flush and an upgrade are done only
-/// then. A step that is neither done, refused nor put off finds no such request. An `Ask` is put off only while the last request that was handed out isn't finished.
+/// then. A step that is neither done, refused nor put off finds no such request. An `Ask` is put off only while the last
+/// request that was handed out isn't finished.
 pub fn steps_are_taken_in_turn()
     ensures done { (p : Profile) (feed : Feed) (before after : Sink) (steps later : List TimedValue)
         (replies more : List ReplyValue) (held : List ℕ) (ended : Bool) (unread : Option Feed) (date : HttpDate)

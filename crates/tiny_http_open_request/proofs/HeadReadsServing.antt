@@ -41,10 +41,11 @@ use Rattle.tiny_http_body.specs.declared.body.UnreadBody.TheVariants as body
 use Rattle.tiny_http_head.specs.declared.common.Header.{Header}
 use Rattle.tiny_http_body.specs.Framing.{Frames}
 use Rattle.tiny_http_body.specs.FramingReading.{framing}
+use Rattle.tiny_http_body.proofs.BodyReads.{counted-over}
 use Rattle.tiny_http_body.proofs.FramingLemmas.{framing-is}
 use Rattle.tiny_http_io.specs.FeedParts.{feed_front}
 use Rattle.tiny_http_io.specs.ToCome.{skipped, stopped}
-use Rattle.tiny_http_body.specs.Body.{Remaining, remaining, chunk_rules, taken_remaining, counted_remaining, cut_feed, cut_stop, coming_remaining, PassesOver, Fits, IsBodyOver, ReadsOn}
+use Rattle.tiny_http_body.specs.Body.{Remaining, remaining, chunk_rules, taken_remaining, counted_remaining, cut_feed, cut_stop, coming_remaining, PassesOver, Fits, IsBodyOver, IsCountedOver, ReadsOn}
 use Rattle.tiny_http_open_request.specs.OpenRequest.{KeepsHead}
 use Rattle.tiny_http_io.specs.Source.{TakesExactly, feed_from, IsCutOff}
 use Rattle.tiny_http_body.specs.Framing.{head_limit}
@@ -140,7 +141,7 @@ skipped-of standard k (Some f) r left = ap (λ (x : Remaining). Some x.behind) (
 passed-over : {R : Type 0} (old new : SourceState R) (b : UnreadBody) (standard : Bool) (form : Form) (n : ℕ) (r : Remaining) → Fits standard b form n 0 false → ends_too_new form ≡ false → remaining b old.feed ≡ Some r → PassesOver b old new → new.feed ≡ Some r.behind
 passed-over {R = R} old new (body.Over stop) standard form n r fits goes left h = behind-of (stopped stop) old.feed new.feed r left (ap (λ (s : SourceState R). s.feed) h)
 passed-over {R = R} old new (body.WithHead bytes) standard form n r fits goes left h = behind-of (whole_feed (cursor_bytes bytes)) old.feed new.feed r left (ap (λ (s : SourceState R). s.feed) h)
-passed-over old new (body.Counted k by_standard) standard form n r fits goes left h = h.0 ∙ skipped-of by_standard k old.feed r left
+passed-over old new (body.Counted k by_standard) standard form n r fits goes left h = h.feed ∙ skipped-of by_standard k old.feed r left
 passed-over old new (body.Chunked d) standard form n r fits goes left h = let no : true ≡ false = sym (ap ends_too_new fits.0) ∙ goes in cc
 passed-over old new body.Rest standard form n r fits goes left h = let no : true ≡ false = sym (ap ends_too_new fits.0) ∙ goes in cc
 
@@ -203,8 +204,8 @@ counted-fits standard b n h = by (0 == n) refl h
     over (body.Chunked d) k e = absurd k
     over body.Rest k e = absurd k
 
-    by : (t : Bool) → (0 == n) ≡ t → MatchBool t (IsBodyOver b) ((b ≡ body.Counted (n - 0) standard) × (0 < n)) → Fits standard b Counted n 0 false
-    by true e k = over b k e
+    by : (t : Bool) → (0 == n) ≡ t → MatchBool t (IsCountedOver standard t b) ((b ≡ body.Counted (n - 0) standard) × (0 < n)) → Fits standard b Counted n 0 false
+    by true e k = over b (counted-over standard true b k) e
     by false e k =
         let P : UnreadBody → Type 0 = λ x. Fits standard x Counted n 0 false in
         subst P (sym k.0) (refl, omega arith, omega (arith, k.1), refl, refl)

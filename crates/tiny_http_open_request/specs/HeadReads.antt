@@ -49,8 +49,8 @@ use Rattle.tiny_http_open_request.specs.Pipeline.{IsCutHead, IsNotAsciiHead, Bod
 use Rattle.tiny_http_open_request.specs.Pipeline.{place_after, served_version, standard_framing}
 use Rattle.tiny_http_open_request.specs.OwnAnswer.{own_text, refusal_response, refused_text}
 use Rattle.tiny_http_body.specs.Body.{Remaining, remaining, Fits}
-use Rattle.tiny_http_open_request.specs.Exchange.{exchange_head, exchange_open, exchange_left, exchange_streams, exchange_body}
-use Rattle.tiny_http_open_request.specs.Exchange.{KeepsRequest}
+use Rattle.tiny_http_open_request.specs.Exchange.{exchange_head, exchange_open, exchange_left, exchange_streams}
+use Rattle.tiny_http_open_request.specs.Exchange.{exchange_body, KeepsRequest}
 use Rattle.tiny_http_open_request.specs.declared.open_request.OpenRequest.{OpenRequest}
 use Rattle.tiny_http_open_request.specs.OpenRequest.{KeepsHead}
 

@@ -3,11 +3,11 @@ ghost use Rattle.std.specs.Prelude.{◌≡◌, IfOk};
 ghost use Rattle.tiny_http_io.specs.Source.{GoesOn, IsAtEnd};
 ghost use Rattle.tiny_http_open_request.specs.Pipeline.{profile_of};
 ghost use Rattle.tiny_http_open_request.specs.HeadReads.{FitsHead, ReadsHead, TakesHead, HasByteOrTimedOut, IsRequest};
-ghost use Rattle.tiny_http_open_request.specs.HeadReads.{IsFramedRequest, IsRefusedUncut, IsOkEnd, end_at};
+ghost use Rattle.tiny_http_open_request.specs.HeadReads.{IsFramedRequest, IsRefusedUncut, IsOkEnd, end_at, standing_of};
 ghost use Rattle.tiny_http_open_request.specs.HeadReads.{message_of, head_message, head_framing};
 
 use crate::body_start::begin_body;
-use crate::exchange::{EndOfRequests, Exchange, Head, HeadRead, standing_of};
+use crate::exchange::{EndOfRequests, Exchange, Head, HeadRead};
 use crate::head_faults::{answer_cut, answer_fault, refusal_of, refuse_too_new, refused_with};
 use crate::heads::{MessageHead, read_message};
 use crate::open_request::{OpenRequest, is_head};
@@ -105,6 +105,19 @@ fn read_item<R: ReadDevice>(
     read_by_rules(alloc, source, rules, now)
 }
 
+// Where a source stands after the head of this request.
+fn standing_of(exchange: &Exchange) -> Standing
+    ensures { result ≡ standing_of exchange.now }
+{
+    if exchange.head.is_last() {
+        return Standing::Last;
+    }
+    if exchange.open_request.body.holds_reader() {
+        return Standing::Body;
+    }
+    Standing::Head
+}
+
 // Why no request comes from this standing, where the input at that standing ends for this reason.
 fn end_at(standing: Standing, why: EndOfRequests) -> EndOfRequests
     ensures { result ≡ end_at standing why }
@@ -120,7 +133,7 @@ fn end_at(standing: Standing, why: EndOfRequests) -> EndOfRequests
 /// body is then read from the source; or a head that is refused; or the end, with its reason. A head is refused by
 /// 400 for a bad line, by 408 where the reader timed out, also before its first byte, by 417 for an expectation that
 /// can't be met, and by 505 for a version above 1.1, with a text that says which are served (as tiny_http). Under
-/// `Strict` it is refused by 431, too, where so many bytes of it came as it may have and it hasn't ended (RFC 6585,
+/// `Strict` it is refused by 431, too, where as many bytes of it came as it may have and it hasn't ended (RFC 6585,
 /// section 5), and by 400 where its framing is invalid (RFC 9112, section 6.3). The first bad line is judged first,
 /// then the size, then the framing, then the expectation, then a body that is read with its head and cut, then the
 /// version. `now` dates the answer to a refused head, and the 500 of a request that is dropped. It is an error where

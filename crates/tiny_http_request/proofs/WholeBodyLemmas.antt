@@ -12,7 +12,8 @@ use Rattle.tiny_http_io.specs.declared.device.Stop.{Stop}
 use Rattle.tiny_http_io.specs.declared.device.Stop.TheVariants.{End, Fault}
 use Rattle.tiny_http_body.specs.declared.body.UnreadBody.{UnreadBody}
 use Rattle.tiny_http_body.specs.declared.body.UnreadBody.TheVariants.{Over, WithHead, Counted, Chunked, Rest}
-use Rattle.tiny_http_body.specs.Body.{is_streaming, bytes_left, body_stop, ReadsOn, IsBodyOver, IsChunkedBy, cut_feed}
+use Rattle.tiny_http_body.specs.Body.{is_streaming, bytes_left, body_stop, ReadsOn, IsBodyOver, IsCountedOver, IsChunkedBy, cut_feed}
+use Rattle.tiny_http_body.proofs.BodyReads.{counted-over}
 use Rattle.tiny_http_request.specs.WholeBody.{IsWholeOf}
 use Rattle.tiny_http_request.proofs.BodyLemmas.{left_at}
 
@@ -51,16 +52,16 @@ over-stands (Counted n standard) left taken h = absurd h
 over-stands (Chunked d) left taken h = absurd h
 over-stands Rest left taken h = absurd h
 
-counted-on : (t : Bool) (new : UnreadBody) (m n left taken : ℕ) (standard : Bool) → left ≡ m - n → MatchBool t (IsBodyOver new) ((new ≡ Counted (m - n) standard) × (n < m)) → StandsAt left taken new
-counted-on true new m n left taken standard e h = over-stands new left taken h
-counted-on false new m n left taken standard e h = subst (StandsAt left taken) (sym h.0) (sym e, λ z. absurd (omega (arith, e, z, h.1)))
+counted-on : (t has_come : Bool) (new : UnreadBody) (m n left taken : ℕ) (standard : Bool) → left ≡ m - n → MatchBool t (IsCountedOver standard has_come new) ((new ≡ Counted (m - n) standard) × (n < m)) → StandsAt left taken new
+counted-on true has_come new m n left taken standard e h = over-stands new left taken (counted-over standard has_come new h)
+counted-on false has_come new m n left taken standard e h = subst (StandsAt left taken) (sym h.0) (sym e, λ z. absurd (omega (arith, e, z, h.1)))
 
 pub stands-on : (b new : UnreadBody) (n left taken left_then taken_then : ℕ) → (n == 0) ≡ false → left_then ≡ left - n → 0 < n → StandsAt left taken b → ReadsOn b n (n == 0) new → StandsAt left_then taken_then new
 stands-on (Over stop) new n left taken left_then taken_then some e p h m = absurd (omega (arith, p, m.1))
 stands-on (WithHead bytes) new n left taken left_then taken_then some e p h m = absurd h
 stands-on (Counted k standard) new n left taken left_then taken_then some e p h m =
     let k_is : k ≡ left = h.0 in
-    counted-on (n == k) new k n left_then taken_then standard (omega (arith, e, k_is)) (subst (λ (t : Bool). MatchBool (t || n == k) (IsBodyOver new) ((new ≡ Counted (k - n) standard) × (n < k))) some m)
+    counted-on (n == k) (n == k) new k n left_then taken_then standard (omega (arith, e, k_is)) (subst (λ (t : Bool). MatchBool (t || n == k) (IsCountedOver standard (n == k) new) ((new ≡ Counted (k - n) standard) × (n < k))) some m)
 stands-on (Chunked d) new n left taken left_then taken_then some e p h m = absurd h
 stands-on Rest new n left taken left_then taken_then some e p h m = absurd h
 

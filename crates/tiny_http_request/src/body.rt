@@ -6,8 +6,8 @@ ghost use Rattle.tiny_http_io.specs.Device.{AnswersStop, Feed, Reads, bytes_of, 
 ghost use Rattle.tiny_http_io.specs.declared.device.Stop.TheVariants.{End, Fault};
 ghost use Rattle.tiny_http_body.specs.Body.{is_streaming, is_whole, bytes_left, remainder, body_stop, ReadsOn};
 ghost use Rattle.tiny_http_body.specs.Body.{BodyStops, remaining, prepended_body};
-ghost use Rattle.tiny_http_request.specs.Body.{ReadsUnread, GivesOnInput, KeepsLeft, outlasts_body, input_of, body_left};
-ghost use Rattle.tiny_http_request.specs.Body.{upgraded_body};
+ghost use Rattle.tiny_http_request.specs.Body.{ReadsUnread, GivesOnInput, KeepsLeft, outlasts_body, input_of};
+ghost use Rattle.tiny_http_request.specs.Body.{body_left, upgraded_body};
 
 use crate::remembered::Remembered;
 use std::io;

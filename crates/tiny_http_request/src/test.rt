@@ -144,7 +144,7 @@ pub struct TestRequest {
     headers: Vec<Header>,
 }
 
-// `Content-Length` of so many bytes. An error where memory was refused.
+// `Content-Length` of this length. An error where memory was refused.
 fn length_header(alloc: Global, length: usize) -> Result<Header, AllocError>
     ensures { IfOk result (λ h. h ≡ length_header length) }
 {

@@ -124,7 +124,8 @@ fn read_exactly<R: ReadDevice + Drop, Rt: Wait + Drop>(
     Ok(bytes)
 }
 
-// Reads to its end a body whose length isn't known, of at most so many bytes. Where it has more, one byte more is read.
+// Reads to its end a body whose length isn't known, of at most `most` bytes. Of one that is longer one byte more is
+// read.
 fn read_to_end<R: ReadDevice + Drop, Rt: Wait + Drop>(
     alloc: Global,
     body: &mut Body<R, Rt>,
@@ -155,7 +156,7 @@ fn read_to_end<R: ReadDevice + Drop, Rt: Wait + Drop>(
     }
 }
 
-/// Reads what is left of a body of this form, which is at most so many bytes where its length is known.
+/// Reads what is left of a body of this form, which is at most `most` bytes where its length is known.
 pub(crate) fn read_left<R: ReadDevice + Drop, Rt: Wait + Drop>(
     alloc: Global,
     body: &mut Body<R, Rt>,

@@ -38,9 +38,11 @@ from_parts-requires g c =
     c.in_ok-reader.ensures.0 ∙ ap is_streaming (sym kept.0) ∙ sym (rw holds (or-false (is_streaming w.body)))
 
 pub returns-clause-body : goal.returns-clause-body
-returns-clause-body g c =
-    (c.body_of.new.source.feed, begins-by c.in-Ok.framing (head_framing (request_head c.from_parts.result)) c.new-source.result.feed (g.R.ReadDevice.feed c.args.source_data) c.body_of.new.source.feed c.in_ok-body.body c.from_parts.result.open_request.body.unread (search rules) (search rules) (search rules) c.in_ok-body.ensures.begins,
-    fits-by c.in-Ok.framing (head_framing (request_head c.from_parts.result)) c.in_ok-body.body c.from_parts.result.open_request.body.unread (search rules) (search rules) c.in_ok-body.ensures.fits)
+returns-clause-body g c = (
+  c.body_of.new.source.feed,
+  begins-by c.in-Ok.framing (head_framing (request_head c.from_parts.result)) c.new-source.result.feed (g.R.ReadDevice.feed c.args.source_data) c.body_of.new.source.feed c.in_ok-body.body c.from_parts.result.open_request.body.unread (search rules) (search rules) (search rules) c.in_ok-body.ensures.begins,
+  fits-by c.in-Ok.framing (head_framing (request_head c.from_parts.result)) c.in_ok-body.body c.from_parts.result.open_request.body.unread (search rules) (search rules) c.in_ok-body.ensures.fits,
+)
 
 -- a reader that holds the source gives what that gives
 input-is : {R Rt : Type 0} (reader : Option (HeldReader (SourceState R) Rt)) (source : SourceState R) → IfSome reader (λ held. held_item held ≡ source)

@@ -4,6 +4,7 @@ use Rattle.tiny_http_io.specs.declared.device.Stop.TheVariants.{End, Fault}
 use Rattle.tiny_http_body.specs.declared.body.UnreadBody.{UnreadBody}
 use Rattle.tiny_http_body.specs.declared.body.UnreadBody.TheVariants.{Over, WithHead, Counted, Chunked, Rest}
 use Rattle.tiny_http_body.specs.Body.{Remaining, is_streaming, bytes_left, remaining, prepended_body, BodyStops, ReadsOn, IsBodyOver, IsWithHead}
+use Rattle.tiny_http_body.proofs.BodyReads.{counted-over}
 use Rattle.tiny_http_request.proofs.WholeBodyLemmas.{stands-end, count-whole}
 use Rattle.tiny_http_request.specs.Body.{body_left}
 use Rattle.tiny_http_request.proofs.whole_body.read_exactly.Goals as goal
@@ -62,7 +63,7 @@ must-stream old now items count left held settled end less = by (is_streaming ol
 over-at : (b new : UnreadBody) → (IsWithHead b → ⊥) → ReadsOn b 0 true new → IsBodyOver new
 over-at (Over stop) new held m = subst IsBodyOver (sym m.0) tt
 over-at (WithHead bytes) new held m = absurd (held tt)
-over-at (Counted n standard) new held m = m
+over-at (Counted n standard) new held m = counted-over standard (0 == n) new m
 over-at (Chunked d) new held m = m
 over-at Rest new held m = m
 

@@ -15,10 +15,21 @@ returns-clause-gives_up g c =
     elim c.match-self.branch [
       | in-Counted w ↦
           let Q : S → Type 0 = λ x. GivesUp (Counted w.in-Counted.left w.in-Counted.by_standard) old x in
-          subst P (sym w.in-Counted.is) (subst Q (sym (w.source-is ∙ w.stand_at.ensures)) (w.skip.ensures.skips.feed, w.after_body.ensures ∙ ap after_body c.standing-standing.ensures, λ low. (let a = w.skip.ensures.skips.alone low in let d = w.skip.ensures.skips.adds low in (a.0, a.1, d.0, d.1))))
+          subst P (sym w.in-Counted.is) (subst Q (sym (w.source-is ∙ w.stand_at.ensures)) (record {
+            feed = w.skip.ensures.skips.feed;
+            alone = w.skip.ensures.skips.alone;
+            adds = w.skip.ensures.skips.adds;
+            once = w.skip.ensures.skips.once;
+            standing = w.after_body.ensures ∙ ap after_body c.standing-standing.ensures;
+          }))
       | in-Chunked w ↦
           let Q : S → Type 0 = λ x. GivesUp (Chunked w.in-Chunked.field-0) old x in
-          subst P (sym w.in-Chunked.is) (subst Q (sym (w.source-is ∙ w.stand_at-in-Chunked.ensures)) (w.end.ensures.feed, w.end.ensures.at_end, w.after_abandoned.ensures ∙ ap after_abandoned c.standing-standing.ensures, w.end.ensures.reader))
+          subst P (sym w.in-Chunked.is) (subst Q (sym (w.source-is ∙ w.stand_at-in-Chunked.ensures)) (record {
+            feed = w.end.ensures.feed;
+            at_end = w.end.ensures.at_end;
+            reader = w.end.ensures.reader;
+            standing = w.after_abandoned.ensures ∙ ap after_abandoned c.standing-standing.ensures;
+          }))
       | in-Over w ↦ search rules
       | in-WithHead w ↦ search rules
       | in-Rest w ↦ search rules
