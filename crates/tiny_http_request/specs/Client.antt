@@ -29,11 +29,11 @@ IsOver c = c.next_head ≡ None
 
 -- whether the connection is encrypted
 abbrev pub client_secure : {R : Type 0} → {W : Type 0} → {Rt : Type 0} → ClientConnection R W Rt → Bool
-client_secure c = c.secure
+client_secure c = c.client.secure
 
 -- the client's address
 abbrev pub client_address : {R : Type 0} → {W : Type 0} → {Rt : Type 0} → ClientConnection R W Rt → Option SocketAddr
-client_address c = c.remote_addr
+client_address c = c.client.remote_addr
 
 -- by what profile its heads are read
 abbrev pub client_profile : {R : Type 0} → {W : Type 0} → {Rt : Type 0} → ClientConnection R W Rt → Profile

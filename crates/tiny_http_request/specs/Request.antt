@@ -39,11 +39,11 @@ request_head r = r.head
 
 -- whether its connection is encrypted
 abbrev pub request_secure : {R : Type 0} → {W : Type 0} → {Rt : Type 0} → Request R W Rt → Bool
-request_secure r = r.secure
+request_secure r = r.client.secure
 
 -- the client's address
 abbrev pub request_address : {R : Type 0} → {W : Type 0} → {Rt : Type 0} → Request R W Rt → Option SocketAddr
-request_address r = r.remote_addr
+request_address r = r.client.remote_addr
 
 -- what is kept of it until it is answered, with how far its body was read
 abbrev pub request_open : {R : Type 0} → {W : Type 0} → {Rt : Type 0} → Request R W Rt → OpenRequest UnreadBody

@@ -28,17 +28,32 @@ use tiny_http_threads::sequential::{
     SequentialReader, SequentialReaderBuilder, SequentialWriter, SequentialWriterBuilder,
 };
 
+/// What is known of a client.
+#[derive(Clone, Copy)]
+pub(crate) struct Client {
+    /// Whether its connection is encrypted.
+    pub secure: bool,
+    /// Its address, where it has one and the system knows it.
+    pub remote_addr: Option<SocketAddr>,
+}
+
+/// What a request tells its connection.
+#[derive(Drop)]
+pub(crate) struct Links {
+    /// Whether the connection's flushes may leave their bytes, where they ever may.
+    pub flush_policy: Option<Arc<FlushPolicy>>,
+    /// What the reads of the connection are told, where the request reads from it and they are to know.
+    pub pace: Option<Arc<Pace>>,
+}
+
 /// A connection, whose requests are handed out one after another. Any thread may hold one, also while the next is read.
 #[derive(Drop)]
 pub struct ClientConnection<R: ReadDevice + Drop, W: WriteDevice + Drop, Rt: Wait + Drop> {
     alloc: Global,
     profile: Profile,
-    secure: bool,
-    remote_addr: Option<SocketAddr>,
-    // Whether flushes may leave their bytes, where they ever may.
-    flush_policy: Option<Arc<FlushPolicy>>,
-    // What its reads are told, where somebody wants to know.
-    pace: Option<Arc<Pace>>,
+    client: Client,
+    // What its requests tell it, where somebody wants to know.
+    links: Links,
     source: SequentialReaderBuilder<Source<R>, Rt>,
     sink: SequentialWriterBuilder<Outlet<W>, Rt>,
     // None once the connection has no further request.
@@ -166,10 +181,14 @@ impl<R: ReadDevice + Drop, W: WriteDevice + Drop, Rt: Wait + Copy> ClientConnect
         Ok(ClientConnection {
             alloc,
             profile,
-            secure,
-            remote_addr,
-            flush_policy: None,
-            pace: None,
+            client: Client {
+                secure,
+                remote_addr,
+            },
+            links: Links {
+                flush_policy: None,
+                pace: None,
+            },
             source,
             sink,
             next_head,
@@ -180,7 +199,7 @@ impl<R: ReadDevice + Drop, W: WriteDevice + Drop, Rt: Wait + Copy> ClientConnect
     pub fn secure(&self) -> bool
         ensures { result ≡ client_secure self.now }
     {
-        self.secure
+        self.client.secure
     }
 
     /// Has answers leave together: flushes leave their bytes where this lets them. It does for a request whose turn
@@ -195,7 +214,7 @@ impl<R: ReadDevice + Drop, W: WriteDevice + Drop, Rt: Wait + Copy> ClientConnect
             × (client_address self.new ≡ client_address self.old)
             × (client_profile self.new ≡ client_profile self.old) }
     {
-        self.flush_policy = Some(flush_policy);
+        self.links.flush_policy = Some(flush_policy);
     }
 
     /// Has `next` say here when it waits for a head and when it hands out a request. It keeps the limit of open
@@ -215,7 +234,7 @@ impl<R: ReadDevice + Drop, W: WriteDevice + Drop, Rt: Wait + Copy> ClientConnect
         if pace.limits().is_some() {
             self.sink.close_when_broken();
         }
-        self.pace = Some(pace);
+        self.links.pace = Some(pace);
         Ok(())
     }
 
@@ -251,15 +270,17 @@ impl<R: ReadDevice + Drop, W: WriteDevice + Drop, Rt: Wait + Copy> ClientConnect
         if self.sink.is_closed() {
             return Ok(None);
         }
-        wait_if_full(&self.sink, &self.pace);
+        wait_if_full(&self.sink, &self.links.pace);
         let (alloc, profile) = (self.alloc, self.profile);
         let mut reader = next_head.hold();
         let source = &mut *reader.turn.item;
-        if self.sink.is_closed() || !begins_head(&self.pace, source) {
+        if self.sink.is_closed() || !begins_head(&self.links.pace, source) {
             return Ok(None);
         }
         let sink = &mut self.sink;
-        let mut place = NextWriter { pace: &self.pace };
+        let mut place = NextWriter {
+            pace: &self.links.pace,
+        };
         match next_request(alloc, source, profile, &mut place, sink, now) {
             Ok(NextRequest::Request(head, open_request)) => {
                 let Some(writer) = self.sink.next_unless_closed()? else {
@@ -271,7 +292,7 @@ impl<R: ReadDevice + Drop, W: WriteDevice + Drop, Rt: Wait + Copy> ClientConnect
                 }
             }
             Ok(NextRequest::Ended(end)) => {
-                note_end(&self.pace, end);
+                note_end(&self.links.pace, end);
                 Ok(None)
             }
             Err(_) if self.sink.is_closed() => Ok(None),
@@ -320,9 +341,10 @@ impl<R: ReadDevice + Drop, W: WriteDevice + Drop, Rt: Wait + Copy> ClientConnect
     {
         let holds_reader = open_request.body.holds_reader() || open_request.holds_next_head;
         let may_leave = !holds_reader && writer.is_next();
-        let flush_policy = set_policy(&self.flush_policy, may_leave)?;
-        let pace = begin_body(&self.pace, holds_reader)?;
-        let client = (self.secure, self.remote_addr);
+        let links = Links {
+            flush_policy: set_policy(&self.links.flush_policy, may_leave)?,
+            pace: begin_body(&self.links.pace, holds_reader)?,
+        };
         let (reader, held) = if holds_reader {
             (Some(reader), None)
         } else {
@@ -331,12 +353,12 @@ impl<R: ReadDevice + Drop, W: WriteDevice + Drop, Rt: Wait + Copy> ClientConnect
         self.next_head = next_head(&mut self.source, head.is_last(), held)?;
         Ok(Request::from_parts(
             self.alloc,
-            client,
+            self.client,
             head,
             open_request,
             reader,
             writer,
-            (flush_policy, pace),
+            links,
         ))
     }
 }

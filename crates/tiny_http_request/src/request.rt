@@ -32,6 +32,7 @@ ghost use Rattle.tiny_http_threads.specs.HeldReader.{held_item};
 use crate::answering::{begin_answer, read_stream};
 pub use crate::body::Body;
 use crate::body::GivesOn;
+use crate::client::{Client, Links};
 pub use crate::streamed_body::StreamedBody;
 pub use crate::whole_body::BodyError;
 use crate::whole_body::read_left;
@@ -56,7 +57,6 @@ use tiny_http_open_request::open_request::OpenRequest;
 pub use tiny_http_open_request::upgrading::UpgradeError;
 use tiny_http_response::response::Response;
 use tiny_http_response::sending::reported;
-use tiny_http_socket::cork::FlushPolicy;
 use tiny_http_socket::pace::Pace;
 use tiny_http_text::ascii::AsciiString;
 use tiny_http_threads::held_reader::HeldReader;
@@ -119,13 +119,9 @@ pub struct RefusedUpgrade<R: ReadDevice + Drop, W: WriteDevice + Drop, Rt: Wait 
 /// the order of the requests. If it is dropped it is answered by an empty 500, in its turn.
 pub struct Request<R: ReadDevice + Drop, W: WriteDevice + Drop, Rt: Wait + Drop> {
     alloc: Global,
-    secure: bool,
-    remote_addr: Option<SocketAddr>,
+    client: Client,
     head: Head,
-    // Whether its connection's flushes may leave their bytes, where they ever may.
-    flush_policy: Option<Arc<FlushPolicy>>,
-    // What the reads of its connection are told, where it reads from it and they are to know.
-    pace: Option<Arc<Pace>>,
+    links: Links,
     open_request: OpenRequest<Body<R, Rt>>,
     writer: SequentialWriter<Outlet<W>, Rt>,
 }
@@ -134,12 +130,12 @@ impl<R: ReadDevice + Drop, W: WriteDevice + Drop, Rt: Wait + Drop> Request<R, W,
     /// A request of these parts.
     pub(crate) fn from_parts(
         alloc: Global,
-        client: (bool, Option<SocketAddr>),
+        client: Client,
         head: Head,
         open_request: OpenRequest<UnreadBody>,
         reader: Option<HeldReader<Source<R>, Rt>>,
         writer: SequentialWriter<Outlet<W>, Rt>,
-        told: (Option<Arc<FlushPolicy>>, Option<Arc<Pace>>),
+        links: Links,
     ) -> Request<R, W, Rt>
         requires { is_some reader ≡ (is_streaming open_request.body || open_request.holds_next_head) }
         ensures head { request_head result ≡ head }
@@ -151,10 +147,8 @@ impl<R: ReadDevice + Drop, W: WriteDevice + Drop, Rt: Wait + Drop> Request<R, W,
               holds_input = is_some reader;
               outlasts = open_request.holds_next_head;
             } }
-        ensures client { (request_secure result ≡ client.0) × (request_address result ≡ client.1) }
+        ensures client { (request_secure result ≡ client.secure) × (request_address result ≡ client.remote_addr) }
     {
-        let (secure, remote_addr) = client;
-        let (flush_policy, pace) = told;
         let gives_on = if open_request.holds_next_head {
             GivesOn::AfterAnswer
         } else {
@@ -163,11 +157,9 @@ impl<R: ReadDevice + Drop, W: WriteDevice + Drop, Rt: Wait + Drop> Request<R, W,
         let open_request = open_request.map_body(|body| Body::new(body, reader, gives_on));
         Request {
             alloc,
-            secure,
-            remote_addr,
+            client,
             head,
-            flush_policy,
-            pace,
+            links,
             open_request,
             writer,
         }
@@ -179,11 +171,9 @@ impl<R: ReadDevice + Drop, W: WriteDevice + Drop, Rt: Wait + Drop> Request<R, W,
     {
         let Self {
             alloc: _,
-            secure: _,
-            remote_addr: _,
+            client: _,
             head: _,
-            flush_policy: _,
-            pace: _,
+            links: _,
             open_request,
             writer,
         } = self;
@@ -194,7 +184,7 @@ impl<R: ReadDevice + Drop, W: WriteDevice + Drop, Rt: Wait + Drop> Request<R, W,
     pub fn secure(&self) -> bool
         ensures { result ≡ request_secure self.now }
     {
-        self.secure
+        self.client.secure
     }
 
     /// What is asked for.
@@ -284,12 +274,12 @@ impl<R: ReadDevice + Drop, W: WriteDevice + Drop, Rt: Wait + Drop> Request<R, W,
     pub fn remote_addr(&self) -> Option<&SocketAddr>
         ensures { option_copied result ≡ request_address self.now }
     {
-        self.remote_addr.as_ref()
+        self.client.remote_addr.as_ref()
     }
 
     // Has each later flush of the connection send: a program's own isn't to leave its bytes.
     fn send_at_flush(&self) {
-        if let Some(flush_policy) = &self.flush_policy {
+        if let Some(flush_policy) = &self.links.flush_policy {
             flush_policy.send_at_flush();
         }
     }
@@ -581,7 +571,7 @@ impl<R: ReadDevice + Drop, W: WriteDevice + Drop, Rt: Wait + Drop> Request<R, W,
         if !self.open_request.by_standard && is_whole {
             return None;
         }
-        self.pace.as_ref()
+        self.links.pace.as_ref()
     }
 
     // The connection is to be upgraded. False where as many are as may be.
@@ -652,7 +642,7 @@ impl<R: ReadDevice + Drop, W: WriteDevice + Drop, Rt: Wait + Drop> fmt::Debug
     fn fmt<F: fmt::Write>(&self, f: &mut fmt::Formatter<F>) -> fmt::Result {
         let method = &self.head.method;
         let path = self.head.path.as_str();
-        let address = self.remote_addr;
+        let address = self.client.remote_addr;
         write!(f, "Request({method} {path} from {address:?})")
     }
 }
@@ -751,14 +741,13 @@ pub fn new_request<R: ReadDevice + Drop, W: WriteDevice + Drop, Rt: Wait + Copy>
         framing,
     };
     let open_request = OpenRequest::new(alloc, &head, body, now)?;
-    let client = (secure, remote_addr);
-    Ok(Request::from_parts(
-        alloc,
-        client,
-        head,
-        open_request,
-        reader,
-        writer,
-        (None, None),
-    ))
+    let client = Client {
+        secure,
+        remote_addr,
+    };
+    let links = Links {
+        flush_policy: None,
+        pace: None,
+    };
+    Ok(Request::from_parts(alloc, client, head, open_request, reader, writer, links))
 }
