@@ -7,6 +7,7 @@ ghost use Rattle.tiny_http_io.specs.Device.{Feed, Tells};
 ghost use Rattle.tiny_http_io.specs.Outlet.{outlet_held, SentOn};
 ghost use Rattle.tiny_http_response.specs.Sending.{FailsOnce, SendsQuietlyOn, SendsAnswer};
 ghost use Rattle.tiny_http_open_request.specs.OwnAnswer.{own_text_by};
+ghost use Rattle.tiny_http_open_request.specs.HeadReads.{standing_of};
 
 use crate::open_request::OpenRequest;
 pub use crate::read_head::{read_head, read_head_with};
@@ -21,7 +22,7 @@ use tiny_http_body::framing::Framing;
 use tiny_http_head::common::{HTTPVersion, Header, Method, StatusCode};
 use tiny_http_io::device::{ReadDevice, WriteDevice};
 use tiny_http_io::outlet::Outlet;
-use tiny_http_io::source::Source;
+use tiny_http_io::source::{Source, Standing};
 use tiny_http_response::response::Response;
 use tiny_http_text::ascii::AsciiString;
 
@@ -253,4 +254,17 @@ impl Exchange {
     {
         (self.head, self.open_request)
     }
+}
+
+// Where a source stands after the head of this request.
+pub(crate) fn standing_of(exchange: &Exchange) -> Standing
+    ensures { result ≡ standing_of exchange.now }
+{
+    if exchange.head.is_last() {
+        return Standing::Last;
+    }
+    if exchange.open_request.body.holds_reader() {
+        return Standing::Body;
+    }
+    Standing::Head
 }

@@ -3,11 +3,11 @@ ghost use Rattle.std.specs.Prelude.{◌≡◌, IfOk};
 ghost use Rattle.tiny_http_io.specs.Source.{GoesOn, IsAtEnd};
 ghost use Rattle.tiny_http_open_request.specs.Pipeline.{profile_of};
 ghost use Rattle.tiny_http_open_request.specs.HeadReads.{FitsHead, ReadsHead, TakesHead, HasByteOrTimedOut, IsRequest};
-ghost use Rattle.tiny_http_open_request.specs.HeadReads.{IsFramedRequest, IsRefusedUncut, IsOkEnd, end_at, standing_of};
+ghost use Rattle.tiny_http_open_request.specs.HeadReads.{IsFramedRequest, IsRefusedUncut, IsOkEnd, end_at};
 ghost use Rattle.tiny_http_open_request.specs.HeadReads.{message_of, head_message, head_framing};
 
 use crate::body_start::begin_body;
-use crate::exchange::{EndOfRequests, Exchange, Head, HeadRead};
+use crate::exchange::{EndOfRequests, Exchange, Head, HeadRead, standing_of};
 use crate::head_faults::{answer_cut, answer_fault, refusal_of, refuse_too_new, refused_with};
 use crate::heads::{MessageHead, read_message};
 use crate::open_request::{OpenRequest, is_head};
@@ -103,19 +103,6 @@ fn read_item<R: ReadDevice>(
         Profile::Standard => return read_standard(alloc, source, now),
     };
     read_by_rules(alloc, source, rules, now)
-}
-
-// Where a source stands after the head of this request.
-fn standing_of(exchange: &Exchange) -> Standing
-    ensures { result ≡ standing_of exchange.now }
-{
-    if exchange.head.is_last() {
-        return Standing::Last;
-    }
-    if exchange.open_request.body.holds_reader() {
-        return Standing::Body;
-    }
-    Standing::Head
 }
 
 // Why no request comes from this standing, where the input at that standing ends for this reason.
