@@ -2,163 +2,220 @@
 """The programs of the repository, tried from outside over loopback: run.py NAME=PROGRAM [NAME=PROGRAM..]
 
 NAME is router, files, gateway, testserver or websocket_echo, and PROGRAM is the built program. It is called with an address, and with a
-folder or another server's address where it needs one, and prints its own address. The clients are curl and one of Python's. Each trial
-prints one line; all together take a few seconds."""
-import base64, hashlib, http.client, http.server, json, os, re, socket, subprocess, sys, tempfile, threading, urllib.parse
-
-failed = []
+folder or another server's address where it needs one. Each trial prints one line; all together take a few seconds. `checks/tests` makes the
+same trials of the programs before they are proved."""
+import base64, hashlib, http.client, os, random, re, signal, socket, subprocess, sys, tempfile, threading, time, urllib.parse
 
 
-def report(name, ok, seen):
-    print(('ok    ' if ok else 'FAILED'), name + ':', seen, flush=True)
-    if not ok:
-        failed.append(name)
+class Trials:
+    """What was seen of a program, trial by trial."""
+
+    def __init__(self):
+        self.seen = []
+
+    def same(self, name, came, wanted):
+        self.seen.append((name, came == wanted, came if came == wanted else f'{came!r}, and not {wanted!r}'))
 
 
-def curl(port, path, *words):
-    """The status and the body that curl gets."""
-    call = ['curl', '-sS', '-m', '5', '-w', '\n%{http_code}', *words, f'http://127.0.0.1:{port}{path}']
-    body, _, status = subprocess.run(call, capture_output=True, text=True, timeout=10).stdout.rpartition('\n')
-    return int(status or 0), body
+class Answer:
+    def __init__(self, status, headers, body):
+        self.status, self.headers, self.body = status, headers, body
 
 
-def try_router(port):
-    seen = curl(port, '/notes', '-d', '{"text": "one"}')
-    report('a note is added', seen == (201, '{"id":1,"text":"one"}'), seen)
-    seen = curl(port, '/notes', '-H', 'Transfer-Encoding: chunked', '-d', '{"text": "two"}')
-    report('a note in chunks is added', seen == (201, '{"id":2,"text":"two"}'), seen)
-    seen = curl(port, '/notes', '-i', '-d', 'x' * 70_000)
-    report('a long body is refused', seen[0] == 413 and 'Connection: close' in seen[1], seen[0])
-    seen = curl(port, '/notes', '-X', 'PUT')
-    report('a method is refused', seen[0] == 405, seen)
-    client = http.client.HTTPConnection('127.0.0.1', port, timeout=5)
-    for path, wanted in [('/notes', [1, 2]), ('/notes?x=1', [1, 2])]:
-        client.request('GET', path)
-        answer = client.getresponse()
-        numbers = [note['id'] for note in json.loads(answer.read())]
-        report('notes are listed', answer.status == 200 and numbers == wanted, numbers)
-    client.request('DELETE', '/notes/1')
-    answer = client.getresponse()
-    report('a note is removed', (answer.status, json.loads(answer.read())['text']) == (200, 'one'), answer.status)
-    client.request('GET', '/notes/1')
-    answer = client.getresponse()
-    report('it is gone', answer.status == 404, answer.read().decode())
-    client.request('GET', '/events')
-    answer = client.getresponse()
-    seen = (answer.getheader('Content-Type'), answer.getheader('Transfer-Encoding'), answer.read())
-    report('notes are events', seen == ('text/event-stream', 'chunked', b'data: {"id":2,"text":"two"}\n\n'), seen)
-    seen = curl(port, '/events', '-0')
-    report('and to version 1.0', seen == (200, 'data: {"id":2,"text":"two"}\n\n'), seen)
+def ask(port, target, method='GET', headers=(), body=b'', version='1.1', chunked=False):
+    """The answer to a request on a connection of its own."""
+    lines = [f'{method} {target} HTTP/{version}', *(['Host: localhost'] * (not any(it.startswith('Host:') for it in headers))), *headers]
+    if chunked:
+        lines.append('Transfer-Encoding: chunked')
+        body = b''.join(b'%x\r\n%s\r\n' % (len(it), it) for it in (body[at:at + 5000] for at in range(0, len(body), 5000))) + b'0\r\n\r\n'
+    elif body:
+        lines.append(f'Content-Length: {len(body)}')
+    if not any(it.startswith('Connection:') for it in lines):
+        lines.append('Connection: close')
+    with socket.create_connection(('127.0.0.1', port), timeout=10) as client:
+        try:
+            client.sendall('\r\n'.join([*lines, '', '']).encode('latin-1') + body)
+        except OSError:
+            pass  # a body that is refused isn't taken
+        answer = http.client.HTTPResponse(client, method=method)
+        answer.begin()
+        try:
+            data = answer.read()
+        except http.client.IncompleteRead as cut:
+            data = cut.partial
+        return Answer(answer.status, answer.headers, data)
+
+
+# Requests for notes, one after another, each with the status and the body of its answer.
+NOTES = [
+    ('GET', '/notes', '', 200, '[]'),
+    ('POST', '/notes?x', '{"text": "one"}', 201, '{"id":1,"text":"one"}'),
+    ('GET', '/notes/1', '', 200, '{"id":1,"text":"one"}'),
+    ('HEAD', '/notes/1', '', 200, ''),
+    ('GET', '/events', '', 200, 'data: {"id":1,"text":"one"}\n\n'),
+    ('GET', '/notes?x=1', '', 200, '[{"id":1,"text":"one"}]'),
+    ('POST', '/notes', '[', 400, '{"error":"not JSON"}'),
+    ('POST', '/notes', '{}', 400, '{"error":"no text"}'),
+    ('PUT', '/notes', '', 405, '{"error":"method not allowed"}'),
+    ('DELETE', '/notes/1', '', 200, '{"id":1,"text":"one"}'),
+    ('DELETE', '/notes/1', '', 404, '{"error":"no such note"}'),
+    ('GET', '/notes/x', '', 400, '{"error":"not a number"}'),
+    ('GET', '/nothing', '', 404, '{"error":"no such path"}'),
+]
+
+
+def try_router(port, trials):
+    for method, target, body, status, wanted in NOTES:
+        answer = ask(port, target, method, body=body.encode())
+        trials.same(f'{method} {target}', (answer.status, answer.body.decode()), (status, wanted))
+    answer = ask(port, '/notes', 'POST', body=b'{"text": "two"}', chunked=True)
+    trials.same('a note in chunks is added', (answer.status, answer.body), (201, b'{"id":2,"text":"two"}'))
+    answer = ask(port, '/notes', 'POST', headers=['Connection: keep-alive'], body=b'x' * 65_537)
+    trials.same('a long body is refused, and not read', (answer.status, answer.headers['Connection']), (413, 'close'))
+    answer = ask(port, '/events')
+    seen = (answer.headers['Content-Type'], answer.headers['Transfer-Encoding'], answer.body)
+    trials.same('notes are events', seen, ('text/event-stream', 'chunked', b'data: {"id":2,"text":"two"}\n\n'))
+    answer = ask(port, '/events', version='1.0')
+    trials.same('and to version 1.0', (answer.status, answer.body), (200, b'data: {"id":2,"text":"two"}\n\n'))
 
 
 def make_folder(folder):
-    os.makedirs(folder + '/sub')
-    for name, text in [('a.txt', 'hello'), ('big.bin', 'x' * 100_000), ('sub/index.html', '<p>hi'), ('sub/b <c>.txt', 'b')]:
+    os.makedirs(folder + '/a.b')
+    os.makedirs(folder + '/list')
+    for name, text in [('a.txt', 'hello'), ('a.png', ''), ('a.HTML', ''), ('png', ''), ('big.bin', 'x' * 100_000), ('a.b/index.html', '<p>hi'),
+                       ('list/b <c>&".txt', 'b')]:
         with open(f'{folder}/{name}', 'w') as file:
             file.write(text)
-    os.makedirs(folder + '/list')
-    with open(folder + '/list/b <c>.txt', 'w') as file:
-        file.write('b')
     os.symlink('/etc/passwd', folder + '/out')
 
 
-def try_files(port):
-    client = http.client.HTTPConnection('127.0.0.1', port, timeout=5)
-
-    def ask(method, path, **headers):
-        client.request(method, path, headers={name.replace('_', '-'): value for name, value in headers.items()})
-        answer = client.getresponse()
-        return answer.status, answer.read(), answer.headers
-
-    status, body, headers = ask('GET', '/a.txt')
-    report('a file is sent', (status, body, headers['Content-Type']) == (200, b'hello', 'text/plain; charset=utf-8'), status)
-    date = headers['Last-Modified']
-    status, body, headers = ask('GET', '/a.txt', If_Modified_Since=date)
-    report('but not again', (status, body, headers['Content-Length']) == (304, b'', None), (status, body, date))
-    status, body, _ = ask('GET', '/a.txt', If_Modified_Since='Thu, 01 Jan 1970 00:00:00 GMT')
-    report('unless it is newer', (status, body) == (200, b'hello'), status)
-    status, body, headers = ask('GET', '/big.bin')
-    report('a long file has its length', (len(body), headers['Content-Length']) == (100_000, '100000'), headers['Content-Length'])
-    status, body, headers = ask('HEAD', '/big.bin')
-    report('its head, too', (body, headers['Content-Length']) == (b'', '100000'), headers['Content-Length'])
-    status, _, headers = ask('GET', '/sub')
-    report('a folder has a slash', (status, headers['Location']) == (301, './sub/'), headers['Location'])
-    status, body, _ = ask('GET', '/sub/')
-    report('a folder has an index', (status, body) == (200, b'<p>hi'), body)
-    status, body, _ = ask('GET', '/list/')
-    link = re.search(rb'href="([^"]*)"', body).group(1).decode()
-    status, body, _ = ask('GET', urllib.parse.urljoin('/list/', link))
-    report('or is a list of links', (status, body) == (200, b'b'), link)
-    for path in ['/../run.py', '/%2e%2e/run.py', '/sub/..%2fa.txt', '/out', '/a.txt/', '/%00', '/nothing']:
-        status, _, _ = ask('GET', path)
-        report('nothing leads out', status == 404, (path, status))
-    seen = curl(port, '/a.txt', '-X', 'DELETE')
-    report('a method is refused', seen[0] == 405, seen)
+def try_files(port, trials):
+    answer = ask(port, '/a.txt')
+    trials.same('a file is sent', (answer.status, answer.body), (200, b'hello'))
+    for name, wanted in [('/a.txt', 'text/plain; charset=utf-8'), ('/a.b/index.html', 'text/html; charset=utf-8'), ('/a.png', 'image/png'),
+                         ('/a.HTML', 'application/octet-stream'), ('/png', 'application/octet-stream')]:
+        trials.same('a file has a type', (name, ask(port, name).headers['Content-Type']), (name, wanted))
+    date = answer.headers['Last-Modified']
+    answer = ask(port, '/a.txt', headers=[f'If-Modified-Since: {date}'])
+    trials.same('but not again', (answer.status, answer.body, answer.headers['Content-Length']), (304, b'', None))
+    answer = ask(port, '/a.txt', headers=['If-Modified-Since: Thu, 01 Jan 1970 00:00:00 GMT'])
+    trials.same('unless it is newer', (answer.status, answer.body), (200, b'hello'))
+    answer = ask(port, '/big.bin')
+    trials.same('a long file has its length', (len(answer.body), answer.headers['Content-Length']), (100_000, '100000'))
+    answer = ask(port, '/big.bin', 'HEAD')
+    trials.same('its head, too', (answer.body, answer.headers['Content-Length']), (b'', '100000'))
+    answer = ask(port, '/a.b')
+    trials.same('a folder has a slash', (answer.status, answer.headers['Location']), (301, './a.b/'))
+    answer = ask(port, '/a.b/')
+    trials.same('a folder has an index', (answer.status, answer.body), (200, b'<p>hi'))
+    answer = ask(port, '/list/')
+    line = b'<li><a href="./b%20%3Cc%3E%26%22%2Etxt">b &lt;c>&amp;".txt</a>'
+    trials.same('or is a list of links', answer.body, b'<!doctype html>\n<ul>\n' + line + b'\n</ul>\n')
+    link = (re.search(rb'href="([^"]*)"', answer.body) or [b'', b'/nothing'])[1].decode()
+    answer = ask(port, urllib.parse.urljoin('/list/', link))
+    trials.same('each of a file', (answer.status, answer.body), (200, b'b'))
+    for path in ['/../run.py', '/%2e%2e/run.py', '/list/..%2fa.txt', '/list/../a.txt', '/out', '/a.txt/', '/%00', '/%ff', '/nothing']:
+        trials.same('nothing leads out', (path, ask(port, path).status), (path, 404))
+    trials.same('a method is refused', ask(port, '/a.txt', 'DELETE').status, 405)
 
 
-class Backend(http.server.BaseHTTPRequestHandler):
-    """The server behind the gateway."""
-    protocol_version = 'HTTP/1.1'
-
-    def log_message(self, *_):
-        pass
-
-    def do_GET(self):
-        self.send_response(404 if self.path == '/nothing' else 200)
-        self.send_header('X-Path', self.path)
-        self.send_header('X-Hop', self.headers.get('X-Hop', 'none'))
-        if self.path == '/chunks':
-            self.send_header('Transfer-Encoding', 'chunked')
-            self.end_headers()
-            self.wfile.write(b'3\r\nabc\r\n2\r\nde\r\n0\r\n\r\n')
-        elif self.path == '/end':
-            self.send_header('Connection', 'close')
-            self.end_headers()
-            self.wfile.write(b'up to the end')
-        else:
-            self.send_header('Content-Length', '5')
-            self.end_headers()
-            if self.command != 'HEAD':
-                self.wfile.write(b'hello')
-
-    do_HEAD = do_GET
-
-    def do_POST(self):
-        body = self.rfile.read(int(self.headers.get('Content-Length', 0)))
-        if self.headers.get('Transfer-Encoding') == 'chunked':
-            while (size := int(self.rfile.readline(), 16)) > 0:
-                body += self.rfile.read(size)
-                self.rfile.readline()
-        self.send_response(200)
-        self.send_header('Content-Length', str(len(body)))
-        self.end_headers()
-        self.wfile.write(body)
+# What the server behind the gateway answers by target: headers and body, and then it closes the connection. Behind it what the gateway answers:
+# the body, or none where the backend's answer says more than one thing of its end, or what isn't understood (RFC 9112, section 6.3).
+FRAMED = {
+    '/end': ('', 'hello', 'hello'),
+    '/length': ('Content-Length: 5\r\n', 'hello', 'hello'),
+    '/twice': ('Content-Length: 5\r\nContent-Length: 5\r\n', 'hello', 'hello'),
+    '/both': ('Content-Length: 9\r\nTransfer-Encoding: Chunked\r\n', '3\r\nabc\r\n2\r\nde\r\n0\r\n\r\n', 'abcde'),
+    '/gzip': ('Transfer-Encoding: gzip, chunked\r\n', '0\r\n\r\n', None),
+    '/codings': ('Transfer-Encoding: chunked\r\nTransfer-Encoding: gzip\r\n', '0\r\n\r\n', None),
+    '/lengths': ('Content-Length: 5\r\nContent-Length: 6\r\n', 'hello', None),
+    '/list': ('Content-Length: 5, 5\r\n', 'hello', None),
+    '/plus': ('Content-Length: +5\r\n', 'hello', None),
+    '/empty': ('Content-Length: \r\n', 'hello', None),
+}
 
 
-def try_gateway(port):
-    client = http.client.HTTPConnection('127.0.0.1', port, timeout=5)
-    for path, wanted in [('/a?b', b'hello'), ('/chunks', b'abcde'), ('/end', b'up to the end'), ('/nothing', b'hello')]:
-        client.request('GET', path, headers={'Connection': 'X-Hop', 'X-Hop': '1'})
-        answer = client.getresponse()
-        seen = (answer.status, answer.read(), answer.headers['X-Path'], answer.headers['X-Hop'])
-        report('an answer is handed on', seen == (404 if path == '/nothing' else 200, wanted, path, 'none'), seen)
-    client.request('HEAD', '/a')
-    answer = client.getresponse()
-    report('a head, too', (answer.read(), answer.headers['Content-Length']) == (b'', '5'), answer.status)
-    body = 'x' * 70_000
-    seen = curl(port, '/', '-d', body)
-    report('a body is handed on', seen == (200, body), (seen[0], len(seen[1])))
-    seen = curl(port, '/', '-H', 'Transfer-Encoding: chunked', '-d', body)
-    report('one in chunks', seen == (200, body), (seen[0], len(seen[1])))
-    seen = curl(port, '/end', '-0')
-    report('an answer to version 1.0', seen == (200, 'up to the end'), seen)
-    backend.shutdown()
-    backend.server_close()
-    seen = curl(port, '/')
-    report('no backend', seen[0] == 502, seen)
+class Backend:
+    """The server behind the gateway. It keeps the bytes of the last request, and answers a `POST` by its body."""
+
+    def __init__(self):
+        self.listener, self.got = socket.create_server(('127.0.0.1', 0)), b''
+        self.port = self.listener.getsockname()[1]
+        threading.Thread(target=self.serve, daemon=True).start()
+
+    def serve(self):
+        while True:
+            try:
+                client, _ = self.listener.accept()
+            except OSError:
+                return
+            with client, client.makefile('rb') as stream:
+                client.settimeout(10)
+                self.answer(client, stream)
+
+    def answer(self, client, stream):
+        head, body, length = b'', b'', 0
+        while not head.endswith(b'\r\n\r\n'):
+            line = stream.readline()
+            if not line:
+                return
+            head += line
+        if found := re.search(rb'(?im)^Content-Length: (\d+)', head):
+            body = stream.read(int(found[1]))
+        elif b'Transfer-Encoding: chunked' in head:
+            while (length := int(stream.readline(), 16)) > 0:
+                body += stream.read(length)
+                stream.readline()
+            stream.readline()
+        self.got, target = head + body, head.split()[1].decode()
+        headers, text, _ = FRAMED.get(target, (f'Content-Length: {len(body)}\r\n', body.decode(), None))
+        client.sendall(f'HTTP/1.1 201 Created\r\nConnection: close\r\nKeep-Alive: 5\r\nA: b\r\n{headers}\r\n{text}'.encode())
+
+
+backend = None
+
+
+def backend_address(_folder):
+    global backend
+    backend = Backend()
+    return [f'127.0.0.1:{backend.port}']
+
+
+# What a client sends, and the head that the backend is sent: with the host of the target, without the headers of one connection and those
+# that are named so, or nearly so.
+SENT = ['Host: other', 'Connection: keep-alive, X-Hop, Host', 'Content_Length: 5', 'X-Forwarded-For: 192.0.2.1', 'X-Hop: 1', 'X-End: 2',
+        'TE: trailers']
+
+HANDED_ON = (b'POST /a?b HTTP/1.1\r\nX-End: 2\r\nHost: host\r\nX-Forwarded-For: 192.0.2.1, 127.0.0.1\r\n'
+             b'Via: 1.1 tiny-http-gateway\r\nContent-Length: 2\r\nConnection: close\r\n\r\nhi')
+
+
+def try_gateway(port, trials):
+    answer = ask(port, 'http://host/a?b', 'POST', headers=SENT, body=b'hi')
+    trials.same('a request is handed on', backend.got, HANDED_ON)
+    seen = (answer.status, answer.body, answer.headers['A'], answer.headers['Keep-Alive'])
+    trials.same('and its answer', seen, (201, b'hi', 'b', None))
+    for target, (headers, _, wanted) in FRAMED.items():
+        answer = ask(port, target)
+        seen = (answer.status, answer.body.decode() if answer.status == 201 else None)
+        trials.same(f'a body ends in one way: {headers.strip() or "the end"}', seen, (201 if wanted else 502, wanted))
+    answer = ask(port, '/length', 'HEAD')
+    trials.same('a head, too', (answer.status, answer.body, answer.headers['Content-Length']), (201, b'', '5'))
+    body = b'x' * 70_000
+    answer = ask(port, '/', 'POST', body=body)
+    trials.same('a long body is handed on', (answer.status, len(answer.body)), (201, len(body)))
+    answer = ask(port, '/', 'POST', body=body, chunked=True)
+    trials.same('one in chunks', (answer.status, len(answer.body)), (201, len(body)))
+    answer = ask(port, '/end', version='1.0')
+    trials.same('an answer to version 1.0', (answer.status, answer.body), (201, b'hello'))
+    trials.same('no tunnel', ask(port, 'host:1', 'CONNECT').status, 501)
+    backend.listener.shutdown(socket.SHUT_RDWR)
+    backend.listener.close()
+    trials.same('no backend', ask(port, '/').status, 502)
 
 
 def record(folder):
+    os.makedirs(folder)
     for name, request, response in [
             ('1', 'GET /a HTTP/1.1\r\nHost: x\r\n\r\n', 'HTTP/1.1 200 OK\r\nContent-Length: 3\r\n\r\none'),
             ('2', 'GET /a HTTP/1.1\r\nHost: x\r\n\r\n', 'HTTP/1.1 200 OK\r\n\r\nup to the end'),
@@ -168,25 +225,28 @@ def record(folder):
                 file.write(text)
 
 
-def try_testserver(port):
-    seen = curl(port, '/unused')
-    report('all are unused', seen == (200, '1\n2\n3\n'), seen)
-    client = http.client.HTTPConnection('127.0.0.1', port, timeout=5)
+def try_testserver(port, trials):
+    trials.same('all are unused', ask(port, '/unused').body, b'1\n2\n3\n')
     for wanted in [b'one', b'up to the end']:
-        client.request('GET', '/a')
-        seen = client.getresponse().read()
-        report('an answer is given', seen == wanted, seen)
-    client.close()
-    client.request('POST', '/b', body='hi')
-    try:
-        seen = client.getresponse().read()
-    except http.client.IncompleteRead as cut:
-        seen = cut.partial
-    report('one that is cut', seen == b'cut', seen)
-    seen = curl(port, '/a')
-    report('and none again', seen[0] == 501, seen)
-    seen = curl(port, '/unused')
-    report('none is unused', seen == (200, ''), seen)
+        trials.same('an answer is given', ask(port, '/a', headers=['Connection: keep-alive']).body, wanted)
+    trials.same('each once', ask(port, '/a').status, 501)
+    trials.same('not to another body', ask(port, '/b', 'POST', body=b'ho').status, 501)
+    trials.same('its name is left', ask(port, '/unused').body, b'3\n')
+    answer = ask(port, '/b', 'POST', headers=['Connection: keep-alive'], body=b'hi')
+    trials.same('one that is cut', (answer.headers['Content-Length'], answer.body), ('9', b'cut'))
+    answer = ask(port, '/unused')
+    trials.same('none is unused', (answer.status, answer.body), (200, b''))
+
+
+# A handshake and its answer (RFC 6455, section 1.2).
+HANDSHAKE = ['Host: server.example.com', 'Upgrade: websocket', 'Connection: Upgrade', 'Sec-WebSocket-Key: dGhlIHNhbXBsZSBub25jZQ==',
+             'Sec-WebSocket-Version: 13']
+ACCEPT = b'\r\nSec-WebSocket-Accept: s3pPLMBiTxaQ9kYGzzhZRbK+xOo=\r\n'
+# A client's masked `Hello`, and the server's own (section 5.7).
+HELLO, ECHOED = bytes.fromhex('818537fa213d7f9f4d5158'), bytes.fromhex('810548656c6c6f')
+# A masked Close, and the server's; a masked frame with a reserved bit, and the Close that says so (sections 5.2 and 7.4.1).
+CLOSE, CLOSED = bytes.fromhex('888037fa213d'), bytes.fromhex('8800')
+RESERVED, REFUSED = bytes.fromhex('c1810000000061'), bytes.fromhex('880203ea')
 
 
 def frame(opcode, data):
@@ -202,50 +262,50 @@ def read_frame(stream):
     return head[0] & 15, stream.read(size)
 
 
-def try_websocket_echo(port):
-    seen = curl(port, '/')
-    seen += (curl(port, '/', '-i')[1].lower().count('upgrade: websocket'),)
-    report('a plain request is refused', (seen[0], seen[2]) == (426, 1), seen)
-    key = base64.b64encode(os.urandom(16)).decode()
-    client = socket.create_connection(('127.0.0.1', port), timeout=5)
-    client.sendall(f'GET / HTTP/1.1\r\nHost: h\r\nConnection: keep-alive, Upgrade\r\nUpgrade: websocket\r\n'
-                   f'Sec-WebSocket-Version: 13\r\nSec-WebSocket-Key: {key}\r\n\r\n'.encode())
-    stream = client.makefile('rb')
-    head = b''
+def upgraded(port, headers):
+    """A connection after this handshake, its stream, and the head of the answer."""
+    client = socket.create_connection(('127.0.0.1', port), timeout=10)
+    client.sendall('\r\n'.join(['GET / HTTP/1.1', *headers, '', '']).encode())
+    stream, head = client.makefile('rb'), b''
     while not head.endswith(b'\r\n\r\n'):
         line = stream.readline()
         if not line:
             break
         head += line
+    return client, stream, head
+
+
+def try_websocket_echo(port, trials):
+    for sent, wanted in [(HELLO + CLOSE, ECHOED + CLOSED), (RESERVED, REFUSED)]:
+        client, stream, head = upgraded(port, HANDSHAKE)
+        trials.same('it is upgraded', (head[:13], head.count(ACCEPT)), (b'HTTP/1.1 101 ', 1))
+        client.sendall(sent)
+        trials.same('frames come, and then the end', stream.read().hex(), wanted.hex())
+        client.close()
+    for left_out in range(6):
+        headers = [it for at, it in enumerate(HANDSHAKE) if at != left_out] + [HANDSHAKE[3]] * (left_out == 5)
+        answer = ask(port, '/', headers=headers + ['Connection: close'] * (left_out == 2))
+        wanted = 400 if left_out == 0 else 426
+        trials.same('each header is needed, and one key', (left_out, answer.status), (left_out, wanted))
+    answer = ask(port, '/')
+    trials.same('a plain request is refused', (answer.status, answer.headers['Upgrade']), (426, 'websocket'))
+    key = base64.b64encode(os.urandom(16)).decode()
+    client, stream, head = upgraded(port, [it if it != HANDSHAKE[3] else f'Sec-WebSocket-Key: {key}' for it in HANDSHAKE])
     accept = base64.b64encode(hashlib.sha1((key + '258EAFA5-E914-47DA-95CA-C5AB0DC85B11').encode()).digest())
-    report('it is upgraded', head.startswith(b'HTTP/1.1 101 ') and accept in head, head[:40])
+    trials.same('another key', accept in head, True)
     for text in [b'hello', b'', b'x' * 1000]:
         client.sendall(frame(1, text))
-        seen = read_frame(stream)
-        report('a message comes back', seen == (1, text), (seen[0], len(seen[1])))
+        trials.same('a message comes back', read_frame(stream), (1, text))
     client.sendall(frame(9, b'p'))
-    seen = read_frame(stream)
-    report('a ping is answered', seen == (10, b'p'), seen)
+    trials.same('a ping is answered', read_frame(stream), (10, b'p'))
     client.sendall(frame(8, b'\x03\xe8'))
-    seen = read_frame(stream)
-    report('a close is answered', seen == (8, b'\x03\xe8'), seen)
-    report('and the end comes', stream.read() == b'', 'the end')
-
-
-backend = None
-
-
-def backend_address(_folder):
-    global backend
-    backend = http.server.ThreadingHTTPServer(('127.0.0.1', 0), Backend)
-    threading.Thread(target=backend.serve_forever, daemon=True).start()
-    return [f'127.0.0.1:{backend.server_address[1]}']
+    trials.same('a close is answered', read_frame(stream), (8, b'\x03\xe8'))
+    trials.same('and the end comes', stream.read(), b'')
 
 
 def filled(fill):
     """What a program is called with that serves a folder."""
     def words(folder):
-        os.makedirs(folder)
         fill(folder)
         return [folder]
     return words
@@ -264,24 +324,70 @@ TRIALS = {
 }
 
 
+def free_port():
+    """A port that nobody has. It is none of those that the system chooses by itself."""
+    for port in random.sample(range(20_000, 30_000), 100):
+        with socket.socket() as probe:
+            try:
+                probe.bind(('127.0.0.1', port))
+                return port
+            except OSError:
+                pass
+    raise OSError('no port is free')
+
+
+def wait_for(port, process, seconds):
+    """Waits until the program listens."""
+    for _ in range(seconds * 10):
+        if process.poll() is not None:
+            raise OSError(f'the program ended with status {process.returncode}')
+        try:
+            socket.create_connection(('127.0.0.1', port), timeout=10).close()
+            return
+        except OSError:
+            time.sleep(0.1)
+    raise OSError(f'nobody listens after {seconds} seconds')
+
+
+def end(pid):
+    """Kills a process and those that it began."""
+    try:
+        with open(f'/proc/{pid}/task/{pid}/children', encoding='ascii') as file:
+            children = file.read().split()
+        os.kill(pid, signal.SIGKILL)
+    except OSError:
+        return
+    for child in children:
+        end(int(child))
+
+
+def try_program(name, call, cwd=None, begun=lambda process: None, seconds=10):
+    """Calls a program, which listens within so many seconds, and tries it: each trial with its name, whether it went well, and what was seen."""
+    words, trial = TRIALS[name]
+    trials = Trials()
+    with tempfile.TemporaryDirectory() as folder:
+        port = free_port()
+        quiet = subprocess.DEVNULL
+        process = subprocess.Popen([*call, f'127.0.0.1:{port}', *words(folder + '/served')], cwd=cwd, stdout=quiet, stderr=quiet)
+        try:
+            begun(process)
+            wait_for(port, process, seconds)
+            trial(port, trials)
+        except (OSError, AttributeError, IndexError, ValueError, http.client.HTTPException) as fault:
+            trials.same(name, repr(fault), 'no fault')
+        finally:
+            end(process.pid)
+            process.wait()
+    return trials.seen
+
+
 def main():
+    failed = 0
     for word in sys.argv[1:]:
         name, _, program = word.partition('=')
-        words, trial = TRIALS[name]
-        with tempfile.TemporaryDirectory() as folder:
-            call = [program, '127.0.0.1:0', *words(folder + '/served')]
-            process = subprocess.Popen(call, stdout=subprocess.PIPE)
-            ends = threading.Timer(60, process.kill)
-            ends.start()
-            try:
-                port = int(re.search(rb':(\d+)', process.stdout.readline()).group(1))
-                trial(port)
-            except (OSError, AttributeError, IndexError, ValueError, http.client.HTTPException) as fault:
-                report(name, False, repr(fault))
-            finally:
-                ends.cancel()
-                process.kill()
-                process.wait()
+        for what, ok, seen in try_program(name, [program]):
+            print(('ok    ' if ok else 'FAILED'), f'{name}: {what}:', seen, flush=True)
+            failed += not ok
     sys.exit(1 if failed or len(sys.argv) < 2 else 0)
 
 

@@ -9,8 +9,6 @@
 
 mod disk;
 mod list;
-#[cfg(test)]
-mod tests;
 
 use crate::disk::{Disk, Kind};
 use crate::list::list_of;

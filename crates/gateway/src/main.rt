@@ -2,17 +2,15 @@
 //!
 //! The answer is 502 where the request can't be handed on, or the backend's answer isn't one that is understood, and
 //! 504 where the backend takes or gives nothing for ten seconds. An answer that comes before the request was sent whole
-//! is handed back, too (module `backend`). `CONNECT` is answered 501. The program shows a head that is looked at while its body is read
-//! (`parts`), the head of an answer (`read_answer_head`), a body of known length that is handed on (`Response::of`),
-//! and one that is sent as it comes (`respond_streaming`). Each message is framed anew, so that a body is never taken
-//! for a request behind it. The headers of one connection, and those that its `Connection` names, aren't handed on
-//! (RFC 9110, section 7.6.1).
+//! is handed back, too (module `backend`). `CONNECT` is answered 501. The program shows a head that is looked at while
+//! its body is read (`parts`), the head of an answer (`read_answer_head`), a body of known length that is handed on
+//! (`Response::of`), and one that is sent as it comes (`respond_streaming`). Each message is framed anew, so that a
+//! body is never taken for a request behind it. The headers of one connection, and those that its `Connection` names,
+//! aren't handed on (RFC 9110, section 7.6.1).
 #![tactic(auto)]
 
 mod backend;
 mod heads;
-#[cfg(test)]
-mod tests;
 
 use crate::backend::{Backend, PIECE, Rest};
 use crate::heads::{Ending, answer_with, ending_of, head_of};

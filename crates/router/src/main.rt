@@ -9,8 +9,6 @@
 #![tactic(auto)]
 
 mod notes;
-#[cfg(test)]
-mod tests;
 
 use crate::notes::{Notebook, fault};
 use std::alloc::Global;

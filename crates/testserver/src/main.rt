@@ -26,9 +26,6 @@ use tiny_http::{
     ServerConfig, StatusCode, current_date,
 };
 
-#[cfg(test)]
-mod tests;
-
 // So many threads answer.
 const THREADS: usize = 4;
 
@@ -36,7 +33,7 @@ const THREADS: usize = 4;
 const MOST: usize = 1 << 20;
 
 /// What a request asks for.
-#[derive(Debug, Drop, PartialEq, Eq)]
+#[derive(Drop, PartialEq, Eq)]
 struct Asked {
     method: Method,
     target: String,
@@ -44,7 +41,7 @@ struct Asked {
 }
 
 /// A recorded request and its answer.
-#[derive(Debug, Drop)]
+#[derive(Drop)]
 struct Exchange {
     name: String,
     asked: Asked,

@@ -18,9 +18,6 @@ use tungstenite::{
     CloseCode, CloseFrame, Error, NoMask, Role, Utf8Bytes, WebSocket, WebSocketConfig,
 };
 
-#[cfg(test)]
-mod tests;
-
 // So many bytes a message may have.
 const MOST: usize = 1 << 20;
 
