@@ -58,7 +58,7 @@ returns-clause-input g c = λ holds.
     let input : (request_body c.from_parts.result).input ≡ c.body_of.new.source.feed =
     ap (λ (b : BodyState). b.input) body ∙ input-is c.in_ok-reader.reader c.body_of.new.source c.in_ok-reader.ensures.1 some in
     subst (λ left. Begins (head_framing (request_head c.from_parts.result)) (g.R.ReadDevice.feed c.args.source_data) left (Some (request_open c.from_parts.result).body))
-    (sym input) ((returns-clause-body g c).1.0)
+    (sym input) ((returns-clause-body g c).1)
 
 pub returns-in-Err-clause-fails : goal.returns-in-Err-clause-fails
 returns-in-Err-clause-fails g c = (
