@@ -65,7 +65,7 @@ finds-request {R = R} {W = W} profile date s t o p q end x n h can number marks_
     let P : List Mark → List (Option Unfinished) → Type 0 = λ m r.
     StepIsAnswered client before (record k { marks = m; requests = r; standing = t.standing; feed = t.feed; stop = t.stop; is_over = t.is_over }) s date Ask (Handed n (head_message x.head) (head_framing x.head)) in
     subst (λ m. P m q.requests) (sym marks_are) (subst (λ r. P (k.marks ++ (Open ∷ [])) r) (sym requests_are) done))
-    (λ no. elim no [ ]) (can.0, can.0, here, (can.1, can.2)) (0, x.open_request, requests_are ∙ ap (λ y. y ++ (Some (still.Waiting x.open_request) ∷ [])) (sym (append-nil p.requests)), h.standing, number ∙ plus-none (length p.turns.marks), (λ z. (refl, h.lazy tt)), hands-here profile s.standing date s.feed t.feed x (h.reads here), h.framed.0, h.fits, (x.head, refl, refl, h.framed.1)) (driving-reads-on old new refl refl h.goes_on)
+    (λ no. elim no [ ]) (can.0, can.0, here, (can.1, can.2), λ i. elim (h.at_end i).0 [ ]) (0, x.open_request, requests_are ∙ ap (λ y. y ++ (Some (still.Waiting x.open_request) ∷ [])) (sym (append-nil p.requests)), h.standing, number ∙ plus-none (length p.turns.marks), (λ z. (refl, h.lazy tt, marks_are)), hands-here profile s.standing date s.feed t.feed x (h.reads here), h.framed.0, h.fits, (x.head, refl, refl, h.framed.1)) (driving-reads-on old new refl refl h.goes_on)
   where
     from : SourceState R
     from = s
@@ -120,7 +120,7 @@ finds-no-memory {R = R} {W = W} profile date s t o u p q end r h other can turns
         let done = ask-memory client before k s date t.feed t.stop t.is_over t.standing st open_is f.unread f.quiet f.more
         (λ i. other (h.at_end i).0) (h.begun other) h.goes_on in
         subst (λ m. P m q.requests) (ap (λ t. t.marks) (sym turns_are)) (subst (λ r. P k.marks r) (sym requests_are) done))
-        (λ no. elim no [ ]) (can.0, refl, here, begins-here profile from.feed (h.begun other), (can.1, can.2)) (0, (requests_are ∙ sym (append-nil p.requests), λ z. (ap (λ t. t.marks) turns_are, refl))) (driving-reads-on old new refl refl h.goes_on)
+        (λ no. elim no [ ]) (can.0, refl, here, begins-here profile from.feed (h.begun other), (can.1, can.2), λ i. other (h.at_end i).0) (0, (requests_are ∙ sym (append-nil p.requests), λ z. (ap (λ t. t.marks) turns_are, refl))) (driving-reads-on old new refl refl h.goes_on)
 
 -- no further request comes
 finds-end : {R W : Type 0} (profile : Profile) (date : HttpDate) (s t : SourceState R) (o : OutletState W) (p : Pending) (end : Option EndOfRequests) (why : EndOfRequests)

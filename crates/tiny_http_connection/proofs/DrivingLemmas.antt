@@ -448,7 +448,7 @@ never-waits old mid now p h =
     (λ waits. (let no : false ≡ true = sym (ap last_holds_next_head p.requests ∙ holds-snoc old.requests None) ∙ waits in cc)) h
 
 ends-behind : {R W : Type 0} (old mid new : ConnectionState R W) (now : HttpDate) (reply : ReplyValue) → PassesHead old mid now → AskEnds mid new reply → AskEnds old new reply
-ends-behind old mid new now (Handed k message framing) p h = (p.was_open, h.1, p.here, p.free)
+ends-behind old mid new now (Handed k message framing) p h = (p.was_open, h.1, p.here, p.free, p.unended)
 ends-behind old mid new now Ended p h = (
   λ some. (let absent : false ≡ true = ap is_some (sym p.was_open) ∙ some in cc),
   λ last. absurd (not-last old.source.standing p.here last),
@@ -457,7 +457,7 @@ ends-behind old mid new now Ended p h = (
       let E : Standing → Type 0 = λ y. EndsRequestsAt mid.profile y mid.source.feed x.0 in
       (x.0, x.1, p.ends x.0 (subst E p.stands x.2), p.free),
 )
-ends-behind old mid new now Memory p h = (p.was_open, h.1, p.here, p.begins h.3, p.free)
+ends-behind old mid new now Memory p h = (p.was_open, h.1, p.here, p.begins h.3, p.free, p.unended)
 ends-behind old mid new now NotYet p h = absurd (never-waits old mid now p h.1)
 ends-behind old mid new now (Given bytes) p h = elim h [ ]
 ends-behind old mid new now (Fault x) p h = elim h [ ]

@@ -10,6 +10,7 @@ use Rattle.tiny_http_response.specs.Answer.{Answer, ResponseState, text_of}
 use Rattle.tiny_http_connection.specs.declared.driver.Step.{Step}
 use Rattle.tiny_http_connection.specs.declared.driver.Step.TheVariants as step
 use Rattle.tiny_http_io.specs.Source.{SourceState, GoesOn, IsAtEnd}
+use Rattle.tiny_http_turns.specs.Turns.{Mark, Open}
 use Rattle.tiny_http_io.specs.declared.source.Standing.{Standing}
 use Rattle.tiny_http_io.specs.declared.source.Standing.TheVariants as at
 use Rattle.tiny_http_head.specs.declared.common.StatusCode.{StatusCode}
@@ -36,7 +37,7 @@ use Rattle.tiny_http_response.specs.Sending.{CanSend, IsHonest, FailsOnce, Sends
 use Rattle.tiny_http_connection.specs.Pending.{waiting_answer_context, owes_continue, is_last_once_finished_at}
 use Rattle.tiny_http_connection.specs.Pending.{refuses_at, refuses_upgrade_at, is_last_with_stream_at, closing_if_asked}
 use Rattle.tiny_http_connection.specs.Pending.{last_holds_next_head, kept_body, GivesUpIfKept, number_with_body}
-use Rattle.tiny_http_connection.specs.Pending.{begins_left, is_readable}
+use Rattle.tiny_http_connection.specs.Pending.{begins_left, is_readable, FinishesFront}
 use Rattle.tiny_http_body.specs.declared.body.UnreadBody.{UnreadBody}
 use Rattle.tiny_http_body.specs.declared.body.UnreadBody.TheVariants.{Over}
 use Rattle.tiny_http_io.specs.declared.device.Stop.TheVariants.{Fault as Faults}
@@ -135,10 +136,15 @@ IsFree c = (c.source.standing ≡ at.Body → ⊥) × (last_holds_next_head c.re
 
 -- What an Ask says of the end of the requests, by its reply: it ends them for a reason that stands in the client's
 -- bytes, or where memory for a head was refused; after the end it changes nothing, and after the last request the
--- source is left alone. No head is read while the last request holds the reader, and that alone has it wait.
+-- source is left alone. No head is read where the source has ended, nor while the last request holds the reader, and
+-- that alone has it wait.
 abbrev pub AskEnds : {R W : Type 0} → ConnectionState R W → ConnectionState R W → ReplyValue → Type 0
 AskEnds old new (Handed k message framing) =
-    (old.end ≡ None) × (new.end ≡ None) × IsBeforeHead old.source.standing × IsFree old
+    (old.end ≡ None)
+    × (new.end ≡ None)
+    × IsBeforeHead old.source.standing
+    × IsFree old
+    × (IsAtEnd old.source → ⊥)
 AskEnds old new NotYet = (old.end ≡ None) × (old.source.standing ≡ at.Body ⊎ last_holds_next_head old.requests ≡ true)
 AskEnds old new Ended =
     (IsSome old.end → new ≡ old) × (old.source.standing ≡ at.Last → new.source ≡ old.source)
@@ -153,6 +159,7 @@ AskEnds old new Memory =
     × IsBeforeHead old.source.standing
     × HasByteBehind old.profile old.source.feed
     × IsFree old
+    × (IsAtEnd old.source → ⊥)
 AskEnds old new _ = ⊥
 
 -- why the requests end, where no head is read behind a request that is finished or gets the connection's stream
@@ -213,11 +220,18 @@ abbrev pub LetsGo : {R W : Type 0} → ℕ → ConnectionState R W → Connectio
 LetsGo k old new =
     (new.requests ≡ slice_set old.requests k None) × GivesUpKept k old new × SendsInTurn k old new
 
--- nothing is kept of this number any more, and its body was given up; the last number was told that the connection
--- ends, if it waits and the answer asked for that
+-- this open number is finished, and so are those behind it that were left
+abbrev pub FinishesNumber : ℕ → List Mark → List Mark → Type 0
+FinishesNumber k old new =
+    (front rest : List Mark) → old ≡ front ++ (Open ∷ rest) → length front ≡ k → FinishesFront front rest new
+
+-- nothing is kept of this number any more, which is finished, and its body was given up; the last number was told that
+-- the connection ends, if it waits and the answer asked for that
 abbrev pub LetsGoAnswered : {R W : Type 0} → ℕ → Bool → ConnectionState R W → ConnectionState R W → Type 0
 LetsGoAnswered k closes old new =
-    (new.requests ≡ slice_set (closing_if_asked closes old.requests) k None) × GivesUpKept k old new
+    (new.requests ≡ slice_set (closing_if_asked closes old.requests) k None)
+    × GivesUpKept k old new
+    × FinishesNumber k old.marks new.marks
 
 -- where a source stands after the head of a request that is framed so, and its body read so far
 abbrev pub after_head : Framing → UnreadBody → Standing
@@ -261,7 +275,8 @@ AskLeaves now old new (Handed k message framing) =
     × (new.requests ≡ old.requests ++ replicate n None ++ Some (still.Waiting w) ∷ [])
     × (new.source.standing ≡ after_head framing w.body)
     × (k ≡ length old.marks + n)
-    × (n ≡ 0 → (new.outlet ≡ old.outlet) × (new.source.stop ≡ old.source.stop))
+    × (n ≡ 0
+    → (new.outlet ≡ old.outlet) × (new.source.stop ≡ old.source.stop) × (new.marks ≡ old.marks ++ Open ∷ []))
     × HandsOutHead n old.profile old.source.feed message framing (remaining w.body new.source.feed)
     × IsFramedAs old.profile message framing
     × FitsFraming framing w.body

@@ -19,7 +19,7 @@ use Rattle.tiny_http_connection.specs.Outcomes.{WriterUse, Unused, Unreported, R
 use Rattle.tiny_http_connection.specs.Conversation.{Failure, State, Fares, MayFare, reply_in, failure_in, writes_nothing, HasOutcome, FindsNoMemory, answers_to, StepsTo, Run, start_state, IsConversation}
 use Rattle.tiny_http_connection_laws.specs.InShort.{handed, requests_from, AreOfOneHead}
 use Rattle.std.proofs.lemmas.Option.{slice_get_within}
-use Rattle.tiny_http_connection_laws.specs.Accounts.{Condition, Waits, Writes, Finished, Account, untouched, account, condition_of, takes, is_done_early, waits_its_turn, IsTaken, is_ask, IsThrough, IsHanded}
+use Rattle.tiny_http_connection_laws.specs.Accounts.{Condition, Waits, Writes, Finished, Account, untouched, account, condition_of, takes, is_done_early, waits_its_turn, IsTaken, is_ask, IsThrough, IsHanded, is_read}
 use Rattle.tiny_http_connection_laws.proofs.InShortReads.{same-some}
 use Rattle.tiny_http_connection_laws.proofs.InShortHanded.{run-moves}
 use Rattle.tiny_http_connection_laws.proofs.InShortSlots.{Matches, matches-get, run-fits}
@@ -253,10 +253,6 @@ if-takes true (Drop k) e = never e
 if-takes false step e = (refl, e)
 
 -- a read is no such step
-abbrev is_read : StepValue → Bool
-is_read (Read k n) = true
-is_read _ = false
-
 stage-accepts : (stage : Stage) (owed : Bool) (step : StepValue) → is_read step ≡ false → takes (condition_of stage) step ≡ true → accepts_step stage owed step ≡ true
 stage-accepts Unanswered owed Ask read e = never e
 stage-accepts Unanswered owed (AsReader k) read e = refl
@@ -506,6 +502,83 @@ step-done p feed before after steps later replies more held ended unread date st
     by (Upgrade j protocol response) e = goes (ap is_ask e) (ap is_read e)
     by (Finish j) e = goes (ap is_ask e) (ap is_read e)
     by (Drop j) e = goes (ap is_ask e) (ap is_read e)
+
+-- ---- a step that a request takes is answered
+
+-- it waits, or it is taken
+outcome-waits : (found : Bool) (date : HttpDate) (old : Reached) (r : Request) (s : Slot) (step : StepValue) → is_ask step ≡ false → slice_get old.slots (number_of step) ≡ Some s → s.item ≡ Asks r → accepts_step s.stage s.owed step ≡ true
+    → (outcome found date old step ≡ unchanged old NotYet) ⊎ IsTaken step (outcome found date old step).reply
+outcome-waits found date old r s step other at is accepts = by (needs_turn r s step && not turn) refl
+  where
+    k : ℕ
+    k = number_of step
+
+    turn : Bool
+    turn = turn_has_come k old.slots
+
+    here : outcome found date old step ≡ (if (needs_turn r s step && not turn) then unchanged old NotYet else effect found date old r s turn step)
+    here = number-outcome found date old step other ∙ ap (at_slot found date old k step) at ∙ ap (at_item found date old k step s) is ∙ rw accepts refl
+
+    by : (b : Bool) → (needs_turn r s step && not turn) ≡ b → (outcome found date old step ≡ unchanged old NotYet) ⊎ IsTaken step (outcome found date old step).reply
+    by true e = inl (here ∙ rw e refl)
+    by false e =
+        let N : Outcome → Type 0 = λ o. IsTaken step o.reply in
+        let goes : outcome found date old step ≡ effect found date old r s turn step = here ∙ rw e refl in
+        inr (subst N (sym goes) (effect-taken found date old r s turn step other at))
+
+done-some : (reply : ReplyValue) → (is_done reply || is_refused reply) ≡ true → reply ≡ NoSuch → ⊥
+done-some reply h none = let P : ReplyValue → Type 0 = λ y. (is_done y || is_refused y) ≡ true in never (subst P none h)
+
+taken-some : (step : StepValue) (reply : ReplyValue) → is_read step ≡ false → IsTaken step reply → reply ≡ NoSuch → ⊥
+taken-some Ask reply read h none = done-some reply h none
+taken-some (AsReader k) reply read h none = done-some reply h none
+taken-some (Read k n) reply read h none = never (sym read)
+taken-some (Respond k response) reply read h none = done-some reply h none
+taken-some (IntoWriter k) reply read h none = done-some reply h none
+taken-some (Write k bytes) reply read h none = done-some reply h none
+taken-some (Flush k) reply read h none = done-some reply h none
+taken-some (Upgrade k protocol response) reply read h none = done-some reply h none
+taken-some (Finish k) reply read h none = done-some reply h none
+taken-some (Drop k) reply read h none = done-some reply h none
+
+waits-some : (reply : ReplyValue) → reply ≡ NotYet → reply ≡ NoSuch → ⊥
+waits-some reply waits none = let no : NotYet ≡ NoSuch = sym waits ∙ none in cc
+
+step-answered : (old : State) (date : HttpDate) (r : Request) (s : Slot) (step : StepValue) (reply : ReplyValue) (new : State) (f : ℕ → Account) → AllTold old.reached.slots f → is_ask step ≡ false → is_read step ≡ false → slice_get old.reached.slots (number_of step) ≡ Some s → s.item ≡ Asks r → accepts_step s.stage s.owed step ≡ true
+    → StepsTo old date step reply new → reply ≡ NoSuch → ⊥
+step-answered old date r s step reply new f h other read at is accepts (inl g) =
+    let o = outcome g.0 date old.reached step in
+    let t = outcome-tells f g.0 date old.reached step h in
+    ⊎_elim
+    (λ waits.
+    let H : Outcome → Type 0 = λ o. HasOutcome o old reply new in
+    let has = subst H waits g.2 in
+    waits-some reply (own-planned (unchanged old.reached NotYet) old reply new tt has))
+    (λ taken. taken-some step reply read (taken-alike step reply o.reply (planned-alike o old reply new t.may g.2) taken))
+    (outcome-waits g.0 date old.reached r s step other at is accepts)
+step-answered old date r s step reply new f h other read at is accepts (inr m) = by step other read m
+  where
+    by : (x : StepValue) → is_ask x ≡ false → is_read x ≡ false → FindsNoMemory date old x reply new → reply ≡ NoSuch → ⊥
+    by Ask a b m = never (sym a)
+    by (Read k n) a b m = never (sym b)
+    by (AsReader k) a b m = elim m [ ]
+    by (Respond k response) a b m = elim m [ ]
+    by (IntoWriter k) a b m = elim m [ ]
+    by (Write k bytes) a b m = elim m [ ]
+    by (Flush k) a b m = elim m [ ]
+    by (Upgrade k protocol response) a b m = elim m [ ]
+    by (Finish k) a b m = elim m [ ]
+    by (Drop k) a b m = elim m [ ]
+
+pub step-known : (p : Profile) (feed : Feed) (before after : Sink) (steps later : List TimedValue) (replies more : List ReplyValue) (held : List ℕ) (ended : Bool) (unread : Option Feed) (date : HttpDate) (step : StepValue) (reply : ReplyValue)
+    → IsConversation p feed before (steps ++ (date, step) ∷ later) (replies ++ reply ∷ more) after held ended unread → length replies ≡ length steps → is_ask step ≡ false → is_read step ≡ false
+    → IsHanded (number_of step) (handed replies) → takes (account (number_of step) steps replies).condition step ≡ true → reply ≡ NoSuch → ⊥
+step-known p feed before after steps later replies more held ended unread date step reply c count other read known can =
+    let parts = run-parts (start_state c.items) c.end steps ((date, step) ∷ later) replies (reply ∷ more) count c.run in
+    let st = stands-at c.items steps replies parts.mid parts.first in
+    let h = handed-slot c.items steps replies parts.mid (number_of step) st known in
+    let accepts = stage-accepts h.slot.stage h.slot.owed step read (ap (λ x. takes x step) h.told.condition ∙ can) in
+    step-answered parts.mid date h.request h.slot step reply parts.second.0 (λ j. account j steps replies) st.told other read h.at h.is accepts parts.second.1
 
 -- ---- a step that finds no number
 

@@ -148,6 +148,10 @@ abbrev pub is_ask : StepValue → Bool
 is_ask Ask = true
 is_ask _ = false
 
+abbrev pub is_read : StepValue → Bool
+is_read (Read k n) = true
+is_read _ = false
+
 -- ---- why the requests end
 
 -- an Ask is answered that no further request comes

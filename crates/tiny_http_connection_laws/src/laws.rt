@@ -19,8 +19,8 @@ ghost use Rattle.tiny_http_connection_laws.specs.InShort.{handed, requests_from,
 ghost use Rattle.tiny_http_connection_laws.specs.InShort.{AreOfOneHead, maker, IsAmong};
 ghost use Rattle.tiny_http_connection_laws.specs.Accounts.{Finished, account, IsAsTold, IsThrough, IsHanded, takes};
 ghost use Rattle.tiny_http_connection_laws.specs.Accounts.{waits_its_turn};
-ghost use Rattle.tiny_http_connection_laws.specs.Accounts.{is_done_early, IsTaken, is_ask, HasEnd, OneEndsRequests};
-ghost use Rattle.tiny_http_connection_laws.specs.Accounts.{OneStops};
+ghost use Rattle.tiny_http_connection_laws.specs.Accounts.{is_done_early, IsTaken, is_ask, is_read, HasEnd};
+ghost use Rattle.tiny_http_connection_laws.specs.Accounts.{OneEndsRequests, OneStops};
 ghost use Rattle.httpdate.specs.declared.date.HttpDate.{HttpDate};
 ghost use Rattle.tiny_http_connection_laws.specs.Closes.{NoneFollowsClose, IsReadAsSaid};
 ghost use Rattle.tiny_http_connection_laws.specs.ClientReads.{headers_printed, CanBeRead, AreReadable, CanBeReadAt};
@@ -105,10 +105,10 @@ pub fn numbers_are_as_told()
         → IsAsTold k s s.item (account k steps replies) }
 {}
 
-/// STEPS ARE TAKEN IN TURN. A step for a request that was handed out is done or refused where the request takes it,
-/// once the numbers before it are finished; it is not put off. An answer, a write, a flush and an upgrade are done only
-/// then. A step that is neither done, refused nor put off finds no such request. An `Ask` is put off only while the last
-/// request that was handed out isn't finished.
+/// STEPS ARE TAKEN IN TURN. A step but a read for a request that was handed out is done or refused where the request
+/// takes it, once the numbers before it are finished; it is not put off. An answer, a write, a flush and an upgrade are
+/// done only then. `NoSuch` is answered where no request that was handed out takes the step, and nowhere else but to a
+/// read. An `Ask` is put off only while the last request that was handed out isn't finished.
 pub fn steps_are_taken_in_turn()
     ensures done { (p : Profile) (feed : Feed) (before after : Sink) (steps later : List TimedValue)
         (replies more : List ReplyValue) (held : List ℕ) (ended : Bool) (unread : Option Feed) (date : HttpDate)
@@ -142,6 +142,17 @@ pub fn steps_are_taken_in_turn()
         → reply ≢ NoSuch
         → IsHanded (number_of step) (handed replies)
         × (takes (account (number_of step) steps replies).condition step ≡ true) }
+    ensures known { (p : Profile) (feed : Feed) (before after : Sink) (steps later : List TimedValue)
+        (replies more : List ReplyValue) (held : List ℕ) (ended : Bool) (unread : Option Feed) (date : HttpDate)
+        (step : StepValue) (reply : ReplyValue)
+        → (c : IsConversation p feed before (steps ++ (date, step) ∷ later) (replies ++ reply ∷ more) after held ended
+        unread)
+        → length replies ≡ length steps
+        → is_ask step ≡ false
+        → is_read step ≡ false
+        → IsHanded (number_of step) (handed replies)
+        → takes (account (number_of step) steps replies).condition step ≡ true
+        → reply ≢ NoSuch }
     ensures ask { (p : Profile) (feed : Feed) (before after : Sink) (steps later : List TimedValue)
         (replies more : List ReplyValue) (held : List ℕ) (ended : Bool) (unread : Option Feed) (date : HttpDate)
         → (c : IsConversation p feed before (steps ++ (date, Ask) ∷ later) (replies ++ NotYet ∷ more) after held ended

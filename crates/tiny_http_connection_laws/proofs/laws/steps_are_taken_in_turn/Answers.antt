@@ -1,4 +1,4 @@
-use Rattle.tiny_http_connection_laws.proofs.AccountsTurns.{step-done, done-in_turn, step-found, ask-waits-for}
+use Rattle.tiny_http_connection_laws.proofs.AccountsTurns.{step-done, done-in_turn, step-found, step-known, ask-waits-for}
 use Rattle.tiny_http_connection_laws.proofs.laws.steps_are_taken_in_turn.Goals as goal
 
 pub returns-clause-done : goal.returns-clause-done
@@ -12,6 +12,10 @@ returns-clause-waits c = λ p feed before after steps later replies more held en
 pub returns-clause-found : goal.returns-clause-found
 returns-clause-found c = λ p feed before after steps later replies more held ended unread date step reply x count other some.
     step-found p feed before after steps later replies more held ended unread date step reply x count other some
+
+pub returns-clause-known : goal.returns-clause-known
+returns-clause-known c = λ p feed before after steps later replies more held ended unread date step reply x count other read handed can.
+    step-known p feed before after steps later replies more held ended unread date step reply x count other read handed can
 
 pub returns-clause-ask : goal.returns-clause-ask
 returns-clause-ask c = λ p feed before after steps later replies more held ended unread date x count.

@@ -14,7 +14,7 @@ use Rattle.tiny_http_connection.specs.Seen.{IsAnswered}
 use Rattle.tiny_http_connection.specs.declared.driver.Step.TheVariants as step
 use Rattle.tiny_http_response.specs.Answer.{ResponseState}
 use Rattle.tiny_http_io.specs.Device.{Feed}
-use Rattle.tiny_http_turns.specs.Turns.{Mark, Held}
+use Rattle.tiny_http_turns.specs.Turns.{Mark, Held, Open}
 use Rattle.tiny_http_connection.specs.Pending.{waiting_answer_context, is_last_once_finished_at as kept_lacks, refuses_at, kept_body, closing_number, closing_if_asked, begins_left}
 use Rattle.tiny_http_io.specs.Outlet.{output_of, outlet_ended}
 use Rattle.tiny_http_connection.specs.Connection.{Kept, ConnectionState, kept}
@@ -23,7 +23,7 @@ use Rattle.tiny_http_connection.specs.Seen.{seen, Answers}
 use Rattle.tiny_http_connection.proofs.ConnectionAsk.{StepIsAnswered}
 use Rattle.tiny_http_io.proofs.SourceGoesOn.{goes-on_same}
 use Rattle.tiny_http_connection.proofs.ConnectionOutput.{can-send}
-use Rattle.tiny_http_connection.proofs.ConnectionRespond.{no-such, respond-not_taken, waits-some, waits-none, respond-not_yet, respond-done, respond-asked, responds-by}
+use Rattle.tiny_http_connection.proofs.ConnectionRespond.{no-such, respond-not_taken, waits-some, waits-none, respond-not_yet, respond-done, respond-asked, responds-by, set-place}
 use Rattle.tiny_http_connection.proofs.ConnectionClosing.{asked_kept, asked_state, at-asked, stands-asked, twice-asked}
 use Rattle.tiny_http_open_request.specs.declared.exchange.EndOfRequests.{EndOfRequests}
 use Rattle.tiny_http_connection.specs.Conversation.{State}
@@ -315,7 +315,14 @@ returns g c =
           (λ e. subst A (sym is.0) (subst L c.remainder-left.ensures (c.answer-reply.ensures.sends value.content is.1 is.2 e (can-send before k.sink k.output_ended now.reached.slots s.flushed s.failure stands.output low e)))))
           c.pass.ensures.passes c.pass.ensures.sends))))
           (λ no. absurd (not-declined n (stated_response g.D.ReadDevice.feed c.args.response) reply c.answer-reply.ensures.done no)) (replied-done _ _ _ reply (sym c.is_waiting.ensures ∙ c.if-not-is_waiting.false) accepted (ap not (held-in_turn c.hold.result n q.pending.turns.marks c.hold.ensures.held ∙ held_is)) c.answer-reply.ensures.done) (answered-ends n asked old new reply c.answer-reply.ensures.done (end_is ∙ ap (λ b. ends_behind (asked || b) q.end) same_lacks))
-          (answered-leaves n c.args.response.answer old new reply c.answer-reply.ensures.done ((requests, gives-up-of q.source source (slice_get k0.requests n) (still.Waiting w1.0) w1.1 given_up_old), accepted))
+          (answered-leaves n c.args.response.answer old new reply c.answer-reply.ensures.done (
+            (
+              requests,
+              gives-up-of q.source source (slice_get k0.requests n) (still.Waiting w1.0) w1.1 given_up_old,
+              λ front rest is place. c.pass.ensures.passes front rest (ap (λ t. t.marks) c.take.ensures.turns ∙ ap (λ t. t.marks) c.close_last.ensures.turns ∙ c.hold.ensures.marks held_is ∙ set-place q.pending.turns.marks front rest n Open Held is place) place,
+            ),
+            accepted,
+          ))
           (answered-done reply c.answer-reply.ensures.done)
           (record {
             profile = refl;
