@@ -12,9 +12,10 @@ use Rattle.tiny_http_io.specs.Device.{Feed, prepended, prepend, StopsBy}
 use Rattle.tiny_http_body.specs.declared.body.UnreadBody.{UnreadBody}
 use Rattle.tiny_http_body.specs.declared.body.UnreadBody.TheVariants.{Over, WithHead, Counted, Chunked, Rest}
 use Rattle.tiny_http_io.specs.ToCome.{skipped, stopped}
+use Rattle.tiny_http_io.specs.Cursor.{cursor_bytes}
 use Rattle.tiny_http_io.specs.FeedParts.{feed_front}
 use Rattle.tiny_http_body.specs.declared.chunked.ChunkRules.{ChunkRules}
-use Rattle.tiny_http_body.specs.Body.{Remaining, remaining, cut_stop, cut_feed, counted_remaining, taken_remaining, prepend_body, prepended_body, BodyStops, NoneRemains, is_streaming, body_standing, IsBodyOver, IsCountedOver, IsChunkedBy, ReadsOn, GivesUp, over_count, ends_met}
+use Rattle.tiny_http_body.specs.Body.{Remaining, remaining, cut_stop, cut_feed, counted_remaining, taken_remaining, prepend_body, prepended_body, BodyStops, NoneRemains, is_streaming, body_standing, IsBodyOver, IsCountedOver, IsChunkedBy, StaysHeld, ReadsOn, GivesUp, over_count, ends_met}
 use Rattle.tiny_http_io.specs.declared.source.Standing.{Standing}
 use Rattle.tiny_http_io.specs.Source.{SourceState, GoesOn, IsRestOf}
 use Rattle.tiny_http_io.proofs.SourceGoesOn.{goes-on_same}
@@ -116,7 +117,14 @@ reads-on (Over stop) b c m n end_reported h k =
     let P : UnreadBody → Type 0 = λ x. ReadsOn x n end_reported c in
     let l = subst P h.0 k in
     (l.0, omega (arith, h.1, l.1))
-reads-on (WithHead bytes) (WithHead more) c m n end_reported h k = k
+reads-on (WithHead bytes) (WithHead more) c m n end_reported h k = held c k
+  where
+    held : (c : UnreadBody) → StaysHeld (length (cursor_bytes more)) n end_reported c → StaysHeld (length (cursor_bytes bytes)) (m + n) end_reported c
+    held (WithHead left) k = (omega (arith, h.0, k.0), k.1)
+    held (Over stop) k = absurd k
+    held (Counted l standard) k = absurd k
+    held (Chunked d) k = absurd k
+    held Rest k = absurd k
 reads-on (WithHead bytes) (Over stop) c m n end_reported h k = absurd h
 reads-on (WithHead bytes) (Counted left standard) c m n end_reported h k = absurd h
 reads-on (WithHead bytes) (Chunked d) c m n end_reported h k = absurd h

@@ -185,11 +185,17 @@ IsCountedOver by_standard has_come (Over End) = (has_come || not by_standard) �
 IsCountedOver by_standard has_come (Over (Fault kind)) = has_come ≡ false
 IsCountedOver by_standard has_come _ = ⊥
 
+-- A body in memory stays there: this is left of `count` bytes after n of them, and nothing where the end was reported.
+abbrev pub StaysHeld : ℕ → ℕ → Bool → UnreadBody → Type 0
+StaysHeld count n end_reported (WithHead bytes) =
+    (n + length (cursor_bytes bytes) ≡ count) × (end_reported ≡ true → length (cursor_bytes bytes) ≡ 0)
+StaysHeld count n end_reported _ = ⊥
+
 -- So many bytes were read, and the end or the fault was reported or not. A counted body is over with its last byte,
 -- another one that is read from the input once its end or fault was reported.
 abbrev pub ReadsOn : UnreadBody → ℕ → Bool → UnreadBody → Type 0
 ReadsOn (Over stop) n end_reported new = (new ≡ Over stop) × (n ≡ 0)
-ReadsOn (WithHead bytes) n end_reported new = IsWithHead new
+ReadsOn (WithHead bytes) n end_reported new = StaysHeld (length (cursor_bytes bytes)) n end_reported new
 ReadsOn (Counted left by_standard) n end_reported new =
     MatchBool (end_reported || n == left) (IsCountedOver by_standard (n == left) new)
     ((new ≡ Counted (left - n) by_standard) × (n < left))
@@ -228,10 +234,18 @@ body_finished form.Counted n given end_reported = given == n || end_reported
 body_finished form.Chunked n given end_reported = end_reported
 body_finished form.Rest n given end_reported = end_reported
 
+-- a body of this form may be over by this stop: one in memory isn't, and none has its end
+abbrev pub MayBeOver : Form → Stop → Type 0
+MayBeOver form.WithHead stop = ⊥
+MayBeOver form.Nothing stop = stop ≡ End
+MayBeOver _ stop = ⊤
+
 -- what was read of the body fits its profile, form and length
 abbrev pub Fits : Bool → UnreadBody → Form → ℕ → ℕ → Bool → Type 0
-Fits standard (Over stop) shape n given end_reported = body_finished shape n given end_reported ≡ true
-Fits standard (WithHead bytes) shape n given end_reported = shape ≡ form.WithHead
+Fits standard (Over stop) shape n given end_reported =
+    (body_finished shape n given end_reported ≡ true) × MayBeOver shape stop
+Fits standard (WithHead bytes) shape n given end_reported =
+    (shape ≡ form.WithHead) × (given + length (cursor_bytes bytes) ≡ n)
 Fits standard (Counted left by_standard) shape n given end_reported =
     (shape ≡ form.Counted) × (given + left ≡ n) × (0 < left) × (end_reported ≡ false) × (by_standard ≡ standard)
 Fits standard (Chunked decoding) shape n given end_reported =

@@ -44,9 +44,9 @@ lost-chunked : {R : Type 0} (b : UnreadBody) (old new : SourceState R) (f : Feed
     → (is_chunked_form r.framing.form && not end_reported) ≡ true → ((new.is_over ≡ true) × (new.stop ≡ Some End)) × (new.feed ≡ Some (stopped End))
 lost-chunked {R = R} (body.Chunked d) old new f r given end_reported fits h e lost = (h.at_end, h.feed ∙ ap (λ (o : Option Feed). option_map (λ _. stopped End) o) e)
 lost-chunked {R = R} (body.Counted left by_standard) old new f r given end_reported fits h e lost = let no : true ≡ false = sym lost ∙ rw fits.0 refl in cc
-lost-chunked {R = R} (body.WithHead bytes) old new f r given end_reported fits h e lost = let no : true ≡ false = sym lost ∙ rw fits refl in cc
+lost-chunked {R = R} (body.WithHead bytes) old new f r given end_reported fits h e lost = let no : true ≡ false = sym lost ∙ rw fits.0 refl in cc
 lost-chunked {R = R} body.Rest old new f r given end_reported fits h e lost = let no : true ≡ false = sym lost ∙ rw fits.0 refl in cc
-lost-chunked {R = R} (body.Over stop) old new f r given end_reported fits h e lost = absurd (over-kept r.framing.form (body_length_or_0 r.framing) given end_reported fits lost)
+lost-chunked {R = R} (body.Over stop) old new f r given end_reported fits h e lost = absurd (over-kept r.framing.form (body_length_or_0 r.framing) given end_reported fits.0 lost)
 
 -- where the next head is read after a body that was given up
 given-place : {R : Type 0} (client : Feed) (profile : Profile) (b : UnreadBody) (old new : SourceState R) (f : Feed) (r : Request) (given : ℕ) (end_reported over : Bool) (rest : List Item) → Fits r.framing.by_standard b r.framing.form (body_length_or_0 r.framing) given end_reported → GivesUp b old new → old.feed ≡ Some f

@@ -96,8 +96,8 @@ fits-on : (standard : Bool) (b c : UnreadBody) (form : Form) (n given m : ℕ) (
 fits-on standard (body.Over stop) c form n given m end_reported more fits h =
     let P : UnreadBody → Type 0 = λ x. Fits standard x form n (given + m) (end_reported || more) in
     let same : given + m ≡ given = omega (arith, h.1) in
-    subst P (sym h.0) (ap (λ k. body_finished form n k (end_reported || more)) same ∙ still-over form n given end_reported more fits)
-fits-on standard (body.WithHead bytes) (body.WithHead left) form n given m end_reported more fits h = fits
+    subst P (sym h.0) (ap (λ k. body_finished form n k (end_reported || more)) same ∙ still-over form n given end_reported more fits.0, fits.1)
+fits-on standard (body.WithHead bytes) (body.WithHead left) form n given m end_reported more fits h = (fits.0, omega (arith, fits.1, h.0))
 fits-on standard (body.WithHead bytes) (body.Over stop) form n given m end_reported more fits h = absurd h
 fits-on standard (body.WithHead bytes) (body.Counted left by_standard) form n given m end_reported more fits h = absurd h
 fits-on standard (body.WithHead bytes) (body.Chunked d) form n given m end_reported more fits h = absurd h
@@ -105,7 +105,7 @@ fits-on standard (body.WithHead bytes) body.Rest form n given m end_reported mor
 fits-on standard (body.Counted left by_standard) c form n given m end_reported more fits h = by (more || (m == left)) refl h
   where
     over : (c : UnreadBody) → IsBodyOver c → (more || (m == left)) ≡ true → Fits standard c form n (given + m) (end_reported || more)
-    over (body.Over stop) i e = rw fits.0 (at more e)
+    over (body.Over stop) i e = (rw fits.0 (at more e), rw fits.0 tt)
       where
         at : (t : Bool) → (t || (m == left)) ≡ true → ((given + m) == n || (end_reported || t)) ≡ true
         at true e = ap (λ x. (given + m) == n || x) (or-true end_reported) ∙ or-true ((given + m) == n)
@@ -128,7 +128,7 @@ fits-on standard (body.Counted left by_standard) c form n given m end_reported m
 fits-on standard (body.Chunked d) c form n given m end_reported true fits h = over c h
   where
     over : (c : UnreadBody) → IsBodyOver c → Fits standard c form n (given + m) (end_reported || true)
-    over (body.Over stop) i = rw (fits.0, or-true end_reported) refl
+    over (body.Over stop) i = (rw (fits.0, or-true end_reported) refl, rw fits.0 tt)
     over (body.WithHead bytes) i = absurd i
     over (body.Counted l by_standard) i = absurd i
     over (body.Chunked d) i = absurd i
@@ -141,7 +141,7 @@ fits-on standard (body.Chunked d) body.Rest form n given m end_reported false fi
 fits-on standard body.Rest c form n given m end_reported true fits h = over c h
   where
     over : (c : UnreadBody) → IsBodyOver c → Fits standard c form n (given + m) (end_reported || true)
-    over (body.Over stop) i = rw (fits.0, or-true end_reported) refl
+    over (body.Over stop) i = (rw (fits.0, or-true end_reported) refl, rw fits.0 tt)
     over (body.WithHead bytes) i = absurd i
     over (body.Counted l by_standard) i = absurd i
     over (body.Chunked d) i = absurd i

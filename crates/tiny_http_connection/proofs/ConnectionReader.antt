@@ -200,8 +200,8 @@ bodiless-free (Some (still.Upgraded b)) e = refl
 -- whether a body is read from the input, by its form
 
 pub fits-streams : (standard : Bool) (b : UnreadBody) (form : Form) (n given : ℕ) (end_reported : Bool) → Fits standard b form n given end_reported → (is_form_streamed form && not (body_finished form n given end_reported || false)) ≡ is_streaming b
-fits-streams standard (body.Over stop) form n given end_reported h = rw h (and-false (is_form_streamed form))
-fits-streams standard (body.WithHead bytes) form n given end_reported h = rw h refl
+fits-streams standard (body.Over stop) form n given end_reported h = rw h.0 (and-false (is_form_streamed form))
+fits-streams standard (body.WithHead bytes) form n given end_reported h = rw h.0 refl
 fits-streams standard (body.Counted left by_standard) form n given end_reported h = rw (h.0, h.3, ne_eqb given n (λ e. absurd (omega (arith, e, h.1, h.2)))) refl
 fits-streams standard (body.Chunked d) form n given end_reported h = rw (h.0, h.1) refl
 fits-streams standard body.Rest form n given end_reported h = rw (h.0, h.1) refl
@@ -214,10 +214,10 @@ stop-of (Some r) = r.body.stop
 pub fits-whole : (r : Request) (b : UnreadBody) (given : ℕ) (end_reported : Bool) → Fits r.framing.by_standard b r.framing.form (body_length_or_0 r.framing) given end_reported
     → (is_streaming b ≡ false → (f : Feed) → remaining b (Some f) ≡ Some (taken_remaining (rest_of r given) f))
     → (body_finished r.framing.form (body_length_or_0 r.framing) given end_reported && is_end r.body.stop) ≡ is_whole b
-fits-whole r (body.Over End) given end_reported h settled = ap (λ t. t && is_end r.body.stop) h ∙ ap is_end (sym (ap stop-of (settled refl (whole_feed []))))
-fits-whole r (body.Over (Fault kind)) given end_reported h settled = ap (λ t. t && is_end r.body.stop) h ∙ ap is_end (sym (ap stop-of (settled refl (whole_feed []))))
+fits-whole r (body.Over End) given end_reported h settled = ap (λ t. t && is_end r.body.stop) h.0 ∙ ap is_end (sym (ap stop-of (settled refl (whole_feed []))))
+fits-whole r (body.Over (Fault kind)) given end_reported h settled = ap (λ t. t && is_end r.body.stop) h.0 ∙ ap is_end (sym (ap stop-of (settled refl (whole_feed []))))
 fits-whole r (body.WithHead bytes) given end_reported h settled =
-    ap (λ (x : Form). body_finished x (body_length_or_0 r.framing) given end_reported && is_end r.body.stop) h ∙ ap is_end (sym (ap stop-of (settled refl (whole_feed []))))
+    ap (λ (x : Form). body_finished x (body_length_or_0 r.framing) given end_reported && is_end r.body.stop) h.0 ∙ ap is_end (sym (ap stop-of (settled refl (whole_feed []))))
 fits-whole r (body.Counted left by_standard) given end_reported h settled = rw (h.0, h.3, ne_eqb given (body_length_or_0 r.framing) (λ e. absurd (omega (arith, e, h.1, h.2)))) refl
 fits-whole r (body.Chunked d) given end_reported h settled = rw (h.0, h.1) refl
 fits-whole r body.Rest given end_reported h settled = rw (h.0, h.1) refl
@@ -253,11 +253,11 @@ over-fault form n given end_reported ends h z = rw (h, z, or-true (is_chunked_fo
 pub fits-remainder : (r : Request) (b : UnreadBody) (given : ℕ) (end_reported : Bool) → Fits r.framing.by_standard b r.framing.form (body_length_or_0 r.framing) given end_reported
     → (is_streaming b ≡ false → (f : Feed) → remaining b (Some f) ≡ Some (taken_remaining (rest_of r given) f))
     → remainder_of r given end_reported ≡ remainder b
-fits-remainder r (body.Over End) given end_reported h settled = over-end r.framing.form (body_length_or_0 r.framing) given end_reported (is_end r.body.stop) h (ap is_end (sym (ap stop-of (settled refl (whole_feed [])))))
-fits-remainder r (body.Over (Fault kind)) given end_reported h settled = over-fault r.framing.form (body_length_or_0 r.framing) given end_reported (is_end r.body.stop) h (ap is_end (sym (ap stop-of (settled refl (whole_feed [])))))
+fits-remainder r (body.Over End) given end_reported h settled = over-end r.framing.form (body_length_or_0 r.framing) given end_reported (is_end r.body.stop) h.0 (ap is_end (sym (ap stop-of (settled refl (whole_feed [])))))
+fits-remainder r (body.Over (Fault kind)) given end_reported h settled = over-fault r.framing.form (body_length_or_0 r.framing) given end_reported (is_end r.body.stop) h.0 (ap is_end (sym (ap stop-of (settled refl (whole_feed [])))))
 fits-remainder r (body.WithHead bytes) given end_reported h settled =
     let z : is_end r.body.stop ≡ true = ap is_end (sym (ap stop-of (settled refl (whole_feed [])))) in
-    ap (λ (x : Form). left_by x (body_length_or_0 r.framing) given end_reported (is_end r.body.stop)) h ∙ over-end form.WithHead (body_length_or_0 r.framing) given end_reported (is_end r.body.stop) refl z
+    ap (λ (x : Form). left_by x (body_length_or_0 r.framing) given end_reported (is_end r.body.stop)) h.0 ∙ over-end form.WithHead (body_length_or_0 r.framing) given end_reported (is_end r.body.stop) refl z
 fits-remainder r (body.Counted n by_standard) given end_reported h settled =
     let some = ne_eqb given (body_length_or_0 r.framing) (λ e. absurd (omega (arith, e, h.1, h.2))) in
     let rest : body_length_or_0 r.framing - given ≡ n = omega (arith, h.1) in

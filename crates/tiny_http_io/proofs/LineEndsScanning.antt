@@ -7,7 +7,7 @@ use Rattle.std.proofs.lemmas.Bool.{cases_lt}
 use Rattle.tiny_http_text.specs.Lines.{has_crlf}
 use Rattle.tiny_http_io.specs.Device.{Feed, prepended, prepend}
 use Rattle.std.specs.Prelude.{IfOk, OnOk}
-use Rattle.tiny_http_io.specs.declared.source.Input.{Input}
+use Rattle.tiny_http_io.specs.declared.input.Input.{Input}
 use Rattle.tiny_http_io.specs.Input.{input_feed}
 use Rattle.tiny_http_io.specs.ToCome.{to_come, behind_held}
 use Rattle.tiny_http_io.proofs.ToComeLemmas.{skipped-within}

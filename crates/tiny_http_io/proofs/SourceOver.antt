@@ -4,7 +4,7 @@ use Rattle.std.specs.Prelude.{◌&&◌, ◌==◌, is_some, IfSome}
 use Rattle.std.proofs.lemmas.Bool.{and_parts, eqb-true}
 use Rattle.tiny_http_io.specs.Device.{Feed}
 use Rattle.tiny_http_io.specs.declared.device.Stop.{Stop}
-use Rattle.tiny_http_io.specs.declared.source.Input.{Input}
+use Rattle.tiny_http_io.specs.declared.input.Input.{Input}
 use Rattle.tiny_http_io.specs.declared.source.Standing.{Standing}
 use Rattle.tiny_http_io.specs.Input.{input_feed, input_stop, input_reader, input_held, input_skip, is_input_over, IsInputOver}
 use Rattle.tiny_http_io.specs.Source.{SourceState}

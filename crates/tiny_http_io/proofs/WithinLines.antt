@@ -15,7 +15,7 @@ use Rattle.tiny_http_io.proofs.LineEndsScanning.{come-now, line-given}
 use Rattle.tiny_http_io.proofs.SourceLines.{takes-line}
 use Rattle.tiny_http_io.specs.LineEnds.{BeginsNoLineEnd, EndsLine, IsRoom, StopsWithin}
 use Rattle.std.specs.Global.{Vec}
-use Rattle.tiny_http_io.specs.declared.source.Input.{Input}
+use Rattle.tiny_http_io.specs.declared.input.Input.{Input}
 use Rattle.tiny_http_io.specs.declared.source.FirstLine.{FirstLine}
 use Rattle.tiny_http_io.specs.declared.source.FirstLine.TheVariants.{Held, Taken}
 use Rattle.tiny_http_io.specs.Input.{input_feed}

@@ -3,7 +3,7 @@ use Rattle.std.specs.Prelude.{◌≡◌, ◌&&◌, ◌==◌, ◌+◌, ℕ, Bool,
 use Rattle.tiny_http_io.specs.Device.{Feed}
 use Rattle.tiny_http_io.specs.declared.device.Stop.{Stop}
 use Rattle.tiny_http_io.specs.ToCome.{behind_held, to_come, stops_to_come}
-use Rattle.tiny_http_io.specs.declared.source.Input.{Input}
+use Rattle.tiny_http_io.specs.declared.input.Input.{Input}
 
 -- the feed that is still to come, where the reader states its own
 abbrev pub input_feed : {R : Type 0} → (R → Option Feed) → Input R → Option Feed

@@ -250,6 +250,7 @@ pub record TakesHeld {R : Type 0} (n : ℕ) (old new : SourceState R) : Type 0 w
 pub record TakesBytes {R : Type 0} (n : ℕ) (old new : SourceState R)
     (r : Result (Option (Vec ℕ)) AllocError) : Type 0 where
   pub takes : IfOk r (λ body. TakesExactly (λ v. v.items) n old.feed new.feed body)
+  pub exact : IfOk r (λ body. IfSome body (λ bytes. length bytes.items ≡ n))
   pub over : IfOk r (λ body. body ≡ None → new.is_over ≡ true)
   pub err : OnErr r (new ≡ old)
   pub once : IsSome old.stop → IsSome new.stop × (new.reader ≡ old.reader)

@@ -8,6 +8,7 @@ pub mod custom_stream;
 pub mod device;
 pub mod equal_reader;
 pub mod fused_reader;
+mod input;
 pub mod laws;
 mod lines;
 pub mod outlet;

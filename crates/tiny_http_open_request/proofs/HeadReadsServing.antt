@@ -188,7 +188,7 @@ pub begins-rest : (f : Framing) (o : Option Feed) → f.form ≡ Rest → Begins
 begins-rest f o e = begins-with f Rest o o body.Rest e (λ x stated. (let P : Option Feed → Type 0 = λ y. BeginsAt f.by_standard Rest (body_length_or_0 f) x y body.Rest in subst P (sym stated) (λ k. k, x, None, (refl, refl), refl, (refl, refl))))
 
 nothing-at : (standard : Bool) (n : ℕ) (x : Feed) → BeginsAt standard Nothing n x (Some x) (body.Over End)
-nothing-at standard n x = (λ k. k, whole_feed [], Some x.bytes, (refl, refl), refl, refl)
+nothing-at standard n x = (λ k. k, whole_feed [], Some x.bytes, (refl, refl), refl, (refl, refl))
 
 pub begins-nothing : (f : Framing) (o : Option Feed) → f.form ≡ Nothing → Begins f o o (Some (body.Over End))
 begins-nothing f o e = begins-with f Nothing o o (body.Over End) e (λ x end_reported. (let P : Option Feed → Type 0 = λ y. BeginsAt f.by_standard Nothing (body_length_or_0 f) x y (body.Over End) in subst P (sym end_reported) (nothing-at f.by_standard (body_length_or_0 f) x)))
@@ -198,7 +198,7 @@ counted-fits : (standard : Bool) (b : UnreadBody) (n : ℕ) → ReadsOn (body.Co
 counted-fits standard b n h = by (0 == n) refl h
   where
     over : (b : UnreadBody) → IsBodyOver b → (0 == n) ≡ true → Fits standard b Counted n 0 false
-    over (body.Over stop) k e = rw e refl
+    over (body.Over stop) k e = (rw e refl, tt)
     over (body.WithHead bytes) k e = absurd k
     over (body.Counted left by_standard) k e = absurd k
     over (body.Chunked d) k e = absurd k
@@ -276,6 +276,7 @@ begins-held f o new c v n e is bytes h = begins-with f WithHead o new (body.With
           (k.0, k.1, k.2 ∙ is, refl, refl),
           subst R (sym k.3) (ap (λ bs. Some (pair (whole_feed bs) (record { bytes = k.0; stop = x.stop }))) bytes),
           refl,
+          ap length bytes ∙ k.2 ∙ is,
         )
 
 pub begins-cut : (f : Framing) (o new : Option Feed) (n : ℕ) → f.form ≡ WithHead → n ≡ body_length_or_0 f → TakesExactly (λ (w : Vec ℕ). w.items) n o new None → Begins f o new None
@@ -289,7 +290,7 @@ pub fits-rest : (f : Framing) → f.form ≡ Rest → FitsFraming f body.Rest
 fits-rest f e = (e, refl)
 
 pub fits-nothing : (f : Framing) → f.form ≡ Nothing → FitsFraming f (body.Over End)
-fits-nothing f e = rw e refl
+fits-nothing f e = (rw e refl, rw e refl)
 
 pub fits-counted : (f : Framing) (b : UnreadBody) (n : ℕ) → f.form ≡ Counted → n ≡ body_length_or_0 f → ReadsOn (body.Counted n f.by_standard) 0 false b → FitsFraming f b
 fits-counted f b n e is moves =
@@ -300,8 +301,8 @@ fits-counted f b n e is moves =
 pub fits-chunked : (f : Framing) (d : Decoding) → f.form ≡ Chunked → decoding_rules d ≡ chunk_rules f.by_standard → FitsFraming f (body.Chunked d)
 fits-chunked f d e rules = (e, refl, rules)
 
-pub fits-held : (f : Framing) (c : Cursor (Vec ℕ)) → f.form ≡ WithHead → FitsFraming f (body.WithHead c)
-fits-held f c e = e
+pub fits-held : (f : Framing) (c : Cursor (Vec ℕ)) → f.form ≡ WithHead → length (cursor_bytes c) ≡ body_length_or_0 f → FitsFraming f (body.WithHead c)
+fits-held f c e n = (e, n)
 
 pub fits-handed : (f : Framing) (b : UnreadBody) (x : Exchange) → head_framing x.head ≡ f → x.open_request.body ≡ b → FitsFraming f b → FitsHead (read.Request x)
 fits-handed f b x e k h =

@@ -59,4 +59,7 @@ returns-in-Chunked-clause-fits g c =
     subst (λ b. FitsFraming c.args.framing b) (sym k.1) (fits-chunked c.args.framing k.0 (search rules) k.2.rules)
 
 pub returns-in-Ok-Some-clause-fits : goal.returns-in-Ok-Some-clause-fits
-returns-in-Ok-Some-clause-fits g c = fits-held c.args.framing c.new.result (search rules)
+returns-in-Ok-Some-clause-fits g c =
+    let taken = rw c.in-Ok-Some.field-0-is at c.in-Ok-Some.ensures in
+    let bytes : cursor_bytes c.new.result ≡ c.in-Ok-Some.bytes.items = ap (λ n. drop n (cursor_inner c.new.result).items) c.new.ensures.position ∙ ap (λ (v : Vec ℕ). v.items) c.new.ensures.inner in
+    fits-held c.args.framing c.new.result (search rules) (ap length bytes ∙ taken.takes.exact ∙ search rules)

@@ -5,6 +5,7 @@ pub returns-clause-takes : goal.returns-clause-takes
 returns-clause-takes g c =
     record {
       takes = search rules;
+      exact = search rules;
       over = search rules;
       err = search rules;
       once = search rules;

@@ -1,0 +1,507 @@
+//! The input of a source with its fields in the open: a reader and what is held of its bytes.
+ghost use Rattle.std.specs.Prelude.{◌≡◌, ◌≢◌, true, false, ◌+◌, ◌-◌, ◌^◌, ◌<◌, ◌≤◌, ◌⊎◌, min, [], ◌∷◌, ◌++◌};
+ghost use Rattle.std.specs.Prelude.{length, take, drop, Option, None, Some, Ok, Err, IfOk, IfErr, OnOk, OnErr};
+ghost use Rattle.std.specs.Prelude.{IsSome, IfSome, IfNone, IsTrue};
+ghost use Rattle.std.specs.Option.{option_map};
+ghost use Rattle.std.specs.IoError.{error_kind};
+ghost use Rattle.tiny_http_io.specs.Device.{AnswersStop, prepended, StopsBy, Tells};
+ghost use Rattle.tiny_http_text.specs.Lines.{IsUnfinished, has_crlf};
+ghost use Rattle.tiny_http_io.specs.LineEnds.{BeginsNoLineEnd, EndsLine};
+ghost use Rattle.tiny_http_io.specs.Source.{IsWithin, seen_within};
+ghost use Rattle.tiny_http_io.specs.ToCome.{skipped, stopped, HasByte, HasNoByte};
+
+use crate::buffer::{Buffer, CAPACITY};
+use crate::device::{ReadDevice, Stop};
+use crate::lines::{go_on, is_reached, is_within, line_end, one_less};
+use crate::source::{FirstLine, LineFault};
+use std::alloc::{AllocError, Global};
+use std::io;
+use std::io::ErrorKind;
+use tiny_http_text::ascii::AsciiString;
+
+/// A source with its fields in the open: a reader with a buffer, a number of bytes to skip, and why its input ended.
+#[derive(Drop)]
+pub(crate) struct Input<R> {
+    inner: R,
+    held: Buffer,
+    skip: usize,
+    stop: Option<Stop>,
+}
+
+impl<R: ReadDevice> Input<R> {
+    ghost use Rattle.tiny_http_io.specs.Input.{input_feed, input_stop, input_reader, input_held, input_skip};
+    ghost use Rattle.tiny_http_io.specs.Input.{input_told, IsInputOver, SkipsHeld};
+    ghost use Rattle.tiny_http_io.specs.Source.{line_fault_of, ReadsWithin, TakesLine, FindsLine, TakesExactly, GoesOn};
+
+    pub fn new(inner: R) -> Input<R>
+        ensures feed { input_feed R.feed result ≡ R.feed inner }
+        ensures stop { input_stop result ≡ None }
+        ensures reader { input_reader result ≡ inner }
+        ensures held { (input_held result ≡ []) × (input_skip result ≡ 0) }
+    {
+        Input {
+            inner,
+            held: Buffer::new(),
+            skip: 0,
+            stop: None,
+        }
+    }
+
+    /// The reader inside.
+    pub fn into_inner(self) -> R
+        ensures { result ≡ input_reader self }
+    {
+        self.inner
+    }
+
+    /// How the reader stopped, if it has.
+    pub fn stop(&self) -> Option<Stop>
+        ensures stop { result ≡ input_stop self.now }
+        ensures over { IsInputOver self.now
+            → IsSome result × IfSome result (λ stop. StopsBy stop (input_feed R.feed self.now)) }
+    {
+        self.stop
+    }
+
+    /// Whether a byte is still to come.
+    pub fn has_byte(&mut self) -> bool
+        ensures some { IsTrue result
+            → HasByte (input_feed R.feed self.old) × (input_stop self.new ≡ input_stop self.old) }
+        ensures none { result ≡ false → HasNoByte (input_feed R.feed self.old) × IsInputOver self.new }
+        ensures feed { input_feed R.feed self.new ≡ input_feed R.feed self.old }
+        ensures once { IsSome (input_stop self.old)
+            → IsSome (input_stop self.new) × (input_reader self.new ≡ input_reader self.old) }
+        ensures held { input_skip self.old < length (input_held self.old)
+            → input_reader self.new ≡ input_reader self.old }
+        ensures holds { IsTrue result → input_skip self.new < length (input_held self.new) }
+        ensures skipped { IsTrue result → input_skip self.new ≡ 0 }
+        ensures stays { IsInputOver self.old → (result ≡ false) × (self.new ≡ self.old) }
+        ensures calls { input_told R.told self.new ≤ input_told R.told self.old }
+    {
+        self.fill();
+        !self.held.is_empty()
+    }
+
+    // Takes off what is held of the bytes to be skipped.
+    fn pass(&mut self)
+        ensures feed { input_feed R.feed self.new ≡ input_feed R.feed self.old }
+        ensures fields { let n = min self.old.skip (length self.old.held) in
+            self.new ≡ record self.old { held = drop n self.old.held; skip = self.old.skip - n } }
+        ensures calls { input_told R.told self.new ≤ input_told R.told self.old }
+    {
+        let n = self.skip.min(self.held.len());
+        self.held.consume(n);
+        self.skip -= n;
+    }
+
+    // Reads once, into the empty buffer.
+    fn refill(&mut self)
+        requires empty { self.old.held ≡ [] }
+        requires open { self.old.stop ≡ None }
+        ensures feed { input_feed R.feed self.new ≡ input_feed R.feed self.old }
+        ensures skip { self.new.skip ≡ self.old.skip }
+        ensures some { self.new.stop ≡ None → 0 < length self.new.held }
+        ensures none { IsSome self.new.stop → self.new.held ≡ [] }
+        ensures calls { input_told R.told self.new ≤ input_told R.told self.old }
+    {
+        match self.held.read_from(&mut self.inner) {
+            Ok(0) => self.stop = Some(Stop::End),
+            Ok(_) => {}
+            Err(e) => self.stop = Some(Stop::Fault(e.kind())),
+        }
+    }
+
+    // Holds a byte where one is still to come, and has skipped what was to be skipped.
+    fn fill(&mut self)
+        ensures feed { input_feed R.feed self.new ≡ input_feed R.feed self.old }
+        ensures skip { self.new.skip ≡ 0 }
+        ensures over { self.new.held ≡ [] → IsSome self.new.stop }
+        // After an end or a fault the reader isn't called again; nor where a byte is held.
+        ensures once { IsSome (input_stop self.old)
+            → IsSome (input_stop self.new) × (input_reader self.new ≡ input_reader self.old) }
+        ensures stays { IsInputOver self.old → self.new ≡ self.old }
+        ensures lazy { 0 < length self.new.held → input_stop self.new ≡ input_stop self.old }
+        ensures held { input_skip self.old < length (input_held self.old) → SkipsHeld self.old self.new }
+        ensures calls { input_told R.told self.new ≤ input_told R.told self.old }
+    {
+        if self.skip == 0 && !self.held.is_empty() {
+            return;
+        }
+        self.pass();
+        while self.stop.is_none() && self.held.is_empty() {
+            self.refill();
+            self.pass();
+        }
+        if self.skip > 0 {
+            self.stop = Some(Stop::End);
+            self.skip = 0;
+        }
+    }
+
+    // The first line that is held, if it keeps the limit: so many bytes, and CR LF after them.
+    fn held_line(&self, left: Option<usize>) -> Option<usize>
+        ensures some { IfSome result (λ n. EndsLine (input_held self.now) n × IsWithin left n) }
+        ensures none { IfNone result (IsUnfinished (seen_within left (input_held self.now))) }
+    {
+        match line_end(self.held.as_slice()) {
+            Some(n) => {
+                if is_within(left, n) {
+                    return Some(n);
+                }
+                None
+            }
+            None => None,
+        }
+    }
+
+    /// Finds the first line within the limit: held, or taken off.
+    pub fn find_line(&mut self, alloc: Global, left: Option<usize>) -> Result<FirstLine, LineFault>
+        ensures line { FindsLine left (input_feed R.feed self.old) (input_feed R.feed self.new) (input_held self.new)
+            (input_skip self.new) result }
+        ensures limited { result ≡ Err LineFault.TooLong → IsSome left }
+        ensures over { OnErr result (IsInputOver self.new) }
+        ensures ended { IfErr result (λ fault. (fault ≡ LineFault.Memory) ⊎ (fault ≡ LineFault.TooLong)
+            → input_stop self.new ≡ Some Stop.End) }
+        ensures stop { IfErr result (λ fault. fault ≢ LineFault.Memory
+            → fault ≢ LineFault.TooLong
+            → IfSome (input_stop self.new) (λ stop. fault ≡ line_fault_of stop)) }
+        ensures stays { IsInputOver self.old
+            → left ≢ Some 0
+            → (self.new ≡ self.old) × IfSome (input_stop self.old) (λ stop. result ≡ Err (line_fault_of stop)) }
+        ensures once { IsSome (input_stop self.old)
+            → IsSome (input_stop self.new) × (input_reader self.new ≡ input_reader self.old) }
+        ensures held { has_crlf (drop (input_skip self.old) (input_held self.old)) ≡ true
+            → input_reader self.new ≡ input_reader self.old }
+        ensures full { IfSome left (λ n. input_skip self.old + n ≤ length (input_held self.old)
+            → input_reader self.new ≡ input_reader self.old) }
+        // Memory is taken for a line alone that isn't held whole.
+        ensures memory { result ≡ Err LineFault.Memory
+            → has_crlf (drop (input_skip self.old) (input_held self.old)) ≡ false }
+        ensures lazy { OnOk result (input_stop self.new ≡ input_stop self.old) }
+        ensures calls { input_told R.told self.new ≤ input_told R.told self.old }
+    {
+        if is_reached(left, 0) {
+            self.end();
+            return Err(LineFault::TooLong);
+        }
+        self.fill();
+        if let Some(n) = self.held_line(left) {
+            return Ok(FirstLine::Held(n));
+        }
+        if is_reached(left, self.held.len()) {
+            self.end();
+            return Err(LineFault::TooLong);
+        }
+        match self.read_slowly(alloc, left) {
+            Ok(text) => Ok(FirstLine::Taken(text)),
+            Err(fault) => Err(fault),
+        }
+    }
+
+    /// The bytes that are held.
+    pub fn held(&self) -> &[u8]
+        ensures { result.now ≡ input_held self.now }
+    {
+        self.held.as_slice()
+    }
+
+    /// Takes n bytes off that are held, and the CR LF after them.
+    pub fn pass_line(&mut self, n: usize)
+        requires skip { input_skip self.old ≡ 0 }
+        requires line { EndsLine (input_held self.old) n }
+        ensures line { TakesLine (input_feed R.feed self.old) (input_feed R.feed self.new)
+            (take n (input_held self.old)) }
+        ensures rest { (input_held self.new ≡ drop (n + 2) (input_held self.old)) × (input_skip self.new ≡ 0) }
+        ensures reader { input_reader self.new ≡ input_reader self.old }
+        ensures stop { input_stop self.new ≡ input_stop self.old }
+    {
+        self.held.consume(n);
+        self.held.consume(2);
+    }
+
+    /// Takes n bytes off that are held.
+    pub fn consume(&mut self, n: usize)
+        requires skip { input_skip self.old ≡ 0 }
+        requires held { n ≤ length (input_held self.old) }
+        ensures feed { input_feed R.feed self.old
+            ≡ prepended (take n (input_held self.old)) (input_feed R.feed self.new) }
+        ensures rest { (input_held self.new ≡ drop n (input_held self.old)) × (input_skip self.new ≡ 0) }
+        ensures reader { input_reader self.new ≡ input_reader self.old }
+        ensures stop { input_stop self.new ≡ input_stop self.old }
+    {
+        self.held.consume(n);
+    }
+
+    // Takes n bytes off that are held, and the CR LF after them.
+    fn take_line(&mut self, alloc: Global, n: usize) -> Result<Vec<u8>, LineFault>
+        requires { n + 2 ≤ length self.old.held }
+        ensures text { IfOk result (λ text. text.items ≡ take n self.old.held) }
+        ensures rest { OnOk result (self.new ≡ record self.old { held = drop (n + 2) self.old.held }) }
+        ensures err { IfErr result (λ fault. (fault ≡ LineFault.Memory) × (self.new ≡ self.old)) }
+        ensures reader { input_reader self.new ≡ input_reader self.old }
+        ensures calls { input_told R.told self.new ≤ input_told R.told self.old }
+    {
+        let Ok(text) = self.held.as_slice()[..n].to_vec(alloc) else {
+            return Err(LineFault::Memory);
+        };
+        self.held.consume(n + 2);
+        Ok(text)
+    }
+
+    // The first line within the limit, byte by byte.
+    fn read_slowly(&mut self, alloc: Global, left: Option<usize>) -> Result<Vec<u8>, LineFault>
+        ensures text { IfOk result
+            (λ text. input_feed R.feed self.old
+            ≡ prepended (text.items ++ (13 ∷ (10 ∷ []))) (input_feed R.feed self.new)) }
+        ensures first { IfOk result (λ text. BeginsNoLineEnd text.items (13 ∷ [])) }
+        ensures within { IfOk result (λ text. IsWithin left (length text.items)) }
+        ensures none { IfErr result
+            (λ fault. ReadsWithin left (input_feed R.feed self.old) (input_feed R.feed self.new) (Err fault)
+            × (fault ≢ LineFault.NotAscii)) }
+        ensures limited { result ≡ Err LineFault.TooLong → IsSome left }
+        ensures over { OnErr result (IsInputOver self.new) }
+        ensures ended { IfErr result (λ fault. (fault ≡ LineFault.Memory) ⊎ (fault ≡ LineFault.TooLong)
+            → input_stop self.new ≡ Some Stop.End) }
+        ensures stop { IfErr result (λ fault. fault ≢ LineFault.Memory
+            → fault ≢ LineFault.TooLong
+            → IfSome (input_stop self.new) (λ stop. fault ≡ line_fault_of stop)) }
+        ensures once { IsSome (input_stop self.old)
+            → IsSome (input_stop self.new) × (input_reader self.new ≡ input_reader self.old) }
+        ensures stays { IsInputOver self.old
+            → left ≢ Some 0
+            → (self.new ≡ self.old) × IfSome (input_stop self.old) (λ stop. result ≡ Err (line_fault_of stop)) }
+        ensures lazy { OnOk result (input_stop self.new ≡ input_stop self.old) }
+        ensures calls { input_told R.told self.new ≤ input_told R.told self.old }
+    {
+        let mut text = Vec::new(alloc);
+        let mut after_return = false;
+        let mut room = left;
+        while !is_reached(room, 0) {
+            let Some(b) = self.pop_byte() else {
+                return Err(self.line_fault());
+            };
+            if after_return && b == b'\n' {
+                return Ok(text);
+            }
+            if go_on(&mut text, &mut after_return, b).is_err() {
+                self.end();
+                return Err(LineFault::Memory);
+            }
+            room = one_less(room);
+        }
+        self.end();
+        Err(LineFault::TooLong)
+    }
+
+    /// Lets the input end here.
+    pub fn end(&mut self)
+        ensures feed { input_feed R.feed self.new ≡ option_map (λ _. stopped Stop.End) (input_feed R.feed self.old) }
+        ensures over { IsInputOver self.new }
+        ensures stop { input_stop self.new ≡ Some Stop.End }
+        ensures reader { input_reader self.new ≡ input_reader self.old }
+        ensures calls { input_told R.told self.new ≤ input_told R.told self.old }
+    {
+        self.held.clear();
+        self.skip = 0;
+        self.stop = Some(Stop::End);
+    }
+
+    /// Reads the first line within the limit, without its CR LF.
+    pub fn read_line(
+        &mut self,
+        alloc: Global,
+        left: Option<usize>,
+    ) -> Result<AsciiString, LineFault>
+        ensures line { ReadsWithin left (input_feed R.feed self.old) (input_feed R.feed self.new) result }
+        // After an end or a fault the reader isn't called again.
+        ensures once { IsSome (input_stop self.old)
+            → IsSome (input_stop self.new) × (input_reader self.new ≡ input_reader self.old) }
+        // Whatever the reader states, an input that is over stays so, and a line's place has its stop.
+        ensures limited { result ≡ Err LineFault.TooLong → IsSome left }
+        ensures over { IfErr result (λ fault. fault ≢ LineFault.NotAscii → IsInputOver self.new) }
+        ensures ended { IfErr result (λ fault. (fault ≡ LineFault.Memory) ⊎ (fault ≡ LineFault.TooLong)
+            → input_stop self.new ≡ Some Stop.End) }
+        ensures stop { IfErr result (λ fault. fault ≢ LineFault.NotAscii
+            → fault ≢ LineFault.Memory
+            → fault ≢ LineFault.TooLong
+            → IfSome (input_stop self.new) (λ stop. fault ≡ line_fault_of stop)) }
+        ensures stays { IsInputOver self.old
+            → left ≢ Some 0
+            → (self.new ≡ self.old) × IfSome (input_stop self.old) (λ stop. result ≡ Err (line_fault_of stop)) }
+        ensures lazy { OnOk result (input_stop self.new ≡ input_stop self.old) }
+        ensures passed { result ≡ Err LineFault.NotAscii → input_stop self.new ≡ input_stop self.old }
+        ensures held { has_crlf (drop (input_skip self.old) (input_held self.old)) ≡ true
+            → input_reader self.new ≡ input_reader self.old }
+        ensures full { IfSome left (λ n. input_skip self.old + n ≤ length (input_held self.old)
+            → input_reader self.new ≡ input_reader self.old) }
+        ensures calls { input_told R.told self.new ≤ input_told R.told self.old }
+    {
+        let text = match self.find_line(alloc, left)? {
+            FirstLine::Taken(text) => text,
+            FirstLine::Held(n) => match self.take_line(alloc, n) {
+                Ok(text) => text,
+                Err(fault) => {
+                    self.end();
+                    return Err(fault);
+                }
+            },
+        };
+        match AsciiString::from_ascii(text) {
+            Ok(line) => Ok(line),
+            Err(_) => Err(LineFault::NotAscii),
+        }
+    }
+
+    /// Takes n bytes, or none where fewer are left: then the input is over. Without memory for them nothing has
+    /// changed.
+    pub fn take_exactly(&mut self, alloc: Global, n: usize) -> Result<Option<Vec<u8>>, AllocError>
+        ensures takes { IfOk result
+            (λ body. TakesExactly (λ v. v.items) n (input_feed R.feed self.old) (input_feed R.feed self.new) body) }
+        ensures exact { IfOk result (λ body. IfSome body (λ bytes. length bytes.items ≡ n)) }
+        ensures over { IfOk result (λ body. body ≡ None → IsInputOver self.new) }
+        ensures err { OnErr result (self.new ≡ self.old) }
+        ensures once { IsSome (input_stop self.old)
+            → IsSome (input_stop self.new) × (input_reader self.new ≡ input_reader self.old) }
+        ensures lazy { IfOk result (λ body. IsSome body → input_stop self.new ≡ input_stop self.old) }
+        ensures held { input_skip self.old + n ≤ length (input_held self.old)
+            → input_reader self.new ≡ input_reader self.old }
+        ensures goes_on { GoesOn (input_feed R.feed self.old) (input_feed R.feed self.new) }
+        ensures calls { input_told R.told self.new ≤ input_told R.told self.old }
+    {
+        let mut body = Vec::with_capacity(alloc, n)?;
+        while body.len() < n {
+            match self.pop_byte() {
+                Some(b) => body.push_reserved(b),
+                None => return Ok(None),
+            }
+        }
+        Ok(Some(body))
+    }
+
+    // Why there is no line after the input.
+    fn line_fault(&self) -> LineFault
+        ensures fault { IfSome (input_stop self.now) (λ stop. result ≡ line_fault_of stop) }
+        ensures in_time { (result ≢ LineFault.TooLong) × (result ≢ LineFault.NotAscii) × (result ≢ LineFault.Memory) }
+    {
+        match self.stop {
+            Some(Stop::Fault(ErrorKind::TimedOut)) => LineFault::TimedOut,
+            Some(Stop::Fault(kind)) => LineFault::Broken(kind),
+            _ => LineFault::End,
+        }
+    }
+
+    /// Skips n bytes more, before the next line or read. Where fewer are left the input ends.
+    pub fn skip(&mut self, n: usize)
+        ensures feed { input_feed R.feed self.new ≡ option_map (skipped n) (input_feed R.feed self.old) }
+        ensures alone { input_skip self.old + n < 2 ^ 64
+            → (input_reader self.new ≡ input_reader self.old) × (input_stop self.new ≡ input_stop self.old) }
+        ensures adds { input_skip self.old + n < 2 ^ 64
+            → (input_skip self.new ≡ input_skip self.old + n) × (input_held self.new ≡ input_held self.old) }
+        // After an end or a fault the reader isn't called again.
+        ensures once { IsSome (input_stop self.old)
+            → IsSome (input_stop self.new) × (input_reader self.new ≡ input_reader self.old) }
+        ensures calls { input_told R.told self.new ≤ input_told R.told self.old }
+    {
+        match self.skip.checked_add(n) {
+            Some(sum) => self.skip = sum,
+            None => {
+                self.fill();
+                self.skip = n;
+            }
+        }
+    }
+
+    // Takes the next byte, if there is one.
+    fn pop_byte(&mut self) -> Option<u8>
+        ensures some { IfSome result
+            (λ b. input_feed R.feed self.old ≡ prepended (b ∷ []) (input_feed R.feed self.new)) }
+        ensures none { IfNone result (input_feed R.feed self.new ≡ input_feed R.feed self.old) }
+        ensures over { IfNone result (IsInputOver self.new) }
+        ensures stop { IfNone result
+            (IfSome (input_stop self.new) (λ stop. StopsBy stop (input_feed R.feed self.old))) }
+        ensures once { IsSome (input_stop self.old)
+            → IsSome (input_stop self.new) × (input_reader self.new ≡ input_reader self.old) }
+        ensures stays { IsInputOver self.old → (result ≡ None) × (self.new ≡ self.old) }
+        ensures lazy { IsSome result → input_stop self.new ≡ input_stop self.old }
+        ensures held { input_skip self.old < length (input_held self.old)
+            → (input_reader self.new ≡ input_reader self.old) × (input_skip self.new ≡ 0)
+            × (length (input_held self.new) + input_skip self.old + 1 ≡ length (input_held self.old)) }
+        ensures calls { input_told R.told self.new ≤ input_told R.told self.old }
+    {
+        self.fill();
+        self.held.pop()
+    }
+
+    // Reads once, past the empty buffer.
+    fn read_past_buffer(&mut self, buf: &mut [u8]) -> Result<usize, io::Error>
+        requires room { 0 < length buf.old }
+        requires empty { (self.old.held ≡ []) × (self.old.skip ≡ 0) }
+        requires open { self.old.stop ≡ None }
+        ensures bound { IfOk result (λ n. n ≤ length buf.new) }
+        ensures bytes { IfOk result
+            (λ n. input_feed R.feed self.old ≡ prepended (take n buf.new) (input_feed R.feed self.new)) }
+        ensures end { IfOk result (λ n. n ≡ 0 → StopsBy Stop.End (input_feed R.feed self.old)) }
+        ensures fault { IfErr result (λ e. StopsBy (Stop.Fault (error_kind e)) (input_feed R.feed self.old)) }
+        ensures again { OnErr result (input_feed R.feed self.new ≡ input_feed R.feed self.old) }
+        ensures over { OnErr result (IsInputOver self.new) }
+        ensures none { IfOk result (λ n. n ≡ 0 → IsInputOver self.new × (input_stop self.new ≡ Some Stop.End)) }
+        ensures kind { IfErr result (λ e. input_stop self.new ≡ Some (Stop.Fault (error_kind e))) }
+        ensures lazy { IfOk result (λ n. 0 < n → input_stop self.new ≡ None) }
+        ensures calls { input_told R.told self.new ≤ input_told R.told self.old }
+    {
+        match self.inner.read_in(buf) {
+            Ok(0) => {
+                self.stop = Some(Stop::End);
+                Ok(0)
+            }
+            Ok(n) => Ok(n),
+            Err(e) => {
+                self.stop = Some(Stop::Fault(e.kind()));
+                Err(e)
+            }
+        }
+    }
+
+    /// Reads some bytes. After them each call answers how the input stopped. Where no byte is held or to be skipped,
+    /// a read into 1024 bytes or more goes straight to the reader.
+    pub fn read(&mut self, buf: &mut [u8]) -> Result<usize, io::Error>
+        ensures bound { IfOk result (λ n. n ≤ length buf.new) }
+        ensures bytes { IfOk result
+            (λ n. input_feed R.feed self.old ≡ prepended (take n buf.new) (input_feed R.feed self.new)) }
+        ensures end { IfOk result (λ n. n ≡ 0 → 0 < length buf.new → StopsBy Stop.End (input_feed R.feed self.old)) }
+        ensures fault { IfErr result (λ e. StopsBy (Stop.Fault (error_kind e)) (input_feed R.feed self.old)) }
+        ensures again { OnErr result (input_feed R.feed self.new ≡ input_feed R.feed self.old) }
+        ensures empty { length buf.new ≡ 0 → (result ≡ Ok 0) × (self.new ≡ self.old) }
+        // After an end or a fault the reader isn't called again.
+        ensures once { IsSome (input_stop self.old)
+            → IsSome (input_stop self.new) × (input_reader self.new ≡ input_reader self.old) }
+        ensures over { OnErr result (IsInputOver self.new) }
+        ensures none { IfOk result (λ n. n ≡ 0
+            → 0 < length buf.new
+            → IsInputOver self.new × (input_stop self.new ≡ Some Stop.End)) }
+        ensures kind { IfErr result (λ e. input_stop self.new ≡ Some (Stop.Fault (error_kind e))) }
+        ensures stays { IsInputOver self.old
+            → (self.new ≡ self.old)
+            × IfSome (input_stop self.old) (λ stop. 0 < length buf.new → AnswersStop stop result) }
+        ensures lazy { IfOk result (λ n. 0 < n → input_stop self.new ≡ input_stop self.old) }
+        ensures held { input_skip self.old < length (input_held self.old)
+            → input_reader self.new ≡ input_reader self.old }
+        ensures told { Tells (R.told (input_reader self.old)) (R.told (input_reader self.new)) result }
+        ensures calls { input_told R.told self.new ≤ input_told R.told self.old }
+    {
+        if buf.is_empty() {
+            return Ok(0);
+        }
+        self.pass();
+        if self.skip == 0 && self.held.is_empty() && self.stop.is_none() && buf.len() >= CAPACITY {
+            return self.read_past_buffer(buf);
+        }
+        self.fill();
+        if self.held.is_empty()
+            && let Some(Stop::Fault(kind)) = self.stop
+        {
+            return Err(kind.into());
+        }
+        Ok(self.held.give(buf))
+    }
+}
