@@ -269,14 +269,14 @@ begins-held f o new c v n e is bytes h = begins-with f WithHead o new (body.With
     at : (x : Feed) → TakesExactly (λ (w : Vec ℕ). w.items) n (Some x) new (Some v) → BeginsAt f.by_standard WithHead (body_length_or_0 f) x new (body.WithHead c)
     at x k =
         let long : length x.bytes ≡ length v.items + length k.0 = ap length k.1 ∙ length-append v.items k.0 in
+        let held : length (cursor_bytes c) ≡ length v.items = ap length bytes in
         let R : Option Feed → Type 0 = λ y. remaining (body.WithHead c) y ≡ Some (pair (whole_feed v.items) (record { bytes = k.0; stop = x.stop })) in (
           λ lt. absurd (omega (arith, lt, is, long, k.2)),
           whole_feed v.items,
           Some k.0,
           (k.0, k.1, k.2 ∙ is, refl, refl),
           subst R (sym k.3) (ap (λ bs. Some (pair (whole_feed bs) (record { bytes = k.0; stop = x.stop }))) bytes),
-          refl,
-          ap length bytes ∙ k.2 ∙ is,
+          (refl, omega (arith, held, k.2, is)),
         )
 
 pub begins-cut : (f : Framing) (o new : Option Feed) (n : ℕ) → f.form ≡ WithHead → n ≡ body_length_or_0 f → TakesExactly (λ (w : Vec ℕ). w.items) n o new None → Begins f o new None
@@ -302,7 +302,7 @@ pub fits-chunked : (f : Framing) (d : Decoding) → f.form ≡ Chunked → decod
 fits-chunked f d e rules = (e, refl, rules)
 
 pub fits-held : (f : Framing) (c : Cursor (Vec ℕ)) → f.form ≡ WithHead → length (cursor_bytes c) ≡ body_length_or_0 f → FitsFraming f (body.WithHead c)
-fits-held f c e n = (e, n)
+fits-held f c e n = (e, omega (arith, n))
 
 pub fits-handed : (f : Framing) (b : UnreadBody) (x : Exchange) → head_framing x.head ≡ f → x.open_request.body ≡ b → FitsFraming f b → FitsHead (read.Request x)
 fits-handed f b x e k h =

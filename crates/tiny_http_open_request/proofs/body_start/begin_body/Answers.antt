@@ -1,10 +1,11 @@
-use Rattle.std.proofs.Common.{rules, refl, sym, subst, ap, ◌∙◌, ℕ, List, Option, None, Some, drop}
+use Rattle.std.proofs.Common.{rules, ◌≡◌, refl, sym, subst, ap, ◌∙◌, ℕ, List, Option, None, Some, drop, length}
 use Rattle.tiny_http_body.specs.declared.body.UnreadBody.{UnreadBody}
 use Rattle.tiny_http_open_request.specs.HeadReads.{Begins, FitsFraming}
 use Rattle.tiny_http_io.specs.Device.{Feed}
 use Rattle.tiny_http_io.specs.Source.{TakesExactly}
 use Rattle.std.specs.Global.{Vec}
 use Rattle.std.specs.Io.Cursor.{cursor_inner}
+use Rattle.tiny_http_io.specs.Cursor.{cursor_bytes}
 use Rattle.tiny_http_open_request.proofs.HeadReadsServing.{begins-rest, begins-nothing, begins-counted, begins-chunked, begins-held, begins-cut, fits-rest, fits-nothing, fits-counted, fits-chunked, fits-held}
 use Rattle.tiny_http_open_request.proofs.body_start.begin_body.Goals as goal
 
