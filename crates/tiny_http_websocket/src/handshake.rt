@@ -1,5 +1,5 @@
 //! The handshake by which a connection becomes a WebSocket (RFC 6455, section 4.2).
-ghost use Rattle.std.specs.Prelude.{◌≡◌, ℕ, List, count_by, IfSome, IfNone};
+ghost use Rattle.std.specs.Prelude.{◌≡◌, ◌≢◌, ℕ, List, count_by, IfSome, IfNone, IfOk};
 ghost use Rattle.websocket.specs.Handshake.{accept_key_of};
 ghost use Rattle.tiny_http_request.specs.Request.{request_head};
 ghost use Rattle.tiny_http_websocket.specs.Handshake.{AsksForWebSocket, has_name};
@@ -88,7 +88,10 @@ pub fn accept<R: ReadDevice + Drop, W: WriteDevice + Drop, Rt: Wait + Drop>(
 
 /// The answer to a request that was refused: 503 with its phrase as its text where as many connections are upgraded as
 /// may be, and else that of `upgrade_required`. An error where memory was refused.
-pub fn refusal(alloc: Global, error: UpgradeError) -> io::Result<Response<Cursor<Vec<u8>>>> {
+pub fn refusal(alloc: Global, error: UpgradeError) -> io::Result<Response<Cursor<Vec<u8>>>>
+    ensures full { error ≡ UpgradeError.TooMany → IfOk result (λ r. r.answer.status ≡ 503) }
+    ensures other { error ≢ UpgradeError.TooMany → IfOk result (λ r. r.answer.status ≡ 426) }
+{
     if error == UpgradeError::TooMany {
         return Ok(Response::status(alloc, StatusCode(503))?);
     }
@@ -98,7 +101,9 @@ pub fn refusal(alloc: Global, error: UpgradeError) -> io::Result<Response<Cursor
 /// An answer to a request that isn't for a WebSocket of version 13: 426 with its phrase as its text, that says the
 /// version (RFC 6455, section 4.4), and offers the upgrade (RFC 9110, section 15.5.22), which an answer by the
 /// standard alone has. An error where memory was refused.
-pub fn upgrade_required(alloc: Global) -> io::Result<Response<Cursor<Vec<u8>>>> {
+pub fn upgrade_required(alloc: Global) -> io::Result<Response<Cursor<Vec<u8>>>>
+    ensures { IfOk result (λ r. r.answer.status ≡ 426) }
+{
     let response = Response::status(alloc, StatusCode(426))?;
     let response = response.with(alloc, "Sec-WebSocket-Version", "13")?;
     let Ok(websocket) = AsciiString::from_ascii(b"websocket".to_vec(alloc)?) else {
