@@ -23,7 +23,7 @@ class Answer:
 
 
 def ask(port, target, method='GET', headers=(), body=b'', version='1.1', chunked=False):
-    """The answer to a request on a connection of its own."""
+    """The answer to a request on a connection of its own. It is whole: one that is cut is a fault."""
     lines = [f'{method} {target} HTTP/{version}', *(['Host: localhost'] * (not any(it.startswith('Host:') for it in headers))), *headers]
     if chunked:
         lines.append('Transfer-Encoding: chunked')
@@ -39,11 +39,14 @@ def ask(port, target, method='GET', headers=(), body=b'', version='1.1', chunked
             pass  # a body that is refused isn't taken
         answer = http.client.HTTPResponse(client, method=method)
         answer.begin()
-        try:
-            data = answer.read()
-        except http.client.IncompleteRead as cut:
-            data = cut.partial
-        return Answer(answer.status, answer.headers, data)
+        return Answer(answer.status, answer.headers, answer.read())
+
+
+def raw(port, request):
+    """All bytes that come after these, up to the end."""
+    with socket.create_connection(('127.0.0.1', port), timeout=10) as client:
+        client.sendall(request)
+        return client.makefile('rb').read()
 
 
 # Requests for notes, one after another, each with the status and the body of its answer.
@@ -70,13 +73,14 @@ def try_router(port, trials):
         trials.same(f'{method} {target}', (answer.status, answer.body.decode()), (status, wanted))
     answer = ask(port, '/notes', 'POST', body=b'{"text": "two"}', chunked=True)
     trials.same('a note in chunks is added', (answer.status, answer.body), (201, b'{"id":2,"text":"two"}'))
-    answer = ask(port, '/notes', 'POST', headers=['Connection: keep-alive'], body=b'x' * 65_537)
-    trials.same('a long body is refused, and not read', (answer.status, answer.headers['Connection']), (413, 'close'))
+    answer = ask(port, '/notes', 'POST', headers=['Connection: keep-alive', 'Content-Length: 65537'])
+    trials.same('a long body is refused before it comes', (answer.status, answer.headers['Connection']), (413, 'close'))
     answer = ask(port, '/events')
     seen = (answer.headers['Content-Type'], answer.headers['Transfer-Encoding'], answer.body)
     trials.same('notes are events', seen, ('text/event-stream', 'chunked', b'data: {"id":2,"text":"two"}\n\n'))
     answer = ask(port, '/events', version='1.0')
-    trials.same('and to version 1.0', (answer.status, answer.body), (200, b'data: {"id":2,"text":"two"}\n\n'))
+    seen = (answer.status, answer.headers['Transfer-Encoding'], answer.body)
+    trials.same('and to version 1.0', seen, (200, None, b'data: {"id":2,"text":"two"}\n\n'))
 
 
 def make_folder(folder):
@@ -114,7 +118,7 @@ def try_files(port, trials):
     link = (re.search(rb'href="([^"]*)"', answer.body) or [b'', b'/nothing'])[1].decode()
     answer = ask(port, urllib.parse.urljoin('/list/', link))
     trials.same('each of a file', (answer.status, answer.body), (200, b'b'))
-    for path in ['/../run.py', '/%2e%2e/run.py', '/list/..%2fa.txt', '/list/../a.txt', '/out', '/a.txt/', '/%00', '/%ff', '/nothing']:
+    for path in ['/../served/a.txt', '/%2e%2e/served/a.txt', '/list/..%2fa.txt', '/list/../a.txt', '/out', '/a.txt/', '/%00', '/%ff', '/nothing']:
         trials.same('nothing leads out', (path, ask(port, path).status), (path, 404))
     trials.same('a method is refused', ask(port, '/a.txt', 'DELETE').status, 405)
 
@@ -151,7 +155,10 @@ class Backend:
                 return
             with client, client.makefile('rb') as stream:
                 client.settimeout(10)
-                self.answer(client, stream)
+                try:
+                    self.answer(client, stream)
+                except (OSError, ValueError):
+                    pass  # the client shows it
 
     def answer(self, client, stream):
         head, body, length = b'', b'', 0
@@ -190,15 +197,21 @@ HANDED_ON = (b'POST /a?b HTTP/1.1\r\nX-End: 2\r\nHost: host\r\nX-Forwarded-For: 
              b'Via: 1.1 tiny-http-gateway\r\nContent-Length: 2\r\nConnection: close\r\n\r\nhi')
 
 
+def framing(answer):
+    """The headers that say where the body of an answer ends."""
+    return [f'{name}: {value}' for name in ('Content-Length', 'Transfer-Encoding') for value in answer.headers.get_all(name, [])]
+
+
 def try_gateway(port, trials):
     answer = ask(port, 'http://host/a?b', 'POST', headers=SENT, body=b'hi')
     trials.same('a request is handed on', backend.got, HANDED_ON)
-    seen = (answer.status, answer.body, answer.headers['A'], answer.headers['Keep-Alive'])
-    trials.same('and its answer', seen, (201, b'hi', 'b', None))
+    seen = (answer.status, answer.body, answer.headers.get_all('A'), answer.headers['Keep-Alive'], framing(answer))
+    trials.same('and its answer', seen, (201, b'hi', ['b'], None, ['Content-Length: 2']))
     for target, (headers, _, wanted) in FRAMED.items():
         answer = ask(port, target)
         seen = (answer.status, answer.body.decode() if answer.status == 201 else None)
         trials.same(f'a body ends in one way: {headers.strip() or "the end"}', seen, (201 if wanted else 502, wanted))
+        trials.same('and says so once', len(framing(answer)), 1)
     answer = ask(port, '/length', 'HEAD')
     trials.same('a head, too', (answer.status, answer.body, answer.headers['Content-Length']), (201, b'', '5'))
     body = b'x' * 70_000
@@ -207,7 +220,7 @@ def try_gateway(port, trials):
     answer = ask(port, '/', 'POST', body=body, chunked=True)
     trials.same('one in chunks', (answer.status, len(answer.body)), (201, len(body)))
     answer = ask(port, '/end', version='1.0')
-    trials.same('an answer to version 1.0', (answer.status, answer.body), (201, b'hello'))
+    trials.same('an answer to version 1.0', (answer.status, framing(answer), answer.body), (201, [], b'hello'))
     trials.same('no tunnel', ask(port, 'host:1', 'CONNECT').status, 501)
     backend.listener.shutdown(socket.SHUT_RDWR)
     backend.listener.close()
@@ -227,13 +240,13 @@ def record(folder):
 
 def try_testserver(port, trials):
     trials.same('all are unused', ask(port, '/unused').body, b'1\n2\n3\n')
-    for wanted in [b'one', b'up to the end']:
-        trials.same('an answer is given', ask(port, '/a', headers=['Connection: keep-alive']).body, wanted)
+    for wanted in [b'HTTP/1.1 200 OK\r\nContent-Length: 3\r\n\r\none', b'HTTP/1.1 200 OK\r\n\r\nup to the end']:
+        trials.same('an answer is given as it is', raw(port, b'GET /a HTTP/1.1\r\nHost: x\r\nConnection: close\r\n\r\n'), wanted)
     trials.same('each once', ask(port, '/a').status, 501)
     trials.same('not to another body', ask(port, '/b', 'POST', body=b'ho').status, 501)
     trials.same('its name is left', ask(port, '/unused').body, b'3\n')
-    answer = ask(port, '/b', 'POST', headers=['Connection: keep-alive'], body=b'hi')
-    trials.same('one that is cut', (answer.headers['Content-Length'], answer.body), ('9', b'cut'))
+    seen = raw(port, b'POST /b HTTP/1.1\r\nHost: x\r\nContent-Length: 2\r\n\r\nhi')
+    trials.same('one that is cut', seen, b'HTTP/1.1 200 OK\r\nContent-Length: 9\r\n\r\ncut')
     answer = ask(port, '/unused')
     trials.same('none is unused', (answer.status, answer.body), (200, b''))
 
@@ -287,7 +300,8 @@ def try_websocket_echo(port, trials):
         answer = ask(port, '/', headers=headers)
         trials.same('each header is needed, and one key', (left_out, answer.status), (left_out, 426))
     answer = ask(port, '/')
-    trials.same('a plain request is refused', (answer.status, answer.headers['Upgrade']), (426, 'websocket'))
+    seen = (answer.status, answer.headers['Upgrade'], answer.headers['Sec-WebSocket-Version'])
+    trials.same('a plain request is refused', seen, (426, 'websocket', '13'))
     key = base64.b64encode(os.urandom(16)).decode()
     client, stream, head = upgraded(port, [it if it != HANDSHAKE[3] else f'Sec-WebSocket-Key: {key}' for it in HANDSHAKE])
     accept = base64.b64encode(hashlib.sha1((key + '258EAFA5-E914-47DA-95CA-C5AB0DC85B11').encode()).digest())
@@ -324,7 +338,7 @@ TRIALS = {
 
 
 def free_port():
-    """A port that nobody has. It is none of those that the system chooses by itself."""
+    """A port that nobody has, below those that the system gives out by itself (Linux, unless told otherwise)."""
     for port in random.sample(range(20_000, 30_000), 100):
         with socket.socket() as probe:
             try:
@@ -348,7 +362,7 @@ def wait_for(port, process, seconds):
     raise OSError(f'nobody listens after {seconds} seconds')
 
 
-def end(pid):
+def kill(pid):
     """Kills a process and those that it began."""
     try:
         with open(f'/proc/{pid}/task/{pid}/children', encoding='ascii') as file:
@@ -357,26 +371,35 @@ def end(pid):
     except OSError:
         return
     for child in children:
-        end(int(child))
+        kill(int(child))
+
+
+def end(process):
+    """Ends a program. `rt try` clears up where it is asked to end."""
+    process.terminate()
+    try:
+        process.wait(timeout=20)
+    except subprocess.TimeoutExpired:
+        kill(process.pid)
+        process.wait()
 
 
 def try_program(name, call, cwd=None, begun=lambda process: None, seconds=10):
     """Calls a program, which listens within so many seconds, and tries it: each trial with its name, whether it went well, and what was seen."""
     words, trial = TRIALS[name]
     trials = Trials()
-    with tempfile.TemporaryDirectory() as folder:
-        port = free_port()
-        quiet = subprocess.DEVNULL
-        process = subprocess.Popen([*call, f'127.0.0.1:{port}', *words(folder + '/served')], cwd=cwd, stdout=quiet, stderr=quiet)
+    with tempfile.TemporaryDirectory() as folder, open(folder + '/said', 'w+', errors='replace') as said:
+        port, quiet = free_port(), subprocess.DEVNULL
+        process = subprocess.Popen([*call, f'127.0.0.1:{port}', *words(folder + '/served')], cwd=cwd, stdin=quiet, stdout=quiet, stderr=said)
         try:
             begun(process)
             wait_for(port, process, seconds)
             trial(port, trials)
         except (OSError, AttributeError, IndexError, ValueError, http.client.HTTPException) as fault:
-            trials.same(name, repr(fault), 'no fault')
+            said.seek(0)
+            trials.same(name, f'{fault!r} {said.read()[-2000:]}', 'no fault')
         finally:
-            end(process.pid)
-            process.wait()
+            end(process)
     return trials.seen
 
 

@@ -3,9 +3,8 @@
 //! `GET /notes` lists them, `POST /notes` adds one of `{"text": ..}`, and `GET` and `DELETE` of `/notes/{id}` read
 //! and remove one. `GET /events` sends them as server-sent events. The program shows routes by `matchit`, JSON by
 //! `serde_json`, state that threads share, a body that is read whole (`read_body`), one that grows while it is sent
-//! (`respond_streaming`), and a handler of any `Request`, so that a test can call it (`tests.rt`). What is wrong with
-//! a request is said by JSON. Where memory is refused, or the body's reader fails otherwise, the request is dropped,
-//! and answered by an empty 500.
+//! (`respond_streaming`), and a handler of any `Request`. What is wrong with a request is said by JSON. Where memory is
+//! refused, or the body's reader fails otherwise, the request is dropped, and answered by an empty 500.
 #![tactic(auto)]
 
 mod notes;
