@@ -25,7 +25,8 @@ use Rattle.tiny_http_connection_laws.proofs.RunFronts.{not-true}
 use Rattle.tiny_http_connection_laws.proofs.StepsAdd.{told, by-asreader, by-respond, by-writer, by-upgrade, by-drop}
 use Rattle.tiny_http_connection_laws.proofs.CloseSteps.{upgrade-holds}
 use Rattle.tiny_http_connection_laws.proofs.AccountsHold.{Told, IsTold, AllTold, Alike, IsOwn, is_given_up, told-at, last-told, own-answers, planned-alike, outcome-tells, step-told, none-told}
-use Rattle.tiny_http_connection_laws.proofs.AccountsTurns.{last-number, own-planned, run-found, matches-length}
+use Rattle.tiny_http_connection_laws.proofs.AccountsTurns.{own-planned, run-found, matches-length}
+use Rattle.tiny_http_connection_laws.proofs.AccountsWaits.{last-number}
 
 -- ---- booleans
 

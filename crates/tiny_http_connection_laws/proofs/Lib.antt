@@ -15,4 +15,5 @@ pub mod CloseSteps
 pub mod CloseIsRead
 pub mod AccountsHold
 pub mod AccountsTurns
+pub mod AccountsWaits
 pub mod AccountsEnd

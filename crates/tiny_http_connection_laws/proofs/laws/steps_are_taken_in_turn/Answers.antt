@@ -1,4 +1,5 @@
-use Rattle.tiny_http_connection_laws.proofs.AccountsTurns.{step-done, done-in_turn, step-found, step-known, ask-waits-for}
+use Rattle.tiny_http_connection_laws.proofs.AccountsTurns.{step-done, step-found, step-known}
+use Rattle.tiny_http_connection_laws.proofs.AccountsWaits.{done-in_turn, ask-waits-for}
 use Rattle.tiny_http_connection_laws.proofs.laws.steps_are_taken_in_turn.Goals as goal
 
 pub returns-clause-done : goal.returns-clause-done
