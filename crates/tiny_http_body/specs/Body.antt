@@ -118,7 +118,7 @@ is_streaming (Counted n by_standard) = true
 is_streaming (Chunked decoding) = true
 is_streaming Rest = true
 
--- the body's end stands, or will after what is held: none of it is read from the input any more, and no fault ends it
+-- no more of the body is read from the input, and no fault ended it
 abbrev pub is_whole : UnreadBody → Bool
 is_whole (Over End) = true
 is_whole (Over (Fault kind)) = false
@@ -178,8 +178,8 @@ abbrev pub IsChunkedBy : ChunkRules → UnreadBody → Type 0
 IsChunkedBy rules (Chunked decoding) = decoding_rules decoding ≡ rules
 IsChunkedBy rules _ = ⊥
 
--- A counted body is over, by its end or a fault, and all its bytes had come or not. One whose bytes haven't ends by a
--- fault by the standard; one whose bytes have doesn't.
+-- A counted body is over, by its end or a fault, and all its bytes had come or not. If they had it ends without a fault,
+-- else by the standard with one.
 abbrev pub IsCountedOver : Bool → Bool → UnreadBody → Type 0
 IsCountedOver by_standard has_come (Over End) = (has_come || not by_standard) ≡ true
 IsCountedOver by_standard has_come (Over (Fault kind)) = has_come ≡ false
@@ -234,7 +234,8 @@ body_finished form.Counted n given end_reported = given == n || end_reported
 body_finished form.Chunked n given end_reported = end_reported
 body_finished form.Rest n given end_reported = end_reported
 
--- a body of this form may be over by this stop: one in memory isn't, and none has its end
+-- the stops that a finished body of this form may have: one in memory is never over, and where there is none, it is at
+-- its end
 abbrev pub MayBeOver : Form → Stop → Type 0
 MayBeOver form.WithHead stop = ⊥
 MayBeOver form.Nothing stop = stop ≡ End

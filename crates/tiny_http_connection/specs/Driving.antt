@@ -225,8 +225,8 @@ abbrev pub FinishesNumber : ℕ → List Mark → List Mark → Type 0
 FinishesNumber k old new =
     (front rest : List Mark) → old ≡ front ++ (Open ∷ rest) → length front ≡ k → FinishesFront front rest new
 
--- nothing is kept of this number any more, which is finished, and its body was given up; the last number was told that
--- the connection ends, if it waits and the answer asked for that
+-- nothing is kept of this number any more, which is finished if it was open, and its body was given up; the last number
+-- was told that the connection ends, if it waits and the answer asked for that
 abbrev pub LetsGoAnswered : {R W : Type 0} → ℕ → Bool → ConnectionState R W → ConnectionState R W → Type 0
 LetsGoAnswered k closes old new =
     (new.requests ≡ slice_set (closing_if_asked closes old.requests) k None)

@@ -69,8 +69,8 @@ pub record GivesOnInput (old new : BodyState) : Type 0 where
 
 -- ONE READ OF A BODY: how far the body was read, and what holds where the connection's reader states no feed; the
 -- bytes of what is left stand in `Reads`. A body that came with its head gives its next bytes, and none only at its
--- end. A body whose end is answered has come whole. A body that is over answers its end or fault again. A read into no
--- room changes nothing.
+-- end. A body whose end is answered is read no more, and no fault ended it. A body that is over answers its end or
+-- fault again. A read into no room changes nothing.
 pub record ReadsUnread (old new : BodyState) (r : Result ℕ Error) (buf : List ℕ) : Type 0 where
   pub held : is_streaming old.unread ≡ false → (feed : Option Feed)
       → IfOk r (λ n. remaining old.unread feed ≡ prepended_body (take n buf) (remaining new.unread feed))

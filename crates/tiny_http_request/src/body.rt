@@ -127,7 +127,7 @@ impl<R: ReadDevice + Drop, Rt: Wait + Drop> Body<R, Rt> {
         }
     }
 
-    /// Whether the body has come whole, and none of it is read from the connection any more.
+    /// Whether no more of it is read from the connection, and no fault ended it; by `Lenient` also of a cut one.
     pub(crate) fn is_whole(&self) -> bool
         ensures { result ≡ is_whole self.now.unread }
     {

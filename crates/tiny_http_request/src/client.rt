@@ -37,7 +37,7 @@ pub(crate) struct Client {
     pub remote_addr: Option<SocketAddr>,
 }
 
-/// What a request tells its connection.
+/// State that a request shares with its connection.
 #[derive(Drop)]
 pub(crate) struct Links {
     /// Whether the connection's flushes may leave their bytes, where they ever may.
@@ -52,7 +52,7 @@ pub struct ClientConnection<R: ReadDevice + Drop, W: WriteDevice + Drop, Rt: Wai
     alloc: Global,
     profile: Profile,
     client: Client,
-    // What its requests tell it, where somebody wants to know.
+    // What it shares with its requests, where somebody wants to know.
     links: Links,
     source: SequentialReaderBuilder<Source<R>, Rt>,
     sink: SequentialWriterBuilder<Outlet<W>, Rt>,
