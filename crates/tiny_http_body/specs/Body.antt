@@ -178,8 +178,8 @@ abbrev pub IsChunkedBy : ChunkRules → UnreadBody → Type 0
 IsChunkedBy rules (Chunked decoding) = decoding_rules decoding ≡ rules
 IsChunkedBy rules _ = ⊥
 
--- A counted body is over, by its end or a fault, and all its bytes had come or not. If they had it ends without a fault,
--- else by the standard with one.
+-- A counted body is over, by its end or a fault, and all its bytes had come or not. If they had it ends without a
+-- fault, else by the standard with one.
 abbrev pub IsCountedOver : Bool → Bool → UnreadBody → Type 0
 IsCountedOver by_standard has_come (Over End) = (has_come || not by_standard) ≡ true
 IsCountedOver by_standard has_come (Over (Fault kind)) = has_come ≡ false
