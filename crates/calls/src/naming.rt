@@ -75,9 +75,9 @@ fn choice(words: &str) -> Result<Choice, LineFault> {
 }
 
 // The version and the method of a head that is judged.
-fn judged(alloc: Global, words: &str) -> Result<Call, LineFault> {
+fn validated(alloc: Global, words: &str) -> Result<Call, LineFault> {
     let (version_word, name) = split(words);
-    Ok(Call::Judge(version(version_word)?, method(alloc, name)?))
+    Ok(Call::Validate(version(version_word)?, method(alloc, name)?))
 }
 
 // The rules of a decoder: the lenient ones, if no word names others.
@@ -152,7 +152,7 @@ fn worded_call(alloc: Global, name: &str, words: &str) -> Result<Call, LineFault
         "raw_print" => Ok(Call::RawPrint(status(words)?)),
         "default_reason_phrase" => Ok(Call::Phrase(status(words)?)),
         "HTTPVersion" => Ok(Call::Version(version(words)?)),
-        "judge" => judged(alloc, words),
+        "judge" => validated(alloc, words),
         "heads::read_head" => Ok(Call::ReadHead(number(words)?)),
         "Numeral" => Ok(Call::Numeral(number(words)? as u64)),
         "print" => Ok(Call::Print(status(words)?)),

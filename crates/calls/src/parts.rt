@@ -41,7 +41,7 @@ fn parts_of(call: &Call) -> &'static [&'static str] {
         Call::PutChunk => &["data", "series"],
         Call::PutChunked => &["data", "series", "stop", "rooms"],
         Call::Encoder(_) => &["data", "series", "flushes", "open", "rooms"],
-        Call::AskedCoding | Call::Judge(_, _) => &["request"],
+        Call::AskedCoding | Call::Validate(_, _) => &["request"],
         Call::StandardRequestLine | Call::StandardFieldLine | Call::Host => &["data"],
         Call::ReadHead(_) => &["data", "series"],
         Call::RawPrint(_) => &[

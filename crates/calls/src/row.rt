@@ -101,7 +101,7 @@ pub enum Call {
     /// A text is judged as a host, as the value of a `Host` and as the target of a `CONNECT`.
     Host,
     /// A head of this version and method is judged by the standard.
-    Judge(HTTPVersion, Method),
+    Validate(HTTPVersion, Method),
     /// The head at the front of bytes is read by the standard, where one has at most so many bytes.
     ReadHead(usize),
     /// An answer of this status is printed by the standard, by `print`.

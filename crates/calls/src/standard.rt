@@ -4,8 +4,8 @@ use crate::row::Finding;
 use std::alloc::{AllocError, Global};
 use tiny_http_standard_head::heads::{StandardFault, StandardRead, read_head};
 use tiny_http_standard_head::hosts::{is_authority, is_host, is_host_value};
-use tiny_http_standard_head::judging::{HeadSummary, judge};
 use tiny_http_standard_head::lines::{parse_field_line, parse_request_line};
+use tiny_http_standard_head::validation::{HeadSummary, validate};
 use tiny_http_wire::common::{HTTPVersion, Header, Method};
 
 /// A request line.
@@ -50,7 +50,7 @@ fn add_if(
 }
 
 /// Which of a host, the value of a `Host` and the target of a `CONNECT` a text is; `refused` where it is none.
-pub fn judge_host(alloc: Global, text: &[u8], to: &mut Vec<Finding>) -> Result<(), AllocError> {
+pub fn validate_host(alloc: Global, text: &[u8], to: &mut Vec<Finding>) -> Result<(), AllocError> {
     add_if(alloc, to, "host", is_host(text))?;
     add_if(alloc, to, "host-value", is_host_value(text))?;
     add_if(alloc, to, "authority", is_authority(text))?;
@@ -70,20 +70,20 @@ fn add_head(alloc: Global, to: &mut Vec<Finding>, head: HeadSummary) -> Result<(
 }
 
 /// What a head of this version, method and headers says, or the status by which it is refused.
-pub fn judge_head(
+pub fn validate_head(
     alloc: Global,
     version: HTTPVersion,
     method: &Method,
     headers: &[Header],
     to: &mut Vec<Finding>,
 ) -> Result<(), AllocError> {
-    match judge(version, method, headers) {
+    match validate(version, method, headers) {
         Ok(head) => add_head(alloc, to, head),
         Err(refusal) => add_shown(
             alloc,
             to,
             "refused",
-            &StandardFault::Judged(refusal).status(),
+            &StandardFault::Invalid(refusal).status(),
         ),
     }
 }

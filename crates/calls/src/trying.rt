@@ -10,7 +10,7 @@ use crate::reading::RowFile;
 use crate::row::{Call, Finding, Input, Rooms, Row, Subject, is_asked};
 use crate::sources::{call_sources, read_fused, read_parts};
 use crate::standard::{
-    judge_head, judge_host, read_field_line, read_first_head, read_request_line,
+    read_field_line, read_first_head, read_request_line, validate_head, validate_host,
 };
 use crate::texts::{ask, choose_by, phrase, read_text, show, write_number};
 use crate::written::{encode, print, print_by_standard, write_chunk, write_chunked};
@@ -87,15 +87,15 @@ fn make_call(
         Call::StandardRequestLine => read_request_line(alloc, input.bytes.as_slice(), to),
         Call::StandardFieldLine => read_field_line(alloc, input.bytes.as_slice(), to),
         Call::ReadHead(limit) => read_first_head(alloc, *limit, input.bytes.as_slice(), to),
-        Call::Host => judge_host(alloc, input.bytes.as_slice(), to),
+        Call::Host => validate_host(alloc, input.bytes.as_slice(), to),
         Call::Print(status) => print_by_standard(alloc, *status, input, to),
         Call::Each(subject) => make_each(alloc, *subject, input, piece, to),
         Call::Greeter => greet(alloc, input, piece, to),
         Call::ByNumber(count) => keep_numbers(alloc, *count, to),
         Call::UpgradeError(error) => add_shown(alloc, to, "phrase", error),
         Call::TurnsError(error) => add_shown(alloc, to, "phrase", error),
-        Call::Judge(version, method) => {
-            judge_head(alloc, *version, method, input.request.as_slice(), to)
+        Call::Validate(version, method) => {
+            validate_head(alloc, *version, method, input.request.as_slice(), to)
         }
     }
 }

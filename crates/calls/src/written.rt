@@ -10,11 +10,11 @@ use std::alloc::{AllocError, Global};
 use std::io;
 use std::io::{ErrorKind, Write};
 use tiny_http_body::chunks::{put_chunk, put_chunked};
-use tiny_http_wire::answer_context::{AnswerContext, Persistence};
 use tiny_http_wire::common::{HTTPVersion, StatusCode};
 use tiny_http_wire::device::{Canned, Metered, WriteDevice};
 use tiny_http_wire::encoder::Encoder;
 use tiny_http_wire::response::Response;
+use tiny_http_wire::response_context::{Persistence, ResponseContext};
 
 // A writer of this room, or of ample room.
 fn writer_of(alloc: Global, room: Option<Room>) -> Metered<Trier> {
@@ -182,7 +182,7 @@ pub fn print(
     add_left(alloc, &mut data, to)
 }
 
-const BY_THE_STANDARD: AnswerContext = AnswerContext {
+const BY_THE_STANDARD: ResponseContext = ResponseContext {
     version: HTTPVersion(1, 1),
     asked_coding: None,
     no_body: false,

@@ -10,13 +10,13 @@ use tiny_http_core::outlet::Outlet;
 use tiny_http_request::client::ClientConnection;
 use tiny_http_request::request::{Body, Request};
 use tiny_http_request::sequential::SequentialWriter;
-use tiny_http_socket::cork::{Cork, CorkedReader, CorkedWriter};
+use tiny_http_socket::cork::{Cork, CorkedWriter, FlushingReader};
 
 /// The writer below a connection's outlet.
 pub(crate) type Below<R> = CorkedWriter<TrialSocket<R>, R>;
 
 /// The reader below a connection's input.
-pub(crate) type Input<R> = CorkedReader<Reader, TrialSocket<R>>;
+pub(crate) type Input<R> = FlushingReader<Reader, TrialSocket<R>>;
 
 /// A connection.
 pub(crate) type Connected<R> = ClientConnection<Input<R>, Below<R>, R>;

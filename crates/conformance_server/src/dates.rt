@@ -9,9 +9,9 @@ use tiny_http::server::current_date;
 
 // A clock that stands at a time since 1970, or can't be read.
 #[derive(Drop)]
-struct Standing(Option<u64>);
+struct InputState(Option<u64>);
 
-impl Clock for Standing {
+impl Clock for InputState {
     fn monotonic(&self) -> io::Result<Duration> {
         Err(ErrorKind::Unsupported.into())
     }
@@ -26,7 +26,7 @@ impl Clock for Standing {
 
 // A clock at `millis` milliseconds gives the date of `wanted` seconds.
 fn assert_seconds(rt: &impl Abort, millis: Option<u64>, wanted: u64) {
-    let found = current_date(&Standing(millis));
+    let found = current_date(&InputState(millis));
     let wanted = HttpDate::from_unix_secs(wanted).expect(rt, "a date");
     assert_same(rt, (millis, found), (millis, wanted));
 }

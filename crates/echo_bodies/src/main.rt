@@ -46,7 +46,7 @@ fn echo<R: ReadDevice + Drop, W: WriteDevice + Drop>(
     number: u64,
     now: HttpDate,
 ) -> io::Result<()> {
-    connection.as_reader(alloc, now, number);
+    connection.send_continue(alloc, now, number);
     let reply = match read_body(alloc, connection, number)? {
         Some(body) => connection.respond(alloc, now, number, Response::from_data(alloc, body)),
         None => connection.respond(alloc, now, number, Response::empty(alloc, StatusCode(413))),

@@ -2,10 +2,10 @@
 use Rattle.std.specs.Prelude.{Option, Some, None, Result, Ok, Err}
 use Rattle.std.specs.declared.io.Error.{Error as IoError}
 use Rattle.tiny_http_socket.specs.declared.refined_tcp_stream.RefinedTcpStream.{RefinedTcpStream}
-use Rattle.tiny_http_socket.specs.declared.cork.CorkedReader.{CorkedReader}
+use Rattle.tiny_http_socket.specs.declared.cork.FlushingReader.{FlushingReader}
 use Rattle.tiny_http_socket.specs.declared.cork.CorkedWriter.{CorkedWriter}
-use Rattle.tiny_http_socket.specs.declared.paced_reader.PacedReader.{PacedReader}
-use Rattle.tiny_http_socket.specs.declared.paced_writer.PacedWriter.{PacedWriter}
+use Rattle.tiny_http_socket.specs.declared.timed_reader.TimedReader.{TimedReader}
+use Rattle.tiny_http_socket.specs.declared.timed_writer.TimedWriter.{TimedWriter}
 use Rattle.tiny_http_request.specs.declared.request.Request.{Request}
 use Rattle.tiny_http.specs.declared.accepting.Message.{Message}
 use Rattle.tiny_http.specs.declared.accepting.Message.TheVariants.{Error, NewRequest, NewClient}
@@ -13,7 +13,8 @@ use Rattle.tiny_http.specs.declared.accepting.Message.TheVariants.{Error, NewReq
 -- the request or the fault that was popped; nothing of a mark, of an empty queue, or of a client that is to be served
 abbrev pub received : {R : Type 0} → Option (Message R)
     → Result
-    (Option (Request (PacedReader (CorkedReader RefinedTcpStream (PacedWriter R)) R) (CorkedWriter (PacedWriter R) R) R))
+    (Option (Request (TimedReader (FlushingReader RefinedTcpStream (TimedWriter R)) R)
+    (CorkedWriter (TimedWriter R) R) R))
     IoError
 received (Some (Error fault)) = Err fault
 received (Some (NewRequest request)) = Ok (Some request)

@@ -6,7 +6,7 @@ ghost use Rattle.tiny_http.specs.Message.{received};
 
 use crate::ending::Ending;
 use crate::faults::passes;
-use crate::lobby::{Link, Lobby, Presence, time_of};
+use crate::registry::{ConnectionGuard, ConnectionHandle, ConnectionRegistry, time_of};
 use crate::server::{ServerReader, ServerRequest, ServerWriter, current_date};
 use crate::serving::Handler;
 use std::alloc::Global;
@@ -22,11 +22,11 @@ use tiny_http_limits::limits::Limits;
 use tiny_http_limits::times::time_left;
 use tiny_http_request::client::ClientConnection;
 use tiny_http_socket::connection::{Connection, Listener};
+use tiny_http_socket::connection_timers::ConnectionTimers;
 use tiny_http_socket::cork::{Cork, halves};
-use tiny_http_socket::pace::Pace;
-use tiny_http_socket::paced_reader::PacedReader;
-use tiny_http_socket::paced_writer::PacedWriter;
 use tiny_http_socket::refined_tcp_stream::RefinedTcpStream;
+use tiny_http_socket::timed_reader::TimedReader;
+use tiny_http_socket::timed_writer::TimedWriter;
 use tiny_http_threads::messages_queue::MessagesQueue;
 use tiny_http_threads::task_pool::{Job, TaskPool};
 
@@ -117,12 +117,12 @@ pub(crate) struct Client<R: Wait + Clock + Drop> {
     ending: Arc<Ending>,
     connection: ClientConnection<ServerReader<R>, ServerWriter<R>, R>,
     // What its two halves share.
-    cork: Arc<Cork<PacedWriter<R>>>,
+    cork: Arc<Cork<TimedWriter<R>>>,
     // To close it by.
     socket: Arc<Connection>,
     has_limits: bool,
     // It counts until the connection is let go.
-    presence: Presence<R>,
+    guard: ConnectionGuard<R>,
 }
 
 impl<R: Wait + Clock + Copy> Client<R> {
@@ -257,7 +257,7 @@ pub(crate) struct Accepting<R: Wait + Clock + Drop> {
     // Set once the server serves.
     pub serving: Arc<AtomicBool>,
     pub messages: Arc<Messages<R>>,
-    pub lobby: Arc<Lobby>,
+    pub registry: Arc<ConnectionRegistry>,
     pub pool: TaskPool<Reading<R>, R>,
 }
 
@@ -272,7 +272,7 @@ impl<R: Wait + Clock + Threads + Copy + Send + 'static> Accepting<R> {
     fn accept_all(&self) {
         let mut backoff = Backoff::new();
         for _ in self.rt.forever() {
-            self.lobby.wait_for_place(&self.rt, &self.ending);
+            self.registry.wait_for_place(&self.rt, &self.ending);
             if self.ending.is_closed() {
                 return;
             }
@@ -286,7 +286,7 @@ impl<R: Wait + Clock + Threads + Copy + Send + 'static> Accepting<R> {
                     self.begin(connection, remote_addr);
                 }
                 Err(fault) if self.limits.is_some() && passes(&fault) => {
-                    self.lobby.count_accept_fault(&self.rt);
+                    self.registry.count_accept_fault(&self.rt);
                     thread::sleep(&self.rt, backoff.take());
                 }
                 Err(fault) => {
@@ -329,15 +329,15 @@ impl<R: Wait + Clock + Threads + Copy + Send + 'static> Accepting<R> {
         let (reader, writer) = RefinedTcpStream::new(alloc, connection).ok()?;
         let socket = Arc::try_clone(reader.connection()).ok()?;
         let ending = Arc::try_clone(&self.ending).ok()?;
-        let upgraded = Arc::try_clone(self.lobby.upgraded()).ok()?;
-        let pace = Pace::new(alloc, self.limits, upgraded).ok()?;
-        let presence = self.enter(remote_addr, &socket, &pace)?;
+        let upgraded = Arc::try_clone(self.registry.upgraded()).ok()?;
+        let timers = ConnectionTimers::new(alloc, self.limits, upgraded).ok()?;
+        let guard = self.enter(remote_addr, &socket, &timers)?;
         if self.ending.is_closed() {
             // The server was stopped before the client was there.
             return None;
         }
         let secure = reader.secure();
-        let (reader, writer) = self.timed_halves(reader, writer, &socket, &pace)?;
+        let (reader, writer) = self.timed_halves(reader, writer, &socket, &timers)?;
         let cork = Arc::try_clone(writer.cork()).ok()?;
         let profile = self.profile;
         let made = ClientConnection::over_with(
@@ -350,7 +350,7 @@ impl<R: Wait + Clock + Threads + Copy + Send + 'static> Accepting<R> {
             secure,
         );
         let mut connection = made.ok()?;
-        connection.set_pace(pace).ok()?;
+        connection.set_timers(timers).ok()?;
         Some(Client {
             rt,
             ending,
@@ -358,7 +358,7 @@ impl<R: Wait + Clock + Threads + Copy + Send + 'static> Accepting<R> {
             cork,
             socket,
             has_limits: self.limits.is_some(),
-            presence,
+            guard,
         })
     }
 
@@ -368,14 +368,14 @@ impl<R: Wait + Clock + Threads + Copy + Send + 'static> Accepting<R> {
         reader: RefinedTcpStream,
         writer: RefinedTcpStream,
         socket: &Arc<Connection>,
-        pace: &Arc<Pace>,
+        timers: &Arc<ConnectionTimers>,
     ) -> Option<(ServerReader<R>, ServerWriter<R>)> {
         let (rt, alloc) = (self.rt, self.alloc);
-        let writer = PacedWriter::new(rt, writer, Arc::try_clone(pace).ok()?);
+        let writer = TimedWriter::new(rt, writer, Arc::try_clone(timers).ok()?);
         let (reader, writer) = halves(rt, alloc, reader, writer).ok()?;
         let socket = Arc::try_clone(socket).ok()?;
-        let pace = Arc::try_clone(pace).ok()?;
-        Some((PacedReader::new(rt, reader, socket, pace), writer))
+        let timers = Arc::try_clone(timers).ok()?;
+        Some((TimedReader::new(rt, reader, socket, timers), writer))
     }
 
     // Has a client of this address count as connected. None where it may not be.
@@ -383,12 +383,12 @@ impl<R: Wait + Clock + Threads + Copy + Send + 'static> Accepting<R> {
         &self,
         remote_addr: Option<SocketAddr>,
         socket: &Arc<Connection>,
-        pace: &Arc<Pace>,
-    ) -> Option<Presence<R>> {
-        let link = Link {
+        timers: &Arc<ConnectionTimers>,
+    ) -> Option<ConnectionGuard<R>> {
+        let handle = ConnectionHandle {
             socket: Arc::try_clone(socket).ok()?,
-            pace: Arc::try_clone(pace).ok()?,
+            timers: Arc::try_clone(timers).ok()?,
         };
-        Presence::enter(self.rt, &self.lobby, remote_addr, link)
+        ConnectionGuard::enter(self.rt, &self.registry, remote_addr, handle)
     }
 }

@@ -30,7 +30,7 @@ mod accepting;
 mod ending;
 mod faults;
 pub mod laws;
-mod lobby;
+mod registry;
 pub mod server;
 pub mod serving;
 
@@ -46,7 +46,7 @@ pub use tiny_http_core::{
     turns, upgrading,
 };
 pub use tiny_http_limits::limits::Limits;
-pub use tiny_http_limits::{backoff, census, counts, headcount, limits, times};
+pub use tiny_http_limits::{backoff, connection_table, counts, headcount, limits, times};
 pub use tiny_http_request::request::{
     BodyError, ReadWrite, RefusedUpgrade, Request, StreamedBody, StreamedForm,
 };
@@ -54,13 +54,13 @@ pub use tiny_http_request::test::{Recorder, TestRequest};
 pub use tiny_http_request::{client, request, test};
 pub use tiny_http_socket::connection::{ConfigListenAddr, ListenAddr, Listener};
 pub use tiny_http_socket::{
-    connection, cork, corked, pace, paced_reader, paced_writer, read_ahead, refined_tcp_stream,
-    write_both,
+    connection, connection_timers, cork, corked, read_ahead, refined_tcp_stream, timed_reader,
+    timed_writer, write_both,
 };
 pub use tiny_http_threads::{messages_queue, roster, sequential, task_pool};
 pub use tiny_http_wire::common::{HTTPVersion, Header, HeaderField, Method, StatusCode};
 pub use tiny_http_wire::response::{Response, ResponseBox};
 pub use tiny_http_wire::{
-    answer_context, ascii, chunked, coding, common, device, encoder, grammar, header_value, number,
-    response, streamed, target,
+    ascii, chunked, coding, common, device, encoder, grammar, header_value, number, response,
+    response_context, streamed, target,
 };

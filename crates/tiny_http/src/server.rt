@@ -5,7 +5,7 @@ ghost use Rattle.tiny_http.specs.Clock.{seconds_of};
 
 use crate::accepting::{Accepting, Message, Messages};
 use crate::ending::Ending;
-use crate::lobby::{Lobby, time_of};
+use crate::registry::{ConnectionRegistry, time_of};
 use httpdate::HttpDate;
 use std::alloc::{AllocError, Global};
 use std::io::ErrorKind;
@@ -25,10 +25,10 @@ use tiny_http_limits::counts::Counts;
 use tiny_http_limits::limits::Limits;
 use tiny_http_request::request::{Body, Request};
 use tiny_http_socket::connection::{ConfigListenAddr, ListenAddr, Listener, SocketFiles};
-use tiny_http_socket::cork::{CorkedReader, CorkedWriter};
-use tiny_http_socket::paced_reader::PacedReader;
-use tiny_http_socket::paced_writer::PacedWriter;
+use tiny_http_socket::cork::{CorkedWriter, FlushingReader};
 use tiny_http_socket::refined_tcp_stream::RefinedTcpStream;
+use tiny_http_socket::timed_reader::TimedReader;
+use tiny_http_socket::timed_writer::TimedWriter;
 use tiny_http_threads::messages_queue::MessagesQueue;
 use tiny_http_threads::sequential::SequentialWriter;
 use tiny_http_threads::task_pool::TaskPool;
@@ -70,10 +70,10 @@ pub trait Host: ServerRuntime + Sync {}
 impl<R: ServerRuntime + Sync> Host for R {}
 
 /// What a server reads a client by.
-pub type ServerReader<R> = PacedReader<CorkedReader<RefinedTcpStream, PacedWriter<R>>, R>;
+pub type ServerReader<R> = TimedReader<FlushingReader<RefinedTcpStream, TimedWriter<R>>, R>;
 
 /// What a server writes to a client by.
-pub type ServerWriter<R> = CorkedWriter<PacedWriter<R>, R>;
+pub type ServerWriter<R> = CorkedWriter<TimedWriter<R>, R>;
 
 /// A request of a server's client.
 pub type ServerRequest<R> = Request<ServerReader<R>, ServerWriter<R>, R>;
@@ -206,7 +206,7 @@ pub struct Server<R: Net + SocketFiles + Wait + Clock + Drop> {
     // Set once it serves.
     pub(crate) serving: Arc<AtomicBool>,
     pub(crate) messages: Arc<Messages<R>>,
-    pub(crate) lobby: Arc<Lobby>,
+    pub(crate) registry: Arc<ConnectionRegistry>,
     listening_addr: ListenAddr,
 }
 
@@ -373,7 +373,7 @@ impl<R: ServerRuntime> Server<R> {
         let ending = Arc::new(alloc, Ending::new())?;
         let serving = Arc::new(alloc, AtomicBool::new(false))?;
         let messages = MessagesQueue::with_capacity(alloc, QUEUE_ROOM)?;
-        let lobby = Lobby::new(alloc, limits.as_ref())?;
+        let registry = ConnectionRegistry::new(alloc, limits.as_ref())?;
         let accepting = Accepting {
             rt,
             alloc,
@@ -383,7 +383,7 @@ impl<R: ServerRuntime> Server<R> {
             ending: Arc::try_clone(&ending)?,
             serving: Arc::try_clone(&serving)?,
             messages: Arc::try_clone(&messages)?,
-            lobby: Arc::try_clone(&lobby)?,
+            registry: Arc::try_clone(&registry)?,
             pool: TaskPool::new(rt, alloc)?,
         };
         if thread::spawn(&rt, move || accepting.run()).is_err() {
@@ -394,7 +394,7 @@ impl<R: ServerRuntime> Server<R> {
             ending,
             serving,
             messages,
-            lobby,
+            registry,
             listening_addr,
         })
     }
@@ -417,17 +417,17 @@ impl<R: Net + SocketFiles + Wait + Clock + Drop> Server<R> {
     /// How many clients that were accepted are connected. One counts until all its requests are answered and its
     /// connection is closed.
     pub fn num_connections(&self) -> usize {
-        self.lobby.count(&self.rt)
+        self.registry.count(&self.rt)
     }
 
     /// What the server has counted since it began.
     pub fn counts(&self) -> Counts {
-        self.lobby.counts(&self.rt)
+        self.registry.counts(&self.rt)
     }
 
     /// How often accepting failed, and went on: under limits alone.
     pub fn accept_faults(&self) -> u64 {
-        self.lobby.accept_faults(&self.rt)
+        self.registry.accept_faults(&self.rt)
     }
 
     /// Waits for a request. An error is the fault by which accepting ended, which one call reports, or of kind
@@ -492,8 +492,8 @@ impl<R: Net<Listener = TcpListener, Stream = TcpStream> + SocketFiles + Wait + C
     pub fn stop(&self, time: Duration) -> Stopped {
         let begun = time_of(&self.rt);
         self.close_down();
-        self.lobby.stop(&self.rt);
-        let is_empty = self.lobby.wait_until_empty(&self.rt, begun, time);
+        self.registry.stop(&self.rt);
+        let is_empty = self.registry.wait_until_empty(&self.rt, begun, time);
         if !self.ending.has_accepted_all() {
             // There may have been no descriptor for it before.
             self.connect_to_itself();
@@ -533,7 +533,7 @@ impl<R: Net + SocketFiles + Wait + Clock + Drop> Server<R> {
             return;
         }
         let rt = &self.rt;
-        self.lobby.wake(rt);
+        self.registry.wake(rt);
         self.connect_to_itself();
         if let ListenAddr::Unix(addr) = &self.listening_addr
             && let Some(path) = addr.as_pathname()
@@ -571,7 +571,7 @@ impl<R: Net + SocketFiles + Wait + Clock + Drop> Drop for Server<R> {
             ending: _,
             serving: _,
             messages: _,
-            lobby: _,
+            registry: _,
             listening_addr: _,
         } = self;
     }

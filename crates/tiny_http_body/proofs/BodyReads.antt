@@ -15,8 +15,8 @@ use Rattle.tiny_http_io.specs.ToCome.{skipped, stopped}
 use Rattle.tiny_http_io.specs.Cursor.{cursor_bytes}
 use Rattle.tiny_http_io.specs.FeedParts.{feed_front}
 use Rattle.tiny_http_body.specs.declared.chunked.ChunkRules.{ChunkRules}
-use Rattle.tiny_http_body.specs.Body.{Remaining, remaining, cut_stop, cut_feed, counted_remaining, taken_remaining, prepend_body, prepended_body, BodyStops, NoneRemains, is_streaming, body_standing, IsBodyOver, IsCountedOver, IsChunkedBy, StaysHeld, ReadsOn, GivesUp, over_count, ends_met}
-use Rattle.tiny_http_io.specs.declared.source.Standing.{Standing}
+use Rattle.tiny_http_body.specs.Body.{Remaining, remaining, cut_stop, cut_feed, counted_remaining, taken_remaining, prepend_body, prepended_body, BodyStops, NoneRemains, is_streaming, body_input_state, IsBodyOver, IsCountedOver, IsChunkedBy, StaysHeld, ReadsOn, GivesUp, over_count, ends_met}
+use Rattle.tiny_http_io.specs.declared.source.InputState.{InputState}
 use Rattle.tiny_http_io.specs.Source.{SourceState, GoesOn, IsRestOf}
 use Rattle.tiny_http_io.proofs.SourceGoesOn.{goes-on_same}
 use Rattle.tiny_http_io.proofs.ToComeLemmas.{skipped-skipped, skipped-prepend, skipped-within, skipped-beyond}
@@ -292,16 +292,16 @@ pub goes-on_end : (old new : Option Feed) → new ≡ option_map (λ _. stopped 
 goes-on_end old new e = let P : Option Feed → Type 0 = λ x. GoesOn old x in subst P (sym e) (goes-on_stopped old)
 
 -- a read after another, from a body that was read from the input
-pub standing-more : {R : Type 0} (b c : UnreadBody) (n : ℕ) (end_reported : Bool) (first : Standing) (mid new : SourceState R) → ReadsOn b n end_reported c → (is_streaming b ≡ false → new ≡ mid) → (is_streaming b ≡ true → new.standing ≡ body_standing c mid.standing)
-    → mid.standing ≡ body_standing b first → new.standing ≡ body_standing c first
-standing-more {R = R} (Over stop) c n end_reported first mid new on settled goes was =
-    let P : UnreadBody → Type 0 = λ x. new.standing ≡ body_standing x first in
-    subst P (sym on.0) (ap (λ (s : SourceState R). s.standing) (settled refl) ∙ was)
-standing-more {R = R} (WithHead bytes) (WithHead more) n end_reported first mid new on settled goes was = ap (λ (s : SourceState R). s.standing) (settled refl) ∙ was
-standing-more (WithHead bytes) (Over stop) n end_reported first mid new on settled goes was = absurd on
-standing-more (WithHead bytes) (Counted left standard) n end_reported first mid new on settled goes was = absurd on
-standing-more (WithHead bytes) (Chunked d) n end_reported first mid new on settled goes was = absurd on
-standing-more (WithHead bytes) Rest n end_reported first mid new on settled goes was = absurd on
-standing-more (Counted left standard) c n end_reported first mid new on settled goes was = goes refl ∙ ap (body_standing c) was
-standing-more (Chunked d) c n end_reported first mid new on settled goes was = goes refl ∙ ap (body_standing c) was
-standing-more Rest c n end_reported first mid new on settled goes was = goes refl ∙ ap (body_standing c) was
+pub input_state-more : {R : Type 0} (b c : UnreadBody) (n : ℕ) (end_reported : Bool) (first : InputState) (mid new : SourceState R) → ReadsOn b n end_reported c → (is_streaming b ≡ false → new ≡ mid) → (is_streaming b ≡ true → new.input_state ≡ body_input_state c mid.input_state)
+    → mid.input_state ≡ body_input_state b first → new.input_state ≡ body_input_state c first
+input_state-more {R = R} (Over stop) c n end_reported first mid new on settled goes was =
+    let P : UnreadBody → Type 0 = λ x. new.input_state ≡ body_input_state x first in
+    subst P (sym on.0) (ap (λ (s : SourceState R). s.input_state) (settled refl) ∙ was)
+input_state-more {R = R} (WithHead bytes) (WithHead more) n end_reported first mid new on settled goes was = ap (λ (s : SourceState R). s.input_state) (settled refl) ∙ was
+input_state-more (WithHead bytes) (Over stop) n end_reported first mid new on settled goes was = absurd on
+input_state-more (WithHead bytes) (Counted left standard) n end_reported first mid new on settled goes was = absurd on
+input_state-more (WithHead bytes) (Chunked d) n end_reported first mid new on settled goes was = absurd on
+input_state-more (WithHead bytes) Rest n end_reported first mid new on settled goes was = absurd on
+input_state-more (Counted left standard) c n end_reported first mid new on settled goes was = goes refl ∙ ap (body_input_state c) was
+input_state-more (Chunked d) c n end_reported first mid new on settled goes was = goes refl ∙ ap (body_input_state c) was
+input_state-more Rest c n end_reported first mid new on settled goes was = goes refl ∙ ap (body_input_state c) was

@@ -25,8 +25,8 @@ use Rattle.tiny_http_body.specs.declared.framing.Form.TheVariants as form
 use Rattle.tiny_http_io.specs.ToCome.{skipped, stopped}
 use Rattle.tiny_http_io.specs.FeedParts.{feed_front}
 use Rattle.tiny_http_io.specs.Source.{SourceState, GoesOn, IsAtEnd, SkipsBytes, EndsHere}
-use Rattle.tiny_http_io.specs.declared.source.Standing.{Standing}
-use Rattle.tiny_http_io.specs.Standing.{after_body, after_fault, after_abandoned}
+use Rattle.tiny_http_io.specs.declared.source.InputState.{InputState}
+use Rattle.tiny_http_io.specs.InputState.{after_body, after_fault, after_abandoned}
 
 -- What is still to come of a body, and the feed after it; a feed without a byte, where no head follows.
 pub record Remaining : Type 0 where
@@ -266,13 +266,13 @@ FillsFromBody old from new to (Err kind) buf =
     × (new ≡ Over (Fault kind))
 
 -- Where a source stands after a read that left this of the body.
-abbrev pub body_standing : UnreadBody → Standing → Standing
-body_standing (Over End) standing = after_body standing
-body_standing (Over (Fault kind)) standing = after_fault kind standing
-body_standing (WithHead bytes) standing = after_body standing
-body_standing (Counted n by_standard) standing = standing
-body_standing (Chunked decoding) standing = standing
-body_standing Rest standing = standing
+abbrev pub body_input_state : UnreadBody → InputState → InputState
+body_input_state (Over End) input_state = after_body input_state
+body_input_state (Over (Fault kind)) input_state = after_fault kind input_state
+body_input_state (WithHead bytes) input_state = after_body input_state
+body_input_state (Counted n by_standard) input_state = input_state
+body_input_state (Chunked decoding) input_state = input_state
+body_input_state Rest input_state = input_state
 
 -- WHAT A READ GIVES of a body, and what it leaves: the bytes that came are the next of the body, no more than the
 -- buffer has room for; no byte into a buffer with room is the end of the body, and a fault is its own. A counted body is
@@ -301,7 +301,7 @@ pub record ReadsBody {R : Type 0} (old new : UnreadBody) (from to : SourceState 
   pub broken : OnErr r (ReadsOn old 0 true new)
   pub settled : is_streaming old ≡ false → to ≡ from
   pub reports_stop : IfSome (body_stop old) (λ stop. 0 < length buf → AnswersStop stop r × (new ≡ old))
-  pub standing : is_streaming old ≡ true → to.standing ≡ body_standing new from.standing
+  pub input_state : is_streaming old ≡ true → to.input_state ≡ body_input_state new from.input_state
 
 -- One read, into a buffer with room, of a body that isn't read from the input. What is left isn't either.
 pub record ReadsHeld (old new : UnreadBody) (r : Result ℕ Error) (buf : List ℕ) : Type 0 where
@@ -331,5 +331,5 @@ GivesUp (Over stop) old new = new ≡ old
 GivesUp (WithHead bytes) old new = new ≡ old
 GivesUp Rest old new = new ≡ old
 GivesUp (Counted left by_standard) old new =
-    SkipsBytes left (record old { standing = after_body old.standing }) new
-GivesUp (Chunked decoding) old new = EndsHere (record old { standing = after_abandoned old.standing }) new
+    SkipsBytes left (record old { input_state = after_body old.input_state }) new
+GivesUp (Chunked decoding) old new = EndsHere (record old { input_state = after_abandoned old.input_state }) new

@@ -5,7 +5,7 @@ ghost use Rattle.tiny_http_io.specs.Device.{AnswersStop, Feed, Tells};
 ghost use Rattle.tiny_http_io.specs.Source.{GoesOn};
 ghost use Rattle.tiny_http_io.specs.ToCome.{skipped};
 ghost use Rattle.tiny_http_body.specs.Body.{remaining, IsNewChunked, counted_remaining, is_whole, bytes_left};
-ghost use Rattle.tiny_http_body.specs.Body.{remainder, stream_body, is_streaming, body_standing, ReadsOn};
+ghost use Rattle.tiny_http_body.specs.Body.{remainder, stream_body, is_streaming, body_input_state, ReadsOn};
 ghost use Rattle.tiny_http_body.specs.Body.{ReadsRemaining, ReadsBody, ReadsHeld, FillsFromBody, GivesUp};
 ghost use Rattle.tiny_http_body.specs.Body.{bytes_given, ends_met};
 
@@ -13,7 +13,7 @@ use crate::chunked::{ChunkRules, Decoding};
 use std::io;
 use std::io::{Cursor, ErrorKind};
 use tiny_http_io::device::{ReadDevice, Stop, read_front};
-use tiny_http_io::source::{Source, Standing};
+use tiny_http_io::source::{InputState, Source};
 
 /// The most bytes of a body of known length that are skipped before the next head, by the standard.
 pub const MOST_SKIPPED: usize = 65_536;
@@ -96,9 +96,9 @@ impl UnreadBody {
         requires room { 0 < length buf.old }
         ensures reads { ReadsRemaining self.old self.new source.old source.new result buf.new }
         ensures broken { OnErr result (ReadsOn self.old 0 true self.new) }
-        ensures told { Tells (R.told source.old.reader) (R.told source.new.reader) result }
-        ensures whole { R.told source.new.reader
-            ≤ R.told source.old.reader + ends_met self.old (bytes_given result) self.new }
+        ensures stop_count { Tells (R.stop_count source.old.reader) (R.stop_count source.new.reader) result }
+        ensures whole { R.stop_count source.new.reader
+            ≤ R.stop_count source.old.reader + ends_met self.old (bytes_given result) self.new }
     {
         if left == 0 {
             *self = UnreadBody::Over(Stop::End);
@@ -136,9 +136,9 @@ impl UnreadBody {
         requires chunked { self.old ≡ UnreadBody.Chunked decoding }
         requires room { 0 < length buf.old }
         ensures reads { ReadsRemaining self.old self.new source.old source.new result buf.new }
-        ensures told { Tells (R.told source.old.reader) (R.told source.new.reader) result }
-        ensures whole { R.told source.new.reader
-            ≤ R.told source.old.reader + ends_met self.old (bytes_given result) self.new }
+        ensures stop_count { Tells (R.stop_count source.old.reader) (R.stop_count source.new.reader) result }
+        ensures whole { R.stop_count source.new.reader
+            ≤ R.stop_count source.old.reader + ends_met self.old (bytes_given result) self.new }
     {
         let mut decoding = decoding;
         match decoding.read(source, buf) {
@@ -168,9 +168,9 @@ impl UnreadBody {
         requires rest { self.old ≡ UnreadBody.Rest }
         requires room { 0 < length buf.old }
         ensures reads { ReadsRemaining self.old self.new source.old source.new result buf.new }
-        ensures told { Tells (R.told source.old.reader) (R.told source.new.reader) result }
-        ensures whole { R.told source.new.reader
-            ≤ R.told source.old.reader + ends_met self.old (bytes_given result) self.new }
+        ensures stop_count { Tells (R.stop_count source.old.reader) (R.stop_count source.new.reader) result }
+        ensures whole { R.stop_count source.new.reader
+            ≤ R.stop_count source.old.reader + ends_met self.old (bytes_given result) self.new }
     {
         match source.read_in(buf) {
             Ok(0) => {
@@ -196,15 +196,15 @@ impl UnreadBody {
     ) -> Result<usize, io::Error>
         ensures reads { ReadsBody self.old self.new source.old source.new result buf.new }
         // The source's reader is asked for no second end or fault, nor for more than the bytes that came.
-        ensures told { Tells (R.told source.old.reader) (R.told source.new.reader) result }
+        ensures stop_count { Tells (R.stop_count source.old.reader) (R.stop_count source.new.reader) result }
         // It is asked for none where the body has its own end.
-        ensures whole { R.told source.new.reader
-            ≤ R.told source.old.reader + ends_met self.old (bytes_given result) self.new }
+        ensures whole { R.stop_count source.new.reader
+            ≤ R.stop_count source.old.reader + ends_met self.old (bytes_given result) self.new }
     {
         if buf.is_empty() {
             return Ok(0);
         }
-        let standing = source.standing();
+        let input_state = source.input_state();
         let read = match self {
             UnreadBody::Over(_) | UnreadBody::WithHead(_) => return self.read_held(buf),
             UnreadBody::Counted { left, by_standard } => {
@@ -217,7 +217,7 @@ impl UnreadBody {
             }
             UnreadBody::Rest => self.read_rest(source, buf),
         };
-        source.stand_at(self.standing_after(standing));
+        source.stand_at(self.input_state_after(input_state));
         read
     }
 
@@ -236,13 +236,13 @@ impl UnreadBody {
     }
 
     // Where a source stands after a read that left this of the body.
-    fn standing_after(&self, standing: Standing) -> Standing
-        ensures { result ≡ body_standing self.now standing }
+    fn input_state_after(&self, input_state: InputState) -> InputState
+        ensures { result ≡ body_input_state self.now input_state }
     {
         match self {
-            UnreadBody::Over(Stop::End) | UnreadBody::WithHead(_) => standing.after_body(),
-            UnreadBody::Over(Stop::Fault(kind)) => standing.after_fault(*kind),
-            UnreadBody::Counted { .. } | UnreadBody::Chunked(_) | UnreadBody::Rest => standing,
+            UnreadBody::Over(Stop::End) | UnreadBody::WithHead(_) => input_state.after_body(),
+            UnreadBody::Over(Stop::Fault(kind)) => input_state.after_fault(*kind),
+            UnreadBody::Counted { .. } | UnreadBody::Chunked(_) | UnreadBody::Rest => input_state,
         }
     }
 
@@ -258,9 +258,9 @@ impl UnreadBody {
         ensures room { at < length buf.new }
         ensures front { take at buf.new ≡ take at buf.old }
         ensures reads { ReadsBody self.old self.new source.old source.new result (drop at buf.new) }
-        ensures told { Tells (R.told source.old.reader) (R.told source.new.reader) result }
-        ensures whole { R.told source.new.reader
-            ≤ R.told source.old.reader + ends_met self.old (bytes_given result) self.new }
+        ensures stop_count { Tells (R.stop_count source.old.reader) (R.stop_count source.new.reader) result }
+        ensures whole { R.stop_count source.new.reader
+            ≤ R.stop_count source.old.reader + ends_met self.old (bytes_given result) self.new }
     {
         self.read(source, &mut buf[at..])
     }
@@ -276,15 +276,15 @@ impl UnreadBody {
         ensures fills { FillsFromBody self.old source.old.feed self.new source.new.feed result buf.new }
         ensures settled { is_streaming self.old ≡ false → source.new ≡ source.old }
         ensures goes_on { GoesOn source.old.feed source.new.feed }
-        ensures standing { is_streaming self.old ≡ true
-            → source.new.standing ≡ body_standing self.new source.old.standing }
+        ensures input_state { is_streaming self.old ≡ true
+            → source.new.input_state ≡ body_input_state self.new source.old.input_state }
         // The source's reader is asked for no second end or fault, nor once the buffer is full.
-        ensures told { R.told source.new.reader ≤ R.told source.old.reader + 1 }
+        ensures stop_count { R.stop_count source.new.reader ≤ R.stop_count source.old.reader + 1 }
         ensures lazy { IfOk result
-            (λ n. n ≡ length buf.new → R.told source.new.reader ≤ R.told source.old.reader) }
+            (λ n. n ≡ length buf.new → R.stop_count source.new.reader ≤ R.stop_count source.old.reader) }
         // Nor is it asked for one where the body has its own end.
-        ensures whole { R.told source.new.reader
-            ≤ R.told source.old.reader + ends_met self.old (bytes_given result) self.new }
+        ensures whole { R.stop_count source.new.reader
+            ≤ R.stop_count source.old.reader + ends_met self.old (bytes_given result) self.new }
     {
         let mut at = 0;
         while at < buf.len() {
@@ -359,15 +359,15 @@ impl UnreadBody {
         ensures over { self.new ≡ UnreadBody.Over Stop.End }
         ensures gives_up { GivesUp self.old source.old source.new }
     {
-        let standing = source.standing();
+        let input_state = source.input_state();
         match self {
             UnreadBody::Counted { left, .. } => {
                 source.skip(*left);
-                source.stand_at(standing.after_body());
+                source.stand_at(input_state.after_body());
             }
             UnreadBody::Chunked(_) => {
                 source.end();
-                source.stand_at(standing.after_abandoned());
+                source.stand_at(input_state.after_abandoned());
             }
             UnreadBody::Over(_) => {}
             UnreadBody::WithHead(_) => {}

@@ -66,7 +66,7 @@ fn close_chunk<R: ReadDevice>(reader: &mut R) -> Result<(), ErrorKind>
     ensures takes { OnOk result (R.feed reader.old ≡ prepended crlf (R.feed reader.new)) }
     ensures needed { (rules : ChunkRules)
         → OnErr result (TakesNeeded (decoded_from_by rules (Next.Data 0)) (R.feed reader.old) (R.feed reader.new)) }
-    ensures told { R.told reader.new ≤ R.told reader.old + fault_count result }
+    ensures stop_count { R.stop_count reader.new ≤ R.stop_count reader.old + fault_count result }
 {
     match next_byte(reader) {
         Err(kind) => return Err(kind),
@@ -93,7 +93,7 @@ fn skip_trailers<R: ReadDevice>(reader: &mut R, rules: ChunkRules) -> Next
     ensures comes { comes rules result (R.feed reader.new) ≡ trails rules MOST_TRAILERS (R.feed reader.old) }
     ensures ready { IsReady result }
     ensures needed { TakesNeeded (trailers_from rules MOST_TRAILERS) (R.feed reader.old) (R.feed reader.new) }
-    ensures told { R.told reader.new ≤ R.told reader.old + broken_count result }
+    ensures stop_count { R.stop_count reader.new ≤ R.stop_count reader.old + broken_count result }
 {
     for lines in 0..MOST_TRAILERS {
         match next_line(reader, rules) {
@@ -125,7 +125,7 @@ fn open_chunk<R: ReadDevice>(reader: &mut R, rules: ChunkRules) -> Next
     ensures comes { comes rules result (R.feed reader.new) ≡ comes rules Next.Line (R.feed reader.old) }
     ensures ready { IsReady result }
     ensures needed { TakesNeeded (decoded_from_by rules Next.Line) (R.feed reader.old) (R.feed reader.new) }
-    ensures told { R.told reader.new ≤ R.told reader.old + broken_count result }
+    ensures stop_count { R.stop_count reader.new ≤ R.stop_count reader.old + broken_count result }
 {
     match next_line(reader, rules) {
         Err(kind) => Next::Broken(kind),
@@ -148,7 +148,7 @@ fn go_to_data<R: ReadDevice>(reader: &mut R, rules: ChunkRules, next: Next) -> N
     ensures ready { IsReady result }
     ensures needed { TakesNeeded (decoded_from_by rules next) (R.feed reader.old) (R.feed reader.new) }
     ensures stays { IsSome (next_stop next) → (result ≡ next) × (reader.new ≡ reader.old) }
-    ensures told { R.told reader.new ≤ R.told reader.old + broken_count result }
+    ensures stop_count { R.stop_count reader.new ≤ R.stop_count reader.old + broken_count result }
 {
     match next {
         Next::Line => open_chunk(reader, rules),
@@ -177,7 +177,7 @@ fn read_data<R: ReadDevice>(reader: &mut R, left: u64, buf: &mut [u8]) -> Result
     ensures bytes { IfOk result (λ n. R.feed reader.old ≡ prepended (take n buf.new) (R.feed reader.new)) }
     ensures cut { IfErr result (λ e. CutBy (error_kind e) (R.feed reader.old)) }
     ensures again { OnErr result (R.feed reader.new ≡ R.feed reader.old) }
-    ensures told { R.told reader.new ≤ R.told reader.old + fault_count result }
+    ensures stop_count { R.stop_count reader.new ≤ R.stop_count reader.old + fault_count result }
 {
     match read_front(reader, left as usize, buf) {
         Ok(0) => Err(ErrorKind::UnexpectedEof.into()),
@@ -273,9 +273,9 @@ impl Decoding {
         // Up to a fault no byte more is taken than shows it.
         ensures needed { OnErr result (TakesNeeded (decoding_reads self.old) (R.feed reader.old) (R.feed reader.new)) }
         // The reader is asked for no second end or fault, nor for more than the bytes that came.
-        ensures told { Tells (R.told reader.old) (R.told reader.new) result }
+        ensures stop_count { Tells (R.stop_count reader.old) (R.stop_count reader.new) result }
         // It is asked for none where the body has its own end, which is a line.
-        ensures whole { R.told reader.new ≤ R.told reader.old + fault_count result }
+        ensures whole { R.stop_count reader.new ≤ R.stop_count reader.old + fault_count result }
     {
         if buf.is_empty() {
             return Ok(0);
@@ -364,8 +364,10 @@ impl<R: ReadDevice> Decoder<R> {
     /// the end, or the fault.
     pub fn read(&mut self, buf: &mut [u8]) -> Result<usize, io::Error>
         ensures reads { ReadsData R.feed self.old self.new result buf.new }
-        ensures told { Tells (R.told (decoder_inner self.old)) (R.told (decoder_inner self.new)) result }
-        ensures whole { R.told (decoder_inner self.new) ≤ R.told (decoder_inner self.old) + fault_count result }
+        ensures stop_count { Tells (R.stop_count (decoder_inner self.old))
+            (R.stop_count (decoder_inner self.new)) result }
+        ensures whole { R.stop_count (decoder_inner self.new)
+            ≤ R.stop_count (decoder_inner self.old) + fault_count result }
     {
         self.decoding.read(&mut self.inner, buf)
     }
@@ -383,14 +385,16 @@ impl<R: ReadDevice> ReadDevice for Decoder<R> {
 
     ghost feed = { decoder_feed R.feed };
 
-    ghost told = { λ d. R.told (decoder_inner d) };
+    ghost stop_count = { λ d. R.stop_count (decoder_inner d) };
 
     /// Reads some data.
     fn read_in(&mut self, buf: &mut [u8]) -> Result<usize, io::Error>
         ensures device { Reads (decoder_feed R.feed self.old) (decoder_feed R.feed self.new) result buf.new }
         ensures reads { ReadsData R.feed self.old self.new result buf.new }
-        ensures told { Tells (R.told (decoder_inner self.old)) (R.told (decoder_inner self.new)) result }
-        ensures whole { R.told (decoder_inner self.new) ≤ R.told (decoder_inner self.old) + fault_count result }
+        ensures stop_count { Tells (R.stop_count (decoder_inner self.old))
+            (R.stop_count (decoder_inner self.new)) result }
+        ensures whole { R.stop_count (decoder_inner self.new)
+            ≤ R.stop_count (decoder_inner self.old) + fault_count result }
     {
         self.read(buf)
     }
@@ -410,8 +414,10 @@ impl<R: ReadDevice> Read for Decoder<R> {
         ensures bytes { ReadConsumes (bytes_of (decoder_feed R.feed self.old))
             (bytes_of (decoder_feed R.feed self.new)) result buf.new }
         ensures reads { ReadsData R.feed self.old self.new result buf.new }
-        ensures told { Tells (R.told (decoder_inner self.old)) (R.told (decoder_inner self.new)) result }
-        ensures whole { R.told (decoder_inner self.new) ≤ R.told (decoder_inner self.old) + fault_count result }
+        ensures stop_count { Tells (R.stop_count (decoder_inner self.old))
+            (R.stop_count (decoder_inner self.new)) result }
+        ensures whole { R.stop_count (decoder_inner self.new)
+            ≤ R.stop_count (decoder_inner self.old) + fault_count result }
     {
         Decoder::read(self, buf)
     }

@@ -48,7 +48,7 @@ pub fn put_chunked<D: ReadDevice, W: WriteDevice>(
     // Whatever the data and the writer state: a fault of the writer's is one that its count has.
     ensures uses { CountsFaults (W.sink writer.old) (W.sink writer.new) result }
     // The data aren't asked for on behind their end or fault.
-    ensures told { D.told source.new ≤ D.told source.old + 1 }
+    ensures stop_count { D.stop_count source.new ≤ D.stop_count source.old + 1 }
 {
     let mut buf = [0u8; CHUNK];
     for _turn in 0..u64::MAX {

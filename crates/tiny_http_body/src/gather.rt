@@ -16,7 +16,7 @@ fn read_behind<D: ReadDevice>(source: &mut D, buf: &mut [u8], at: usize) -> Resu
     ensures bound { IfOk result (λ n. at + n ≤ length buf.old) }
     ensures front { take at buf.new ≡ take at buf.old }
     ensures bytes { ReadsFrom (D.feed source.old) (D.feed source.new) result (drop at buf.new) }
-    ensures told { Tells (D.told source.old) (D.told source.new) result }
+    ensures stop_count { Tells (D.stop_count source.old) (D.stop_count source.new) result }
 {
     read_some(source, &mut buf[at..])
 }
@@ -26,8 +26,8 @@ pub(crate) fn fill<D: ReadDevice>(source: &mut D, buf: &mut [u8]) -> Result<usiz
     ensures bound { IfOk result (λ n. n ≤ length buf.old) }
     ensures bytes { Fills (D.feed source.old) (D.feed source.new) result buf.new }
     // The data aren't asked for on behind their end or fault, nor once the buffer is full.
-    ensures told { D.told source.new ≤ D.told source.old + 1 }
-    ensures lazy { IfOk result (λ n. n ≡ length buf.old → D.told source.new ≤ D.told source.old) }
+    ensures stop_count { D.stop_count source.new ≤ D.stop_count source.old + 1 }
+    ensures lazy { IfOk result (λ n. n ≡ length buf.old → D.stop_count source.new ≤ D.stop_count source.old) }
 {
     let mut at = 0;
     while at < buf.len() {
@@ -45,7 +45,7 @@ pub fn gather<D: ReadDevice>(alloc: Global, source: &mut D) -> Result<Vec<u8>, i
     ensures gathers { IfSome (D.feed source.old)
         (λ feed. length feed.bytes < 2 ^ 63 → Gathers (λ v. v.items) feed result) }
     // The data aren't asked for on behind their end or fault.
-    ensures told { D.told source.new ≤ D.told source.old + 1 }
+    ensures stop_count { D.stop_count source.new ≤ D.stop_count source.old + 1 }
 {
     let mut all = Vec::new(alloc);
     let mut buf = [0u8; PIECE];

@@ -17,7 +17,7 @@ fn read_into_front<D: ReadDevice>(
     requires { n ≤ length buf.old }
     ensures bound { IfOk result (λ k. k ≤ n) }
     ensures bytes { ReadsFrom (D.feed source.old) (D.feed source.new) result (take n buf.new) }
-    ensures told { Tells (D.told source.old) (D.told source.new) result }
+    ensures stop_count { Tells (D.stop_count source.old) (D.stop_count source.new) result }
 {
     read_some(source, &mut buf[..n])
 }
@@ -37,7 +37,7 @@ fn put_piece<D: ReadDevice, W: WriteDevice>(
         (λ feed. OnErr result (TakesUpTo left feed (D.feed source.new) result)) }
     ensures uses { CountsFaults (W.sink writer.old) (W.sink writer.new) result }
     ensures len { length buf.new ≡ length buf.old }
-    ensures told { D.told source.new ≤ D.told source.old + fault_count result }
+    ensures stop_count { D.stop_count source.new ≤ D.stop_count source.old + fault_count result }
 {
     let room = left.min(buf.len());
     let count = read_into_front(source, buf, room)?;
@@ -60,7 +60,7 @@ fn put_through<D: ReadDevice, W: WriteDevice>(
         (λ feed. Prints (W.sink writer.old) (W.sink writer.new) result (identity_body n feed)) }
     ensures takes { IfSome (D.feed source.old) (λ feed. TakesUpTo n feed (D.feed source.new) result) }
     ensures uses { CountsFaults (W.sink writer.old) (W.sink writer.new) result }
-    ensures told { D.told source.new ≤ D.told source.old + fault_count result }
+    ensures stop_count { D.stop_count source.new ≤ D.stop_count source.old + fault_count result }
 {
     let mut left = n;
     while left > 0 {
@@ -87,7 +87,7 @@ pub fn put_exactly<D: ReadDevice, W: WriteDevice>(
     ensures takes { IfSome (D.feed source.old) (λ feed. TakesUpTo n feed (D.feed source.new) result) }
     ensures uses { CountsFaults (W.sink writer.old) (W.sink writer.new) result }
     // The data aren't asked for on behind their end or fault, nor for more than the `n` bytes.
-    ensures told { D.told source.new ≤ D.told source.old + fault_count result }
+    ensures stop_count { D.stop_count source.new ≤ D.stop_count source.old + fault_count result }
 {
     if n <= SHORT {
         return put_through(source, writer, &mut [0u8; SHORT], n);

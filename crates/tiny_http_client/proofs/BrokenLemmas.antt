@@ -24,7 +24,7 @@ use Rattle.tiny_http_body.proofs.ChunkedPrintingLemmas.{full_chunks-append}
 use Rattle.tiny_http_response.specs.Owing.{owed, owing}
 use Rattle.tiny_http_response.specs.Answer.{Answer, Printing, listed_with, answer_head_text, status_line, is_withheld, body_unless_withheld, gathered_body, coded_text, text_by_code, with_upgrade, answer_coding, text_of}
 use Rattle.tiny_http_response.specs.ByStandard.{status_version, listed_headers}
-use Rattle.tiny_http_response.specs.declared.answer_context.Persistence.{Persistence}
+use Rattle.tiny_http_response.specs.declared.response_context.Persistence.{Persistence}
 use Rattle.tiny_http_response.specs.Readable.{IsReadable}
 use Rattle.tiny_http_client.specs.ClientAnswer.{AnswerHead, BeginsWithAnswerHead, is_interim, ClientAnswer, ReadsAnswer}
 use Rattle.tiny_http_client.specs.ClientText.{stated_length, printed_headers, listed_of, alone_by_code, IsReadableAnswer, received_answer}

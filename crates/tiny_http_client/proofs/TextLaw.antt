@@ -27,7 +27,7 @@ use Rattle.tiny_http_body.specs.Text.{Text, Whole, Broken, whole, prepend_text, 
 use Rattle.tiny_http_response.specs.Owing.{owed, owing}
 use Rattle.tiny_http_response.specs.Answer.{Answer, Printing, listed_with, has_header, answer_head_text, is_withheld, body_unless_withheld, gathered_body, coded_text, text_by_code, with_upgrade, answer_coding, text_of}
 use Rattle.tiny_http_response.specs.ByStandard.{status_version, persistence_option, connection_headers, safe_value, safe_headers, listed_headers, framing_of_304, contentless_framing, framing_by_standard, has_no_content}
-use Rattle.tiny_http_response.specs.declared.answer_context.Persistence.{Persistence}
+use Rattle.tiny_http_response.specs.declared.response_context.Persistence.{Persistence}
 use Rattle.tiny_http_head.specs.Heads.{length_of}
 use Rattle.tiny_http_response.specs.Readable.{IsReadable}
 use Rattle.tiny_http_client.specs.ClientAnswer.{AnswerHead, BeginsWithAnswerHead, is_interim, is_head, NoBody, OfChunks, OfLength, says_chunked, first_value, content_length, has_no_body, extent, BeginsWithBody, ReadsAnswer}

@@ -4,7 +4,7 @@ use Rattle.httpdate.specs.declared.date.HttpDate.{HttpDate}
 use Rattle.tiny_http_io.specs.Device.{Feed, Sink}
 use Rattle.tiny_http_io.specs.Source.{GoesOn}
 use Rattle.tiny_http_io.specs.Outlet.{SentOn}
-use Rattle.tiny_http_io.specs.declared.source.Standing.TheVariants as at
+use Rattle.tiny_http_io.specs.declared.source.InputState.TheVariants as at
 use Rattle.tiny_http_response.specs.Sending.{FailsOnce}
 use Rattle.tiny_http_connection.specs.declared.driver.Step.TheVariants as step
 use Rattle.tiny_http_connection.specs.Pending.{last_holds_next_head}
@@ -16,7 +16,7 @@ use Rattle.tiny_http_connection.specs.Driving.{AskEnds, AskLeaves, IsDeclined}
 
 -- the asking hasn't ended, no body holds the reader, and the next head waits for no answer
 abbrev pub CanAsk : {R W : Type 0} → ConnectionState R W → Type 0
-CanAsk c = (c.end ≡ None) × (c.source.standing ≡ at.Body → ⊥) × (last_holds_next_head c.requests ≡ false)
+CanAsk c = (c.end ≡ None) × (c.source.input_state ≡ at.Body → ⊥) × (last_holds_next_head c.requests ≡ false)
 
 -- An Ask leads from one connection to another with this reply: what `TakesStep` says of it, from wherever a run stands.
 pub record AskStep {R W : Type 0} (old new : ConnectionState R W) (now : HttpDate) (reply : ReplyValue) : Type 0 where

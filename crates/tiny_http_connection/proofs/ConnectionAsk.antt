@@ -18,9 +18,9 @@ use Rattle.tiny_http_open_request.specs.declared.exchange.Exchange.{Exchange}
 use Rattle.tiny_http_body.specs.declared.body.UnreadBody.{UnreadBody}
 use Rattle.tiny_http_body.specs.declared.body.UnreadBody.TheVariants as body
 use Rattle.tiny_http_open_request.specs.declared.exchange.HeadRead.TheVariants as read
-use Rattle.tiny_http_response.specs.declared.answer_context.AnswerContext.{AnswerContext}
+use Rattle.tiny_http_response.specs.declared.response_context.ResponseContext.{ResponseContext}
 use Rattle.tiny_http_response.specs.declared.coding.Coding.{Coding}
-use Rattle.tiny_http_standard_head.specs.Judging.{names_protocol}
+use Rattle.tiny_http_standard_head.specs.Validation.{names_protocol}
 use Rattle.tiny_http_open_request.specs.OpenRequest.{coding_for}
 use Rattle.tiny_http_open_request.specs.declared.open_request.OpenRequest.{OpenRequest}
 use Rattle.tiny_http_connection.specs.declared.pending.Unfinished.{Unfinished}
@@ -30,17 +30,17 @@ use Rattle.tiny_http_body.specs.declared.framing.Form.TheVariants.{Rest}
 use Rattle.tiny_http_head.specs.Heads.{version, is_too_new}
 use Rattle.tiny_http_io.specs.Source.{GoesOn}
 use Rattle.tiny_http_open_request.specs.Pipeline.{Manner, plainly, Item, Asks, Refuses, VersionNotSupported, Refusal, Request, Place, Heading, HeadAt, Silence, Refused, Heads, OneHead, FoundAt, ends_too_new, is_head_method, Pipeline, place_after, place_feed}
-use Rattle.tiny_http_open_request.specs.HeadReads.{ReadsHead, HasByteOrTimedOut, IsBeforeHead, standing_of, request_of, head_message, head_framing}
+use Rattle.tiny_http_open_request.specs.HeadReads.{ReadsHead, HasByteOrTimedOut, IsBeforeHead, input_state_of, request_of, head_message, head_framing}
 use Rattle.tiny_http_open_request.specs.declared.exchange.EndOfRequests.{EndOfRequests}
-use Rattle.tiny_http_io.specs.declared.source.Standing.{Standing}
-use Rattle.tiny_http_io.specs.declared.source.Standing.TheVariants as in_place
+use Rattle.tiny_http_io.specs.declared.source.InputState.{InputState}
+use Rattle.tiny_http_io.specs.declared.source.InputState.TheVariants as in_place
 use Rattle.tiny_http_head.specs.declared.common.StatusCode.{StatusCode}
 use Rattle.tiny_http_open_request.specs.Exchange.{KeepsRequest}
 use Rattle.tiny_http_body.specs.Body.{Remaining, remaining, taken_remaining, is_streaming}
 use Rattle.tiny_http_connection.specs.Segments.{Slot, is_finished, is_broken, is_slot_broken, segment}
 use Rattle.tiny_http_connection.specs.Slots.{turn_has_come, closes_now, new_slot, is_chunked_form, last_slot, last_is_open, last_is_holding, last_holds_reader, last_was_abandoned, is_last_slot}
-use Rattle.tiny_http_open_request.specs.OwnAnswer.{persistence_of, refusal_response, refused_text}
-use Rattle.tiny_http_response.specs.declared.answer_context.Persistence.{Persistence}
+use Rattle.tiny_http_open_request.specs.ErrorResponse.{persistence_of, refusal_response, refused_text}
+use Rattle.tiny_http_response.specs.declared.response_context.Persistence.{Persistence}
 use Rattle.tiny_http_connection.specs.Steps.{StepValue, Ask, ReplyValue, Handed, Ended, NotYet, Memory}
 use Rattle.tiny_http_connection.specs.Outcomes.{Unused, Unreported, Outcome, Reached, unchanged, ask, asks_from, outcome}
 use Rattle.tiny_http_connection.specs.Conversation.{Failure, State, PlaceAt, BeginsBehind, WriterPart, flushed_after, HasOutcome, StepsTo}
@@ -52,7 +52,7 @@ use Rattle.tiny_http_connection.specs.Connection.{Kept, dropped, IsWaiting, AreK
 use Rattle.tiny_http_io.proofs.SourceGoesOn.{goes-on_more}
 use Rattle.tiny_http_open_request.proofs.PipelineLemmas.{pipeline-first, pipeline-none, heads-rest_last, empty-pipeline}
 use Rattle.tiny_http_connection.proofs.ConnectionReader.{LastKept, last-kept, last-awaits, last-awaits-none, last-snoc, body-snoc, settled-snoc, and-false, held-by, behind-settled, gives-settled}
-use Rattle.tiny_http_open_request.proofs.OwnAnswerLemmas.{own-whole, refusal-whole}
+use Rattle.tiny_http_open_request.proofs.ErrorResponseLemmas.{own-whole, refusal-whole}
 use Rattle.tiny_http_connection.proofs.SlotsLemmas.{joined-waits, joined-hidden, breaks-waits, breaks-hidden}
 use Rattle.tiny_http_connection.proofs.ConnectionKept.{kept-append, kept-length, shape-issued, InTurn, OutOfTurn, turn-at}
 use Rattle.tiny_http_connection.proofs.ConnectionOutput.{ended-is, output-same, Goes, more-behind, output-more}
@@ -138,7 +138,7 @@ unheld client before k s h quiet =
     held-by (last_slot s.reached.slots) (last_body k.requests) (last-of client before k s h)
     ∙ rw (quiet.0, and-false (not (is_last_slot (last_slot s.reached.slots))), last-awaits s.reached.slots k.marks k.requests h.numbers) quiet.1
 
-pub going : (client : Feed) (before : Sink) (k : Kept) (s : State) → Stands client before k s → k.asking_ended ≡ false → is_past_last k.standing ≡ false → IsQuiet k.requests → (InputEnded k → ⊥) → Going client k s
+pub going : (client : Feed) (before : Sink) (k : Kept) (s : State) → Stands client before k s → k.asking_ended ≡ false → is_past_last k.input_state ≡ false → IsQuiet k.requests → (InputEnded k → ⊥) → Going client k s
 going client before k s h e o quiet open_input =
     let f = stated-feed client k.feed h.reader.source in
     let next = h.reader.next e in
@@ -202,9 +202,9 @@ kept-handed profile date x p content behind k left framed = record {
   upgrades = λ protocol. k.answer.upgrades protocol ∙ ap (λ b. b && names_protocol x.head.headers.items protocol) k.answer.holds_next_head;
   unsent = λ owed. refl;
   rest_is_last = framed.framed;
-  answer_context =
-      let c = x.open_request.answer_context in
-      let F : HTTPVersion → Option Coding → Bool → Option Persistence → AnswerContext = λ v a b p. record { version = v; asked_coding = a; no_body = b; persistence = p } in
+  response_context =
+      let c = x.open_request.response_context in
+      let F : HTTPVersion → Option Coding → Bool → Option Persistence → ResponseContext = λ v a b p. record { version = v; asked_coding = a; no_body = b; persistence = p } in
       ap (λ v. F v c.asked_coding c.no_body c.persistence) k.answer.version ∙ ap (λ a. F x.head.version a c.no_body c.persistence) k.answer.asked_coding
       ∙ ap (λ b. F x.head.version (coding_for x.head.framing.by_standard x.head.headers.items) b c.persistence) k.answer.no_body ∙ ap (F x.head.version (coding_for x.head.framing.by_standard x.head.headers.items) (is_head_method x.head.method)) k.answer.persistence;
   dropped = k.answer.dropped;
@@ -237,28 +237,28 @@ pub begins-from : (client : Feed) (profile : Profile) (f : Feed) (item : Item) (
 begins-from client profile f item next rest more begins is head b = let P : List Item → Type 0 = λ x. BeginsBehind profile (Some f.bytes) f.stop x in begins (subst P (sym is) (next, head, b))
 
 -- the input as it stands now
-abbrev pub with_input : Kept → Option Feed → Option Stop → Bool → Standing → Kept
-with_input k p stop over at = record k { feed = p; stop = stop; is_over = over; standing = at }
+abbrev pub with_input : Kept → Option Feed → Option Stop → Bool → InputState → Kept
+with_input k p stop over at = record k { feed = p; stop = stop; is_over = over; input_state = at }
 
-abbrev pub after_handed : Kept → OpenRequest UnreadBody → Option Feed → Option Stop → Bool → Standing → Kept
-after_handed k w p stop over at = record k { marks = k.marks ++ (Open ∷ []); requests = k.requests ++ (Some (still.Waiting w) ∷ []); feed = p; stop = stop; is_over = over; standing = at }
+abbrev pub after_handed : Kept → OpenRequest UnreadBody → Option Feed → Option Stop → Bool → InputState → Kept
+after_handed k w p stop over at = record k { marks = k.marks ++ (Open ∷ []); requests = k.requests ++ (Some (still.Waiting w) ∷ []); feed = p; stop = stop; is_over = over; input_state = at }
 
 -- where the input stands after the head of a request
-pub record StandsFor (r : Request) (w : OpenRequest UnreadBody) (at : Standing) : Type 0 where
+pub record StandsFor (r : Request) (w : OpenRequest UnreadBody) (at : InputState) : Type 0 where
   pub past : is_past_last at ≡ r.framing.is_last
   pub within : is_in_body at ≡ (not r.framing.is_last && is_streaming w.body)
 
-pub stands-for : (x : Exchange) (content behind : Feed) (at : Standing) → at ≡ standing_of x → StandsFor (request_of x.head content behind) x.open_request at
+pub stands-for : (x : Exchange) (content behind : Feed) (at : InputState) → at ≡ input_state_of x → StandsFor (request_of x.head content behind) x.open_request at
 stands-for x content behind at e =
-    let S : Standing → Type 0 = λ y. StandsFor (request_of x.head content behind) x.open_request y in
+    let S : InputState → Type 0 = λ y. StandsFor (request_of x.head content behind) x.open_request y in
     subst S (sym e) (by x.head.framing.is_last (is_streaming x.open_request.body) refl refl)
   where
-    by : (last streaming : Bool) → x.head.framing.is_last ≡ last → is_streaming x.open_request.body ≡ streaming → StandsFor (request_of x.head content behind) x.open_request (standing_of x)
+    by : (last streaming : Bool) → x.head.framing.is_last ≡ last → is_streaming x.open_request.body ≡ streaming → StandsFor (request_of x.head content behind) x.open_request (input_state_of x)
     by true streaming l t = record { past = rw l refl; within = rw l refl }
     by false true l t = record { past = rw (l, t) refl; within = rw (l, t) refl }
     by false false l t = record { past = rw (l, t) refl; within = rw (l, t) refl }
 
-handed-reader : (client : Feed) (k : Kept) (slots : List Slot) (rest more : List Item) (date : HttpDate) (r : Request) (w : OpenRequest UnreadBody) (p : Option Feed) (stop : Option Stop) (over : Bool) (at : Standing) (close : Stop) (next : Place) → InputStands client k slots rest → IsQuiet k.requests → r.behind ≡ place_feed close next
+handed-reader : (client : Feed) (k : Kept) (slots : List Slot) (rest more : List Item) (date : HttpDate) (r : Request) (w : OpenRequest UnreadBody) (p : Option Feed) (stop : Option Stop) (over : Bool) (at : InputState) (close : Stop) (next : Place) → InputStands client k slots rest → IsQuiet k.requests → r.behind ≡ place_feed close next
     → remaining w.body p ≡ Some (record { body = r.body; behind = place_feed close next }) → Pipeline k.profile (place_after r.framing.is_last next) close more → (BeginsBehind k.profile (place_after r.framing.is_last next) close more → BeginsMore k.profile client) → GoesOn (Some client) p → StandsFor r w at
     → InputStands client (after_handed k w p stop over at) (slots ++ (handed_slot date r ∷ [])) more
 handed-reader client k slots rest more date r w p stop over at close next old quiet after left items begins source stands =
@@ -287,8 +287,8 @@ handed-reader client k slots rest more date r w p stop over at close next old qu
       source = source;
     }
 
-pub ask-handed : (client : Feed) (before : Sink) (k : Kept) (s : State) (date : HttpDate) (x : Exchange) (from_here : Standing) (p : Option Feed) (stop : Option Stop) (over : Bool) (at : Standing) (n : ℕ) → Stands client before k s → k.asking_ended ≡ false → is_past_last k.standing ≡ false → IsQuiet k.requests
-    → (InputEnded k → ⊥) → ReadsHead k.profile from_here date k.feed p (Ok (read.Request x)) → GoesOn k.feed p → n ≡ length k.marks → AreInShape (k.marks ++ (Open ∷ [])) → at ≡ standing_of x
+pub ask-handed : (client : Feed) (before : Sink) (k : Kept) (s : State) (date : HttpDate) (x : Exchange) (from_here : InputState) (p : Option Feed) (stop : Option Stop) (over : Bool) (at : InputState) (n : ℕ) → Stands client before k s → k.asking_ended ≡ false → is_past_last k.input_state ≡ false → IsQuiet k.requests
+    → (InputEnded k → ⊥) → ReadsHead k.profile from_here date k.feed p (Ok (read.Request x)) → GoesOn k.feed p → n ≡ length k.marks → AreInShape (k.marks ++ (Open ∷ [])) → at ≡ input_state_of x
     → StepIsAnswered client before (after_handed k x.open_request p stop over at) s date Ask (Handed n (head_message x.head) (head_framing x.head))
 ask-handed client before k s date x from_here p stop over at n st e o quiet open_input reads goes number shape stands =
     let g = going client before k s st e o quiet open_input in
@@ -319,7 +319,7 @@ ask-handed client before k s date x from_here p stop over at n st e o quiet open
     )
 
 -- the body of the last request holds the reader
-pub ask-not_yet : (client : Feed) (before : Sink) (k : Kept) (s : State) (date : HttpDate) → Stands client before k s → k.asking_ended ≡ false → k.standing ≡ in_place.Body → StepIsAnswered client before k s date Ask NotYet
+pub ask-not_yet : (client : Feed) (before : Sink) (k : Kept) (s : State) (date : HttpDate) → Stands client before k s → k.asking_ended ≡ false → k.input_state ≡ in_place.Body → StepIsAnswered client before k s date Ask NotYet
 ask-not_yet client before k s date st e held =
     let slots = s.reached.slots in
     let within : (not (is_last_slot (last_slot slots)) && is_streaming_body (last_body k.requests)) ≡ true = sym (st.reader.next e).within ∙ ap is_in_body held in
@@ -336,27 +336,27 @@ ask-waits client before k s date st e held =
 
 -- in front of a head the last body isn't read from the input, and the last head wasn't read
 pub record BeforeHead (k : Kept) (s : State) : Type 0 where
-  pub unread : is_past_last k.standing ≡ false
+  pub unread : is_past_last k.input_state ≡ false
   pub more : is_last_slot (last_slot s.reached.slots) ≡ false
   pub quiet : IsQuiet k.requests
 
-pub before-head : (client : Feed) (before : Sink) (k : Kept) (s : State) → Stands client before k s → k.asking_ended ≡ false → IsBeforeHead k.standing → last_holds_next_head k.requests ≡ false → BeforeHead k s
+pub before-head : (client : Feed) (before : Sink) (k : Kept) (s : State) → Stands client before k s → k.asking_ended ≡ false → IsBeforeHead k.input_state → last_holds_next_head k.requests ≡ false → BeforeHead k s
 before-head client before k s st e here free =
     let n = st.reader.next e in
-    let past = not-past k.standing here in
+    let past = not-past k.input_state here in
     let last : is_last_slot (last_slot s.reached.slots) ≡ false = sym n.is_last ∙ past in
-    let within : (not (is_last_slot (last_slot s.reached.slots)) && is_streaming_body (last_body k.requests)) ≡ false = sym n.within ∙ not-within k.standing here in
+    let within : (not (is_last_slot (last_slot s.reached.slots)) && is_streaming_body (last_body k.requests)) ≡ false = sym n.within ∙ not-within k.input_state here in
     let U : Bool → Bool = λ x. not x && is_streaming_body (last_body k.requests) in
     record { unread = past; more = last; quiet = (ap U (sym last) ∙ within, free) }
   where
-    not-past : (x : Standing) → IsBeforeHead x → is_past_last x ≡ false
+    not-past : (x : InputState) → IsBeforeHead x → is_past_last x ≡ false
     not-past in_place.Head h = refl
     not-past in_place.Abandoned h = refl
     not-past (in_place.Broken kind) h = refl
     not-past in_place.Body h = elim h [ ]
     not-past in_place.Last h = elim h [ ]
 
-    not-within : (x : Standing) → IsBeforeHead x → is_in_body x ≡ false
+    not-within : (x : InputState) → IsBeforeHead x → is_in_body x ≡ false
     not-within in_place.Head h = refl
     not-within in_place.Abandoned h = refl
     not-within (in_place.Broken kind) h = refl
@@ -367,11 +367,11 @@ before-head client before k s st e here free =
 abbrev ends_with : Reached → Outcome
 ends_with old = record { reply = Ended; slots = old.slots; rest = []; asking_ended = true; writer = Unused }
 
-abbrev pub after_end : Kept → Option Feed → Option Stop → Bool → Standing → Kept
-after_end k p stop over at = record k { asking_ended = true; feed = p; stop = stop; is_over = over; standing = at }
+abbrev pub after_end : Kept → Option Feed → Option Stop → Bool → InputState → Kept
+after_end k p stop over at = record k { asking_ended = true; feed = p; stop = stop; is_over = over; input_state = at }
 
 -- the input was read, and the last body isn't read from it
-end-reader : (client : Feed) (before : Sink) (k : Kept) (s : State) (p : Option Feed) (stop : Option Stop) (over : Bool) (at : Standing) (rest : List Item) → Stands client before k s → IsQuiet k.requests → GoesOn k.feed p
+end-reader : (client : Feed) (before : Sink) (k : Kept) (s : State) (p : Option Feed) (stop : Option Stop) (over : Bool) (at : InputState) (rest : List Item) → Stands client before k s → IsQuiet k.requests → GoesOn k.feed p
     → InputStands client (after_end k p stop over at) s.reached.slots rest
 end-reader client before k s p stop over at rest st quiet goes =
     let source = goes-on_more (Some client) k.feed p st.reader.source goes in
@@ -379,8 +379,8 @@ end-reader client before k s p stop over at rest st quiet goes =
     let P : Option Feed → Type 0 = λ y. GivesRest (last_body k.requests) (last_slot s.reached.slots) y in
     record { settled = st.reader.settled; gives = subst P (sym f.1) (gives-settled (last_slot s.reached.slots) (last_body k.requests) f.0 (last-of client before k s st) quiet.0); next = λ e. cc; follows = λ holds. (let no : false ≡ true = sym quiet.1 ∙ holds in cc); source = source }
 
-pub ask-over : (client : Feed) (before : Sink) (k : Kept) (s : State) (date : HttpDate) → Stands client before k s → k.asking_ended ≡ false → is_past_last k.standing ≡ true
-    → StepIsAnswered client before (after_end k k.feed k.stop k.is_over k.standing) s date Ask Ended
+pub ask-over : (client : Feed) (before : Sink) (k : Kept) (s : State) (date : HttpDate) → Stands client before k s → k.asking_ended ≡ false → is_past_last k.input_state ≡ true
+    → StepIsAnswered client before (after_end k k.feed k.stop k.is_over k.input_state) s date Ask Ended
 ask-over client before k s date st e o = by (last_was_abandoned (last_slot s.reached.slots)) refl
   where
     slots : List Slot
@@ -394,10 +394,10 @@ ask-over client before k s date st e o = by (last_was_abandoned (last_slot s.rea
         let last : is_last_slot (last_slot slots) ≡ true = sym next.is_last ∙ o in
         held-by (last_slot slots) (last_body k.requests) (last-of client before k s st) ∙ rw last (last-awaits-none (last_slot slots) last)
 
-    ended_reader : (rest : List Item) → InputStands client (after_end k k.feed k.stop k.is_over k.standing) slots rest
+    ended_reader : (rest : List Item) → InputStands client (after_end k k.feed k.stop k.is_over k.input_state) slots rest
     ended_reader rest = record { settled = st.reader.settled; gives = st.reader.gives; next = λ z. cc; follows = st.reader.follows; source = st.reader.source }
 
-    by : (t : Bool) → last_was_abandoned (last_slot slots) ≡ t → StepIsAnswered client before (after_end k k.feed k.stop k.is_over k.standing) s date Ask Ended
+    by : (t : Bool) → last_was_abandoned (last_slot slots) ≡ t → StepIsAnswered client before (after_end k k.feed k.stop k.is_over k.input_state) s date Ask Ended
     by true l =
         let new : State = record { reached = record { slots = slots; rest = s.reached.rest; asking_ended = true }; flushed = s.flushed; failure = s.failure } in
         let G : Outcome → Type 0 = λ x. HasOutcome x s Ended new in (
@@ -418,7 +418,7 @@ ask-over client before k s date st e o = by (last_was_abandoned (last_slot s.rea
         )
 
 -- no head follows
-pub ask-none : (client : Feed) (before : Sink) (k : Kept) (s : State) (date : HttpDate) (from_here : Standing) (why : EndOfRequests) (p : Option Feed) (stop : Option Stop) (over : Bool) (at : Standing) → Stands client before k s → k.asking_ended ≡ false → is_past_last k.standing ≡ false → IsQuiet k.requests
+pub ask-none : (client : Feed) (before : Sink) (k : Kept) (s : State) (date : HttpDate) (from_here : InputState) (why : EndOfRequests) (p : Option Feed) (stop : Option Stop) (over : Bool) (at : InputState) → Stands client before k s → k.asking_ended ≡ false → is_past_last k.input_state ≡ false → IsQuiet k.requests
     → ReadsHead k.profile from_here date k.feed p (Ok (read.Ended why)) → GoesOn k.feed p
     → StepIsAnswered client before (after_end k p stop over at) s date Ask Ended
 ask-none client before k s date from_here why p stop over at st e o quiet reads goes = by (last_was_abandoned (last_slot s.reached.slots)) refl
@@ -454,7 +454,7 @@ ask-none client before k s date from_here why p stop over at st e o quiet reads 
         )
 
 -- no memory was found
-pub ask-memory : (client : Feed) (before : Sink) (k : Kept) (s : State) (date : HttpDate) (p : Option Feed) (stop : Option Stop) (over : Bool) (at : Standing) → Stands client before k s → k.asking_ended ≡ false → is_past_last k.standing ≡ false → IsQuiet k.requests → is_last_slot (last_slot s.reached.slots) ≡ false → (InputEnded k → ⊥) → HasByteOrTimedOut k.profile k.feed → GoesOn k.feed p
+pub ask-memory : (client : Feed) (before : Sink) (k : Kept) (s : State) (date : HttpDate) (p : Option Feed) (stop : Option Stop) (over : Bool) (at : InputState) → Stands client before k s → k.asking_ended ≡ false → is_past_last k.input_state ≡ false → IsQuiet k.requests → is_last_slot (last_slot s.reached.slots) ≡ false → (InputEnded k → ⊥) → HasByteOrTimedOut k.profile k.feed → GoesOn k.feed p
     → AskIsAnswered client before (after_end k p stop over at) s date Memory
 ask-memory client before k s date p stop over at st e o quiet more open_input begun goes =
     let g = going client before k s st e o quiet open_input in
@@ -477,8 +477,8 @@ ask-memory client before k s date p stop over at st e o quiet more open_input be
     )
 
 -- a refused head has its number, and its answer was sent, or waits for its turn
-abbrev pub after_refused : Kept → List Mark → Option Feed → Option Stop → Bool → Standing → Sink → Bool → Kept
-after_refused k marks p stop over at sink ended = record k { marks = marks; requests = k.requests ++ (None ∷ []); asking_ended = true; feed = p; stop = stop; is_over = over; standing = at; sink = sink; output_ended = ended }
+abbrev pub after_refused : Kept → List Mark → Option Feed → Option Stop → Bool → InputState → Sink → Bool → Kept
+after_refused k marks p stop over at sink ended = record k { marks = marks; requests = k.requests ++ (None ∷ []); asking_ended = true; feed = p; stop = stop; is_over = over; input_state = at; sink = sink; output_ended = ended }
 
 refused-output : (before sink new : Sink) (e ended : Bool) (slots : List Slot) (n : Slot) (s : State) → OutputAt before sink e slots s.flushed s.failure → s.reached.slots ≡ slots → list_all is_finished slots ≡ true → is_finished n ≡ true → is_slot_broken n ≡ false
     → before.failures < 2 ^ 64 - 1 → SendsUnlessEnded e sink new ended (segment n ++ []) → IsFlushed new → Goes before new e ended (slots ++ (n ∷ [])) s.flushed s.failure
@@ -537,8 +537,8 @@ refuses before sink new e ended s marks final requests n text h kept shape over 
     })
     (turn-at slots marks requests [] kept (shape-issued marks shape))
 
-pub ask-refused : (client : Feed) (before : Sink) (k : Kept) (s : State) (date : HttpDate) (from_here : Standing) (status : StatusCode) (text : Vec ℕ) (p : Option Feed) (stop : Option Stop) (over : Bool) (at : Standing) (marks : List Mark) (sink : Sink) (ended : Bool) → Stands client before k s → before.failures < 2 ^ 64 - 1
-    → k.asking_ended ≡ false → is_past_last k.standing ≡ false → IsQuiet k.requests → (InputEnded k → ⊥) → ReadsHead k.profile from_here date k.feed p (Ok (read.Refused status text true)) → GoesOn k.feed p
+pub ask-refused : (client : Feed) (before : Sink) (k : Kept) (s : State) (date : HttpDate) (from_here : InputState) (status : StatusCode) (text : Vec ℕ) (p : Option Feed) (stop : Option Stop) (over : Bool) (at : InputState) (marks : List Mark) (sink : Sink) (ended : Bool) → Stands client before k s → before.failures < 2 ^ 64 - 1
+    → k.asking_ended ≡ false → is_past_last k.input_state ≡ false → IsQuiet k.requests → (InputEnded k → ⊥) → ReadsHead k.profile from_here date k.feed p (Ok (read.Refused status text true)) → GoesOn k.feed p
     → LeavesText (length k.marks == first_unfinished k.marks) k.marks [] marks text.items k.output_ended k.sink sink ended
     → StepIsAnswered client before (after_refused k marks p stop over at sink ended) s date Ask Ended
 ask-refused client before k s date from_here status text p stop over at marks sink ended st low e o quiet open_input reads goes leaves =
@@ -582,29 +582,29 @@ pub ask-ended : (client : Feed) (before : Sink) (k : Kept) (s : State) (date : H
 ask-ended client before k s date st e = step-unchanged client before k s date Ask Ended st (ask-ends date s.reached (st.asking_ended ∙ e))
 
 -- no request follows: the last one was read, or none stands in front of the input
-pub ask-final : (client : Feed) (before : Sink) (k : Kept) (s : State) (date : HttpDate) (why : EndOfRequests) (p : Option Feed) (stop : Option Stop) (over : Bool) (at : Standing) → Stands client before k s → k.asking_ended ≡ false → (k.standing ≡ in_place.Body → ⊥) → last_holds_next_head k.requests ≡ false
-    → (k.standing ≡ in_place.Last → (p ≡ k.feed) × (stop ≡ k.stop) × (over ≡ k.is_over) × (at ≡ k.standing)) → (IsBeforeHead k.standing → ReadsHead k.profile k.standing date k.feed p (Ok (read.Ended why))) → GoesOn k.feed p
+pub ask-final : (client : Feed) (before : Sink) (k : Kept) (s : State) (date : HttpDate) (why : EndOfRequests) (p : Option Feed) (stop : Option Stop) (over : Bool) (at : InputState) → Stands client before k s → k.asking_ended ≡ false → (k.input_state ≡ in_place.Body → ⊥) → last_holds_next_head k.requests ≡ false
+    → (k.input_state ≡ in_place.Last → (p ≡ k.feed) × (stop ≡ k.stop) × (over ≡ k.is_over) × (at ≡ k.input_state)) → (IsBeforeHead k.input_state → ReadsHead k.profile k.input_state date k.feed p (Ok (read.Ended why))) → GoesOn k.feed p
     → StepIsAnswered client before (after_end k p stop over at) s date Ask Ended
-ask-final client before k s date why p stop over at st e outside free left reads goes = by k.standing refl
+ask-final client before k s date why p stop over at st e outside free left reads goes = by k.input_state refl
   where
-    none : IsBeforeHead k.standing → StepIsAnswered client before (after_end k p stop over at) s date Ask Ended
+    none : IsBeforeHead k.input_state → StepIsAnswered client before (after_end k p stop over at) s date Ask Ended
     none here =
         let h = before-head client before k s st e here free in
-        ask-none client before k s date k.standing why p stop over at st e h.unread h.quiet (reads here) goes
+        ask-none client before k s date k.input_state why p stop over at st e h.unread h.quiet (reads here) goes
 
-    by : (x : Standing) → k.standing ≡ x → StepIsAnswered client before (after_end k p stop over at) s date Ask Ended
-    by in_place.Head i = none (let P : Standing → Type 0 = λ y. IsBeforeHead y in subst P (sym i) tt)
-    by in_place.Abandoned i = none (let P : Standing → Type 0 = λ y. IsBeforeHead y in subst P (sym i) tt)
-    by (in_place.Broken kind) i = none (let P : Standing → Type 0 = λ y. IsBeforeHead y in subst P (sym i) tt)
+    by : (x : InputState) → k.input_state ≡ x → StepIsAnswered client before (after_end k p stop over at) s date Ask Ended
+    by in_place.Head i = none (let P : InputState → Type 0 = λ y. IsBeforeHead y in subst P (sym i) tt)
+    by in_place.Abandoned i = none (let P : InputState → Type 0 = λ y. IsBeforeHead y in subst P (sym i) tt)
+    by (in_place.Broken kind) i = none (let P : InputState → Type 0 = λ y. IsBeforeHead y in subst P (sym i) tt)
     by in_place.Body i = absurd (outside i)
     by in_place.Last i =
         let h = left i in
-        let P : Option Feed → Option Stop → Bool → Standing → Type 0 = λ a b c d. StepIsAnswered client before (after_end k a b c d) s date Ask Ended in
+        let P : Option Feed → Option Stop → Bool → InputState → Type 0 = λ a b c d. StepIsAnswered client before (after_end k a b c d) s date Ask Ended in
         subst (λ a. P a stop over at) (sym h.0) (subst (λ b. P k.feed b over at) (sym h.1) (subst (λ c. P k.feed k.stop c at) (sym h.2) (subst (λ d. P k.feed k.stop k.is_over d) (sym h.3)
         (ask-over client before k s date st e (ap is_past_last i)))))
 
 -- neither within a body nor after the last request the input stands in front of a head
-pub stands-before : (at : Standing) → (at ≡ in_place.Body → ⊥) → (at ≡ in_place.Last → ⊥) → IsBeforeHead at
+pub stands-before : (at : InputState) → (at ≡ in_place.Body → ⊥) → (at ≡ in_place.Last → ⊥) → IsBeforeHead at
 stands-before in_place.Head b l = tt
 stands-before in_place.Abandoned b l = tt
 stands-before (in_place.Broken kind) b l = tt

@@ -9,8 +9,8 @@ use Rattle.tiny_http_io.specs.declared.device.Stop.{Stop}
 use Rattle.tiny_http_io.specs.Device.{Feed, Sink, IsFront}
 use Rattle.tiny_http_io.proofs.DeviceLemmas.{IsFront-append}
 use Rattle.tiny_http_io.specs.Source.{GoesOn}
-use Rattle.tiny_http_io.specs.declared.source.Standing.{Standing}
-use Rattle.tiny_http_io.specs.declared.source.Standing.TheVariants as in_place
+use Rattle.tiny_http_io.specs.declared.source.InputState.{InputState}
+use Rattle.tiny_http_io.specs.declared.source.InputState.TheVariants as in_place
 use Rattle.tiny_http_io.proofs.SourceGoesOn.{goes-on_more}
 use Rattle.tiny_http_body.specs.declared.body.UnreadBody.{UnreadBody}
 use Rattle.tiny_http_open_request.specs.declared.exchange.HeadRead.TheVariants as read
@@ -289,11 +289,11 @@ pub record AskGoesOn (client : Feed) (before : Sink) (k : Kept) (s : State) (dat
   pub asks : (later : Kept) (reply : ReplyValue) → AskIsAnswered client before later mid date reply → AskIsAnswered client before later s date reply
 
 -- a refused head has its number, and the input stands behind its body
-abbrev pub after_passed : Kept → List Mark → Option Feed → Option Stop → Bool → Standing → Sink → Bool → Kept
-after_passed k marks p stop over at sink ended = record k { marks = marks; requests = k.requests ++ (None ∷ []); feed = p; stop = stop; is_over = over; standing = at; sink = sink; output_ended = ended }
+abbrev pub after_passed : Kept → List Mark → Option Feed → Option Stop → Bool → InputState → Sink → Bool → Kept
+after_passed k marks p stop over at sink ended = record k { marks = marks; requests = k.requests ++ (None ∷ []); feed = p; stop = stop; is_over = over; input_state = at; sink = sink; output_ended = ended }
 
 -- the input stands in front of the next head
-passed-reader : (client : Feed) (k : Kept) (slots : List Slot) (rest more : List Item) (n : Slot) (p : Option Feed) (stop : Option Stop) (over : Bool) (at : Standing) (marks : List Mark) (sink : Sink) (ended : Bool) (close : Stop) (next : Place)
+passed-reader : (client : Feed) (k : Kept) (slots : List Slot) (rest more : List Item) (n : Slot) (p : Option Feed) (stop : Option Stop) (over : Bool) (at : InputState) (marks : List Mark) (sink : Sink) (ended : Bool) (close : Stop) (next : Place)
     → InputStands client k slots rest → IsQuiet k.requests → is_last_slot (Some n) ≡ false → last_was_abandoned (Some n) ≡ false
     → p ≡ Some (place_feed close next) → Pipeline k.profile next close more → (BeginsBehind k.profile next close more → BeginsMore k.profile client) → GoesOn (Some client) p → at ≡ in_place.Head
     → InputStands client (after_passed k marks p stop over at sink ended) (slots ++ (n ∷ [])) more
@@ -402,8 +402,8 @@ ask-from-behind client before later s m date item rest t reply p turn passed rea
         answered c.flushed c.same (inr (open_is, more, unheld, kept, item ∷ refused, behind, items ∙ ap (λ xs. item ∷ xs) (sym rest_is ∙ eq), (passed, all), outcome))
 
 -- a head is refused, and the next one stands behind its body
-pub ask-passes : (client : Feed) (before : Sink) (k : Kept) (s : State) (date : HttpDate) (from_here : Standing) (status : StatusCode) (text : Vec ℕ) (p : Option Feed) (stop : Option Stop) (over : Bool) (at : Standing) (marks : List Mark) (sink : Sink) (ended : Bool) → Stands client before k s → before.failures < 2 ^ 64 - 1
-    → k.asking_ended ≡ false → is_past_last k.standing ≡ false → IsQuiet k.requests → is_last_slot (last_slot s.reached.slots) ≡ false → (InputEnded k → ⊥) → ReadsHead k.profile from_here date k.feed p (Ok (read.Refused status text false)) → GoesOn k.feed p
+pub ask-passes : (client : Feed) (before : Sink) (k : Kept) (s : State) (date : HttpDate) (from_here : InputState) (status : StatusCode) (text : Vec ℕ) (p : Option Feed) (stop : Option Stop) (over : Bool) (at : InputState) (marks : List Mark) (sink : Sink) (ended : Bool) → Stands client before k s → before.failures < 2 ^ 64 - 1
+    → k.asking_ended ≡ false → is_past_last k.input_state ≡ false → IsQuiet k.requests → is_last_slot (last_slot s.reached.slots) ≡ false → (InputEnded k → ⊥) → ReadsHead k.profile from_here date k.feed p (Ok (read.Refused status text false)) → GoesOn k.feed p
     → LeavesText (length k.marks == first_unfinished k.marks) k.marks [] marks text.items k.output_ended k.sink sink ended → at ≡ in_place.Head
     → AskGoesOn client before (after_passed k marks p stop over at sink ended) s date
 ask-passes client before k s date from_here status text p stop over at marks sink ended st low e o quiet more open_input reads goes leaves head =

@@ -3,9 +3,9 @@ use Rattle.std.proofs.Common.{◌≡◌, refl, sym, ap, ◌∙◌, subst, ℕ, i
 use Rattle.std.specs.Option.{option_map}
 use Rattle.std.specs.declared.io.ErrorKind.{ErrorKind}
 use Rattle.tiny_http_io.specs.declared.device.Stop.TheVariants.{End, Fault as Faults}
-use Rattle.tiny_http_io.specs.declared.source.Standing.{Standing}
-use Rattle.tiny_http_io.specs.declared.source.Standing.TheVariants as at
-use Rattle.tiny_http_io.specs.Standing.{after_body, after_fault, after_abandoned}
+use Rattle.tiny_http_io.specs.declared.source.InputState.{InputState}
+use Rattle.tiny_http_io.specs.declared.source.InputState.TheVariants as at
+use Rattle.tiny_http_io.specs.InputState.{after_body, after_fault, after_abandoned}
 use Rattle.tiny_http_io.specs.Device.{Feed}
 use Rattle.tiny_http_connection.specs.declared.pending.Unfinished.{Unfinished}
 use Rattle.tiny_http_body.specs.declared.framing.Form.{Form}
@@ -20,7 +20,7 @@ use Rattle.tiny_http_connection.specs.Segments.{Slot, Stage, is_last_item}
 use Rattle.tiny_http_connection.specs.Slots.{is_chunked_form, last_slot, last_was_abandoned, is_last_slot}
 use Rattle.tiny_http_body.specs.Body.{body_finished}
 use Rattle.tiny_http_connection.specs.Outcomes.{finished_as}
-use Rattle.tiny_http_body.specs.Body.{Remaining, remaining, is_streaming, body_standing, Fits, GivesUp}
+use Rattle.tiny_http_body.specs.Body.{Remaining, remaining, is_streaming, body_input_state, Fits, GivesUp}
 use Rattle.tiny_http_connection.specs.Pending.{last_holds_next_head, kept_body, last_body, is_streaming_body, holds_next_head_at}
 use Rattle.tiny_http_connection.specs.Connection.{Kept, open_slot, IsOpen, IsSettled, AreSettled, behind_body, slot_rest, GivesRest, is_past_last, is_in_body, PlaceIn, NextHead, InputStands, FollowsLast, behind_item}
 use Rattle.tiny_http_io.proofs.SourceGoesOn.{goes-on_more}
@@ -30,7 +30,7 @@ use Rattle.tiny_http_connection.proofs.ConnectionReader.{holds-snoc, holds-withi
 
 -- the input and the bodies, after a step of a number
 abbrev pub with_reader : Kept → List (Option Unfinished) → {R : Type 0} → SourceState R → Kept
-with_reader k requests source = record k { requests = requests; standing = source.standing; feed = source.feed; stop = source.stop; is_over = source.is_over }
+with_reader k requests source = record k { requests = requests; input_state = source.input_state; feed = source.feed; stop = source.stop; is_over = source.is_over }
 
 over-kept : (form : Form) (n given : ℕ) (end_reported : Bool) → body_finished form n given end_reported ≡ true → (is_chunked_form form && not end_reported) ≡ true → ⊥
 over-kept Chunked n given end_reported h lost = let no : true ≡ false = sym lost ∙ rw h refl in cc
@@ -67,61 +67,61 @@ given-place {R = R} client profile (body.Chunked d) old new f r given end_report
 given-place {R = R} client profile body.Rest old new f r given end_reported false rest fits h e quiet kept ends place = let no : false ≡ true = ends fits.0 in cc
 
 -- where the input stands after a body, whether the last head was read is the same, and it isn't within a body
-past-body : (p : Standing) → is_past_last (after_body p) ≡ is_past_last p
+past-body : (p : InputState) → is_past_last (after_body p) ≡ is_past_last p
 past-body at.Head = refl
 past-body at.Body = refl
 past-body at.Last = refl
 past-body at.Abandoned = refl
 past-body (at.Broken kind) = refl
 
-past-loss : (p : Standing) → is_past_last (after_abandoned p) ≡ is_past_last p
+past-loss : (p : InputState) → is_past_last (after_abandoned p) ≡ is_past_last p
 past-loss at.Head = refl
 past-loss at.Body = refl
 past-loss at.Last = refl
 past-loss at.Abandoned = refl
 past-loss (at.Broken kind) = refl
 
-past-fault : (kind : ErrorKind) (p : Standing) → is_past_last (after_fault kind p) ≡ is_past_last p
+past-fault : (kind : ErrorKind) (p : InputState) → is_past_last (after_fault kind p) ≡ is_past_last p
 past-fault kind at.Head = refl
 past-fault kind at.Body = refl
 past-fault kind at.Last = refl
 past-fault kind at.Abandoned = refl
 past-fault kind (at.Broken k) = refl
 
-out-body : (p : Standing) → is_in_body (after_body p) ≡ false
+out-body : (p : InputState) → is_in_body (after_body p) ≡ false
 out-body at.Head = refl
 out-body at.Body = refl
 out-body at.Last = refl
 out-body at.Abandoned = refl
 out-body (at.Broken kind) = refl
 
-out-loss : (p : Standing) → is_in_body (after_abandoned p) ≡ false
+out-loss : (p : InputState) → is_in_body (after_abandoned p) ≡ false
 out-loss at.Head = refl
 out-loss at.Body = refl
 out-loss at.Last = refl
 out-loss at.Abandoned = refl
 out-loss (at.Broken kind) = refl
 
-out-fault : (kind : ErrorKind) (p : Standing) → is_in_body (after_fault kind p) ≡ false
+out-fault : (kind : ErrorKind) (p : InputState) → is_in_body (after_fault kind p) ≡ false
 out-fault kind at.Head = refl
 out-fault kind at.Body = refl
 out-fault kind at.Last = refl
 out-fault kind at.Abandoned = refl
 out-fault kind (at.Broken k) = refl
 
-given-past : {R : Type 0} (b : UnreadBody) (old new : SourceState R) → GivesUp b old new → is_past_last new.standing ≡ is_past_last old.standing
-given-past {R = R} (body.Over stop) old new h = ap (λ (x : SourceState R). is_past_last x.standing) h
-given-past {R = R} (body.WithHead bytes) old new h = ap (λ (x : SourceState R). is_past_last x.standing) h
-given-past {R = R} body.Rest old new h = ap (λ (x : SourceState R). is_past_last x.standing) h
-given-past (body.Counted left by_standard) old new h = ap is_past_last h.standing ∙ past-body old.standing
-given-past (body.Chunked d) old new h = ap is_past_last h.standing ∙ past-loss old.standing
+given-past : {R : Type 0} (b : UnreadBody) (old new : SourceState R) → GivesUp b old new → is_past_last new.input_state ≡ is_past_last old.input_state
+given-past {R = R} (body.Over stop) old new h = ap (λ (x : SourceState R). is_past_last x.input_state) h
+given-past {R = R} (body.WithHead bytes) old new h = ap (λ (x : SourceState R). is_past_last x.input_state) h
+given-past {R = R} body.Rest old new h = ap (λ (x : SourceState R). is_past_last x.input_state) h
+given-past (body.Counted left by_standard) old new h = ap is_past_last h.input_state ∙ past-body old.input_state
+given-past (body.Chunked d) old new h = ap is_past_last h.input_state ∙ past-loss old.input_state
 
-given-within : {R : Type 0} (b : UnreadBody) (old new : SourceState R) (last : Bool) → GivesUp b old new → (b ≡ body.Rest → last ≡ true) → is_in_body old.standing ≡ (not last && is_streaming b) → is_in_body new.standing ≡ false
-given-within {R = R} (body.Over stop) old new last h ends e = ap (λ (x : SourceState R). is_in_body x.standing) h ∙ e ∙ and-false (not last)
-given-within {R = R} (body.WithHead bytes) old new last h ends e = ap (λ (x : SourceState R). is_in_body x.standing) h ∙ e ∙ and-false (not last)
-given-within (body.Counted left by_standard) old new last h ends e = ap is_in_body h.standing ∙ out-body old.standing
-given-within (body.Chunked d) old new last h ends e = ap is_in_body h.standing ∙ out-loss old.standing
-given-within {R = R} body.Rest old new last h ends e = ap (λ (x : SourceState R). is_in_body x.standing) h ∙ e ∙ ap (λ x. not x && true) (ends refl)
+given-within : {R : Type 0} (b : UnreadBody) (old new : SourceState R) (last : Bool) → GivesUp b old new → (b ≡ body.Rest → last ≡ true) → is_in_body old.input_state ≡ (not last && is_streaming b) → is_in_body new.input_state ≡ false
+given-within {R = R} (body.Over stop) old new last h ends e = ap (λ (x : SourceState R). is_in_body x.input_state) h ∙ e ∙ and-false (not last)
+given-within {R = R} (body.WithHead bytes) old new last h ends e = ap (λ (x : SourceState R). is_in_body x.input_state) h ∙ e ∙ and-false (not last)
+given-within (body.Counted left by_standard) old new last h ends e = ap is_in_body h.input_state ∙ out-body old.input_state
+given-within (body.Chunked d) old new last h ends e = ap is_in_body h.input_state ∙ out-loss old.input_state
+given-within {R = R} body.Rest old new last h ends e = ap (λ (x : SourceState R). is_in_body x.input_state) h ∙ e ∙ ap (λ x. not x && true) (ends refl)
 
 -- a body that is all the rest of the input is that of a request of that form
 rest-form : (b : UnreadBody) (r : Request) (given : ℕ) (end_reported : Bool) → Fits r.framing.by_standard b r.framing.form (body_length_or_0 r.framing) given end_reported → b ≡ body.Rest → r.framing.form ≡ Rest
@@ -130,11 +130,11 @@ rest-form b r given end_reported fits e =
     (subst F e fits).0
 
 -- the same after a read
-pub record StandsOn (c : UnreadBody) (p q : Standing) (last : Bool) : Type 0 where
+pub record StandsOn (c : UnreadBody) (p q : InputState) (last : Bool) : Type 0 where
   pub past : is_past_last q ≡ is_past_last p
   pub within : is_in_body q ≡ (not last && is_streaming c)
 
-stands-by : (c : UnreadBody) (p : Standing) (last : Bool) → is_in_body p ≡ (not last && true) → StandsOn c p (body_standing c p) last
+stands-by : (c : UnreadBody) (p : InputState) (last : Bool) → is_in_body p ≡ (not last && true) → StandsOn c p (body_input_state c p) last
 stands-by (body.Over End) p last e = record { past = past-body p; within = out-body p ∙ sym (and-false (not last)) }
 stands-by (body.Over (Faults kind)) p last e = record { past = past-fault kind p; within = out-fault kind p ∙ sym (and-false (not last)) }
 stands-by (body.WithHead bytes) p last e = record { past = past-body p; within = out-body p ∙ sym (and-false (not last)) }
@@ -142,10 +142,10 @@ stands-by (body.Counted left by_standard) p last e = record { past = refl; withi
 stands-by (body.Chunked d) p last e = record { past = refl; within = e }
 stands-by body.Rest p last e = record { past = refl; within = e }
 
-pub stands-on : (b c : UnreadBody) (p q : Standing) (last : Bool) → (is_streaming b ≡ true → q ≡ body_standing c p) → (is_streaming b ≡ false → q ≡ p) → (is_streaming b ≡ false → is_streaming c ≡ false) → is_in_body p ≡ (not last && is_streaming b) → StandsOn c p q last
+pub stands-on : (b c : UnreadBody) (p q : InputState) (last : Bool) → (is_streaming b ≡ true → q ≡ body_input_state c p) → (is_streaming b ≡ false → q ≡ p) → (is_streaming b ≡ false → is_streaming c ≡ false) → is_in_body p ≡ (not last && is_streaming b) → StandsOn c p q last
 stands-on b c p q last goes settled stays e = by (is_streaming b) refl
   where
-    S : Standing → Type 0
+    S : InputState → Type 0
     S x = StandsOn c p x last
 
     by : (t : Bool) → is_streaming b ≡ t → StandsOn c p q last
@@ -161,16 +161,16 @@ given-same (body.Chunked d) old new h e = cc
 given-same body.Rest old new h e = cc
 
 -- where the last number and its body are the same, the next head is read at the same place
-pub next-same : (client : Feed) (k q : Kept) (o u : Option Slot) (rest : List Item) → q.profile ≡ k.profile → q.standing ≡ k.standing → is_last_slot u ≡ is_last_slot o → last_was_abandoned u ≡ last_was_abandoned o → last_body q.requests ≡ last_body k.requests → q.feed ≡ k.feed → q.stop ≡ k.stop → q.is_over ≡ k.is_over → NextHead client k o rest → NextHead client q u rest
-next-same client k q o u rest profile standing last abandoned content feed stop ends n =
+pub next-same : (client : Feed) (k q : Kept) (o u : Option Slot) (rest : List Item) → q.profile ≡ k.profile → q.input_state ≡ k.input_state → is_last_slot u ≡ is_last_slot o → last_was_abandoned u ≡ last_was_abandoned o → last_body q.requests ≡ last_body k.requests → q.feed ≡ k.feed → q.stop ≡ k.stop → q.is_over ≡ k.is_over → NextHead client k o rest → NextHead client q u rest
+next-same client k q o u rest profile input_state last abandoned content feed stop ends n =
     let P : Bool → Option UnreadBody → Option Feed → Type 0 = λ x y z. PlaceIn client q.profile x (behind_body y z) rest in
-    let over : is_past_last q.standing ≡ is_past_last k.standing = ap is_past_last standing in
+    let over : is_past_last q.input_state ≡ is_past_last k.input_state = ap is_past_last input_state in
     let W : Bool → Option UnreadBody → Bool = λ x y. not x && is_streaming_body y in
     record {
       is_last = over ∙ n.is_last ∙ sym last;
-      within = ap is_in_body standing ∙ n.within ∙ ap (λ y. W (is_last_slot o) y) (sym content) ∙ ap (λ x. W x (last_body q.requests)) (sym last);
+      within = ap is_in_body input_state ∙ n.within ∙ ap (λ y. W (is_last_slot o) y) (sym content) ∙ ap (λ x. W x (last_body q.requests)) (sym last);
       lost = λ l. (let m = n.lost (sym abandoned ∙ l) in ((ends ∙ m.0.0, stop ∙ m.0.1), feed ∙ m.1));
-      place = λ l. subst (λ x. P x (last_body q.requests) q.feed) (sym over) (subst (λ y. P (is_past_last k.standing) y q.feed) (sym content) (subst (λ z. P (is_past_last k.standing) (last_body k.requests) z) (sym feed) (subst (λ w. PlaceIn client w (is_past_last k.standing) (behind_body (last_body k.requests) k.feed) rest) (sym profile) (n.place (sym abandoned ∙ l)))));
+      place = λ l. subst (λ x. P x (last_body q.requests) q.feed) (sym over) (subst (λ y. P (is_past_last k.input_state) y q.feed) (sym content) (subst (λ z. P (is_past_last k.input_state) (last_body k.requests) z) (sym feed) (subst (λ w. PlaceIn client w (is_past_last k.input_state) (behind_body (last_body k.requests) k.feed) rest) (sym profile) (n.place (sym abandoned ∙ l)))));
     }
 
 -- the connection's input is this source
@@ -178,7 +178,7 @@ pub record IsInput {R : Type 0} (k : Kept) (source : SourceState R) : Type 0 whe
   pub feed : k.feed ≡ source.feed
   pub stop : k.stop ≡ source.stop
   pub ends : k.is_over ≡ source.is_over
-  pub standing : k.standing ≡ source.standing
+  pub input_state : k.input_state ≡ source.input_state
 
 -- a step of a number that isn't the last, which leaves the input
 pub reader-within : {R : Type 0} (client : Feed) (k : Kept) (source : SourceState R) (bs cs : List Slot) (us vs : List (Option Unfinished)) (rest : List Item) (s t c : Slot) (v x u : Option Unfinished) → IsInput k source → InputStands client k (bs ++ (s ∷ (c ∷ cs))) rest
@@ -193,7 +193,7 @@ reader-within client k source bs cs us vs rest s t c v x u from reader is quiet 
     record {
       settled = settled-set us u x (v ∷ vs) (subst A is reader.settled) (inl quiet);
       gives = subst (λ b. G b (last_slot (bs ++ (t ∷ (c ∷ cs)))) source.feed) (sym content) (subst (λ o. G (last_body k.requests) o source.feed) (sym last) (subst (λ f. G (last_body k.requests) (last_slot (bs ++ (s ∷ (c ∷ cs)))) f) from.feed reader.gives));
-      next = λ e. next-same client k (with_reader k (us ++ (x ∷ (v ∷ vs))) source) (last_slot (bs ++ (s ∷ (c ∷ cs)))) (last_slot (bs ++ (t ∷ (c ∷ cs)))) rest refl (sym from.standing) (ap is_last_slot last) (ap last_was_abandoned last) content (sym from.feed) (sym from.stop) (sym from.ends) (reader.next e);
+      next = λ e. next-same client k (with_reader k (us ++ (x ∷ (v ∷ vs))) source) (last_slot (bs ++ (s ∷ (c ∷ cs)))) (last_slot (bs ++ (t ∷ (c ∷ cs)))) rest refl (sym from.input_state) (ap is_last_slot last) (ap last_was_abandoned last) content (sym from.feed) (sym from.stop) (sym from.ends) (reader.next e);
       follows = λ holds.
           let held : last_holds_next_head k.requests ≡ true = ap last_holds_next_head is ∙ sym (holds-within us x u v vs) ∙ holds in
           subst (λ b. L b (last_slot (bs ++ (t ∷ (c ∷ cs)))) source.feed) (sym content) (subst (λ o. L (last_body k.requests) o source.feed) (sym last) (subst (λ f. L (last_body k.requests) (last_slot (bs ++ (s ∷ (c ∷ cs)))) f) from.feed (reader.follows held)));
@@ -206,9 +206,9 @@ pub record LastWaits {R : Type 0} (client : Feed) (k : Kept) (source : SourceSta
   pub stated : source.feed ≡ Some feed
   pub content : last_body k.requests ≡ Some b
   pub gives : option_map (λ (x : Remaining). x.body) (remaining b source.feed) ≡ Some (slot_rest s)
-  pub is_last : k.asking_ended ≡ false → is_past_last source.standing ≡ is_last_item s.item
-  pub within : k.asking_ended ≡ false → is_in_body source.standing ≡ (not (is_last_item s.item) && is_streaming b)
-  pub place : k.asking_ended ≡ false → PlaceIn client k.profile (is_past_last source.standing) (behind_body (Some b) source.feed) rest
+  pub is_last : k.asking_ended ≡ false → is_past_last source.input_state ≡ is_last_item s.item
+  pub within : k.asking_ended ≡ false → is_in_body source.input_state ≡ (not (is_last_item s.item) && is_streaming b)
+  pub place : k.asking_ended ≡ false → PlaceIn client k.profile (is_past_last source.input_state) (behind_body (Some b) source.feed) rest
   pub follows : last_holds_next_head k.requests ≡ true → behind_body (Some b) source.feed ≡ Some (behind_item s.item)
 
 pub last-waits : {R : Type 0} (client : Feed) (k : Kept) (source : SourceState R) (bs : List Slot) (us : List (Option Unfinished)) (rest : List Item) (s : Slot) (u : Option Unfinished) (b : UnreadBody) → IsOpen s b → kept_body u ≡ Some b → IsInput k source → InputStands client k (bs ++ (s ∷ [])) rest → k.requests ≡ us ++ (u ∷ [])
@@ -219,7 +219,7 @@ last-waits client k source bs us rest s u b h has from reader is =
     let content : last_body k.requests ≡ Some b = ap last_body is ∙ body-snoc us u ∙ has in
     let G : Option UnreadBody → Option Slot → Option Feed → Type 0 = λ b o z. GivesRest b o z in
     let P : Bool → Option UnreadBody → Option Feed → Type 0 = λ x y z. PlaceIn client k.profile x (behind_body y z) rest in
-    let over : is_past_last k.standing ≡ is_past_last source.standing = ap is_past_last from.standing in
+    let over : is_past_last k.input_state ≡ is_past_last source.input_state = ap is_past_last from.input_state in
     let W : Option Slot → Option UnreadBody → Bool = λ x y. not (is_last_slot x) && is_streaming_body y in
     let L : Option UnreadBody → Option Slot → Option Feed → Type 0 = λ b o f. FollowsLast b o f in
     record {
@@ -228,8 +228,8 @@ last-waits client k source bs us rest s u b h has from reader is =
       content = content;
       gives = subst (λ b. G b (Some s) source.feed) content (subst (λ o. G (last_body k.requests) o source.feed) last (subst (λ z. G (last_body k.requests) (last_slot (bs ++ (s ∷ []))) z) from.feed reader.gives));
       is_last = λ e. sym over ∙ (reader.next e).is_last ∙ ap is_last_slot last;
-      within = λ e. ap is_in_body (sym from.standing) ∙ (reader.next e).within ∙ ap (λ x. W x (last_body k.requests)) last ∙ ap (λ y. W (Some s) y) content;
-      place = λ e. subst (λ x. P x (Some b) source.feed) over (subst (λ z. P (is_past_last k.standing) (Some b) z) from.feed (subst (λ y. P (is_past_last k.standing) y k.feed) content ((reader.next e).place (ap last_was_abandoned last ∙ waiting-kept s b h))));
+      within = λ e. ap is_in_body (sym from.input_state) ∙ (reader.next e).within ∙ ap (λ x. W x (last_body k.requests)) last ∙ ap (λ y. W (Some s) y) content;
+      place = λ e. subst (λ x. P x (Some b) source.feed) over (subst (λ z. P (is_past_last k.input_state) (Some b) z) from.feed (subst (λ y. P (is_past_last k.input_state) y k.feed) content ((reader.next e).place (ap last_was_abandoned last ∙ waiting-kept s b h))));
       follows = λ e. subst (λ b. L b (Some s) source.feed) content (subst (λ o. L (last_body k.requests) o source.feed) last (subst (λ z. L (last_body k.requests) (last_slot (bs ++ (s ∷ []))) z) from.feed (reader.follows e)));
     }
 
@@ -247,7 +247,7 @@ reader-last closes client k old new bs us rest s u x b stage h has none from rea
     let G : Option UnreadBody → Type 0 = λ b. GivesRest b (last_slot (bs ++ (t ∷ []))) new.feed in
     let P : Bool → Option UnreadBody → Type 0 = λ x b. PlaceIn client k.profile x (behind_body b new.feed) rest in
     let W : Option UnreadBody → Bool = λ y. not (is_last_slot (last_slot (bs ++ (t ∷ [])))) && is_streaming_body y in
-    let past : is_past_last new.standing ≡ is_past_last old.standing = given-past b old new gives in
+    let past : is_past_last new.input_state ≡ is_past_last old.input_state = given-past b old new gives in
     let S : Option Feed → Type 0 = λ f. GoesOn f new.feed in
     let B : Option Remaining → Option Feed = λ o. option_map (λ (x : Remaining). x.behind) o in
     let item_last : is_last_item s.item ≡ r.framing.is_last = ap (λ (x : Slot). is_last_item x.item) h.is in
@@ -258,8 +258,8 @@ reader-last closes client k old new bs us rest s u x b stage h has none from rea
         is_last = past ∙ l.is_last e ∙ ap (λ (x : Slot). is_last_item x.item) h.is ∙ ap is_last_slot (sym last);
         within = given-within b old new (is_last_item s.item) gives (λ rest_is. item_last ∙ h.rest_is_last (rest-form b r h.given h.end_reported h.fits rest_is)) (l.within e) ∙ sym (ap W content ∙ and-false (not (is_last_slot (last_slot (bs ++ (t ∷ []))))));
         lost = λ lost. lost-chunked b old new l.feed r h.given h.end_reported h.fits gives l.stated (sym (ap last_was_abandoned last) ∙ lost);
-        place = λ kept. subst (λ y. P y (last_body (us ++ (x ∷ [])))) (sym past) (subst (λ y. P (is_past_last old.standing) y) (sym content)
-            (given-place client k.profile b old new l.feed r h.given h.end_reported (is_past_last old.standing) rest h.fits gives l.stated (λ quiet f. ap B (h.settled quiet f)) (sym (ap last_was_abandoned last) ∙ kept) (λ form. l.is_last e ∙ item_last ∙ h.rest_is_last form) (l.place e)));
+        place = λ kept. subst (λ y. P y (last_body (us ++ (x ∷ [])))) (sym past) (subst (λ y. P (is_past_last old.input_state) y) (sym content)
+            (given-place client k.profile b old new l.feed r h.given h.end_reported (is_past_last old.input_state) rest h.fits gives l.stated (λ quiet f. ap B (h.settled quiet f)) (sym (ap last_was_abandoned last) ∙ kept) (λ form. l.is_last e ∙ item_last ∙ h.rest_is_last form) (l.place e)));
       };
       follows = λ holds. subst (λ b. FollowsLast b (last_slot (bs ++ (t ∷ []))) new.feed) (sym content) tt;
       source = goes-on_more (Some client) k.feed new.feed reader.source (subst S (sym from.feed) (gives-up b old new gives));
@@ -319,7 +319,7 @@ reader-alike client k source bs [] us [] rest s t u x from reader is same body k
     record {
       settled = settled-set us u x [] (subst A is reader.settled) (inr refl);
       gives = subst (λ b. G b (last_slot (bs ++ (t ∷ []))) source.feed) (sym content) (subst (λ o. G (last_body k.requests) o source.feed) (sym last) (subst (λ f. G (last_body k.requests) (Some t) f) from.feed (gives-alike (last_body k.requests) s t k.feed alike.left gives)));
-      next = λ e. next-same client k (with_reader k (us ++ (x ∷ [])) source) (last_slot (bs ++ (s ∷ []))) (last_slot (bs ++ (t ∷ []))) rest refl (sym from.standing) (ap is_last_slot last ∙ alike.last ∙ ap is_last_slot (sym was)) (ap last_was_abandoned last ∙ alike.abandoned ∙ ap last_was_abandoned (sym was)) content (sym from.feed) (sym from.stop)
+      next = λ e. next-same client k (with_reader k (us ++ (x ∷ [])) source) (last_slot (bs ++ (s ∷ []))) (last_slot (bs ++ (t ∷ []))) rest refl (sym from.input_state) (ap is_last_slot last ∙ alike.last ∙ ap is_last_slot (sym was)) (ap last_was_abandoned last ∙ alike.abandoned ∙ ap last_was_abandoned (sym was)) content (sym from.feed) (sym from.stop)
           (sym from.ends) (reader.next e);
       follows = λ holds.
           let held : last_holds_next_head k.requests ≡ true = ap last_holds_next_head is ∙ holds-snoc us u ∙ still-true (holds_next_head_at (Some u)) (holds_next_head_at (Some x)) keeps (sym (holds-snoc us x) ∙ holds) in

@@ -29,14 +29,14 @@ use Rattle.tiny_http_connection.proofs.SlotsLemmas.{joined-cons}
 
 -- what holds of a slot that is told, and of one that is left alone, holds of it
 pub by-closing : (P : Slot → Type 0) (s : Slot) → (is_unanswered s.stage ≡ true → P (record s { closes = true })) → P s → P (closing_slot s)
-by-closing P s told same = go (is_unanswered s.stage) refl
+by-closing P s stop_count same = go (is_unanswered s.stage) refl
   where
     go : (b : Bool) → is_unanswered s.stage ≡ b → P (if b then record s { closes = true } else s)
-    go true e = told e
+    go true e = stop_count e
     go false e = same
 
-closing-told : (s : Slot) → is_unanswered s.stage ≡ true → closing_slot s ≡ record s { closes = true }
-closing-told s e = rw e refl
+closing-stop_count : (s : Slot) → is_unanswered s.stage ≡ true → closing_slot s ≡ record s { closes = true }
+closing-stop_count s e = rw e refl
 
 closing-same : (s : Slot) → is_unanswered s.stage ≡ false → closing_slot s ≡ s
 closing-same s e = rw e refl
@@ -129,7 +129,7 @@ closing-twice : (s : Slot) → closing_slot (closing_slot s) ≡ closing_slot s
 closing-twice s = by (is_unanswered s.stage) refl
   where
     by : (b : Bool) → is_unanswered s.stage ≡ b → closing_slot (closing_slot s) ≡ closing_slot s
-    by true e = ap closing_slot (closing-told s e) ∙ closing-told (record s { closes = true }) e ∙ sym (closing-told s e)
+    by true e = ap closing_slot (closing-stop_count s e) ∙ closing-stop_count (record s { closes = true }) e ∙ sym (closing-stop_count s e)
     by false e = ap closing_slot (closing-same s e)
 
 -- the list of the slots behind one, and the slot itself, which keeps its item
@@ -159,7 +159,7 @@ waiting-closing s w h =
       handed = record h.handed { closes = true };
       given = h.given;
       end_reported = h.end_reported;
-      is = closing-told s waits ∙ ap (λ (x : Slot). record x { closes = true }) h.is;
+      is = closing-stop_count s waits ∙ ap (λ (x : Slot). record x { closes = true }) h.is;
       owed = h.owed;
       holds = h.holds;
       standard = h.standard;
@@ -168,7 +168,7 @@ waiting-closing s w h =
       closes = refl;
       unsent = h.unsent;
       rest_is_last = h.rest_is_last;
-      answer_context = h.answer_context;
+      response_context = h.response_context;
       dropped = h.dropped;
       fits = h.fits;
       settled = h.settled;

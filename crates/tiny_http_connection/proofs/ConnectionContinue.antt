@@ -5,13 +5,13 @@ use Rattle.std.specs.Prelude.{◌==◌, slice_get, slice_set}
 use Rattle.std.specs.List.{list_all}
 use Rattle.httpdate.specs.declared.date.HttpDate.{HttpDate}
 use Rattle.tiny_http_io.specs.Device.{Feed, Sink}
-use Rattle.tiny_http_response.specs.declared.answer_context.AnswerContext.{AnswerContext}
+use Rattle.tiny_http_response.specs.declared.response_context.ResponseContext.{ResponseContext}
 use Rattle.tiny_http_io.specs.Source.{SourceState}
 use Rattle.tiny_http_response.specs.ResponseValue.{printing_in}
 use Rattle.tiny_http_response.specs.Sending.{CanSend, IsFlushed, SendsUnlessEnded}
 use Rattle.tiny_http_body.specs.declared.body.UnreadBody.{UnreadBody}
 use Rattle.tiny_http_open_request.specs.declared.open_request.OpenRequest.{OpenRequest}
-use Rattle.tiny_http_open_request.specs.OwnAnswer.{own_text_by}
+use Rattle.tiny_http_open_request.specs.ErrorResponse.{own_text_by}
 use Rattle.tiny_http_open_request.specs.Pipeline.{Asks}
 use Rattle.tiny_http_turns.specs.Turns.{Mark, Open, AreInShape, first_unfinished}
 use Rattle.tiny_http_connection.specs.Segments.{Slot, Unanswered, Answered as AnsweredBy, ByServer, Raw, Upgraded, is_finished, segment, opening, to_request}
@@ -84,14 +84,14 @@ still-waiting date s w h = record {
   closes = h.closes;
   unsent = λ owed. (let no : false ≡ true = owed in cc);
   rest_is_last = h.rest_is_last;
-  answer_context = h.answer_context;
+  response_context = h.response_context;
   dropped = h.dropped;
   fits = h.fits;
   settled = h.settled;
 }
 
-pub continue-done : {R : Type 0} (client : Feed) (before : Sink) (k : Kept) (s : State) (date : HttpDate) (n : ℕ) (w : OpenRequest UnreadBody) (context : AnswerContext) (new : Sink) (ended : Bool) (final : List Mark) (requests : List (Option Unfinished)) (source : SourceState R) → Stands client before k s → IsInput k source → before.failures < 2 ^ 64 - 1
-    → slice_get k.requests n ≡ Some (Some (still.Waiting w)) → w.answer_context ≡ context → w.owes_continue ≡ true → (n == first_unfinished k.marks) ≡ true → final ≡ k.marks → requests ≡ slice_set k.requests n (Some (still.Waiting (unowed w)))
+pub continue-done : {R : Type 0} (client : Feed) (before : Sink) (k : Kept) (s : State) (date : HttpDate) (n : ℕ) (w : OpenRequest UnreadBody) (context : ResponseContext) (new : Sink) (ended : Bool) (final : List Mark) (requests : List (Option Unfinished)) (source : SourceState R) → Stands client before k s → IsInput k source → before.failures < 2 ^ 64 - 1
+    → slice_get k.requests n ≡ Some (Some (still.Waiting w)) → w.response_context ≡ context → w.owes_continue ≡ true → (n == first_unfinished k.marks) ≡ true → final ≡ k.marks → requests ≡ slice_set k.requests n (Some (still.Waiting (unowed w)))
     → ((k.output_ended ≡ false → CanSend k.sink) → SendsUnlessEnded k.output_ended k.sink new ended (own_text_by 100 (printing_in context date))) → IsFlushed new
     → StepIsAnswered client before (after_number k final requests source new ended) s date (AsReader n) Done
 continue-done {R = R} client before k s date n w context new ended final requests source st from low e context_is owed come final_is requests_are sends firm =
@@ -139,7 +139,7 @@ continue-done {R = R} client before k s date n w context new ended final request
         subst Q (sym requests_now) (reader-alike client k source p.bs p.cs p.us p.vs s.reached.rest p.s s1 (Some (still.Waiting w)) (Some (still.Waiting (unowed w))) from (subst P p.slots_are st.reader) p.requests_are (kept-many p.cs p.rs p.vs p.behind) refl (λ e. e) alike)
 
     printed : printing_in context date ≡ to_request h.request.framing.is_last h.request date
-    printed = ap (λ c. printing_in c date) (sym context_is ∙ h.answer_context)
+    printed = ap (λ c. printing_in c date) (sym context_is ∙ h.response_context)
 
     own : segment s1 ≡ segment s0 ++ text
     own = append-nil text ∙ ap (λ o. (opening (Asks h.request) o ++ []) ++ text) (sym (h.unsent (sym h.owed ∙ owed)))

@@ -1,7 +1,7 @@
 -- A Drop: from where the connection stands to where it stands after it.
-use Rattle.tiny_http_open_request.specs.OwnAnswer.{own_text_by}
+use Rattle.tiny_http_open_request.specs.ErrorResponse.{own_text_by}
 use Rattle.tiny_http_open_request.specs.TextState.{drop_text}
-use Rattle.tiny_http_standard_head.specs.Judging.{names_protocol}
+use Rattle.tiny_http_standard_head.specs.Validation.{names_protocol}
 use Rattle.std.proofs.Common.{◌≡◌, refl, sym, ap, ◌∙◌, subst, ℕ, ◌-◌, ◌<◌, ◌^◌, Bool, true, false, ◌&&◌, ◌||◌, List, ◌∷◌, ◌++◌, length, Option, Some, None, append-nil}
 use Rattle.std.specs.Prelude.{◌==◌, slice_get, slice_set, is_err}
 use Rattle.tiny_http_response.specs.ResponseValue.{printing_in, ResponseValue}

@@ -7,7 +7,7 @@ use Rattle.httpdate.specs.declared.date.HttpDate.{HttpDate}
 use Rattle.tiny_http_head.specs.declared.common.StatusCode.{StatusCode}
 use Rattle.tiny_http_io.specs.Source.{SourceState}
 use Rattle.tiny_http_io.specs.Outlet.{OutletState, output_of, outlet_ended}
-use Rattle.tiny_http_io.specs.declared.source.Standing.TheVariants as at
+use Rattle.tiny_http_io.specs.declared.source.InputState.TheVariants as at
 use Rattle.tiny_http_body.specs.declared.framing.Profile.{Profile}
 use Rattle.tiny_http_open_request.specs.declared.exchange.Exchange.{Exchange}
 use Rattle.tiny_http_open_request.specs.declared.exchange.HeadRead.{HeadRead}
@@ -47,8 +47,8 @@ last-reason : (why : EndOfRequests) → ◌≡◌ {A = Result HeadRead AllocErro
 last-reason why e = cc
 
 -- what was read where a head would begin, if it isn't the end
-before : {R : Type 0} (profile : Profile) (date : HttpDate) (s t : SourceState R) (r : Result HeadRead AllocError) → TakesHead profile date s t r → (IsOkEnd r → ⊥) → (s.standing ≡ at.Body → ⊥) → IsBeforeHead s.standing
-before profile date s t r h other outside = stands-before s.standing outside (λ e. other (past-last r (h.last e).0))
+before : {R : Type 0} (profile : Profile) (date : HttpDate) (s t : SourceState R) (r : Result HeadRead AllocError) → TakesHead profile date s t r → (IsOkEnd r → ⊥) → (s.input_state ≡ at.Body → ⊥) → IsBeforeHead s.input_state
+before profile date s t r h other outside = stands-before s.input_state outside (λ e. other (past-last r (h.last e).0))
 
 -- a request was read, and takes a number
 finds-request : {R W : Type 0} (profile : Profile) (date : HttpDate) (s t : SourceState R) (o : OutletState W) (p q : Pending) (end : Option EndOfRequests) (x : Exchange) (n : ℕ)
@@ -60,12 +60,12 @@ finds-request {R = R} {W = W} profile date s t o p q end x n h can number marks_
     (λ client before s low st.
     let f = before-head client before k s st open_is here can.2 in
     let shape : AreInShape (k.marks ++ (Open ∷ [])) = subst (λ m. AreInShape m) marks_are shape_is in
-    let done = ask-handed client before k s date x from.standing t.feed t.stop t.is_over t.standing n st open_is f.unread f.quiet
-    (λ i. elim (h.at_end i).0 [ ]) (h.reads here) h.goes_on number shape h.standing in
+    let done = ask-handed client before k s date x from.input_state t.feed t.stop t.is_over t.input_state n st open_is f.unread f.quiet
+    (λ i. elim (h.at_end i).0 [ ]) (h.reads here) h.goes_on number shape h.input_state in
     let P : List Mark → List (Option Unfinished) → Type 0 = λ m r.
-    StepIsAnswered client before (record k { marks = m; requests = r; standing = t.standing; feed = t.feed; stop = t.stop; is_over = t.is_over }) s date Ask (Handed n (head_message x.head) (head_framing x.head)) in
+    StepIsAnswered client before (record k { marks = m; requests = r; input_state = t.input_state; feed = t.feed; stop = t.stop; is_over = t.is_over }) s date Ask (Handed n (head_message x.head) (head_framing x.head)) in
     subst (λ m. P m q.requests) (sym marks_are) (subst (λ r. P (k.marks ++ (Open ∷ [])) r) (sym requests_are) done))
-    (λ no. elim no [ ]) (can.0, can.0, here, (can.1, can.2), λ i. elim (h.at_end i).0 [ ]) (0, x.open_request, requests_are ∙ ap (λ y. y ++ (Some (still.Waiting x.open_request) ∷ [])) (sym (append-nil p.requests)), h.standing, number ∙ plus-none (length p.turns.marks), (λ z. (refl, h.lazy tt, marks_are)), hands-here profile s.standing date s.feed t.feed x (h.reads here), h.framed.0, h.fits, (x.head, refl, refl, h.framed.1)) (driving-reads-on old new refl refl h.goes_on)
+    (λ no. elim no [ ]) (can.0, can.0, here, (can.1, can.2), λ i. elim (h.at_end i).0 [ ]) (0, x.open_request, requests_are ∙ ap (λ y. y ++ (Some (still.Waiting x.open_request) ∷ [])) (sym (append-nil p.requests)), h.input_state, number ∙ plus-none (length p.turns.marks), (λ z. (refl, h.lazy tt, marks_are)), hands-here profile s.input_state date s.feed t.feed x (h.reads here), h.framed.0, h.fits, (x.head, refl, refl, h.framed.1)) (driving-reads-on old new refl refl h.goes_on)
   where
     from : SourceState R
     from = s
@@ -82,7 +82,7 @@ finds-request {R = R} {W = W} profile date s t o p q end x n h can number marks_
     open_is : is_some end ≡ false
     open_is = ap is_some can.0
 
-    here : IsBeforeHead s.standing
+    here : IsBeforeHead s.input_state
     here = before profile date s t (Ok (read.Request x)) h (λ e. elim e [ ]) can.1
 
 -- memory was refused, whatever was read; what had been kept is kept
@@ -109,15 +109,15 @@ finds-no-memory {R = R} {W = W} profile date s t o u p q end r h other can turns
     open_is : is_some end ≡ false
     open_is = ap is_some can.0
 
-    here : IsBeforeHead s.standing
+    here : IsBeforeHead s.input_state
     here = before profile date s t r h other can.1
 
     step : AskStep old new date Memory
     step = ask-found old new date Memory
         (λ client before s low st.
         let f = before-head client before k s st open_is here can.2 in
-        let P : List Mark → List (Option Unfinished) → Type 0 = λ m r. AskIsAnswered client before (record k { marks = m; requests = r; asking_ended = true; standing = t.standing; feed = t.feed; stop = t.stop; is_over = t.is_over }) s date Memory in
-        let done = ask-memory client before k s date t.feed t.stop t.is_over t.standing st open_is f.unread f.quiet f.more
+        let P : List Mark → List (Option Unfinished) → Type 0 = λ m r. AskIsAnswered client before (record k { marks = m; requests = r; asking_ended = true; input_state = t.input_state; feed = t.feed; stop = t.stop; is_over = t.is_over }) s date Memory in
+        let done = ask-memory client before k s date t.feed t.stop t.is_over t.input_state st open_is f.unread f.quiet f.more
         (λ i. other (h.at_end i).0) (h.begun other) h.goes_on in
         subst (λ m. P m q.requests) (ap (λ t. t.marks) (sym turns_are)) (subst (λ r. P k.marks r) (sym requests_are) done))
         (λ no. elim no [ ]) (can.0, refl, here, begins-here profile from.feed (h.begun other), (can.1, can.2), λ i. other (h.at_end i).0) (0, (requests_are ∙ sym (append-nil p.requests), λ z. (ap (λ t. t.marks) turns_are, refl))) (driving-reads-on old new refl refl h.goes_on)
@@ -129,11 +129,11 @@ finds-end : {R W : Type 0} (profile : Profile) (date : HttpDate) (s t : SourceSt
 finds-end {R = R} {W = W} profile date s t o p end why h can =
     ask-step old new date Ended (λ client p left. tt)
     (λ client before s low st.
-    ask-final client before k s date why t.feed t.stop t.is_over t.standing st open_is can.1 can.2
-    (λ i. (let same = (h.last i).1 in (ap (λ y. y.feed) same, ap (λ y. y.stop) same, ap (λ y. y.is_over) same, ap (λ y. y.standing) same)))
+    ask-final client before k s date why t.feed t.stop t.is_over t.input_state st open_is can.1 can.2
+    (λ i. (let same = (h.last i).1 in (ap (λ y. y.feed) same, ap (λ y. y.stop) same, ap (λ y. y.is_over) same, ap (λ y. y.input_state) same)))
     (λ here. h.reads here) h.goes_on)
     (λ no. elim no [ ])
-    (λ some. absurd (some-none open_is some), λ i. (h.last i).1, λ none. (why, refl, end-final profile s.standing date s.feed t.feed why can.1 (λ i. last-reason why (h.last i).0) (λ here. h.reads here), (can.1, can.2)))
+    (λ some. absurd (some-none open_is some), λ i. (h.last i).1, λ none. (why, refl, end-final profile s.input_state date s.feed t.feed why can.1 (λ i. last-reason why (h.last i).0) (λ here. h.reads here), (can.1, can.2)))
     (0, (sym (append-nil p.requests), λ z. (refl, refl)), λ over. refl) (driving-reads-on old new refl refl h.goes_on)
   where
     old : ConnectionState R W
@@ -156,13 +156,13 @@ finds-refused {R = R} {W = W} profile date s t o u p q end status text h f can =
     ask-step old new date Ended (λ client p left. tt)
     (λ client before s low st.
     let n = before-head client before k s st open_is here can.2 in
-    let done = ask-refused client before k s date from.standing status text t.feed t.stop t.is_over t.standing q.turns.marks (output_of u) (outlet_ended u) st low open_is n.unread n.quiet
+    let done = ask-refused client before k s date from.input_state status text t.feed t.stop t.is_over t.input_state q.turns.marks (output_of u) (outlet_ended u) st low open_is n.unread n.quiet
     (λ i. elim (h.at_end i).0 [ ]) reads h.goes_on (f.leaves refl (can-send before k.sink k.output_ended s.reached.slots s.flushed s.failure st.output low)) in
     let P : List (Option Unfinished) → Type 0 = λ r.
-    StepIsAnswered client before (record k { marks = q.turns.marks; requests = r; asking_ended = true; standing = t.standing; feed = t.feed; stop = t.stop; is_over = t.is_over; sink = output_of u; output_ended = outlet_ended u }) s date Ask Ended in
+    StepIsAnswered client before (record k { marks = q.turns.marks; requests = r; asking_ended = true; input_state = t.input_state; feed = t.feed; stop = t.stop; is_over = t.is_over; sink = output_of u; output_ended = outlet_ended u }) s date Ask Ended in
     subst (λ r. P r) (sym (f.requests refl)) done)
     (λ no. elim no [ ])
-    (λ some. absurd (some-none open_is some), λ i. elim (past-last (Ok (read.Refused status text true)) (h.last i).0) [ ], λ none. (because.Refused status, refl, end-refused profile s.standing date s.feed t.feed status text here reads, (can.1, can.2)))
+    (λ some. absurd (some-none open_is some), λ i. elim (past-last (Ok (read.Refused status text true)) (h.last i).0) [ ], λ none. (because.Refused status, refl, end-refused profile s.input_state date s.feed t.feed status text here reads, (can.1, can.2)))
     (1, (f.requests refl, λ z. (let no : 1 ≡ 0 = z in cc)), λ over. absurd (⊎_elim (λ i. elim (past-last (Ok (read.Refused status text true)) (h.last i).0) [ ]) (λ i. elim (h.at_end i).0 [ ]) over))
     (record { profile = refl; goes_on = h.goes_on; fails_once = f.fails_once; flushed = λ was. f.flushed (was refl); sent_on = λ was. f.sent_on (was refl) })
   where
@@ -181,10 +181,10 @@ finds-refused {R = R} {W = W} profile date s t o u p q end status text h f can =
     open_is : is_some end ≡ false
     open_is = ap is_some can.0
 
-    here : IsBeforeHead s.standing
+    here : IsBeforeHead s.input_state
     here = before profile date s t (Ok (read.Refused status text true)) h (λ e. elim e [ ]) can.1
 
-    reads : ReadsHead profile s.standing date s.feed t.feed (Ok (read.Refused status text true))
+    reads : ReadsHead profile s.input_state date s.feed t.feed (Ok (read.Refused status text true))
     reads = h.reads here
 
 -- a head was refused, and another stands behind it
@@ -192,24 +192,24 @@ finds-another : {R W : Type 0} (profile : Profile) (date : HttpDate) (s t : Sour
     → TakesHead profile date s t (Ok (read.Refused status text false)) → RefusesHead p o text.items true q u → CanAsk (viewed profile s o p end)
     → CanAsk (viewed profile t u q end) × IsAskBehind (viewed profile s o p end) (viewed profile t u q end) date
 finds-another {R = R} {W = W} profile date s t o u p q end status text h f can = (
-  (can.0, λ e. not-body t.standing stands e, subst F (sym (f.requests refl)) (holds-snoc p.requests None)),
+  (can.0, λ e. not-body t.input_state stands e, subst F (sym (f.requests refl)) (holds-snoc p.requests None)),
   asks-behind-head old new date (record {
     does = λ client before s low st.
         let n = before-head client before k s st open_is here can.2 in
-        let done = ask-passes client before k s date from.standing status text t.feed t.stop t.is_over t.standing q.turns.marks (output_of u) (outlet_ended u) st low open_is n.unread n.quiet n.more
+        let done = ask-passes client before k s date from.input_state status text t.feed t.stop t.is_over t.input_state q.turns.marks (output_of u) (outlet_ended u) st low open_is n.unread n.quiet n.more
         (λ i. elim (h.at_end i).0 [ ]) reads h.goes_on (f.leaves refl (can-send before k.sink k.output_ended s.reached.slots s.flushed s.failure st.output low)) stands in
         let P : List (Option Unfinished) → Type 0 = λ r.
-        AskGoesOn client before (record k { marks = q.turns.marks; requests = r; standing = t.standing; feed = t.feed; stop = t.stop; is_over = t.is_over; sink = output_of u; output_ended = outlet_ended u }) s date in
+        AskGoesOn client before (record k { marks = q.turns.marks; requests = r; input_state = t.input_state; feed = t.feed; stop = t.stop; is_over = t.is_over; sink = output_of u; output_ended = outlet_ended u }) s date in
         subst (λ r. P r) (sym (f.requests refl)) done;
     was_open = can.0;
     is_open = can.0;
     here = here;
     unended = λ i. elim (h.at_end i).0 [ ];
-    begins = λ begun. begins-behind profile s.standing date s.feed t.feed status text reads begun;
+    begins = λ begun. begins-behind profile s.input_state date s.feed t.feed status text reads begun;
     free = (can.1, can.2);
-    hands = λ n message framing left hands. hands-behind profile s.standing date s.feed t.feed status text n message framing left reads hands;
+    hands = λ n message framing left hands. hands-behind profile s.input_state date s.feed t.feed status text n message framing left reads hands;
     stands = stands;
-    ends = λ why ends. end-behind profile s.standing date s.feed t.feed status text why here reads ends;
+    ends = λ why ends. end-behind profile s.input_state date s.feed t.feed status text why here reads ends;
     requests = f.requests refl;
     counts = f.counts refl;
     moves = record { profile = refl; goes_on = h.goes_on; fails_once = f.fails_once; flushed = λ was. f.flushed (was refl); sent_on = λ was. f.sent_on (was refl) };
@@ -231,14 +231,14 @@ finds-another {R = R} {W = W} profile date s t o u p q end status text h f can =
     open_is : is_some end ≡ false
     open_is = ap is_some can.0
 
-    here : IsBeforeHead s.standing
+    here : IsBeforeHead s.input_state
     here = before profile date s t (Ok (read.Refused status text false)) h (λ e. elim e [ ]) can.1
 
-    reads : ReadsHead profile s.standing date s.feed t.feed (Ok (read.Refused status text false))
+    reads : ReadsHead profile s.input_state date s.feed t.feed (Ok (read.Refused status text false))
     reads = h.reads here
 
-    stands : t.standing ≡ at.Head
-    stands = h.standing
+    stands : t.input_state ≡ at.Head
+    stands = h.input_state
 
     F : List (Option Unfinished) → Type 0
     F us = last_holds_next_head us ≡ false
@@ -260,13 +260,13 @@ request-ended : (x : Exchange) (why : EndOfRequests) → ◌≡◌ {A = Found} (
 request-ended x why is = cc
 
 -- the connection whose reading stands there
-abbrev pub standing_at : {R W : Type 0} → Profile → At R Pending (OutletState W) → Option EndOfRequests → ConnectionState R W
-standing_at profile here end = viewed profile here.source here.output here.place end
+abbrev pub input_state_at : {R W : Type 0} → Profile → At R Pending (OutletState W) → Option EndOfRequests → ConnectionState R W
+input_state_at profile here end = viewed profile here.source here.output here.place end
 
 -- one head was refused, and its answer is kept, or isn't
 passes-one : {R W : Type 0} (profile : Profile) (date : HttpDate) (here there : At R Pending (OutletState W)) (end : Option EndOfRequests) (status : StatusCode) (text : Vec ℕ) (last kept : Bool)
-    → TakesHead profile date here.source there.source (Ok (read.Refused status text last)) → RefusesHead here.place here.output text.items kept there.place there.output → FollowsRefusal status last kept None → CanAsk (standing_at profile here end)
-    → Passed (standing_at profile here end) (standing_at profile there end) date 1
+    → TakesHead profile date here.source there.source (Ok (read.Refused status text last)) → RefusesHead here.place here.output text.items kept there.place there.output → FollowsRefusal status last kept None → CanAsk (input_state_at profile here end)
+    → Passed (input_state_at profile here end) (input_state_at profile there end) date 1
 passes-one profile date here there end status text last false h left f can = absurd (none-some (Err f.0) f.1)
 passes-one profile date here there end status text true true h left f can = absurd (none-some (Ok (next.Ended (because.Refused status))) f)
 passes-one profile date here there end status text false true h left f can =
@@ -274,18 +274,18 @@ passes-one profile date here there end status text false true h left f can =
     record { can = a.0; behind = a.1; few = inr (left.bound refl); counts = ap length (left.requests refl) ∙ length-append here.place.requests (None ∷ []) }
 
 passed-one : {R W : Type 0} (profile : Profile) (date : HttpDate) (here there : At R Pending (OutletState W)) (end : Option EndOfRequests) (r : Result HeadRead AllocError)
-    → TakesHead profile date here.source there.source r → Follows RefusesHead r here None there → CanAsk (standing_at profile here end)
-    → Passed (standing_at profile here end) (standing_at profile there end) date 1
+    → TakesHead profile date here.source there.source r → Follows RefusesHead r here None there → CanAsk (input_state_at profile here end)
+    → Passed (input_state_at profile here end) (input_state_at profile there end) date 1
 passed-one profile date here there end (Ok (read.Request x)) h f can = absurd (none-some (Ok (next_of x)) f.0)
 passed-one profile date here there end (Ok (read.Ended why)) h f can = absurd (none-some (Ok (next.Ended why)) f.0)
 passed-one profile date here there end (Err e) h f can = absurd (none-some (Err e) f.0)
 passed-one profile date here there end (Ok (read.Refused status text last)) h f can = passes-one profile date here there end status text last f.0 h f.1 f.2 can
 
-passed-heads : {R W : Type 0} (profile : Profile) (date : HttpDate) (here there : At R Pending (OutletState W)) (end : Option EndOfRequests) (n : ℕ) → PassesHeads RefusesHead profile date n here there → CanAsk (standing_at profile here end)
-    → Passed (standing_at profile here end) (standing_at profile there end) date n
+passed-heads : {R W : Type 0} (profile : Profile) (date : HttpDate) (here there : At R Pending (OutletState W)) (end : Option EndOfRequests) (n : ℕ) → PassesHeads RefusesHead profile date n here there → CanAsk (input_state_at profile here end)
+    → Passed (input_state_at profile here end) (input_state_at profile there end) date n
 passed-heads {R = R} {W = W} profile date here there end zero h can =
-    let none : Passed (standing_at profile here end) (standing_at profile here end) date 0 = record { can = can; behind = λ new reply a. a; few = inl refl; counts = plus-none (length here.place.requests) } in
-    let T : At R Pending (OutletState W) → Type 0 = λ x. Passed (standing_at profile here end) (standing_at profile x end) date 0 in
+    let none : Passed (input_state_at profile here end) (input_state_at profile here end) date 0 = record { can = can; behind = λ new reply a. a; few = inl refl; counts = plus-none (length here.place.requests) } in
+    let T : At R Pending (OutletState W) → Type 0 = λ x. Passed (input_state_at profile here end) (input_state_at profile x end) date 0 in
     subst T (sym h) none
 passed-heads {R = R} {W = W} profile date here there end (suc n) h can =
     let i = passed-heads profile date here h.0 end n h.1 can in
@@ -302,13 +302,13 @@ too-many : {R W : Type 0} (old new : ConnectionState R W) (date : HttpDate) (n :
 too-many old new date n p many = ⊎_elim (λ none. omega (arith, none, many)) (λ few. (let counts = p.counts in omega (arith, few, counts, many))) p.few
 
 -- AN ASK finds what stands behind the heads that were passed
-pub asks-next : {R W : Type 0} (profile : Profile) (date : HttpDate) (here there : At R Pending (OutletState W)) (end : Option EndOfRequests) (r : Result NextRequest AllocError) (f : FindsNext RefusesHead profile date here r there) → CanAsk (standing_at profile here end)
+pub asks-next : {R W : Type 0} (profile : Profile) (date : HttpDate) (here there : At R Pending (OutletState W)) (end : Option EndOfRequests) (r : Result NextRequest AllocError) (f : FindsNext RefusesHead profile date here r there) → CanAsk (input_state_at profile here end)
     → (new : ConnectionState R W) (reply : ReplyValue)
-    → (FindsHead RefusesHead profile date f.mid (Some r) there → CanAsk (standing_at profile f.mid end) → AskStep (standing_at profile f.mid end) new date reply)
-    → AskStep (standing_at profile here end) new date reply
+    → (FindsHead RefusesHead profile date f.mid (Some r) there → CanAsk (input_state_at profile f.mid end) → AskStep (input_state_at profile f.mid end) new date reply)
+    → AskStep (input_state_at profile here end) new date reply
 asks-next profile date here there end r f can new reply go =
     let passed = passed-heads profile date here f.mid end f.passed f.passes can in
-    ⊎_elim (λ found. passed.behind new reply (go found passed.can)) (λ many. absurd (too-many (standing_at profile here end) (standing_at profile f.mid end) date f.passed passed many.0)) f.ends
+    ⊎_elim (λ found. passed.behind new reply (go found passed.can)) (λ many. absurd (too-many (input_state_at profile here end) (input_state_at profile f.mid end) date f.passed passed many.0)) f.ends
 
 -- a refused head is no request
 refused-request : (x : Exchange) (status : StatusCode) (last kept : Bool) → FollowsRefusal status last kept (Some (Ok (next_of x))) → ⊥
@@ -319,12 +319,12 @@ refused-request x status last false f = ok-err (next_of x) f.0 f.1
 -- a request is found, and takes a number
 pub found-request : {R W : Type 0} (profile : Profile) (date : HttpDate) (here there : At R Pending (OutletState W)) (a : Pending) (end : Option EndOfRequests) (x : Exchange) (n : ℕ)
     → n ≡ length there.place.turns.marks → a.turns.marks ≡ there.place.turns.marks ++ (Open ∷ []) → AreInShape a.turns.marks → a.requests ≡ there.place.requests ++ (Some (still.Waiting x.open_request) ∷ [])
-    → FindsHead RefusesHead profile date here (Some (Ok (next_of x))) there → CanAsk (standing_at profile here end)
-    → AskStep (standing_at profile here end) (viewed profile there.source there.output a end) date (Handed n (head_message x.head) (head_framing x.head))
+    → FindsHead RefusesHead profile date here (Some (Ok (next_of x))) there → CanAsk (input_state_at profile here end)
+    → AskStep (input_state_at profile here end) (viewed profile there.source there.output a end) date (Handed n (head_message x.head) (head_framing x.head))
 found-request {R = R} {W = W} profile date here there a end x n number marks_are shape requests_are found can = by found.0 found.1 found.2
   where
     U : OutletState W → Type 0
-    U v = AskStep (standing_at profile here end) (viewed profile there.source v a end) date (Handed n (head_message x.head) (head_framing x.head))
+    U v = AskStep (input_state_at profile here end) (viewed profile there.source v a end) date (Handed n (head_message x.head) (head_framing x.head))
 
     by : (r : Result HeadRead AllocError) → TakesHead profile date here.source there.source r → Follows RefusesHead r here (Some (Ok (next_of x))) there → U there.output
     by (Ok (read.Request y)) h f =
@@ -340,12 +340,12 @@ found-request {R = R} {W = W} profile date here there a end x n number marks_are
 -- a request is found, and memory is refused for its number
 pub found-no-number : {R W : Type 0} (profile : Profile) (date : HttpDate) (here there : At R Pending (OutletState W)) (a : Pending) (end : Option EndOfRequests) (x : Exchange)
     → a.turns ≡ there.place.turns → a.requests ≡ there.place.requests
-    → FindsHead RefusesHead profile date here (Some (Ok (next_of x))) there → CanAsk (standing_at profile here end)
-    → AskStep (standing_at profile here end) (viewed profile there.source there.output a (Some because.Memory)) date Memory
+    → FindsHead RefusesHead profile date here (Some (Ok (next_of x))) there → CanAsk (input_state_at profile here end)
+    → AskStep (input_state_at profile here end) (viewed profile there.source there.output a (Some because.Memory)) date Memory
 found-no-number {R = R} {W = W} profile date here there a end x turns_are requests_are found can = by found.0 found.1 found.2
   where
     by : (r : Result HeadRead AllocError) → TakesHead profile date here.source there.source r → Follows RefusesHead r here (Some (Ok (next_of x))) there
-        → AskStep (standing_at profile here end) (viewed profile there.source there.output a (Some because.Memory)) date Memory
+        → AskStep (input_state_at profile here end) (viewed profile there.source there.output a (Some because.Memory)) date Memory
     by (Ok (read.Request y)) h f =
         finds-no-memory profile date here.source there.source here.output there.output here.place a end (Ok (read.Request y)) h (λ e. elim e [ ]) can (turns_are ∙ ap (λ q. q.turns) f.1.0) (requests_are ∙ ap (λ q. q.requests) f.1.0) f.1.1
     by (Ok (read.Ended why)) h f = absurd (request-ended x why f.0)
@@ -354,12 +354,12 @@ found-no-number {R = R} {W = W} profile date here there a end x turns_are reques
 
 -- memory is refused
 pub found-no-memory : {R W : Type 0} (profile : Profile) (date : HttpDate) (here there : At R Pending (OutletState W)) (end : Option EndOfRequests) (e : AllocError)
-    → FindsHead RefusesHead profile date here (Some (Err e)) there → CanAsk (standing_at profile here end)
-    → AskStep (standing_at profile here end) (standing_at profile there (Some because.Memory)) date Memory
+    → FindsHead RefusesHead profile date here (Some (Err e)) there → CanAsk (input_state_at profile here end)
+    → AskStep (input_state_at profile here end) (input_state_at profile there (Some because.Memory)) date Memory
 found-no-memory {R = R} {W = W} profile date here there end e found can = by found.0 found.1 found.2
   where
     Goal : Type 0
-    Goal = AskStep (standing_at profile here end) (standing_at profile there (Some because.Memory)) date Memory
+    Goal = AskStep (input_state_at profile here end) (input_state_at profile there (Some because.Memory)) date Memory
 
     refused : (status : StatusCode) (text : Vec ℕ) (last kept : Bool) → TakesHead profile date here.source there.source (Ok (read.Refused status text last)) → RefusesHead here.place here.output text.items kept there.place there.output
         → FollowsRefusal status last kept (Some (Err e)) → Goal
@@ -377,12 +377,12 @@ found-no-memory {R = R} {W = W} profile date here there end e found can = by fou
 
 -- the end is found
 pub found-end : {R W : Type 0} (profile : Profile) (date : HttpDate) (here there : At R Pending (OutletState W)) (end : Option EndOfRequests) (why : EndOfRequests)
-    → FindsHead RefusesHead profile date here (Some (Ok (next.Ended why))) there → CanAsk (standing_at profile here end)
-    → AskStep (standing_at profile here end) (standing_at profile there (Some why)) date Ended
+    → FindsHead RefusesHead profile date here (Some (Ok (next.Ended why))) there → CanAsk (input_state_at profile here end)
+    → AskStep (input_state_at profile here end) (input_state_at profile there (Some why)) date Ended
 found-end {R = R} {W = W} profile date here there end why found can = by found.0 found.1 found.2
   where
     Goal : EndOfRequests → Type 0
-    Goal w = AskStep (standing_at profile here end) (standing_at profile there (Some w)) date Ended
+    Goal w = AskStep (input_state_at profile here end) (input_state_at profile there (Some w)) date Ended
 
     same-end : (w : EndOfRequests) → ◌≡◌ {A = Found} (Some (Ok (next.Ended why))) (Some (Ok (next.Ended w))) → w ≡ why
     same-end w is = cc
@@ -394,10 +394,10 @@ found-end {R = R} {W = W} profile date here there end why found can = by found.0
     refused status text last false h left f = absurd (ok-err (next.Ended why) f.0 f.1)
 
     U : OutletState W → Type 0
-    U v = AskStep (standing_at profile here end) (viewed profile there.source v there.place (Some why)) date Ended
+    U v = AskStep (input_state_at profile here end) (viewed profile there.source v there.place (Some why)) date Ended
 
     Q : Pending → Type 0
-    Q a = AskStep (standing_at profile here end) (viewed profile there.source here.output a (Some why)) date Ended
+    Q a = AskStep (input_state_at profile here end) (viewed profile there.source here.output a (Some why)) date Ended
 
     by : (r : Result HeadRead AllocError) → TakesHead profile date here.source there.source r → Follows RefusesHead r here (Some (Ok (next.Ended why))) there → Goal why
     by (Ok (read.Request y)) h f = absurd (request-ended y why (sym f.0))

@@ -24,7 +24,7 @@ use Rattle.tiny_http_body.specs.Body.{body_finished}
 use Rattle.tiny_http_connection.specs.Steps.{Read, ReplyValue, Given, Fault, Memory, NoSuch}
 use Rattle.tiny_http_connection.specs.Outcomes.{accepts_step, Unused, Outcome, Reached, changes, read_reply, effect, at_slot, at_number}
 use Rattle.tiny_http_connection.specs.Conversation.{State, HasOutcome}
-use Rattle.tiny_http_body.specs.Body.{Remaining, remaining, taken_remaining, prepend_body, prepended_body, BodyStops, NoneRemains, is_streaming, body_standing, IsBodyOver, IsCountedOver, ReadsOn, Fits, FillsFromBody}
+use Rattle.tiny_http_body.specs.Body.{Remaining, remaining, taken_remaining, prepend_body, prepended_body, BodyStops, NoneRemains, is_streaming, body_input_state, IsBodyOver, IsCountedOver, ReadsOn, Fits, FillsFromBody}
 use Rattle.tiny_http_turns.specs.Turns.{Mark, Open}
 use Rattle.tiny_http_connection.specs.declared.pending.Unfinished.{Unfinished}
 use Rattle.tiny_http_connection.specs.declared.pending.Unfinished.TheVariants as still
@@ -297,7 +297,7 @@ still-waiting s w h c old new n reply k =
       closes = h.closes;
       unsent = h.unsent;
       rest_is_last = h.rest_is_last;
-      answer_context = h.answer_context;
+      response_context = h.response_context;
       dropped = h.dropped;
       fits = o.fits;
       settled = o.settled;
@@ -347,7 +347,7 @@ with-body-holds c (still.Upgraded b) = refl
 
 -- the last number's body is read
 read-last : {R : Type 0} (client : Feed) (k : Kept) (old new : SourceState R) (bs : List Slot) (us : List (Option Unfinished)) (rest : List Item) (s : Slot) (u : Unfinished) (b c : UnreadBody) (n : ℕ) (reply : ReplyValue) → (q : IsReadable s u b) → IsInput k old → InputStands client k (bs ++ (s ∷ [])) rest
-    → k.requests ≡ us ++ (Some u ∷ []) → ReadOn b c old.feed new.feed q.opened.request q.opened.given q.opened.end_reported n reply → (is_streaming b ≡ false → new ≡ old) → (is_streaming b ≡ true → new.standing ≡ body_standing c old.standing) → GoesOn old.feed new.feed
+    → k.requests ≡ us ++ (Some u ∷ []) → ReadOn b c old.feed new.feed q.opened.request q.opened.given q.opened.end_reported n reply → (is_streaming b ≡ false → new ≡ old) → (is_streaming b ≡ true → new.input_state ≡ body_input_state c old.input_state) → GoesOn old.feed new.feed
     → InputStands client (with_reader k (us ++ (Some (number_with_body c u) ∷ [])) new) (bs ++ (read_slot s b q.opened n ∷ [])) rest
 read-last {R = R} client k old new bs us rest s u b c n reply q from reader is on leaves stands goes =
     let h = q.opened in
@@ -358,10 +358,10 @@ read-last {R = R} client k old new bs us rest s u b c n reply q from reader is o
     let A : List (Option Unfinished) → Type 0 = λ x. AreSettled x in
     let G : Option UnreadBody → Option Slot → Type 0 = λ b o. GivesRest b o new.feed in
     let P : Bool → Option UnreadBody → Type 0 = λ x b. PlaceIn client k.profile x (behind_body b new.feed) rest in
-    let Q : Option Feed → Type 0 = λ f. PlaceIn client k.profile (is_past_last old.standing) f rest in
+    let Q : Option Feed → Type 0 = λ f. PlaceIn client k.profile (is_past_last old.input_state) f rest in
     let W : Option Slot → Option UnreadBody → Bool = λ x y. not (is_last_slot x) && is_streaming_body y in
-    let same : (e : k.asking_ended ≡ false) → StandsOn c old.standing new.standing (is_last_item s.item) =
-    λ e. stands-on b c old.standing new.standing (is_last_item s.item) stands (λ quiet. ap (λ (x : SourceState R). x.standing) (leaves quiet)) on.stays (l.within e) in
+    let same : (e : k.asking_ended ≡ false) → StandsOn c old.input_state new.input_state (is_last_item s.item) =
+    λ e. stands-on b c old.input_state new.input_state (is_last_item s.item) stands (λ quiet. ap (λ (x : SourceState R). x.input_state) (leaves quiet)) on.stays (l.within e) in
     let item : is_last_item s.item ≡ is_last_item t.item = ap (λ (x : Slot). is_last_item x.item) h.is in
     let S : Option Feed → Type 0 = λ f. GoesOn f new.feed in
     let C : Option Remaining → Option Feed = λ o. option_map (λ (x : Remaining). x.body) o in
@@ -373,7 +373,7 @@ read-last {R = R} client k old new bs us rest s u b c n reply q from reader is o
         is_last = (same e).past ∙ l.is_last e ∙ item ∙ ap is_last_slot (sym last);
         within = (same e).within ∙ ap (λ x. not x && is_streaming c) item ∙ ap (λ y. W (Some t) y) (sym content) ∙ ap (λ x. W x (last_body (us ++ (Some (number_with_body c u) ∷ [])))) (sym last);
         lost = λ lost. (let no : true ≡ false = sym lost ∙ (ap last_was_abandoned last ∙ and-false (is_chunked_form h.request.framing.form)) in cc);
-        place = λ kept. subst (λ x. P x (last_body (us ++ (Some (number_with_body c u) ∷ [])))) (sym (same e).past) (subst (λ y. P (is_past_last old.standing) y) (sym content) (subst Q (sym on.behind) (l.place e)));
+        place = λ kept. subst (λ x. P x (last_body (us ++ (Some (number_with_body c u) ∷ [])))) (sym (same e).past) (subst (λ y. P (is_past_last old.input_state) y) (sym content) (subst Q (sym on.behind) (l.place e)));
       };
       follows = λ holds.
           let held : last_holds_next_head k.requests ≡ true = ap last_holds_next_head is ∙ holds-snoc us (Some u) ∙ sym (with-body-holds c u) ∙ sym (holds-snoc us (Some (number_with_body c u))) ∙ holds in
@@ -382,7 +382,7 @@ read-last {R = R} client k old new bs us rest s u b c n reply q from reader is o
     }
 
 reader-read : {R : Type 0} (client : Feed) (k : Kept) (old new : SourceState R) (bs cs : List Slot) (us vs : List (Option Unfinished)) (rest : List Item) (s : Slot) (u : Unfinished) (b c : UnreadBody) (n : ℕ) (reply : ReplyValue) → (q : IsReadable s u b) → IsInput k old → InputStands client k (bs ++ (s ∷ cs)) rest
-    → k.requests ≡ us ++ (Some u ∷ vs) → length cs ≡ length vs → ReadOn b c old.feed new.feed q.opened.request q.opened.given q.opened.end_reported n reply → (is_streaming b ≡ false → new ≡ old) → (is_streaming b ≡ true → new.standing ≡ body_standing c old.standing) → GoesOn old.feed new.feed
+    → k.requests ≡ us ++ (Some u ∷ vs) → length cs ≡ length vs → ReadOn b c old.feed new.feed q.opened.request q.opened.given q.opened.end_reported n reply → (is_streaming b ≡ false → new ≡ old) → (is_streaming b ≡ true → new.input_state ≡ body_input_state c old.input_state) → GoesOn old.feed new.feed
     → InputStands client (with_reader k (us ++ (Some (number_with_body c u) ∷ vs)) new) (bs ++ (read_slot s b q.opened n ∷ cs)) rest
 reader-read client k old new bs [] us [] rest s u b c n reply q from reader is same on leaves stands goes = read-last client k old new bs us rest s u b c n reply q from reader is on leaves stands goes
 reader-read client k old new bs [] us (v ∷ vs) rest s u b c n reply q from reader is same on leaves stands goes = absurd (omega (arith, same))
@@ -480,7 +480,7 @@ read-memory client before k s date j n u b st e free has some =
 -- the body was read
 pub read-done : {R : Type 0} (client : Feed) (before : Sink) (k : Kept) (s : State) (date : HttpDate) (j n : ℕ) (u : Unfinished) (b c : UnreadBody) (old new : SourceState R) (requests : List (Option Unfinished)) (result : Result ℕ ErrorKind) (buf : List ℕ) → Stands client before k s → slice_get k.requests j ≡ Some (Some u)
     → is_readable (Some (Some u)) ≡ true → kept_body (Some u) ≡ Some b
-    → requests ≡ slice_set k.requests j (Some (number_with_body c u)) → IsInput k old → IfBound result buf → length buf ≡ n → 0 < n → FillsFromBody b old.feed c new.feed result buf → (is_streaming b ≡ false → new ≡ old) → (is_streaming b ≡ true → new.standing ≡ body_standing c old.standing) → GoesOn old.feed new.feed
+    → requests ≡ slice_set k.requests j (Some (number_with_body c u)) → IsInput k old → IfBound result buf → length buf ≡ n → 0 < n → FillsFromBody b old.feed c new.feed result buf → (is_streaming b ≡ false → new ≡ old) → (is_streaming b ≡ true → new.input_state ≡ body_input_state c old.input_state) → GoesOn old.feed new.feed
     → StepIsAnswered client before (with_reader k requests new) s date (Read j n) (reply_for result buf)
 read-done {R = R} client before k s date j n u b c old new requests result buf st e free has requests_are from bound size some fills leaves stands goes =
     let R : List (Option Unfinished) → Type 0 = λ l. StepIsAnswered client before (with_reader k l new) s date (Read j n) (reply_for result buf) in

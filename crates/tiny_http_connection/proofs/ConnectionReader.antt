@@ -1,11 +1,11 @@
 -- The last body of a connection, and where its reader stands.
-use Rattle.tiny_http_response.specs.declared.answer_context.AnswerContext.{AnswerContext}
-use Rattle.tiny_http_response.specs.declared.answer_context.Persistence.TheVariants.{Close}
-use Rattle.tiny_http_response.specs.declared.answer_context.Persistence.{Persistence}
+use Rattle.tiny_http_response.specs.declared.response_context.ResponseContext.{ResponseContext}
+use Rattle.tiny_http_response.specs.declared.response_context.Persistence.TheVariants.{Close}
+use Rattle.tiny_http_response.specs.declared.response_context.Persistence.{Persistence}
 use Rattle.tiny_http_body.specs.declared.body.Remainder.TheVariants as left
 use Rattle.tiny_http_body.specs.declared.body.Remainder.{Remainder}
 use Rattle.tiny_http_body.specs.declared.body.TheConstants.{MOST_SKIPPED}
-use Rattle.tiny_http_open_request.specs.OwnAnswer.{persistence_of}
+use Rattle.tiny_http_open_request.specs.ErrorResponse.{persistence_of}
 use Rattle.tiny_http_open_request.specs.OpenRequest.{final_context}
 use Rattle.tiny_http_io.specs.declared.device.Stop.TheVariants.{End, Fault}
 use Rattle.tiny_http_io.specs.declared.device.Stop.{Stop}
@@ -30,7 +30,7 @@ use Rattle.tiny_http_body.specs.Body.{remainder, is_skipped, body_finished, is_w
 use Rattle.tiny_http_turns.specs.Turns.{Mark, Open, Held, Left, Finished}
 use Rattle.tiny_http_body.specs.Body.{Remaining, remaining, is_streaming, Fits}
 use Rattle.tiny_http_connection.specs.Pending.{holds_next_head_at, last_holds_next_head, kept_body, last_body, is_streaming_body}
-use Rattle.tiny_http_connection.specs.Connection.{answer_context_of, IsWaiting, IsOpen, KeepsUnfinished, IsKept, AreKept, IsSettled, AreSettled, behind_body, slot_rest, GivesRest}
+use Rattle.tiny_http_connection.specs.Connection.{response_context_of, IsWaiting, IsOpen, KeepsUnfinished, IsKept, AreKept, IsSettled, AreSettled, behind_body, slot_rest, GivesRest}
 use Rattle.std.proofs.Math.Bool.{or-true}
 
 pub and-false : (f : Bool) → (f && false) ≡ false
@@ -269,21 +269,21 @@ pub waiting-remainder : (s : Slot) (w : OpenRequest UnreadBody) (h : IsWaiting s
 waiting-remainder s w h = fits-remainder h.request w.body h.given h.end_reported h.fits h.settled
 
 -- how it is answered now, by what is kept of it and by its slot
-says-cases : (standard left last : Bool) (F : Option Persistence → AnswerContext) → (if standard && left then F (Some Close) else F (persistence_of standard last)) ≡ F (persistence_of standard (last || left))
+says-cases : (standard left last : Bool) (F : Option Persistence → ResponseContext) → (if standard && left then F (Some Close) else F (persistence_of standard last)) ≡ F (persistence_of standard (last || left))
 says-cases false l last F = refl
 says-cases true true true F = refl
 says-cases true true false F = refl
 says-cases true false true F = refl
 says-cases true false false F = refl
 
-pub waiting-final : (s : Slot) (w : OpenRequest UnreadBody) (h : IsWaiting s w) → final_context w (remainder w.body) ≡ answer_context_of (closes_now h.request h.handed.closes h.handed.owed h.given h.end_reported) h.request
+pub waiting-final : (s : Slot) (w : OpenRequest UnreadBody) (h : IsWaiting s w) → final_context w (remainder w.body) ≡ response_context_of (closes_now h.request h.handed.closes h.handed.owed h.given h.end_reported) h.request
 waiting-final s w h =
     let r = h.request in
-    let F : Option Persistence → AnswerContext = λ p. record (answer_context_of false r) { persistence = p } in
+    let F : Option Persistence → ResponseContext = λ p. record (response_context_of false r) { persistence = p } in
     let not_last : Remainder → Bool = λ l. not (is_skipped l) in
-    let A : AnswerContext → AnswerContext = λ c. if w.by_standard && (w.closes || (w.owes_continue || not_last (remainder w.body))) then record c { persistence = Some Close } else c in
-    let B : Bool → Bool → Bool → Remainder → AnswerContext = λ standard closes owes l. if standard && (closes || (owes || not_last l)) then F (Some Close) else F (persistence_of r.framing.by_standard r.framing.is_last) in
-    ap A h.answer_context
+    let A : ResponseContext → ResponseContext = λ c. if w.by_standard && (w.closes || (w.owes_continue || not_last (remainder w.body))) then record c { persistence = Some Close } else c in
+    let B : Bool → Bool → Bool → Remainder → ResponseContext = λ standard closes owes l. if standard && (closes || (owes || not_last l)) then F (Some Close) else F (persistence_of r.framing.by_standard r.framing.is_last) in
+    ap A h.response_context
     ∙ (ap (λ x. B x w.closes w.owes_continue (remainder w.body)) h.standard
     ∙ (ap (λ x. B r.framing.by_standard x w.owes_continue (remainder w.body)) h.closes
     ∙ (ap (λ x. B r.framing.by_standard h.handed.closes x (remainder w.body)) h.owed

@@ -9,7 +9,7 @@ use Rattle.std.specs.declared.io.ErrorKind.{ErrorKind}
 use Rattle.httpdate.specs.declared.date.HttpDate.{HttpDate}
 use Rattle.tiny_http_io.specs.Device.{Feed, Sink}
 use Rattle.tiny_http_body.specs.Text.{Text, Ending, Whole, Broken}
-use Rattle.tiny_http_response.specs.declared.answer_context.AnswerContext.{AnswerContext}
+use Rattle.tiny_http_response.specs.declared.response_context.ResponseContext.{ResponseContext}
 use Rattle.tiny_http_body.specs.declared.body.UnreadBody.{UnreadBody}
 use Rattle.tiny_http_open_request.specs.declared.open_request.OpenRequest.{OpenRequest}
 use Rattle.tiny_http_connection.specs.declared.pending.Unfinished.{Unfinished}
@@ -29,8 +29,8 @@ use Rattle.tiny_http_response.specs.ResponseValue.{printing_in}
 use Rattle.tiny_http_connection.specs.Seen.{Answers, reply_to}
 use Rattle.tiny_http_response.specs.Sending.{CanSend, OutletTook, OutletFailed, IsFlushed, SendsText, SendsUnlessEnded}
 use Rattle.tiny_http_turns.specs.Turns.{Mark, Open, Held, Finished, AreInShape, first_unfinished}
-use Rattle.tiny_http_connection.specs.Pending.{is_last_once_finished_at as kept_lacks, refuses_at, left_text, with_left_finished, begins_left, SendsLeft, FinishesFront, waiting_answer_context}
-use Rattle.tiny_http_connection.specs.Connection.{Kept, answer_context_of, HandedOut, open_slot, IsWaiting, KeepsUnfinished, HasSentNothing, AreSentInTurn, AreKept, OutputAt, InputStands, Stands}
+use Rattle.tiny_http_connection.specs.Pending.{is_last_once_finished_at as kept_lacks, refuses_at, left_text, with_left_finished, begins_left, SendsLeft, FinishesFront, waiting_response_context}
+use Rattle.tiny_http_connection.specs.Connection.{Kept, response_context_of, HandedOut, open_slot, IsWaiting, KeepsUnfinished, HasSentNothing, AreSentInTurn, AreKept, OutputAt, InputStands, Stands}
 use Rattle.tiny_http_io.specs.Source.{SourceState}
 use Rattle.tiny_http_body.specs.Body.{remainder, is_long, GivesUp}
 use Rattle.tiny_http_connection.proofs.ConnectionBody.{IsInput, with_reader, next-same, reader-given_up}
@@ -43,7 +43,7 @@ use Rattle.tiny_http_connection.proofs.PendingLemmas.{none-left}
 use Rattle.tiny_http_connection.proofs.ConnectionClosing.{asked_state, outcome-asked, twice-asked, leads-asked}
 use Rattle.tiny_http_response.specs.declared.coding.Coding.{Coding}
 use Rattle.tiny_http_head.specs.declared.common.HTTPVersion.{HTTPVersion}
-use Rattle.tiny_http_open_request.specs.OwnAnswer.{persistence_of}
+use Rattle.tiny_http_open_request.specs.ErrorResponse.{persistence_of}
 use Rattle.tiny_http_response.proofs.SendingLemmas.{or-parts}
 
 -- a number that is finished takes no such step
@@ -95,32 +95,32 @@ finished-none step needs (Raw w c) owed e = needs (Raw w c) owed refl
 finished-none step needs (Upgraded p r d w c) owed e = needs (Upgraded p r d w c) owed refl
 
 -- no number that waits for its answer takes the step
-pub no-such : (client : Feed) (before : Sink) (k : Kept) (s : State) (date : HttpDate) (n : ℕ) (step : StepValue) → outcome true date s.reached step ≡ at_number true date s.reached n step → NeedsWaiting step → Stands client before k s → waiting_answer_context (slice_get k.requests n) ≡ None
+pub no-such : (client : Feed) (before : Sink) (k : Kept) (s : State) (date : HttpDate) (n : ℕ) (step : StepValue) → outcome true date s.reached step ≡ at_number true date s.reached n step → NeedsWaiting step → Stands client before k s → waiting_response_context (slice_get k.requests n) ≡ None
     → StepIsAnswered client before k s date step NoSuch
 no-such client before k s date n step at needs st none = not-taken client before k s date n step at (finished-none step needs) st by
   where
     by : (x : Slot) (u : Unfinished) → slice_get k.requests n ≡ Some (Some u) → KeepsUnfinished x u → accepts_step x.stage x.owed step ≡ false
-    by x (still.Waiting w) e h = let no : Some (final_context w (remainder w.body)) ≡ None = ap waiting_answer_context (sym e) ∙ none in cc
+    by x (still.Waiting w) e h = let no : Some (final_context w (remainder w.body)) ≡ None = ap waiting_response_context (sym e) ∙ none in cc
     by x still.Raw e h = needs x.stage x.owed (ap is_unanswered h.stage)
     by x (still.Upgraded b) e h = needs x.stage x.owed (ap (λ (y : Slot). is_unanswered y.stage) h.opened.is ∙ ap is_unanswered h.stage)
 
 -- a number that waits is kept
-pub answer-form-some : (o : Option (Option Unfinished)) (answer_context : AnswerContext) → waiting_answer_context o ≡ Some answer_context → (w : OpenRequest UnreadBody) × (o ≡ Some (Some (still.Waiting w))) × (final_context w (remainder w.body) ≡ answer_context)
-answer-form-some None answer_context e = cc
-answer-form-some (Some None) answer_context e = cc
-answer-form-some (Some (Some (still.Waiting w))) answer_context e = (w, refl, (let same : final_context w (remainder w.body) ≡ answer_context = cc in same))
-answer-form-some (Some (Some still.Raw)) answer_context e = cc
-answer-form-some (Some (Some (still.Upgraded b))) answer_context e = cc
+pub answer-form-some : (o : Option (Option Unfinished)) (response_context : ResponseContext) → waiting_response_context o ≡ Some response_context → (w : OpenRequest UnreadBody) × (o ≡ Some (Some (still.Waiting w))) × (final_context w (remainder w.body) ≡ response_context)
+answer-form-some None response_context e = cc
+answer-form-some (Some None) response_context e = cc
+answer-form-some (Some (Some (still.Waiting w))) response_context e = (w, refl, (let same : final_context w (remainder w.body) ≡ response_context = cc in same))
+answer-form-some (Some (Some still.Raw)) response_context e = cc
+answer-form-some (Some (Some (still.Upgraded b))) response_context e = cc
 
 -- the same by whether it is
-pub waits-some : (o : Option (Option Unfinished)) → is_some (waiting_answer_context o) ≡ true → (w : OpenRequest UnreadBody) × (o ≡ Some (Some (still.Waiting w)))
+pub waits-some : (o : Option (Option Unfinished)) → is_some (waiting_response_context o) ≡ true → (w : OpenRequest UnreadBody) × (o ≡ Some (Some (still.Waiting w)))
 waits-some None e = cc
 waits-some (Some None) e = cc
 waits-some (Some (Some (still.Waiting w))) e = (w, refl)
 waits-some (Some (Some still.Raw)) e = cc
 waits-some (Some (Some (still.Upgraded b))) e = cc
 
-pub waits-none : (o : Option (Option Unfinished)) → is_some (waiting_answer_context o) ≡ false → waiting_answer_context o ≡ None
+pub waits-none : (o : Option (Option Unfinished)) → is_some (waiting_response_context o) ≡ false → waiting_response_context o ≡ None
 waits-none None e = refl
 waits-none (Some None) e = refl
 waits-none (Some (Some (still.Waiting w))) e = cc
@@ -182,8 +182,8 @@ at-turn date asked old n v r given end_reported found e takes t fixed =
     ∙ ap (λ o. answers found date o r n v) fixed ∙ ap (answers_slot found date old r n v) e
 
 -- how the response is printed
-printed-for : (closes : Bool) (r : Request) (answer_context : AnswerContext) (date : HttpDate) → answer_context ≡ answer_context_of closes r → printing_in answer_context date ≡ to_request closes r date
-printed-for closes r answer_context date e = ap (λ x. printing_in x date) e
+printed-for : (closes : Bool) (r : Request) (response_context : ResponseContext) (date : HttpDate) → response_context ≡ response_context_of closes r → printing_in response_context date ≡ to_request closes r date
+printed-for closes r response_context date e = ap (λ x. printing_in x date) e
 
 -- what becomes of the response's own text, with the step's reply: it was sent, or broke off, or the writer failed in it
 abbrev pub OwnWrites : Bool → Option Failure → List ℕ → List ℕ → Text → ReplyValue → Option Failure → Type 0
@@ -459,7 +459,7 @@ respond-left before mid new was mid_ended ended bs s0 s1 cs fs rs vs old text re
     by-left false e h = nothing-left e h.0 h.1
 
 -- a number that waits, in its turn
-pub record Answerable (k : Kept) (s : State) (n : ℕ) (answer_context : AnswerContext) : Type 0 where
+pub record Answerable (k : Kept) (s : State) (n : ℕ) (response_context : ResponseContext) : Type 0 where
   pub bs : List Slot
   pub cs : List Slot
   pub fs : List Mark
@@ -475,7 +475,7 @@ pub record Answerable (k : Kept) (s : State) (n : ℕ) (answer_context : AnswerC
   pub requests_are : k.requests ≡ us ++ (Some (still.Waiting waiting) ∷ vs)
   pub at : SlotAt s.reached.slots bs cs (open_slot waits.handed waits.request waits.given waits.end_reported) n
   pub place : length fs ≡ n
-  pub answer_context_is : answer_context ≡ answer_context_of (closes_now waits.request waits.handed.closes waits.handed.owed waits.given waits.end_reported) waits.request
+  pub response_context_is : response_context ≡ response_context_of (closes_now waits.request waits.handed.closes waits.handed.owed waits.given waits.end_reported) waits.request
   pub kept : slice_get k.requests n ≡ Some (Some (still.Waiting waiting))
   pub slots_place : length bs ≡ n
   pub as_many : length cs ≡ length vs
@@ -488,9 +488,9 @@ pub record Answerable (k : Kept) (s : State) (n : ℕ) (answer_context : AnswerC
 pub set-place : {X : Type 0} (xs us vs : List X) (n : ℕ) (x y : X) → xs ≡ us ++ (x ∷ vs) → length us ≡ n → slice_set xs n y ≡ us ++ (y ∷ vs)
 set-place xs us vs n x y e place = ap (λ l. slice_set l n y) e ∙ ap (λ m. slice_set (us ++ (x ∷ vs)) m y) (sym place) ∙ set-at us x y vs
 
-pub answerable : (client : Feed) (before : Sink) (k : Kept) (s : State) (n : ℕ) (answer_context : AnswerContext) → Stands client before k s → waiting_answer_context (slice_get k.requests n) ≡ Some answer_context → n ≡ first_unfinished k.marks → Answerable k s n answer_context
-answerable client before k s n answer_context st e first =
-    let w = answer-form-some (slice_get k.requests n) answer_context e in
+pub answerable : (client : Feed) (before : Sink) (k : Kept) (s : State) (n : ℕ) (response_context : ResponseContext) → Stands client before k s → waiting_response_context (slice_get k.requests n) ≡ Some response_context → n ≡ first_unfinished k.marks → Answerable k s n response_context
+answerable client before k s n response_context st e first =
+    let w = answer-form-some (slice_get k.requests n) response_context e in
     let p = place-of s.reached.slots k.marks k.requests n (still.Waiting w.0) st.numbers w.1 in
     let slots_are = p.slots_are ∙ ap (λ x. p.bs ++ (x ∷ p.cs)) p.waiting.is in
     let S : List Mark → Type 0 = λ m. AreInShape m in
@@ -510,7 +510,7 @@ answerable client before k s n answer_context st e first =
       requests_are = p.requests_are;
       at = slot-at s.reached.slots p.bs p.cs (open_slot p.waiting.handed p.waiting.request p.waiting.given p.waiting.end_reported) n slots_are p.slots_before;
       place = p.marks_before;
-      answer_context_is = sym w.2 ∙ waiting-final p.s w.0 p.waiting;
+      response_context_is = sym w.2 ∙ waiting-final p.s w.0 p.waiting;
       kept = w.1;
       slots_place = p.slots_before;
       as_many = kept-many p.cs p.rs p.vs p.behind;
@@ -531,7 +531,7 @@ longer-open {closes = closes} old bs cs asked r given end_reported stage e fin =
 -- what the connection keeps after a step of a number
 abbrev pub after_number : Kept → List Mark → List (Option Unfinished) → {R : Type 0} → SourceState R → Sink → Bool → Kept
 after_number k marks requests source sink ended =
-    record k { marks = marks; requests = requests; standing = source.standing; feed = source.feed; stop = source.stop; is_over = source.is_over; sink = sink; output_ended = ended }
+    record k { marks = marks; requests = requests; input_state = source.input_state; feed = source.feed; stop = source.stop; is_over = source.is_over; sink = sink; output_ended = ended }
 
 -- the reader doesn't see the turns and the output
 pub reader-after : {R : Type 0} (client : Feed) (k : Kept) (marks : List Mark) (requests : List (Option Unfinished)) (source : SourceState R) (sink : Sink) (ended : Bool) (slots : List Slot) (rest : List Item) → InputStands client (with_reader k requests source) slots rest
@@ -577,11 +577,11 @@ gathered-by false a b v coding version no_body date h = h
 gathered-any : (v : ResponseValue) (r : Request) (date : HttpDate) (closes : Bool) → IsGathered v.answer (to_request closes r date) → IsGathered v.answer (to_request r.framing.is_last r date)
 gathered-any v r date closes h = gathered-by r.framing.by_standard closes r.framing.is_last v (coding_for r.framing.by_standard r.message.headers) r.message.version (is_head_method r.message.method) date h
 
-respond-stands : {R : Type 0} (client : Feed) (before : Sink) (k : Kept) (s : State) (date : HttpDate) (n : ℕ) (v : ResponseValue) (answer_context : AnswerContext) (found : Bool) (mid new : Sink) (mid_ended ended : Bool) (final : List Mark) (requests : List (Option Unfinished)) (source : SourceState R) (reply : ReplyValue)
-    → Stands client before k s → before.failures < 2 ^ 64 - 1 → (a : Answerable k s n answer_context) → refuses_at v.answer.status (slice_get k.requests n) ≡ false → asked_to_close v.answer.closes s.reached ≡ s.reached → (found ≡ true) ⊎ IsGathered v.answer (to_request (closes_now a.waits.request a.waits.handed.closes a.waits.handed.owed a.waits.given a.waits.end_reported) a.waits.request date) → requests ≡ slice_set k.requests n None → InputStands client (with_reader k (a.us ++ (None ∷ a.vs)) source) (a.bs ++ (answered_slot a.waits.handed a.waits.request a.waits.given a.waits.end_reported v date found ∷ a.cs)) s.reached.rest → FinishesFront a.fs a.rs final
+respond-stands : {R : Type 0} (client : Feed) (before : Sink) (k : Kept) (s : State) (date : HttpDate) (n : ℕ) (v : ResponseValue) (response_context : ResponseContext) (found : Bool) (mid new : Sink) (mid_ended ended : Bool) (final : List Mark) (requests : List (Option Unfinished)) (source : SourceState R) (reply : ReplyValue)
+    → Stands client before k s → before.failures < 2 ^ 64 - 1 → (a : Answerable k s n response_context) → refuses_at v.answer.status (slice_get k.requests n) ≡ false → asked_to_close v.answer.closes s.reached ≡ s.reached → (found ≡ true) ⊎ IsGathered v.answer (to_request (closes_now a.waits.request a.waits.handed.closes a.waits.handed.owed a.waits.given a.waits.end_reported) a.waits.request date) → requests ≡ slice_set k.requests n None → InputStands client (with_reader k (a.us ++ (None ∷ a.vs)) source) (a.bs ++ (answered_slot a.waits.handed a.waits.request a.waits.given a.waits.end_reported v date found ∷ a.cs)) s.reached.rest → FinishesFront a.fs a.rs final
     → OwnSaid before mid k.output_ended mid_ended s.reached.slots a.bs (answered_slot a.waits.handed a.waits.request a.waits.given a.waits.end_reported v date found) (response_sent found v (closes_now a.waits.request a.waits.handed.closes a.waits.handed.owed a.waits.given a.waits.end_reported) a.waits.request date) s.flushed s.failure reply → SendsLeft a.rs mid_ended mid new ended
     → StepIsAnswered client before (with_asking_ended (kept_lacks (slice_get k.requests n)) (after_number k final requests source new ended)) s date (Respond n v) reply
-respond-stands client before k s date n v answer_context found mid new mid_ended ended final requests source reply st low a good fixed lack requests_are reader passes own sends =
+respond-stands client before k s date n v response_context found mid new mid_ended ended final requests source reply st low a good fixed lack requests_are reader passes own sends =
     let s0 = open_slot a.waits.handed a.waits.request a.waits.given a.waits.end_reported in
     let s1 = answered_slot a.waits.handed a.waits.request a.waits.given a.waits.end_reported v date found in
     let text = response_sent found v (closes_now a.waits.request a.waits.handed.closes a.waits.handed.owed a.waits.given a.waits.end_reported) a.waits.request date in
@@ -622,22 +622,22 @@ respond-stands client before k s date n v answer_context found mid new mid_ended
         subst P (sym g) (gathered-any v a.waits.request date (closes_now a.waits.request a.waits.handed.closes a.waits.handed.owed a.waits.given a.waits.end_reported) x)
 
 -- what the call that answers did
-pub RespondsBy : Kept → Sink → Bool → ReplyValue → ResponseValue → AnswerContext → HttpDate → Type 0
-RespondsBy k mid mid_ended reply v answer_context date =
+pub RespondsBy : Kept → Sink → Bool → ReplyValue → ResponseValue → ResponseContext → HttpDate → Type 0
+RespondsBy k mid mid_ended reply v response_context date =
     ((k.output_ended ≡ true) × (mid ≡ k.sink) × (mid_ended ≡ k.output_ended) × (reply ≡ Done))
-    ⊎ ((k.output_ended ≡ false) × Answers k.sink mid mid_ended reply v.answer v.content (printing_in answer_context date))
+    ⊎ ((k.output_ended ≡ false) × Answers k.sink mid mid_ended reply v.answer v.content (printing_in response_context date))
 
-pub respond-done : {R : Type 0} (client : Feed) (before : Sink) (k : Kept) (s : State) (date : HttpDate) (n : ℕ) (v : ResponseValue) (answer_context : AnswerContext) (mid new : Sink) (mid_ended ended : Bool) (marks final : List Mark) (requests : List (Option Unfinished)) (old source : SourceState R) (reply : ReplyValue)
-    → Stands client before k s → IsInput k old → ((w : OpenRequest UnreadBody) → slice_get k.requests n ≡ Some (Some (still.Waiting w)) → GivesUp w.body old source) → before.failures < 2 ^ 64 - 1 → waiting_answer_context (slice_get k.requests n) ≡ Some answer_context → refuses_at v.answer.status (slice_get k.requests n) ≡ false → asked_to_close v.answer.closes s.reached ≡ s.reached → n ≡ first_unfinished k.marks → marks ≡ slice_set k.marks n Held → requests ≡ slice_set k.requests n None
-    → RespondsBy k mid mid_ended reply v answer_context date
+pub respond-done : {R : Type 0} (client : Feed) (before : Sink) (k : Kept) (s : State) (date : HttpDate) (n : ℕ) (v : ResponseValue) (response_context : ResponseContext) (mid new : Sink) (mid_ended ended : Bool) (marks final : List Mark) (requests : List (Option Unfinished)) (old source : SourceState R) (reply : ReplyValue)
+    → Stands client before k s → IsInput k old → ((w : OpenRequest UnreadBody) → slice_get k.requests n ≡ Some (Some (still.Waiting w)) → GivesUp w.body old source) → before.failures < 2 ^ 64 - 1 → waiting_response_context (slice_get k.requests n) ≡ Some response_context → refuses_at v.answer.status (slice_get k.requests n) ≡ false → asked_to_close v.answer.closes s.reached ≡ s.reached → n ≡ first_unfinished k.marks → marks ≡ slice_set k.marks n Held → requests ≡ slice_set k.requests n None
+    → RespondsBy k mid mid_ended reply v response_context date
     → ((front rest : List Mark) → marks ≡ front ++ (Held ∷ rest) → length front ≡ n → FinishesFront front rest final)
     → ((front rest : List Mark) → marks ≡ front ++ (Held ∷ rest) → length front ≡ n → (mid_ended ≡ false → CanSend mid) → SendsLeft rest mid_ended mid new ended)
     → StepIsAnswered client before (with_asking_ended (kept_lacks (slice_get k.requests n)) (after_number k final requests source new ended)) s date (Respond n v) reply
 unfolding RespondsBy
-respond-done {R = R} client before k s date n v answer_context mid new mid_ended ended marks final requests old source reply st from gives low e good fixed first marks_are requests_are own passes sends = by-own own
+respond-done {R = R} client before k s date n v response_context mid new mid_ended ended marks final requests old source reply st from gives low e good fixed first marks_are requests_are own passes sends = by-own own
   where
-    a : Answerable k s n answer_context
-    a = answerable client before k s n answer_context st e first
+    a : Answerable k s n response_context
+    a = answerable client before k s n response_context st e first
 
     held : marks ≡ a.fs ++ (Held ∷ a.rs)
     held = marks_are ∙ a.marks_set
@@ -653,17 +653,17 @@ respond-done {R = R} client before k s date n v answer_context mid new mid_ended
     answered : (found : Bool) → (found ≡ true) ⊎ IsGathered v.answer (to_request (closes_now a.waits.request a.waits.handed.closes a.waits.handed.owed a.waits.given a.waits.end_reported) a.waits.request date) → OwnSaid before mid k.output_ended mid_ended s.reached.slots a.bs (answered_slot a.waits.handed a.waits.request a.waits.given a.waits.end_reported v date found) (response_sent found v (closes_now a.waits.request a.waits.handed.closes a.waits.handed.owed a.waits.given a.waits.end_reported) a.waits.request date) s.flushed s.failure reply
         → StepIsAnswered client before (with_asking_ended (kept_lacks (slice_get k.requests n)) (after_number k final requests source new ended)) s date (Respond n v) reply
     answered found lack o =
-        respond-stands client before k s date n v answer_context found mid new mid_ended ended final requests source reply st low a good fixed lack requests_are (reader found) (passes a.fs a.rs held a.place) o
+        respond-stands client before k s date n v response_context found mid new mid_ended ended final requests source reply st low a good fixed lack requests_are (reader found) (passes a.fs a.rs held a.place) o
         (sends a.fs a.rs held a.place (can-send before mid mid_ended (a.bs ++ (answered_slot a.waits.handed a.waits.request a.waits.given a.waits.end_reported v date found ∷ [])) (flushed_if k.output_ended s.flushed (a.bs ++ (answered_slot a.waits.handed a.waits.request a.waits.given a.waits.end_reported v date found ∷ []))) o.failure o.output low))
 
-    by-own : RespondsBy k mid mid_ended reply v answer_context date → StepIsAnswered client before (with_asking_ended (kept_lacks (slice_get k.requests n)) (after_number k final requests source new ended)) s date (Respond n v) reply
+    by-own : RespondsBy k mid mid_ended reply v response_context date → StepIsAnswered client before (with_asking_ended (kept_lacks (slice_get k.requests n)) (after_number k final requests source new ended)) s date (Respond n v) reply
     by-own (inl h) =
         let s1 = answered_slot a.waits.handed a.waits.request a.waits.given a.waits.end_reported v date true in
         let o = own-past before k.sink k.output_ended s.reached.slots a.bs s1 (response_sent true v (closes_now a.waits.request a.waits.handed.closes a.waits.handed.owed a.waits.given a.waits.end_reported) a.waits.request date) s.flushed s.failure st.output (longer_by true) a.turn.finished h.0 in
         let P : Sink → Bool → ReplyValue → Type 0 = λ x y z. OwnSaid before x k.output_ended y s.reached.slots a.bs s1 (response_sent true v (closes_now a.waits.request a.waits.handed.closes a.waits.handed.owed a.waits.given a.waits.end_reported) a.waits.request date) s.flushed s.failure z in
         answered true (inl refl) (subst (λ x. P x mid_ended reply) (sym h.1) (subst (λ y. P k.sink y reply) (sym h.2) (subst (λ z. P k.sink k.output_ended z) (sym h.3) o)))
     by-own (inr h) =
-        let own = subst (λ p. Answers k.sink mid mid_ended reply v.answer v.content p) (printed-for (closes_now a.waits.request a.waits.handed.closes a.waits.handed.owed a.waits.given a.waits.end_reported) a.waits.request answer_context date a.answer_context_is) h.1 in
+        let own = subst (λ p. Answers k.sink mid mid_ended reply v.answer v.content p) (printed-for (closes_now a.waits.request a.waits.handed.closes a.waits.handed.owed a.waits.given a.waits.end_reported) a.waits.request response_context date a.response_context_is) h.1 in
         let r = own.0 in
         ⊎_elim
         (λ x. answered true (inl refl)
@@ -673,12 +673,12 @@ respond-done {R = R} client before k s date n v answer_context mid new mid_ended
         (own-sent {T = Unit {0}} before k.sink mid k.output_ended mid_ended s.reached.slots a.bs (answered_slot a.waits.handed a.waits.request a.waits.given a.waits.end_reported v date false) (response_sent false v (closes_now a.waits.request a.waits.handed.closes a.waits.handed.owed a.waits.given a.waits.end_reported) a.waits.request date) s.flushed s.failure r reply st.output (longer_by false) a.turn.finished refl refl low h.0 x.1 own.3 own.1))
         own.2
 
-pub responds-by : (k : Kept) (mid : Sink) (mid_ended : Bool) (reply : ReplyValue) (v : ResponseValue) (answer_context : AnswerContext) (date : HttpDate) → (k.output_ended ≡ true → (mid ≡ k.sink) × (mid_ended ≡ k.output_ended) × (reply ≡ Done))
-    → (k.output_ended ≡ false → Answers k.sink mid mid_ended reply v.answer v.content (printing_in answer_context date)) → RespondsBy k mid mid_ended reply v answer_context date
+pub responds-by : (k : Kept) (mid : Sink) (mid_ended : Bool) (reply : ReplyValue) (v : ResponseValue) (response_context : ResponseContext) (date : HttpDate) → (k.output_ended ≡ true → (mid ≡ k.sink) × (mid_ended ≡ k.output_ended) × (reply ≡ Done))
+    → (k.output_ended ≡ false → Answers k.sink mid mid_ended reply v.answer v.content (printing_in response_context date)) → RespondsBy k mid mid_ended reply v response_context date
 unfolding RespondsBy
-responds-by k mid mid_ended reply v answer_context date past open_is = by k.output_ended refl
+responds-by k mid mid_ended reply v response_context date past open_is = by k.output_ended refl
   where
-    by : (t : Bool) → k.output_ended ≡ t → RespondsBy k mid mid_ended reply v answer_context date
+    by : (t : Bool) → k.output_ended ≡ t → RespondsBy k mid mid_ended reply v response_context date
     by true e = let h = past e in inl (e, h.0, h.1, h.2)
     by false e = inr (e, open_is e)
 
@@ -689,13 +689,13 @@ gathers-same date v r x y e f h =
     subst (λ i. G y i) (sym f) (subst (λ i. G x i) e h)
 
 -- A number is answered, once the last number was told what the response asks: that is the step.
-pub respond-asked : (client : Feed) (before : Sink) (k final : Kept) (s : State) (date : HttpDate) (n : ℕ) (v : ResponseValue) (answer_context : AnswerContext) (reply : ReplyValue)
-    → Stands client before k s → waiting_answer_context (slice_get k.requests n) ≡ Some answer_context → refuses_at v.answer.status (slice_get k.requests n) ≡ false → n ≡ first_unfinished k.marks
+pub respond-asked : (client : Feed) (before : Sink) (k final : Kept) (s : State) (date : HttpDate) (n : ℕ) (v : ResponseValue) (response_context : ResponseContext) (reply : ReplyValue)
+    → Stands client before k s → waiting_response_context (slice_get k.requests n) ≡ Some response_context → refuses_at v.answer.status (slice_get k.requests n) ≡ false → n ≡ first_unfinished k.marks
     → StepIsAnswered client before final (asked_state v.answer.closes s) date (Respond n v) reply → StepIsAnswered client before final s date (Respond n v) reply
-respond-asked client before k final s date n v answer_context reply st e good first h = (h.0, h.1, by h.2)
+respond-asked client before k final s date n v response_context reply st e good first h = (h.0, h.1, by h.2)
   where
-    a : Answerable k s n answer_context
-    a = answerable client before k s n answer_context st e first
+    a : Answerable k s n response_context
+    a = answerable client before k s n response_context st e first
 
     r : Request
     r = a.waits.request

@@ -3,7 +3,7 @@ use Rattle.tiny_http_connection.proofs.ConnectionDrop.{IsKeptOf, refusal-same}
 use Rattle.tiny_http_connection.specs.Pending.{last_body, last_holds_next_head}
 use Rattle.tiny_http_open_request.specs.OpenRequest.{upgrade_check, request_check}
 use Rattle.tiny_http_body.specs.Body.{remainder, is_long, Remaining, remaining, is_streaming, is_whole, stream_body}
-use Rattle.tiny_http_standard_head.specs.Judging.{names_protocol}
+use Rattle.tiny_http_standard_head.specs.Validation.{names_protocol}
 use Rattle.std.proofs.Math.Bool.{or-true}
 use Rattle.std.specs.Option.{option_map}
 use Rattle.std.proofs.Common.{inr, ◌≡◌, refl, sym, ap, ◌∙◌, subst, ℕ, ◌-◌, ◌<◌, ◌^◌, inl, ⊎_elim, Bool, true, false, ◌&&◌, ◌||◌, List, [], ◌∷◌, ◌++◌, Option, Some, append-nil, eq-eqb, not, length, None, Ok, Err, arith}
@@ -13,7 +13,7 @@ use Rattle.std.specs.List.{list_all}
 use Rattle.httpdate.specs.declared.date.HttpDate.{HttpDate}
 use Rattle.tiny_http_text.specs.Bytes.{is_ascii}
 use Rattle.tiny_http_io.specs.Device.{Feed, Sink}
-use Rattle.tiny_http_response.specs.declared.answer_context.AnswerContext.{AnswerContext}
+use Rattle.tiny_http_response.specs.declared.response_context.ResponseContext.{ResponseContext}
 use Rattle.tiny_http_io.specs.Source.{SourceState, GoesOn}
 use Rattle.tiny_http_response.specs.ResponseValue.{ResponseValue, printing_in, upgrade_text}
 use Rattle.tiny_http_response.specs.Sending.{CanSend, IsFlushed, SendsUnlessEnded}
@@ -292,8 +292,8 @@ reader-upgraded {R = R} client k n source slots rest protocol v date w p from re
         subst (λ u. Stood true u (k.asking_ended || ends)) (sym e) (subst (λ o. Stood true true o) (sym over)
         (stream-any client k source p.bs p.cs p.us p.vs rest protocol v date p.s w h from (subst P p.slots_are reader) p.requests_are alone (none-of p.vs p.cs (kept-many p.cs p.rs p.vs p.behind) alone) holds (whole-quiet w.body asked.1)))
 
-pub upgrade-done : {R : Type 0} (client : Feed) (before : Sink) (k : Kept) (s : State) (date : HttpDate) (n : ℕ) (protocol : List ℕ) (v : ResponseValue) (w : OpenRequest UnreadBody) (context : AnswerContext) (new : Sink) (ended : Bool) (final : List Mark) (requests : List (Option Unfinished)) (source : SourceState R) → Stands client before k s → IsInput k source → before.failures < 2 ^ 64 - 1
-    → slice_get k.requests n ≡ Some (Some (still.Waiting w)) → w.answer_context ≡ context → is_err (request_check w protocol v.answer.status (is_whole w.body)) ≡ false → (n == first_unfinished k.marks) ≡ true → final ≡ k.marks → requests ≡ slice_set k.requests n (Some (still.Upgraded (stream_body w.by_standard w.body)))
+pub upgrade-done : {R : Type 0} (client : Feed) (before : Sink) (k : Kept) (s : State) (date : HttpDate) (n : ℕ) (protocol : List ℕ) (v : ResponseValue) (w : OpenRequest UnreadBody) (context : ResponseContext) (new : Sink) (ended : Bool) (final : List Mark) (requests : List (Option Unfinished)) (source : SourceState R) → Stands client before k s → IsInput k source → before.failures < 2 ^ 64 - 1
+    → slice_get k.requests n ≡ Some (Some (still.Waiting w)) → w.response_context ≡ context → is_err (request_check w protocol v.answer.status (is_whole w.body)) ≡ false → (n == first_unfinished k.marks) ≡ true → final ≡ k.marks → requests ≡ slice_set k.requests n (Some (still.Upgraded (stream_body w.by_standard w.body)))
     → ((k.output_ended ≡ false → CanSend k.sink) → SendsUnlessEnded k.output_ended k.sink new ended (upgrade_text v protocol (printing_in context date))) → IsFlushed new
     → StepIsAnswered client before (with_asking_ended (w.holds_next_head || (w.by_standard && (w.owes_continue || is_long (remainder w.body)))) (after_number k final requests source new ended)) s date (Upgrade n protocol v) Done
 upgrade-done {R = R} client before k s date n protocol v w context new ended final requests source st from low e context_is granted come final_is requests_are sends firm =
@@ -342,7 +342,7 @@ upgrade-done {R = R} client before k s date n protocol v w context new ended fin
         reader-after client over final requests source new ended slots s.reached.rest (subst Q (sym requests_now) (reader-upgraded client k n source s.reached.slots s.reached.rest protocol v date w p from st.reader granted))
 
     printed : printing_in context date ≡ to_request h.request.framing.is_last h.request date
-    printed = ap (λ c. printing_in c date) (sym context_is ∙ h.answer_context)
+    printed = ap (λ c. printing_in c date) (sym context_is ∙ h.response_context)
 
     in-turn : InTurn p.bs p.fs p.rs → StepIsAnswered client before (with_asking_ended (w.holds_next_head || (w.by_standard && (w.owes_continue || is_long (remainder w.body)))) (after_number k final requests source new ended)) s date (Upgrade n protocol v) Done
     in-turn t =

@@ -1,5 +1,5 @@
 -- A run goes on by one step.
-use Rattle.tiny_http_io.specs.declared.source.Standing.TheVariants as at
+use Rattle.tiny_http_io.specs.declared.source.InputState.TheVariants as at
 use Rattle.std.proofs.Common.{◌≡◌, refl, sym, ap, ◌∙◌, subst, ℕ, ◌-◌, ◌<◌, ◌≤◌, Bool, true, false, not, ◌&&◌, ◌||◌, List, [], ◌∷◌, ◌++◌, length, Option, Some, None, arith, append-nil, inl, inr}
 use Rattle.std.specs.Prelude.{MatchBool}
 use Rattle.std.specs.Option.{option_map}
@@ -75,7 +75,7 @@ joins-end all done (x ∷ rest) joins len = absurd (omega arith)
 
 -- the connection at its begin
 abbrev pub begun : Profile → Option Feed → Bool → Sink → Kept
-begun profile feed is_over sink = record { profile = profile; marks = []; requests = []; standing = at.Head; asking_ended = false; feed = feed; stop = None; is_over = is_over; sink = holding sink [] false; output_ended = false }
+begun profile feed is_over sink = record { profile = profile; marks = []; requests = []; input_state = at.Head; asking_ended = false; feed = feed; stop = None; is_over = is_over; sink = holding sink [] false; output_ended = false }
 
 pub stands-begun : (profile : Profile) (client : Feed) (feed : Option Feed) (is_over : Bool) (sink : Sink) (items : List Item) → feed ≡ Some client → IsFresh sink → Pipeline profile (Some client.bytes) client.stop items → Stands client sink (begun profile feed is_over sink) (start_state items)
 stands-begun profile client feed is_over sink items e fresh h =
@@ -219,15 +219,15 @@ fails-step writer old new false ended (inl e) (inr s) = inr (s.0 ∙ ap next_cou
 fails-step writer old new false ended (inr h) s = let no : false ≡ true = h.1 in cc
 
 -- one step more
-pub takes-snoc : {R W D : Type 0} (told : R → ℕ) (feed : D → Option Feed) (a b c : ConnectionState R W) (steps : List (Timed D)) (replies : List Reply) (t : Timed D) (r : Reply) → TakesSteps told feed a steps replies b → MakesStep b c t.now (stated_step feed t.step) (seen r)
-    → StepMeets told (stated_step feed t.step) b c (seen r) → TakesSteps told feed a (steps ++ t ∷ []) (replies ++ r ∷ []) c
-takes-snoc {R = R} {W = W} told feed a b c [] [] t r h step meets =
+pub takes-snoc : {R W D : Type 0} (stop_count : R → ℕ) (feed : D → Option Feed) (a b c : ConnectionState R W) (steps : List (Timed D)) (replies : List Reply) (t : Timed D) (r : Reply) → TakesSteps stop_count feed a steps replies b → MakesStep b c t.now (stated_step feed t.step) (seen r)
+    → StepMeets stop_count (stated_step feed t.step) b c (seen r) → TakesSteps stop_count feed a (steps ++ t ∷ []) (replies ++ r ∷ []) c
+takes-snoc {R = R} {W = W} stop_count feed a b c [] [] t r h step meets =
     let P : ConnectionState R W → Type 0 = λ x. MakesStep x c t.now (stated_step feed t.step) (seen r) in
-    let M : ConnectionState R W → Type 0 = λ x. StepMeets told (stated_step feed t.step) x c (seen r) in
+    let M : ConnectionState R W → Type 0 = λ x. StepMeets stop_count (stated_step feed t.step) x c (seen r) in
     (c, subst P h step, subst M h meets, refl)
-takes-snoc {R = R} {W = W} {D = D} told feed a b c [] (x ∷ replies) t r h step meets = elim h [ ]
-takes-snoc {R = R} {W = W} {D = D} told feed a b c (x ∷ steps) [] t r h step meets = elim h [ ]
-takes-snoc told feed a b c (x ∷ steps) (y ∷ replies) t r h step meets = (h.0, h.1, h.2, takes-snoc told feed h.0 b c steps replies t r h.3 step meets)
+takes-snoc {R = R} {W = W} {D = D} stop_count feed a b c [] (x ∷ replies) t r h step meets = elim h [ ]
+takes-snoc {R = R} {W = W} {D = D} stop_count feed a b c (x ∷ steps) [] t r h step meets = elim h [ ]
+takes-snoc stop_count feed a b c (x ∷ steps) (y ∷ replies) t r h step meets = (h.0, h.1, h.2, takes-snoc stop_count feed h.0 b c steps replies t r h.3 step meets)
 
 -- whether all was sent on after one step more
 pub all-sent-snoc : {D : Type 0} (steps : List (Timed D)) (replies : List Reply) (t : Timed D) (r : Reply) (sent : Bool) → length steps ≡ length replies → all_sent (steps ++ t ∷ []) (replies ++ r ∷ []) sent ≡ all_sent_after t.step (seen r) (all_sent steps replies sent)

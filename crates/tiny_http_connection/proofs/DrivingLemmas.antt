@@ -15,7 +15,7 @@ use Rattle.tiny_http_connection.specs.declared.pending.Unfinished.{Unfinished}
 use Rattle.tiny_http_connection.specs.declared.pending.Unfinished.TheVariants as still
 use Rattle.tiny_http_connection.specs.Replies.{StepReplies, is_waiting, is_in_turn, is_open_mark}
 use Rattle.tiny_http_connection.proofs.RepliesLemmas.{replied-refused, replied-done}
-use Rattle.tiny_http_connection.specs.Pending.{waiting_answer_context, is_last_once_finished_at as kept_lacks, refuses_at, is_last_with_stream_at, last_holds_next_head, kept_body, GivesUpIfKept, refuses_upgrade_at}
+use Rattle.tiny_http_connection.specs.Pending.{waiting_response_context, is_last_once_finished_at as kept_lacks, refuses_at, is_last_with_stream_at, last_holds_next_head, kept_body, GivesUpIfKept, refuses_upgrade_at}
 use Rattle.std.specs.List.{AllZip}
 use Rattle.tiny_http_connection.specs.declared.driver.Timed.{Timed}
 use Rattle.tiny_http_connection.specs.declared.driver.Step.{Step}
@@ -32,7 +32,7 @@ use Rattle.tiny_http_connection.specs.Seen.{IsResponse, IsStep, IsTimedStep, Rep
 use Rattle.tiny_http_body.specs.declared.body.UnreadBody.{UnreadBody}
 use Rattle.tiny_http_open_request.specs.declared.open_request.OpenRequest.{OpenRequest}
 use Rattle.tiny_http_open_request.specs.OpenRequest.{refuses_code, request_check}
-use Rattle.tiny_http_body.specs.Body.{Remaining, remaining, is_streaming, body_standing, is_whole}
+use Rattle.tiny_http_body.specs.Body.{Remaining, remaining, is_streaming, body_input_state, is_whole}
 use Rattle.std.specs.Prelude.{MatchBool, is_err}
 use Rattle.tiny_http_connection.specs.Connection.{Kept, ConnectionState, kept, Stands, HandedOut, open_slot, dropped, BeginsMore}
 use Rattle.tiny_http_connection.specs.Slots.{turn_has_come, ends_when_finished}
@@ -43,12 +43,12 @@ use Rattle.tiny_http_connection.proofs.ConnectionAsk.{StepIsAnswered, AskIsAnswe
 use Rattle.tiny_http_connection.proofs.ConversationEnded.{steps-stay, vain-snoc, begins-behind_items}
 use Rattle.tiny_http_connection.proofs.ConnectionReader.{holds-snoc}
 use Rattle.tiny_http_io.proofs.SourceGoesOn.{goes-on_same, goes-on_more}
-use Rattle.tiny_http_connection.proofs.SeenLemmas.{is-ask, is-as_reader, is-read, is-respond, is-into_writer, is-write, is-flush, is-upgrade, is-finish, is-drop, step-as_reader, step-read, step-respond, step-into_writer, step-write, step-flush, step-upgrade, step-finish, step-drop}
+use Rattle.tiny_http_connection.proofs.SeenLemmas.{is-ask, is-send_continue, is-read, is-respond, is-into_writer, is-write, is-flush, is-upgrade, is-finish, is-drop, step-send_continue, step-read, step-respond, step-into_writer, step-write, step-flush, step-upgrade, step-finish, step-drop}
 use Rattle.tiny_http_turns.specs.Turns.{Mark, Open, Held, Left, Finished}
 use Rattle.std.specs.Prelude.{is_some, replicate}
 use Rattle.tiny_http_open_request.specs.declared.exchange.EndOfRequests.{EndOfRequests}
-use Rattle.tiny_http_io.specs.declared.source.Standing.{Standing}
-use Rattle.tiny_http_io.specs.declared.source.Standing.TheVariants as place
+use Rattle.tiny_http_io.specs.declared.source.InputState.{InputState}
+use Rattle.tiny_http_io.specs.declared.source.InputState.TheVariants as place
 use Rattle.std.specs.Global.{Global, Vec}
 use Rattle.tiny_http_head.specs.declared.common.StatusCode.{StatusCode}
 use Rattle.tiny_http_open_request.specs.declared.exchange.HeadRead.TheVariants as read
@@ -59,7 +59,7 @@ use Rattle.tiny_http_body.specs.declared.framing.Framing.{Framing}
 use Rattle.tiny_http_open_request.specs.HeadReads.{ReadsHead, EndsAt, IsBeforeHead, HasByteOrTimedOut, IsFramedAs, head_message, head_framing}
 use Rattle.tiny_http_body.specs.declared.framing.Profile.{Profile}
 use Rattle.tiny_http_open_request.specs.Pipeline.{OneHead, Request, Item, Refuses, Place, place_feed}
-use Rattle.tiny_http_connection.specs.Driving.{SendsInTurn, HandsOutHead, IsFree, IsRefusal, EndsRequestsAt, EndsThere, ArePassedOver, HasByteBehind, standing_behind}
+use Rattle.tiny_http_connection.specs.Driving.{SendsInTurn, HandsOutHead, IsFree, IsRefusal, EndsRequestsAt, EndsThere, ArePassedOver, HasByteBehind, input_state_past}
 use Rattle.tiny_http_open_request.proofs.PipelineLemmas.{has-pipeline}
 use Rattle.tiny_http_connection.proofs.ConversationRuns.{run-more, stands-begun, split}
 use Rattle.tiny_http_body.proofs.BodyReads.{gives-up}
@@ -83,24 +83,24 @@ none-of None e = refl
 none-of (Some x) e = cc
 
 -- why the requests end at a head that was refused, or at none
-refusal-at : (profile : Profile) (at : Standing) (date : HttpDate) (o p : Option Feed) (status : StatusCode) (text : Vec ℕ) → ReadsHead profile at date o p (Ok (read.Refused status text true)) → (f : Feed) → o ≡ Some f → IsRefusal profile f (because.Refused status)
+refusal-at : (profile : Profile) (at : InputState) (date : HttpDate) (o p : Option Feed) (status : StatusCode) (text : Vec ℕ) → ReadsHead profile at date o p (Ok (read.Refused status text true)) → (f : Feed) → o ≡ Some f → IsRefusal profile f (because.Refused status)
 refusal-at profile at date o p status text h f e =
     let P : Option Feed → Type 0 = λ y. ReadsHead profile at date y p (Ok (read.Refused status text true)) in
     let r = subst P e h in
     let H : Place → Type 0 = λ y. OneHead profile f.bytes f.stop (Some (Refuses r.0 r.1 r.2 true)) y in
     (status, r.0, r.1, r.2, subst H r.7 r.4, r.6, refl)
 
-end-at : (profile : Profile) (at : Standing) (date : HttpDate) (o p : Option Feed) (why : EndOfRequests) → ReadsHead profile at date o p (Ok (read.Ended why)) → (f : Feed) → o ≡ Some f → OneHead profile f.bytes f.stop None None × EndsAt profile at f.bytes f.stop why
+end-at : (profile : Profile) (at : InputState) (date : HttpDate) (o p : Option Feed) (why : EndOfRequests) → ReadsHead profile at date o p (Ok (read.Ended why)) → (f : Feed) → o ≡ Some f → OneHead profile f.bytes f.stop None None × EndsAt profile at f.bytes f.stop why
 end-at profile at date o p why h f e = let P : Option Feed → Type 0 = λ y. ReadsHead profile at date y p (Ok (read.Ended why)) in subst P e h
 
-pub end-refused : (profile : Profile) (at : Standing) (date : HttpDate) (o p : Option Feed) (status : StatusCode) (text : Vec ℕ) → IsBeforeHead at → ReadsHead profile at date o p (Ok (read.Refused status text true)) → EndsRequestsAt profile at o (because.Refused status)
+pub end-refused : (profile : Profile) (at : InputState) (date : HttpDate) (o p : Option Feed) (status : StatusCode) (text : Vec ℕ) → IsBeforeHead at → ReadsHead profile at date o p (Ok (read.Refused status text true)) → EndsRequestsAt profile at o (because.Refused status)
 end-refused profile place.Head date o p status text here h = λ f e. ([], f, refl, inl (refusal-at profile place.Head date o p status text h f e))
 end-refused profile place.Abandoned date o p status text here h = λ f e. ([], f, refl, inl (refusal-at profile place.Abandoned date o p status text h f e))
 end-refused profile (place.Broken kind) date o p status text here h = λ f e. ([], f, refl, inl (refusal-at profile (place.Broken kind) date o p status text h f e))
 end-refused profile place.Body date o p status text here h = elim here [ ]
 end-refused profile place.Last date o p status text here h = elim here [ ]
 
-pub end-final : (profile : Profile) (at : Standing) (date : HttpDate) (o p : Option Feed) (why : EndOfRequests) → (at ≡ place.Body → ⊥) → (at ≡ place.Last → why ≡ because.LastRequest) → (IsBeforeHead at → ReadsHead profile at date o p (Ok (read.Ended why))) → EndsRequestsAt profile at o why
+pub end-final : (profile : Profile) (at : InputState) (date : HttpDate) (o p : Option Feed) (why : EndOfRequests) → (at ≡ place.Body → ⊥) → (at ≡ place.Last → why ≡ because.LastRequest) → (IsBeforeHead at → ReadsHead profile at date o p (Ok (read.Ended why))) → EndsRequestsAt profile at o why
 end-final profile place.Head date o p why outside last h = λ f e. ([], f, refl, inr (end-at profile place.Head date o p why (h tt) f e))
 end-final profile place.Abandoned date o p why outside last h = λ f e. ([], f, refl, inr (end-at profile place.Abandoned date o p why (h tt) f e))
 end-final profile (place.Broken kind) date o p why outside last h = λ f e. ([], f, refl, inr (end-at profile (place.Broken kind) date o p why (h tt) f e))
@@ -108,21 +108,21 @@ end-final profile place.Body date o p why outside last h = absurd (outside refl)
 end-final profile place.Last date o p why outside last h = last refl
 
 -- a head was passed, and then the requests end
-pub end-behind : (profile : Profile) (at : Standing) (date : HttpDate) (o p : Option Feed) (status : StatusCode) (text : Vec ℕ) (why : EndOfRequests) → IsBeforeHead at → ReadsHead profile at date o p (Ok (read.Refused status text false)) → EndsRequestsAt profile place.Head p why → EndsRequestsAt profile at o why
+pub end-behind : (profile : Profile) (at : InputState) (date : HttpDate) (o p : Option Feed) (status : StatusCode) (text : Vec ℕ) (why : EndOfRequests) → IsBeforeHead at → ReadsHead profile at date o p (Ok (read.Refused status text false)) → EndsRequestsAt profile place.Head p why → EndsRequestsAt profile at o why
 end-behind profile at date o p status text why here h ends = by at here h
   where
-    stands : (xs : List Item) (rest : Feed) → EndsThere profile (standing_behind place.Head xs) rest why → EndsThere profile place.Head rest why
+    stands : (xs : List Item) (rest : Feed) → EndsThere profile (input_state_past place.Head xs) rest why → EndsThere profile place.Head rest why
     stands [] rest k = k
     stands (x ∷ xs) rest k = k
 
-    behind : (x : Standing) → ReadsHead profile x date o p (Ok (read.Refused status text false)) → (f : Feed) → o ≡ Some f → (passed : List Item) × (rest : Feed) × ArePassedOver profile f passed rest × EndsThere profile (standing_behind x passed) rest why
+    behind : (x : InputState) → ReadsHead profile x date o p (Ok (read.Refused status text false)) → (f : Feed) → o ≡ Some f → (passed : List Item) × (rest : Feed) × ArePassedOver profile f passed rest × EndsThere profile (input_state_past x passed) rest why
     behind x h f e =
         let P : Option Feed → Type 0 = λ y. ReadsHead profile x date y p (Ok (read.Refused status text false)) in
         let r = subst P e h in
         let next = ends (place_feed f.stop r.3) r.7 in
         (Refuses r.0 r.1 r.2 false ∷ next.0, next.1, (refl, r.3, r.4, next.2), stands next.0 next.1 next.3)
 
-    by : (x : Standing) → IsBeforeHead x → ReadsHead profile x date o p (Ok (read.Refused status text false)) → EndsRequestsAt profile x o why
+    by : (x : InputState) → IsBeforeHead x → ReadsHead profile x date o p (Ok (read.Refused status text false)) → EndsRequestsAt profile x o why
     by place.Head here h = behind place.Head h
     by place.Abandoned here h = behind place.Abandoned h
     by (place.Broken kind) here h = behind (place.Broken kind) h
@@ -130,12 +130,12 @@ end-behind profile at date o p status text why here h ends = by at here h
     by place.Last here h = elim here [ ]
 
 -- a request stands here
-pub hands-here : (profile : Profile) (at : Standing) (date : HttpDate) (o p : Option Feed) (x : Exchange) → ReadsHead profile at date o p (Ok (read.Request x)) → HandsOutHead 0 profile o (head_message x.head) (head_framing x.head) (remaining x.open_request.body p)
+pub hands-here : (profile : Profile) (at : InputState) (date : HttpDate) (o p : Option Feed) (x : Exchange) → ReadsHead profile at date o p (Ok (read.Request x)) → HandsOutHead 0 profile o (head_message x.head) (head_framing x.head) (remaining x.open_request.body p)
 hands-here profile at date None p x h = tt
 hands-here profile at date (Some f) p x h = ([], f, refl, refl, h.0, h.1, (h.2, h.3))
 
 -- or behind a head that is passed
-pub hands-behind : (profile : Profile) (at : Standing) (date : HttpDate) (o p : Option Feed) (status : StatusCode) (text : Vec ℕ) (n : ℕ) (message : Message) (framing : Framing) (left : Option Remaining)
+pub hands-behind : (profile : Profile) (at : InputState) (date : HttpDate) (o p : Option Feed) (status : StatusCode) (text : Vec ℕ) (n : ℕ) (message : Message) (framing : Framing) (left : Option Remaining)
     → ReadsHead profile at date o p (Ok (read.Refused status text false)) → HandsOutHead n profile p message framing left → HandsOutHead (suc n) profile o message framing left
 hands-behind profile at date None p status text n message framing left h hands = tt
 hands-behind profile at date (Some f) p status text n message framing left h hands =
@@ -144,7 +144,7 @@ hands-behind profile at date (Some f) p status text n message framing left h han
     (Refuses h.0 h.1 h.2 false ∷ next.0, next.1, ap suc next.2, (refl, h.3, h.4, next.3), next.4, next.5, next.6)
 
 -- a byte of a head comes behind a head that is passed
-pub begins-behind : (profile : Profile) (at : Standing) (date : HttpDate) (o p : Option Feed) (status : StatusCode) (text : Vec ℕ) → ReadsHead profile at date o p (Ok (read.Refused status text false)) → HasByteBehind profile p → HasByteBehind profile o
+pub begins-behind : (profile : Profile) (at : InputState) (date : HttpDate) (o p : Option Feed) (status : StatusCode) (text : Vec ℕ) → ReadsHead profile at date o p (Ok (read.Refused status text false)) → HasByteBehind profile p → HasByteBehind profile o
 begins-behind profile at date None p status text h begun = tt
 begins-behind profile at date (Some f) p status text h begun =
     let H : Option Feed → Type 0 = λ y. HasByteBehind profile y in
@@ -300,10 +300,10 @@ gives-up-body {R = R} None old new h = let P : SourceState R → Type 0 = λ x. 
 gives-up-body (Some b) old new h = gives-up b old new h
 
 -- where the source stands after a read
-pub stands-after : {R : Type 0} (was body : UnreadBody) (old new : SourceState R) → (is_streaming was ≡ false → new ≡ old) → (is_streaming was ≡ true → new.standing ≡ body_standing body old.standing) → StandsAfter was body old new
+pub stands-after : {R : Type 0} (was body : UnreadBody) (old new : SourceState R) → (is_streaming was ≡ false → new ≡ old) → (is_streaming was ≡ true → new.input_state ≡ body_input_state body old.input_state) → StandsAfter was body old new
 stands-after was body old new same moves = by (is_streaming was) same moves
   where
-    by : (b : Bool) → (b ≡ false → new ≡ old) → (b ≡ true → new.standing ≡ body_standing body old.standing) → MatchBool b (new.standing ≡ body_standing body old.standing) (new ≡ old)
+    by : (b : Bool) → (b ≡ false → new ≡ old) → (b ≡ true → new.input_state ≡ body_input_state body old.input_state) → MatchBool b (new.input_state ≡ body_input_state body old.input_state) (new ≡ old)
     by true same moves = moves refl
     by false same moves = same refl
 
@@ -389,23 +389,23 @@ pub record PassesHead {R W : Type 0} (old mid : ConnectionState R W) (now : Http
   pub does : (client : Feed) (before : Sink) (s : State) → before.failures < 2 ^ 64 - 1 → Stands client before (kept old) s → AskGoesOn client before (kept mid) s now
   pub was_open : old.end ≡ None
   pub is_open : mid.end ≡ None
-  pub here : IsBeforeHead old.source.standing
+  pub here : IsBeforeHead old.source.input_state
   pub unended : IsAtEnd old.source → ⊥
   pub begins : HasByteBehind mid.profile mid.source.feed → HasByteBehind old.profile old.source.feed
   pub free : IsFree old
   pub hands : (n : ℕ) (message : Message) (framing : Framing) (left : Option Remaining) → HandsOutHead n mid.profile mid.source.feed message framing left → HandsOutHead (suc n) old.profile old.source.feed message framing left
-  pub stands : mid.source.standing ≡ place.Head
-  pub ends : (why : EndOfRequests) → EndsRequestsAt mid.profile place.Head mid.source.feed why → EndsRequestsAt old.profile old.source.standing old.source.feed why
+  pub stands : mid.source.input_state ≡ place.Head
+  pub ends : (why : EndOfRequests) → EndsRequestsAt mid.profile place.Head mid.source.feed why → EndsRequestsAt old.profile old.source.input_state old.source.feed why
   pub requests : mid.requests ≡ old.requests ++ (None ∷ [])
   pub counts : length mid.marks ≡ length old.marks + 1
   pub moves : Moves false old mid
 
 -- within a body no head stands
-pub not-body : (x : Standing) → x ≡ place.Head → x ≡ place.Body → ⊥
+pub not-body : (x : InputState) → x ≡ place.Head → x ≡ place.Body → ⊥
 not-body x e f = cc
 
-not-last : (x : Standing) → IsBeforeHead x → x ≡ place.Last → ⊥
-not-last x h e = let P : Standing → Type 0 = λ y. IsBeforeHead y in elim (subst P e h) [ ]
+not-last : (x : InputState) → IsBeforeHead x → x ≡ place.Last → ⊥
+not-last x h e = let P : InputState → Type 0 = λ y. IsBeforeHead y in elim (subst P e h) [ ]
 
 -- one refused head more
 one-more : (old mid new end : List (Option Unfinished)) (n : ℕ) → mid ≡ old ++ (None ∷ []) → new ≡ (mid ++ replicate n None) ++ end → new ≡ (old ++ replicate (suc n) None) ++ end
@@ -418,7 +418,7 @@ refuses-more old mid new n e h =
 one-behind : (a b n : ℕ) → b ≡ a + 1 → b + n ≡ a + suc n
 one-behind a b n e = omega (arith, e)
 
-leaves-behind : {R W : Type 0} (now : HttpDate) (old mid new : ConnectionState R W) (reply : ReplyValue) → mid.requests ≡ old.requests ++ (None ∷ []) → length mid.marks ≡ length old.marks + 1 → IsBeforeHead old.source.standing → (IsAtEnd old.source → ⊥) → mid.profile ≡ old.profile
+leaves-behind : {R W : Type 0} (now : HttpDate) (old mid new : ConnectionState R W) (reply : ReplyValue) → mid.requests ≡ old.requests ++ (None ∷ []) → length mid.marks ≡ length old.marks + 1 → IsBeforeHead old.source.input_state → (IsAtEnd old.source → ⊥) → mid.profile ≡ old.profile
     → ((n : ℕ) (message : Message) (framing : Framing) (left : Option Remaining) → HandsOutHead n mid.profile mid.source.feed message framing left → HandsOutHead (suc n) old.profile old.source.feed message framing left) → AskLeaves now mid new reply → AskLeaves now old new reply
 leaves-behind now old mid new (Handed k message framing) e count here unended same hands h = (
   suc h.0,
@@ -432,7 +432,7 @@ leaves-behind now old mid new (Handed k message framing) e count here unended sa
   h.8,
   h.9,
 )
-leaves-behind now old mid new Ended e count here unended same hands h = (suc h.0, refuses-more old mid new h.0 e h.1, λ z. absurd (⊎_elim (not-last old.source.standing here) unended z))
+leaves-behind now old mid new Ended e count here unended same hands h = (suc h.0, refuses-more old mid new h.0 e h.1, λ z. absurd (⊎_elim (not-last old.source.input_state here) unended z))
 leaves-behind now old mid new Memory e count here unended same hands h = (suc h.0, refuses-more old mid new h.0 e h.1)
 leaves-behind now old mid new NotYet e count here unended same hands h = tt
 leaves-behind now old mid new (Given bytes) e count here unended same hands h = elim h [ ]
@@ -442,19 +442,19 @@ leaves-behind now old mid new Refused e count here unended same hands h = elim h
 leaves-behind now old mid new NoSuch e count here unended same hands h = elim h [ ]
 
 -- behind a refused head no body and no answer is waited for
-never-waits : {R W : Type 0} (old mid : ConnectionState R W) (now : HttpDate) → PassesHead old mid now → (mid.source.standing ≡ place.Body ⊎ last_holds_next_head mid.requests ≡ true) → ⊥
+never-waits : {R W : Type 0} (old mid : ConnectionState R W) (now : HttpDate) → PassesHead old mid now → (mid.source.input_state ≡ place.Body ⊎ last_holds_next_head mid.requests ≡ true) → ⊥
 never-waits old mid now p h =
-    ⊎_elim (not-body mid.source.standing p.stands)
+    ⊎_elim (not-body mid.source.input_state p.stands)
     (λ waits. (let no : false ≡ true = sym (ap last_holds_next_head p.requests ∙ holds-snoc old.requests None) ∙ waits in cc)) h
 
 ends-behind : {R W : Type 0} (old mid new : ConnectionState R W) (now : HttpDate) (reply : ReplyValue) → PassesHead old mid now → AskEnds mid new reply → AskEnds old new reply
 ends-behind old mid new now (Handed k message framing) p h = (p.was_open, h.1, p.here, p.free, p.unended)
 ends-behind old mid new now Ended p h = (
   λ some. (let absent : false ≡ true = ap is_some (sym p.was_open) ∙ some in cc),
-  λ last. absurd (not-last old.source.standing p.here last),
+  λ last. absurd (not-last old.source.input_state p.here last),
   λ open_is.
       let x = h.2 p.is_open in
-      let E : Standing → Type 0 = λ y. EndsRequestsAt mid.profile y mid.source.feed x.0 in
+      let E : InputState → Type 0 = λ y. EndsRequestsAt mid.profile y mid.source.feed x.0 in
       (x.0, x.1, p.ends x.0 (subst E p.stands x.2), p.free),
 )
 ends-behind old mid new now Memory p h = (p.was_open, h.1, p.here, p.begins h.3, p.free, p.unended)
@@ -489,12 +489,12 @@ asks-behind-head old mid now p = λ new reply a. record {
   sent_on = λ was. a.sent_on (p.moves.sent_on (λ z. was));
 }
 
-pub takes-as_reader : {R W : Type 0} (old new : ConnectionState R W) (now : HttpDate) (n : ℕ) (reply : ReplyValue)
+pub takes-send_continue : {R W : Type 0} (old new : ConnectionState R W) (now : HttpDate) (n : ℕ) (reply : ReplyValue)
     → ((client : Feed) (before : Sink) (s : State) → before.failures < 2 ^ 64 - 1 → Stands client before (kept old) s → StepIsAnswered client before (kept new) s now (AsReader n) reply)
     → (IsDeclined (step.AsReader n) reply → new ≡ old) → StepReplies old (step.AsReader n) reply → new.end ≡ old.end → StepLeaves (step.AsReader n) now old new reply → Moves false old new → ReportsNoFault reply → TakesStep old new now (step.AsReader n) reply
-takes-as_reader old new now n reply answers declined replies ends leaves moves none =
+takes-send_continue old new now n reply answers declined replies ends leaves moves none =
     takes old new now (step.AsReader n) reply
-    (λ client before s asked low is st. step-as_reader {D = Option Feed} (λ f. f) client before (kept new) s now (now, asked) (step.AsReader n) n reply refl refl is (answers client before s low st))
+    (λ client before s asked low is st. step-send_continue {D = Option Feed} (λ f. f) client before (kept new) s now (now, asked) (step.AsReader n) n reply refl refl is (answers client before s low st))
     declined replies ends leaves (moves-kept (step.AsReader n) reply old new (λ sent. refl) moves) (λ kind e. absurd (none kind e)) tt (λ ask. ask)
 
 pub takes-drop : {R W : Type 0} (old new : ConnectionState R W) (now : HttpDate) (n : ℕ) (reply : ReplyValue)
@@ -589,7 +589,7 @@ pub drops-by : {R W : Type 0} (n : ℕ) (w : OpenRequest UnreadBody) (old new : 
 drops-by n w old new now kept answers ends leaves moves = by
   where
     waits : is_waiting old n ≡ true
-    waits = ap (λ o. is_some (waiting_answer_context o)) kept
+    waits = ap (λ o. is_some (waiting_response_context o)) kept
 
     by : (x : Step (Option Feed)) (reply : ReplyValue) → IsDropping old.requests n x reply → TakesStep old new now x reply
     by step.Ask reply is = elim is [ ]
@@ -641,11 +641,11 @@ drops-by n w old new now kept answers ends leaves moves = by
     by (step.Upgrade k p r) Memory is = elim is [ ]
 
 -- a connection at its begin
-pub begins : {R W : Type 0} (client : Feed) (before : Sink) (writer : W) (c : ConnectionState R W) → c.marks ≡ [] → c.requests ≡ [] → c.source.standing ≡ place.Head → c.end ≡ None → c.source.feed ≡ Some client → c.source.stop ≡ None
+pub begins : {R W : Type 0} (client : Feed) (before : Sink) (writer : W) (c : ConnectionState R W) → c.marks ≡ [] → c.requests ≡ [] → c.source.input_state ≡ place.Head → c.end ≡ None → c.source.feed ≡ Some client → c.source.stop ≡ None
     → c.outlet ≡ record { held = []; ended = false; writer = writer; sink = before } → IsFresh before → HasDone c.profile client before c [] []
 begins {W = W} client before writer c m r o e feed stop outlet fresh =
-    let K : List Mark → List (Option Unfinished) → Standing → Option EndOfRequests → Option Stop → OutletState W → Kept = λ m r o e s w.
-    record { profile = c.profile; marks = m; requests = r; standing = o; asking_ended = is_some e; feed = c.source.feed; stop = s; is_over = c.source.is_over; sink = output_of w; output_ended = w.ended } in
+    let K : List Mark → List (Option Unfinished) → InputState → Option EndOfRequests → Option Stop → OutletState W → Kept = λ m r o e s w.
+    record { profile = c.profile; marks = m; requests = r; input_state = o; asking_ended = is_some e; feed = c.source.feed; stop = s; is_over = c.source.is_over; sink = output_of w; output_ended = w.ended } in
     let has = has-pipeline c.profile client in
     let S : Kept → Type 0 = λ k. Stands client before k (start_state has.0) in
     let none : OutletState W = record { held = []; ended = false; writer = writer; sink = before } in
@@ -654,8 +654,8 @@ begins {W = W} client before writer c m r o e feed stop outlet fresh =
     let st2 = subst (λ s. S (K [] [] place.Head None s c.outlet)) (sym stop) st1 in
     let st3 = subst (λ x. S (K [] [] place.Head x c.source.stop c.outlet)) (sym e) st2 in
     let st4 = subst (λ x. S (K [] [] x c.end c.source.stop c.outlet)) (sym o) st3 in
-    let st5 = subst (λ x. S (K [] x c.source.standing c.end c.source.stop c.outlet)) (sym r) st4 in
-    let st6 = subst (λ x. S (K x c.requests c.source.standing c.end c.source.stop c.outlet)) (sym m) st5 in
+    let st5 = subst (λ x. S (K [] x c.source.input_state c.end c.source.stop c.outlet)) (sym r) st4 in
+    let st6 = subst (λ x. S (K x c.requests c.source.input_state c.end c.source.stop c.outlet)) (sym m) st5 in
     record { profile = refl; fresh = fresh; items = has.0; pipeline = has.1; at = start_state has.0; run = refl; stands = st6; memory = λ vain. elim vain [ ] }
 
 pub honest-more : (mid ended : Bool) (a b c : Sink) (x : Answer) (feed : Option Feed) (p : Printing) (kind : ErrorKind) → mid ≡ true → FailsOnceUnlessEnded mid b c ended → c.last_kind ≡ b.last_kind → IsHonest a b x feed p kind → IsHonest a c x feed p kind
@@ -716,7 +716,7 @@ answer-sent_on old mid new ended reply x content p taken goes a known keeps = by
 -- a step, and what it is in place of its data
 is-stated : {D : Type 0} (feed : D → Option Feed) (x : Step D) (asked : StepValue) → IsStep feed x asked → IsStep (λ f. f) (stated_step feed x) asked
 is-stated feed step.Ask asked h = subst (λ y. (let a : Step (Option Feed) = step.Ask in IsStep (λ f. f) a y)) (sym (is-ask feed asked h)) tt
-is-stated feed (step.AsReader k) asked h = subst (λ y. (let a : Step (Option Feed) = step.AsReader k in IsStep (λ f. f) a y)) (sym (is-as_reader feed k asked h)) refl
+is-stated feed (step.AsReader k) asked h = subst (λ y. (let a : Step (Option Feed) = step.AsReader k in IsStep (λ f. f) a y)) (sym (is-send_continue feed k asked h)) refl
 is-stated feed (step.Read k n) asked h = subst (λ y. (let a : Step (Option Feed) = step.Read k n in IsStep (λ f. f) a y)) (sym (is-read feed k n asked h)) (refl, refl)
 is-stated feed (step.Respond k r) asked h =
     let s = is-respond feed k r asked h in

@@ -21,7 +21,7 @@ use Rattle.tiny_http_body.specs.declared.body.UnreadBody.{UnreadBody}
 use Rattle.tiny_http_open_request.specs.declared.open_request.OpenRequest.{OpenRequest}
 use Rattle.tiny_http_connection.specs.declared.pending.Unfinished.{Unfinished}
 use Rattle.tiny_http_connection.specs.declared.pending.Unfinished.TheVariants as still
-use Rattle.tiny_http_connection.specs.Pending.{left_text, with_left_finished, begins_left, SendsLeft, FinishesFront, LeavesText, WritesHeld, FinishesHeld, waiting_answer_context, closing_number}
+use Rattle.tiny_http_connection.specs.Pending.{left_text, with_left_finished, begins_left, SendsLeft, FinishesFront, LeavesText, WritesHeld, FinishesHeld, waiting_response_context, closing_number}
 use Rattle.tiny_http_connection.specs.Slots.{with_last}
 use Rattle.tiny_http_open_request.specs.OpenRequest.{closing}
 use Rattle.tiny_http_connection.proofs.ConnectionKept.{get-at, set-at}
@@ -505,7 +505,7 @@ passes-on {W = W} here text there p = ⊎_elim ends (λ many. absurd (none many.
         )
 
 -- the last number, if it waits, is told that the connection ends
-number-alone : (u : Option Unfinished) → waiting_answer_context (Some u) ≡ None → closing_number u ≡ u
+number-alone : (u : Option Unfinished) → waiting_response_context (Some u) ≡ None → closing_number u ≡ u
 number-alone None e = refl
 number-alone (Some (still.Waiting w)) e = cc
 number-alone (Some still.Raw) e = refl
@@ -518,7 +518,7 @@ closing-set (u ∷ []) (suc n) w e g = cc
 closing-set (u ∷ v ∷ us) zero w e g = absurd (omega (arith, e))
 closing-set (u ∷ v ∷ us) (suc n) w e g = ap (λ l. u ∷ l) (closing-set (v ∷ us) n w (omega (arith, e)) g)
 
-pub closing-none : (us : List (Option Unfinished)) (n : ℕ) → n + 1 ≡ length us → waiting_answer_context (slice_get us n) ≡ None → with_last closing_number us ≡ us
+pub closing-none : (us : List (Option Unfinished)) (n : ℕ) → n + 1 ≡ length us → waiting_response_context (slice_get us n) ≡ None → with_last closing_number us ≡ us
 closing-none [] n e g = refl
 closing-none (u ∷ []) zero e g = ap (λ x. x ∷ []) (number-alone u g)
 closing-none (u ∷ []) (suc n) e g = absurd (omega (arith, e))

@@ -9,7 +9,7 @@ use Rattle.tiny_http_io.specs.Device.{Feed, whole_feed}
 use Rattle.tiny_http_io.specs.Source.{SourceState}
 use Rattle.tiny_http_body.specs.declared.body.UnreadBody.{UnreadBody}
 use Rattle.tiny_http_body.specs.declared.body.UnreadBody.TheVariants as body
-use Rattle.tiny_http_body.specs.Body.{Remaining, remaining, prepended_body, NoneRemains, BodyStops, FillsFromBody, ReadsOn, is_streaming, body_standing}
+use Rattle.tiny_http_body.specs.Body.{Remaining, remaining, prepended_body, NoneRemains, BodyStops, FillsFromBody, ReadsOn, is_streaming, body_input_state}
 use Rattle.tiny_http_connection.specs.declared.pending.Unfinished.{Unfinished}
 use Rattle.tiny_http_connection.specs.declared.pending.Unfinished.TheVariants as still
 use Rattle.tiny_http_connection.specs.Pending.{kept_body, number_with_body}

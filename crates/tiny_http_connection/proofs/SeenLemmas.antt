@@ -55,23 +55,23 @@ is-drop feed n (Upgrade k p v) h = elim h [ ]
 is-drop feed n (Finish k) h = elim h [ ]
 is-drop feed n (Drop k) h = ap (λ m. Drop m) h
 
-pub is-as_reader : {D : Type 0} (feed : D → Option Feed) (n : ℕ) (x : StepValue) → (let a : Step D = step.AsReader n in IsStep feed a x) → x ≡ AsReader n
-is-as_reader feed n Ask h = elim h [ ]
-is-as_reader feed n (AsReader k) h = ap (λ m. AsReader m) h
-is-as_reader feed n (Read k m) h = elim h [ ]
-is-as_reader feed n (Respond k v) h = elim h [ ]
-is-as_reader feed n (IntoWriter k) h = elim h [ ]
-is-as_reader feed n (Write k b) h = elim h [ ]
-is-as_reader feed n (Flush k) h = elim h [ ]
-is-as_reader feed n (Upgrade k p v) h = elim h [ ]
-is-as_reader feed n (Finish k) h = elim h [ ]
-is-as_reader feed n (Drop k) h = elim h [ ]
+pub is-send_continue : {D : Type 0} (feed : D → Option Feed) (n : ℕ) (x : StepValue) → (let a : Step D = step.AsReader n in IsStep feed a x) → x ≡ AsReader n
+is-send_continue feed n Ask h = elim h [ ]
+is-send_continue feed n (AsReader k) h = ap (λ m. AsReader m) h
+is-send_continue feed n (Read k m) h = elim h [ ]
+is-send_continue feed n (Respond k v) h = elim h [ ]
+is-send_continue feed n (IntoWriter k) h = elim h [ ]
+is-send_continue feed n (Write k b) h = elim h [ ]
+is-send_continue feed n (Flush k) h = elim h [ ]
+is-send_continue feed n (Upgrade k p v) h = elim h [ ]
+is-send_continue feed n (Finish k) h = elim h [ ]
+is-send_continue feed n (Drop k) h = elim h [ ]
 
-pub step-as_reader : {D : Type 0} (feed : D → Option Feed) (client : Feed) (before : Sink) (k : Kept) (s : State) (now : HttpDate) (d : TimedValue) (x : Step D) (n : ℕ) (reply : ReplyValue) → x ≡ step.AsReader n → d.0 ≡ now → IsStep feed x d.1
+pub step-send_continue : {D : Type 0} (feed : D → Option Feed) (client : Feed) (before : Sink) (k : Kept) (s : State) (now : HttpDate) (d : TimedValue) (x : Step D) (n : ℕ) (reply : ReplyValue) → x ≡ step.AsReader n → d.0 ≡ now → IsStep feed x d.1
     → StepIsAnswered client before k s now (AsReader n) reply → StepIsAnswered client before k s d.0 d.1 reply
-step-as_reader feed client before k s now d x n reply e date stated h =
+step-send_continue feed client before k s now d x n reply e date stated h =
     let P : Step _ → Type 0 = λ y. IsStep feed y d.1 in
-    let is = is-as_reader feed n d.1 (subst P e stated) in
+    let is = is-send_continue feed n d.1 (subst P e stated) in
     let Q : StepValue → Type 0 = λ y. StepIsAnswered client before k s now y reply in
     let R : HttpDate → Type 0 = λ y. StepIsAnswered client before k s y d.1 reply in
     subst R (sym date) (subst Q (sym is) h)

@@ -8,10 +8,10 @@ use Rattle.httpdate.specs.declared.date.HttpDate.{HttpDate}
 use Rattle.tiny_http_io.specs.declared.device.Stop.{Stop}
 use Rattle.tiny_http_io.specs.declared.device.Stop.TheVariants.{End}
 use Rattle.tiny_http_io.specs.Device.{Feed, Sink, IsFront, StatesKind, whole_feed}
-use Rattle.tiny_http_open_request.specs.OwnAnswer.{persistence_of}
+use Rattle.tiny_http_open_request.specs.ErrorResponse.{persistence_of}
 use Rattle.tiny_http_open_request.specs.OpenRequest.{coding_for}
 use Rattle.tiny_http_body.specs.declared.body.UnreadBody.{UnreadBody}
-use Rattle.tiny_http_response.specs.declared.answer_context.AnswerContext.{AnswerContext}
+use Rattle.tiny_http_response.specs.declared.response_context.ResponseContext.{ResponseContext}
 use Rattle.tiny_http_open_request.specs.declared.open_request.OpenRequest.{OpenRequest}
 use Rattle.tiny_http_connection.specs.declared.pending.Unfinished.{Unfinished}
 use Rattle.tiny_http_connection.specs.declared.pending.Unfinished.TheVariants as still
@@ -22,10 +22,10 @@ use Rattle.tiny_http_io.specs.ToCome.{stopped}
 use Rattle.tiny_http_body.specs.Body.{Remaining, remaining, taken_remaining, is_streaming, Fits}
 use Rattle.tiny_http_connection.specs.Pending.{kept_body, last_body, is_streaming_body, holds_next_head_at}
 use Rattle.tiny_http_connection.specs.Pending.{last_holds_next_head}
-use Rattle.tiny_http_standard_head.specs.Judging.{names_protocol}
+use Rattle.tiny_http_standard_head.specs.Validation.{names_protocol}
 use Rattle.tiny_http_open_request.specs.declared.exchange.EndOfRequests.{EndOfRequests}
-use Rattle.tiny_http_io.specs.declared.source.Standing.{Standing}
-use Rattle.tiny_http_io.specs.declared.source.Standing.TheVariants as at
+use Rattle.tiny_http_io.specs.declared.source.InputState.{InputState}
+use Rattle.tiny_http_io.specs.declared.source.InputState.TheVariants as at
 use Rattle.tiny_http_io.specs.Outlet.{OutletState, output_of}
 use Rattle.tiny_http_open_request.specs.Pipeline.{Item, Asks, Refuses, Request, is_head_method, is_connect_method}
 use Rattle.tiny_http_open_request.specs.Pipeline.{body_length_or_0, Pipeline}
@@ -47,7 +47,7 @@ pub record Kept : Type 0 where
   pub profile : Profile
   pub marks : List Mark
   pub requests : List (Option Unfinished)
-  pub standing : Standing
+  pub input_state : InputState
   pub asking_ended : Bool
   pub feed : Option Feed
   pub stop : Option Stop
@@ -71,7 +71,7 @@ kept c =
       profile = c.profile;
       marks = c.marks;
       requests = c.requests;
-      standing = c.source.standing;
+      input_state = c.source.input_state;
       asking_ended = is_some c.end;
       feed = c.source.feed;
       stop = c.source.stop;
@@ -81,8 +81,8 @@ kept c =
     }
 
 -- how a request is answered
-abbrev pub answer_context_of : Bool → Request → AnswerContext
-answer_context_of closes r =
+abbrev pub response_context_of : Bool → Request → ResponseContext
+response_context_of closes r =
     record {
       version = r.message.version;
       asked_coding = coding_for r.framing.by_standard r.message.headers;
@@ -125,7 +125,7 @@ pub record IsWaiting (s : Slot) (w : OpenRequest UnreadBody) : Type 0 where
   pub closes : w.closes ≡ handed.closes
   pub unsent : handed.owed ≡ true → handed.continued ≡ None
   pub rest_is_last : request.framing.form ≡ Rest → request.framing.is_last ≡ true
-  pub answer_context : w.answer_context ≡ answer_context_of request.framing.is_last request
+  pub response_context : w.response_context ≡ response_context_of request.framing.is_last request
   pub dropped : w.dropped ≡ record { is_taken = false; date = handed.date }
   pub fits : Fits request.framing.by_standard w.body request.framing.form (body_length_or_0 request.framing) given
       end_reported
@@ -247,7 +247,7 @@ abbrev pub InputEnded : Kept → Type 0
 InputEnded k = (k.is_over ≡ true) × (k.stop ≡ Some End)
 
 -- the last request's head was read
-abbrev pub is_past_last : Standing → Bool
+abbrev pub is_past_last : InputState → Bool
 is_past_last at.Last = true
 is_past_last at.Head = false
 is_past_last at.Body = false
@@ -255,7 +255,7 @@ is_past_last at.Abandoned = false
 is_past_last (at.Broken kind) = false
 
 -- bytes of a body come before the next head
-abbrev pub is_in_body : Standing → Bool
+abbrev pub is_in_body : InputState → Bool
 is_in_body at.Body = true
 is_in_body at.Head = false
 is_in_body at.Last = false
@@ -283,11 +283,11 @@ PlaceIn client p past feed rest =
 -- Where the next head is read, while the asking hasn't ended: after the last body; and nowhere after the last head, or
 -- after a chunked body that was given up before its end. The input knows whether it stands within that body.
 pub record NextHead (client : Feed) (k : Kept) (last : Option Slot) (rest : List Item) : Type 0 where
-  pub is_last : is_past_last k.standing ≡ is_last_slot last
-  pub within : is_in_body k.standing ≡ (not (is_last_slot last) && is_streaming_body (last_body k.requests))
+  pub is_last : is_past_last k.input_state ≡ is_last_slot last
+  pub within : is_in_body k.input_state ≡ (not (is_last_slot last) && is_streaming_body (last_body k.requests))
   pub lost : last_was_abandoned last ≡ true → InputEnded k × (k.feed ≡ Some (stopped End))
   pub place : last_was_abandoned last ≡ false
-      → PlaceIn client k.profile (is_past_last k.standing) (behind_body (last_body k.requests) k.feed) rest
+      → PlaceIn client k.profile (is_past_last k.input_state) (behind_body (last_body k.requests) k.feed) rest
 
 -- how the input stands to the bodies and to the rest of the pipeline, after this much of the client's feed
 pub record InputStands (client : Feed) (k : Kept) (slots : List Slot) (rest : List Item) : Type 0 where

@@ -11,8 +11,8 @@ use Rattle.tiny_http_connection.specs.declared.driver.Step.{Step}
 use Rattle.tiny_http_connection.specs.declared.driver.Step.TheVariants as step
 use Rattle.tiny_http_io.specs.Source.{SourceState, GoesOn, IsAtEnd}
 use Rattle.tiny_http_turns.specs.Turns.{Mark, Open}
-use Rattle.tiny_http_io.specs.declared.source.Standing.{Standing}
-use Rattle.tiny_http_io.specs.declared.source.Standing.TheVariants as at
+use Rattle.tiny_http_io.specs.declared.source.InputState.{InputState}
+use Rattle.tiny_http_io.specs.declared.source.InputState.TheVariants as at
 use Rattle.tiny_http_head.specs.declared.common.StatusCode.{StatusCode}
 use Rattle.tiny_http_head.specs.Heads.{Message}
 use Rattle.tiny_http_open_request.specs.declared.exchange.EndOfRequests.{EndOfRequests}
@@ -20,7 +20,7 @@ use Rattle.tiny_http_open_request.specs.declared.exchange.EndOfRequests.TheVaria
 use Rattle.tiny_http_open_request.specs.HeadReads.{EndsAt, IsBeforeHead, HasByteOrTimedOut, ComesWith, IsFramedAs}
 use Rattle.tiny_http_open_request.specs.HeadReads.{head_message, head_framing, FitsFraming}
 use Rattle.tiny_http_open_request.specs.OpenRequest.{KeepsHead, HasSentAll}
-use Rattle.tiny_http_open_request.specs.OwnAnswer.{own_text_by}
+use Rattle.tiny_http_open_request.specs.ErrorResponse.{own_text_by}
 use Rattle.tiny_http_open_request.specs.declared.exchange.Head.{Head}
 use Rattle.tiny_http_body.specs.declared.framing.Profile.{Profile}
 use Rattle.tiny_http_body.specs.declared.framing.Framing.{Framing}
@@ -31,10 +31,10 @@ use Rattle.tiny_http_connection.specs.Steps.{StepValue, ReplyValue, Given, Hande
 use Rattle.tiny_http_connection.specs.Steps.{Memory, Fault, TimedValue}
 use Rattle.tiny_http_connection.specs.Conversation.{State, Run, start_state, IsFresh, IsPassedOver, HasAskOutOfMemory}
 use Rattle.tiny_http_connection.specs.Conversation.{BeginsBehind}
-use Rattle.tiny_http_response.specs.declared.answer_context.AnswerContext.{AnswerContext}
+use Rattle.tiny_http_response.specs.declared.response_context.ResponseContext.{ResponseContext}
 use Rattle.tiny_http_response.specs.ResponseValue.{printing_in}
 use Rattle.tiny_http_response.specs.Sending.{CanSend, IsHonest, FailsOnce, SendsQuietlyOn}
-use Rattle.tiny_http_connection.specs.Pending.{waiting_answer_context, owes_continue, is_last_once_finished_at}
+use Rattle.tiny_http_connection.specs.Pending.{waiting_response_context, owes_continue, is_last_once_finished_at}
 use Rattle.tiny_http_connection.specs.Pending.{refuses_at, refuses_upgrade_at, is_last_with_stream_at, closing_if_asked}
 use Rattle.tiny_http_connection.specs.Pending.{last_holds_next_head, kept_body, GivesUpIfKept, number_with_body}
 use Rattle.tiny_http_connection.specs.Pending.{begins_left, is_readable, FinishesFront}
@@ -44,7 +44,7 @@ use Rattle.tiny_http_io.specs.declared.device.Stop.TheVariants.{Fault as Faults}
 use Rattle.tiny_http_open_request.specs.declared.open_request.OpenRequest.{OpenRequest}
 use Rattle.tiny_http_connection.specs.declared.pending.Unfinished.{Unfinished}
 use Rattle.tiny_http_connection.specs.declared.pending.Unfinished.TheVariants as still
-use Rattle.tiny_http_body.specs.Body.{Remaining, remaining, is_streaming, stream_body, body_standing, ends_met}
+use Rattle.tiny_http_body.specs.Body.{Remaining, remaining, is_streaming, stream_body, body_input_state, ends_met}
 use Rattle.tiny_http_body.specs.Body.{ReadsOn, is_whole}
 use Rattle.tiny_http_connection.specs.Seen.{IsStep, IsAnswered, IsOfWriter, ReportsOfWriter, all_sent_after}
 use Rattle.tiny_http_connection.specs.Outcomes.{fault_reply}
@@ -94,9 +94,9 @@ IsRefusal p f why =
     × (status.0 ≡ refusal_status refusal) × (why ≡ because.Refused status)
 
 -- no request stands in these bytes: a head is refused, and ends the requests; or none stands there, for this reason
-abbrev pub EndsThere : Profile → Standing → Feed → EndOfRequests → Type 0
-EndsThere p standing f why =
-    IsRefusal p f why ⊎ (OneHead p f.bytes f.stop None None × EndsAt p standing f.bytes f.stop why)
+abbrev pub EndsThere : Profile → InputState → Feed → EndOfRequests → Type 0
+EndsThere p input_state f why =
+    IsRefusal p f why ⊎ (OneHead p f.bytes f.stop None None × EndsAt p input_state f.bytes f.stop why)
 
 -- These heads are refused one after another, and the asking goes on behind each; then this comes.
 abbrev pub ArePassedOver : Profile → Feed → List Item → Feed → Type 0
@@ -114,25 +114,25 @@ HasByteBehind p (Some f) =
     (passed : List Item) × (behind : Feed) × ArePassedOver p f passed behind × HasByteOrTimedOut p (Some behind)
 
 -- where the source stands behind such heads
-abbrev pub standing_behind : Standing → List Item → Standing
-standing_behind standing [] = standing
-standing_behind standing (item ∷ items) = at.Head
+abbrev pub input_state_past : InputState → List Item → InputState
+input_state_past input_state [] = input_state
+input_state_past input_state (item ∷ items) = at.Head
 
 -- WHY THE REQUESTS END where the source stands: the last one was read; or no request stands in the bytes that come,
 -- behind the heads that are passed.
-abbrev pub EndsRequestsAt : Profile → Standing → Option Feed → EndOfRequests → Type 0
+abbrev pub EndsRequestsAt : Profile → InputState → Option Feed → EndOfRequests → Type 0
 EndsRequestsAt p at.Last feed why = why ≡ because.LastRequest
-EndsRequestsAt p standing feed why =
+EndsRequestsAt p input_state feed why =
     (f : Feed)
     → feed ≡ Some f
     → (passed : List Item)
     × (behind : Feed)
     × ArePassedOver p f passed behind
-    × EndsThere p (standing_behind standing passed) behind why
+    × EndsThere p (input_state_past input_state passed) behind why
 
 -- the next head needn't wait for the answer of the last request, and no body holds the reader
 abbrev pub IsFree : {R W : Type 0} → ConnectionState R W → Type 0
-IsFree c = (c.source.standing ≡ at.Body → ⊥) × (last_holds_next_head c.requests ≡ false)
+IsFree c = (c.source.input_state ≡ at.Body → ⊥) × (last_holds_next_head c.requests ≡ false)
 
 -- What an Ask says of the end of the requests, by its reply: it ends them for a reason that stands in the client's
 -- bytes, or where memory for a head was refused; after the end it changes nothing, and after the last request the
@@ -142,21 +142,22 @@ abbrev pub AskEnds : {R W : Type 0} → ConnectionState R W → ConnectionState 
 AskEnds old new (Handed k message framing) =
     (old.end ≡ None)
     × (new.end ≡ None)
-    × IsBeforeHead old.source.standing
+    × IsBeforeHead old.source.input_state
     × IsFree old
     × (IsAtEnd old.source → ⊥)
-AskEnds old new NotYet = (old.end ≡ None) × (old.source.standing ≡ at.Body ⊎ last_holds_next_head old.requests ≡ true)
+AskEnds old new NotYet = (old.end ≡ None)
+    × (old.source.input_state ≡ at.Body ⊎ last_holds_next_head old.requests ≡ true)
 AskEnds old new Ended =
-    (IsSome old.end → new ≡ old) × (old.source.standing ≡ at.Last → new.source ≡ old.source)
+    (IsSome old.end → new ≡ old) × (old.source.input_state ≡ at.Last → new.source ≡ old.source)
     × (old.end ≡ None
     → (why : EndOfRequests)
     × (new.end ≡ Some why)
-    × EndsRequestsAt old.profile old.source.standing old.source.feed why
+    × EndsRequestsAt old.profile old.source.input_state old.source.feed why
     × IsFree old)
 AskEnds old new Memory =
     (old.end ≡ None)
     × (new.end ≡ Some because.Memory)
-    × IsBeforeHead old.source.standing
+    × IsBeforeHead old.source.input_state
     × HasByteBehind old.profile old.source.feed
     × IsFree old
     × (IsAtEnd old.source → ⊥)
@@ -234,7 +235,7 @@ LetsGoAnswered k closes old new =
     × FinishesNumber k old.marks new.marks
 
 -- where a source stands after the head of a request that is framed so, and its body read so far
-abbrev pub after_head : Framing → UnreadBody → Standing
+abbrev pub after_head : Framing → UnreadBody → InputState
 after_head f body = if f.is_last then at.Last else if is_streaming body then at.Body else at.Head
 
 -- So many heads were refused, and have their numbers. Where none was the output is left alone.
@@ -273,7 +274,7 @@ AskLeaves now old new (Handed k message framing) =
     (n : ℕ)
     × (w : OpenRequest UnreadBody)
     × (new.requests ≡ old.requests ++ replicate n None ++ Some (still.Waiting w) ∷ [])
-    × (new.source.standing ≡ after_head framing w.body)
+    × (new.source.input_state ≡ after_head framing w.body)
     × (k ≡ length old.marks + n)
     × (n ≡ 0
     → (new.outlet ≡ old.outlet) × (new.source.stop ≡ old.source.stop) × (new.marks ≡ old.marks ++ Open ∷ []))
@@ -283,21 +284,22 @@ AskLeaves now old new (Handed k message framing) =
     × KeepsRequestOf w message framing now
 AskLeaves now old new Memory = (n : ℕ) × RefusesHeads n old new
 AskLeaves now old new Ended =
-    (n : ℕ) × RefusesHeads n old new × (old.source.standing ≡ at.Last ⊎ IsAtEnd old.source → n ≡ 0)
+    (n : ℕ) × RefusesHeads n old new × (old.source.input_state ≡ at.Last ⊎ IsAtEnd old.source → n ≡ 0)
 AskLeaves now old new NotYet = Unit {0}
 AskLeaves now old new _ = ⊥
 
 -- A read from the body of a request that leaves this of it: where it is read from the source, that stands by what is
 -- left; else the source is left alone.
 abbrev pub StandsAfter : {R : Type 0} → UnreadBody → UnreadBody → SourceState R → SourceState R → Type 0
-StandsAfter was body old new = MatchBool (is_streaming was) (new.standing ≡ body_standing body old.standing) (new ≡ old)
+StandsAfter was body old new =
+    MatchBool (is_streaming was) (new.input_state ≡ body_input_state body old.input_state) (new ≡ old)
 
 -- the 100 of this number's request was sent and flushed, and none is owed any more
 abbrev pub ContinueIsSent : {R W : Type 0} → ℕ → HttpDate → OpenRequest UnreadBody → ConnectionState R W
     → ConnectionState R W → Type 0
 ContinueIsSent k now w old new =
     (new.requests ≡ slice_set old.requests k (Some (still.Waiting (record w { owes_continue = false }))))
-    × SendsQuietlyOn old.outlet new.outlet (own_text_by 100 (printing_in w.answer_context now))
+    × SendsQuietlyOn old.outlet new.outlet (own_text_by 100 (printing_in w.response_context now))
     × HasSentAll new.outlet
 
 -- What becomes of the 100 of a number, by the reply: it was sent, or if none was owed nothing has changed; or one is
@@ -308,7 +310,7 @@ SendsContinue k now old new Done =
     (w : OpenRequest UnreadBody) × (slice_get old.requests k ≡ Some (Some (still.Waiting w)))
     × MatchBool w.owes_continue (ContinueIsSent k now w old new) (new ≡ old)
 SendsContinue k now old new NotYet = owes_continue (slice_get old.requests k) ≡ true
-SendsContinue k now old new NoSuch = waiting_answer_context (slice_get old.requests k) ≡ None
+SendsContinue k now old new NoSuch = waiting_response_context (slice_get old.requests k) ≡ None
 SendsContinue k now old new _ = ⊥
 
 -- nothing but the output has changed
@@ -418,8 +420,8 @@ ReportsFault old new now (step.Flush k) kind =
 ReportsFault old new now (step.Upgrade k p r) kind = ⊥
 ReportsFault old new now (step.Finish k) kind = ⊥
 ReportsFault old new now (step.Respond k r) kind =
-    (context : AnswerContext)
-    × (waiting_answer_context (slice_get (closing_if_asked r.answer.closes old.requests) k) ≡ Some context)
+    (context : ResponseContext)
+    × (waiting_response_context (slice_get (closing_if_asked r.answer.closes old.requests) k) ≡ Some context)
     × (new.outlet.ended ≡ true)
     × IsHonest (output_of old.outlet) (output_of new.outlet) r.answer r.data_reader (printing_in context now) kind
 
@@ -428,8 +430,8 @@ ReportsFault old new now (step.Respond k r) kind =
 abbrev pub AnswerIsSentOn : {R W : Type 0} → ConnectionState R W → ConnectionState R W → HttpDate → ℕ
     → ResponseState (Option Feed) → Type 0
 AnswerIsSentOn old new now k r =
-    (context : AnswerContext)
-    × (waiting_answer_context (slice_get (closing_if_asked r.answer.closes old.requests) k) ≡ Some context)
+    (context : ResponseContext)
+    × (waiting_response_context (slice_get (closing_if_asked r.answer.closes old.requests) k) ≡ Some context)
     × ((content : Feed) (taken : List ℕ)
     → r.data_reader ≡ Some content
     → length content.bytes < 2 ^ 63
@@ -451,21 +453,21 @@ RespondReports old new now k r reply =
 -- HOW MANY ENDS AND FAULTS OF THE CLIENT A READ MEETS on this number: none, or no more than what it gave of the body
 -- and left of it allow.
 abbrev pub ReadMeets : {R W : Type 0} → (R → ℕ) → ConnectionState R W → ConnectionState R W → ℕ → ReplyValue → Type 0
-ReadMeets told old new k reply =
-    (told new.source.reader ≤ told old.source.reader)
+ReadMeets stop_count old new k reply =
+    (stop_count new.source.reader ≤ stop_count old.source.reader)
     ⊎ ((u : Unfinished)
     × (was : UnreadBody)
     × (body : UnreadBody)
     × (slice_get old.requests k ≡ Some (Some u))
     × (kept_body (Some u) ≡ Some was)
     × (new.requests ≡ slice_set old.requests k (Some (number_with_body body u)))
-    × (told new.source.reader ≤ told old.source.reader + ends_met was (given_count reply) body))
+    × (stop_count new.source.reader ≤ stop_count old.source.reader + ends_met was (given_count reply) body))
 
 -- the same of a step; nothing is said of the others
 abbrev pub StepMeets : {R W : Type 0} → (R → ℕ) → Step (Option Feed) → ConnectionState R W → ConnectionState R W
     → ReplyValue → Type 0
-StepMeets told (step.Read k n) old new reply = ReadMeets told old new k reply
-StepMeets told _ old new reply = ⊤
+StepMeets stop_count (step.Read k n) old new reply = ReadMeets stop_count old new k reply
+StepMeets stop_count _ old new reply = ⊤
 
 -- WHERE THE WRITER FAILED in a step its count rose. A Write and a Flush report that, and so does an answer, as above.
 -- The other steps don't report it.

@@ -3,7 +3,7 @@
 use Rattle.std.specs.Prelude.{◌≡◌, ◌==◌, ◌<◌, ◌^◌, ◌+◌, ℕ, Bool, true, false, not, ◌||◌, List, [], ◌∷◌, ◌++◌, length}
 use Rattle.std.specs.Prelude.{Option, Some, None, MatchBool, is_err, slice_get, if◌then◌else◌}
 use Rattle.tiny_http_io.specs.Device.{Sink}
-use Rattle.tiny_http_response.specs.declared.answer_context.AnswerContext.{AnswerContext}
+use Rattle.tiny_http_response.specs.declared.response_context.ResponseContext.{ResponseContext}
 use Rattle.std.specs.Global.{Vec}
 use Rattle.tiny_http_connection.specs.declared.pending.HeldNumber.{HeldNumber}
 use Rattle.tiny_http_connection.specs.declared.pending.Pending.{Pending}
@@ -67,12 +67,12 @@ LeavesText in_turn front rest marks text was old new ended =
     ((marks ≡ front ++ (Left text ∷ rest)) × AreInShape marks × (new ≡ old) × (ended ≡ was))
 
 -- how the request of a number is answered now, if it waits for its answer
-abbrev pub waiting_answer_context : Option (Option Unfinished) → Option AnswerContext
-waiting_answer_context (Some (Some (still.Waiting w))) = Some (final_context w (remainder w.body))
-waiting_answer_context (Some (Some still.Raw)) = None
-waiting_answer_context (Some (Some (still.Upgraded b))) = None
-waiting_answer_context (Some None) = None
-waiting_answer_context None = None
+abbrev pub waiting_response_context : Option (Option Unfinished) → Option ResponseContext
+waiting_response_context (Some (Some (still.Waiting w))) = Some (final_context w (remainder w.body))
+waiting_response_context (Some (Some still.Raw)) = None
+waiting_response_context (Some (Some (still.Upgraded b))) = None
+waiting_response_context (Some None) = None
+waiting_response_context None = None
 
 -- this number waits for its answer, and this is kept of it
 abbrev pub WaitsAt : List (Option Unfinished) → ℕ → OpenRequest UnreadBody → Type 0

@@ -8,7 +8,7 @@ use Rattle.tiny_http_connection.specs.declared.driver.Step.{Step}
 use Rattle.tiny_http_connection.specs.declared.driver.Step.TheVariants as step
 use Rattle.tiny_http_connection.specs.Steps.{ReplyValue, NoSuch, Refused, NotYet}
 use Rattle.tiny_http_connection.specs.Seen.{IsAnswered}
-use Rattle.tiny_http_connection.specs.Pending.{waiting_answer_context, owes_continue, is_writable, refuses_at}
+use Rattle.tiny_http_connection.specs.Pending.{waiting_response_context, owes_continue, is_writable, refuses_at}
 use Rattle.tiny_http_connection.specs.Pending.{refuses_upgrade_at}
 use Rattle.tiny_http_connection.specs.Connection.{ConnectionState}
 
@@ -26,7 +26,7 @@ is_open_mark _ = false
 
 -- whether this number waits for its answer
 abbrev pub is_waiting : {R W : Type 0} → ConnectionState R W → ℕ → Bool
-is_waiting c k = is_some (waiting_answer_context (slice_get c.requests k))
+is_waiting c k = is_some (waiting_response_context (slice_get c.requests k))
 
 -- whether the turn of this number has come
 abbrev pub is_in_turn : {R W : Type 0} → ConnectionState R W → ℕ → Bool

@@ -5,7 +5,7 @@ use Rattle.std.specs.List.{AllZip}
 use Rattle.tiny_http_io.specs.Device.{Feed, Sink, HoldsNothing}
 use Rattle.tiny_http_io.specs.Source.{GoesOn}
 use Rattle.tiny_http_io.specs.Outlet.{SentOn}
-use Rattle.tiny_http_io.specs.declared.source.Standing.TheVariants as at
+use Rattle.tiny_http_io.specs.declared.source.InputState.TheVariants as at
 use Rattle.tiny_http_response.specs.Sending.{FailsAtMostOnce}
 use Rattle.tiny_http_body.specs.declared.framing.Profile.{Profile}
 use Rattle.tiny_http_connection.specs.declared.driver.Timed.{Timed}
@@ -37,7 +37,7 @@ pub record IsNew {R W : Type 0} (p : Profile) (reader : R) (client : Option Feed
     (c : ConnectionState R W) : Type 0 where
   pub profile : c.profile ≡ p
   pub unasked : (c.marks ≡ []) × (c.requests ≡ []) × (c.end ≡ None)
-  pub source : (c.source.reader ≡ reader) × (c.source.feed ≡ client) × (c.source.standing ≡ at.Head)
+  pub source : (c.source.reader ≡ reader) × (c.source.feed ≡ client) × (c.source.input_state ≡ at.Head)
   pub unread : (c.source.stop ≡ None) × (c.source.held ≡ []) × (c.source.skip ≡ 0)
   pub outlet : c.outlet ≡ record { held = []; ended = false; writer = writer; sink = before }
 
@@ -45,17 +45,17 @@ pub record IsNew {R W : Type 0} (p : Profile) (reader : R) (client : Option Feed
 -- states how often it met an end or a fault
 abbrev pub TakesSteps : {R W D : Type 0} → (R → ℕ) → (D → Option Feed) → ConnectionState R W → List (Timed D)
     → List Reply → ConnectionState R W → Type 0
-TakesSteps told stated old [] [] new = new ≡ old
-TakesSteps {R = R} {W = W} told stated old (t ∷ steps) (r ∷ replies) new =
+TakesSteps stop_count stated old [] [] new = new ≡ old
+TakesSteps {R = R} {W = W} stop_count stated old (t ∷ steps) (r ∷ replies) new =
     (mid : ConnectionState R W)
     × MakesStep old mid t.now (stated_step stated t.step) (seen r)
-    × StepMeets told (stated_step stated t.step) old mid (seen r)
-    × TakesSteps told stated mid steps replies new
-TakesSteps told stated old [] (r ∷ replies) new = ⊥
-TakesSteps told stated old (t ∷ steps) [] new = ⊥
+    × StepMeets stop_count (stated_step stated t.step) old mid (seen r)
+    × TakesSteps stop_count stated mid steps replies new
+TakesSteps stop_count stated old [] (r ∷ replies) new = ⊥
+TakesSteps stop_count stated old (t ∷ steps) [] new = ⊥
 
 -- WHAT A RUN LEAVES, whatever reader, writer and data state.
-pub record RunsSteps {R W D : Type 0} (client : R → Option Feed) (told : R → ℕ) (sink : W → Sink)
+pub record RunsSteps {R W D : Type 0} (client : R → Option Feed) (stop_count : R → ℕ) (sink : W → Sink)
     (stated : D → Option Feed) (p : Profile) (reader : R) (writer : W) (steps : List (Timed D))
     (done : Record R W) : Type 0 where
   -- one reply a step, as `takes` says too
@@ -68,7 +68,7 @@ pub record RunsSteps {R W D : Type 0} (client : R → Option Feed) (told : R →
   pub first : ConnectionState R W
   pub last : ConnectionState R W
   pub begins : IsNew p reader (client reader) writer (sink writer) first
-  pub takes : TakesSteps told stated first steps done.replies.items last
+  pub takes : TakesSteps stop_count stated first steps done.replies.items last
   pub leaves : (done.source ≡ last.source) × (done.outlet ≡ last.outlet)
   pub states : done.outlet.sink ≡ sink done.outlet.writer
   -- the writer failed at most once

@@ -9,7 +9,7 @@ use Rattle.tiny_http_open_request.specs.Pipeline.{Item, Asks, Refuses, Request, 
 use Rattle.tiny_http_open_request.specs.OpenRequest.{coding_for}
 use Rattle.tiny_http_response.specs.ResponseValue.{ResponseValue, response_of, response_text, upgrade_text}
 use Rattle.tiny_http_response.specs.ResponseValue.{printing_to}
-use Rattle.tiny_http_open_request.specs.OwnAnswer.{own_printing, persistence_of, refusal_response}
+use Rattle.tiny_http_open_request.specs.ErrorResponse.{own_printing, persistence_of, refusal_response}
 
 -- what became of a number
 pub data Stage : Type 0 where

@@ -14,7 +14,7 @@ use Rattle.tiny_http_open_request.specs.Pipeline.{Item, Asks, Refuses, Request, 
 use Rattle.tiny_http_open_request.specs.Pipeline.{body_length_or_0}
 use Rattle.tiny_http_open_request.specs.OpenRequest.{refuses_code, upgrade_check, ends_once_finished}
 use Rattle.tiny_http_open_request.specs.OpenRequest.{closes_once_answered}
-use Rattle.tiny_http_standard_head.specs.Judging.{names_protocol}
+use Rattle.tiny_http_standard_head.specs.Validation.{names_protocol}
 use Rattle.tiny_http_response.specs.ResponseValue.{ResponseValue}
 use Rattle.tiny_http_body.specs.declared.body.TheConstants.{MOST_SKIPPED}
 use Rattle.tiny_http_body.specs.declared.body.Remainder.{Remainder}

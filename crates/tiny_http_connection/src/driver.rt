@@ -11,7 +11,7 @@ ghost use Rattle.tiny_http_connection.specs.Steps.{TimedValue, ReplyValue, Given
 ghost use Rattle.httpdate.specs.declared.date.HttpDate.{HttpDate as Date};
 ghost use Rattle.std.specs.declared.io.ErrorKind.{ErrorKind};
 ghost use Rattle.tiny_http_connection.specs.Outcomes.{fault_reply};
-ghost use Rattle.tiny_http_connection.specs.Pending.{waiting_answer_context};
+ghost use Rattle.tiny_http_connection.specs.Pending.{waiting_response_context};
 ghost use Rattle.tiny_http_connection.specs.Driving.{HasDone, TakesStep, StepMeets, ReadMeets, Drops};
 ghost use Rattle.tiny_http_connection.specs.Driving.{ends_behind, stated_response, stated_step};
 ghost use Rattle.tiny_http_response.specs.ResponseValue.{printing_in};
@@ -30,7 +30,7 @@ use tiny_http_body::body::{Remainder, UnreadBody};
 use tiny_http_body::framing::Profile;
 use tiny_http_io::device::{ReadDevice, WriteDevice};
 use tiny_http_io::outlet::Outlet;
-use tiny_http_io::source::{Source, Standing};
+use tiny_http_io::source::{InputState, Source};
 use tiny_http_open_request::exchange::{EndOfRequests, Head};
 use tiny_http_open_request::next_request::{NextRequest, next_request};
 use tiny_http_open_request::open_request::OpenRequest;
@@ -204,7 +204,7 @@ impl<R: ReadDevice, W: WriteDevice> Connection<R, W> {
             → IsFresh (W.sink writer)
             → HasDone Profile.Lenient client (W.sink writer) result [] [] }
         ensures open { (result.end ≡ None) × (result.requests ≡ []) × (result.marks ≡ []) }
-        ensures source { (result.source.feed ≡ R.feed reader) × (result.source.standing ≡ Standing.Head)
+        ensures source { (result.source.feed ≡ R.feed reader) × (result.source.input_state ≡ InputState.Head)
             × (result.source.reader ≡ reader) × (result.source.stop ≡ None) × (result.source.held ≡ [])
             × (result.source.skip ≡ 0) }
         ensures outlet { result.outlet ≡ record { held = []; ended = false; writer = writer; sink = W.sink writer } }
@@ -220,7 +220,7 @@ impl<R: ReadDevice, W: WriteDevice> Connection<R, W> {
             → IsFresh (W.sink writer)
             → HasDone profile client (W.sink writer) result [] [] }
         ensures open { (result.end ≡ None) × (result.requests ≡ []) × (result.marks ≡ []) }
-        ensures source { (result.source.feed ≡ R.feed reader) × (result.source.standing ≡ Standing.Head)
+        ensures source { (result.source.feed ≡ R.feed reader) × (result.source.input_state ≡ InputState.Head)
             × (result.source.reader ≡ reader) × (result.source.stop ≡ None) × (result.source.held ≡ [])
             × (result.source.skip ≡ 0) }
         ensures outlet { result.outlet ≡ record { held = []; ended = false; writer = writer; sink = W.sink writer } }
@@ -251,7 +251,7 @@ impl<R: ReadDevice, W: WriteDevice> Connection<R, W> {
 
     /// Whether the request of this number waits for its answer.
     pub fn is_open(&self, number: u64) -> bool
-        ensures { result ≡ is_some (waiting_answer_context (slice_get self.now.requests number)) }
+        ensures { result ≡ is_some (waiting_response_context (slice_get self.now.requests number)) }
     {
         self.pending.is_waiting(number)
     }
@@ -277,7 +277,7 @@ impl<R: ReadDevice, W: WriteDevice> Connection<R, W> {
         if self.end.is_some() {
             return Reply::Ended;
         }
-        if matches!(self.source.standing(), Standing::Body) {
+        if matches!(self.source.input_state(), InputState::Body) {
             return Reply::NotYet;
         }
         if self.pending.last_holds_next_head() {
@@ -311,7 +311,7 @@ impl<R: ReadDevice, W: WriteDevice> Connection<R, W> {
     /// finished, and `NoSuch` for a number that doesn't wait for an answer; then nothing has changed. No reply
     /// reports a fault of the writer. The call takes no memory. `now` is the `Date` of the 100.
     #[inline(never)]
-    pub fn as_reader(&mut self, alloc: Global, now: HttpDate, number: u64) -> Reply
+    pub fn send_continue(&mut self, alloc: Global, now: HttpDate, number: u64) -> Reply
         ensures step { TakesStep self.old self.new now (Step.AsReader number) (seen result) }
     {
         if !self.pending.is_waiting(number) {
@@ -337,11 +337,11 @@ impl<R: ReadDevice, W: WriteDevice> Connection<R, W> {
     pub fn read(&mut self, alloc: Global, number: u64, count: u16) -> Reply
         ensures step { (date : Date) → TakesStep self.old self.new date (Step.Read number count) (seen result) }
         // The client's reader is asked for no second end or fault, and for none once there are `count` bytes.
-        ensures told { R.told self.new.source.reader ≤ R.told self.old.source.reader + 1 }
+        ensures stop_count { R.stop_count self.new.source.reader ≤ R.stop_count self.old.source.reader + 1 }
         ensures lazy { (bytes : List ℕ) → seen result ≡ Given bytes → length bytes ≡ count
-            → R.told self.new.source.reader ≤ R.told self.old.source.reader }
+            → R.stop_count self.new.source.reader ≤ R.stop_count self.old.source.reader }
         // It is asked for none where the body has its own end.
-        ensures whole { ReadMeets R.told self.old self.new number (seen result) }
+        ensures whole { ReadMeets R.stop_count self.old self.new number (seen result) }
     {
         if !self.pending.is_readable(number) {
             return Reply::NoSuch;
@@ -384,7 +384,7 @@ impl<R: ReadDevice, W: WriteDevice> Connection<R, W> {
     fn let_go(&mut self, number: u64) -> bool
         ensures drops { IsTrue result → Drops number self.old self.new }
         ensures none { result ≡ false
-            → (waiting_answer_context (slice_get self.old.requests number) ≡ None) × (self.new ≡ self.old) }
+            → (waiting_response_context (slice_get self.old.requests number) ≡ None) × (self.new ≡ self.old) }
     {
         let Some(request) = self.pending.take(number, None) else {
             return false;
@@ -563,12 +563,12 @@ impl<R: ReadDevice, W: WriteDevice> Connection<R, W> {
     pub fn step<D: ReadDevice + Drop>(&mut self, alloc: Global, timed: Timed<D>) -> Reply
         ensures step { TakesStep self.old self.new timed.now (stated_step D.feed timed.step) (seen result) }
         // How many ends and faults of the client's reader a Read meets. Of the other steps nothing is said.
-        ensures meets { StepMeets R.told (stated_step D.feed timed.step) self.old self.new (seen result) }
+        ensures meets { StepMeets R.stop_count (stated_step D.feed timed.step) self.old self.new (seen result) }
     {
         let Timed { now, step } = timed;
         match step {
             Step::Ask => self.ask(alloc, now),
-            Step::AsReader(number) => self.as_reader(alloc, now, number),
+            Step::AsReader(number) => self.send_continue(alloc, now, number),
             Step::Read(number, count) => self.read(alloc, number, count),
             Step::Respond(number, response) => self.respond(alloc, now, number, response),
             Step::IntoWriter(number) => self.into_writer(number),

@@ -9,15 +9,15 @@ ghost use Rattle.tiny_http_response.specs.ResponseValue.{printing_in, upgrade_te
 ghost use Rattle.tiny_http_text.specs.Bytes.{is_ascii};
 ghost use Rattle.tiny_http_io.specs.Device.{Feed};
 ghost use Rattle.std.specs.List.{list_all};
-ghost use Rattle.tiny_http_open_request.specs.OwnAnswer.{own_text_by};
+ghost use Rattle.tiny_http_open_request.specs.ErrorResponse.{own_text_by};
 ghost use Rattle.tiny_http_open_request.specs.OpenRequest.{HasSentAll};
 ghost use Rattle.tiny_http_body.specs.declared.body.UnreadBody.{UnreadBody};
 ghost use Rattle.tiny_http_open_request.specs.declared.open_request.OpenRequest.{OpenRequest};
 ghost use Rattle.tiny_http_io.specs.Source.{GoesOn};
-ghost use Rattle.tiny_http_body.specs.Body.{bytes_given, ends_met, is_streaming, stream_body, body_standing};
+ghost use Rattle.tiny_http_body.specs.Body.{bytes_given, ends_met, is_streaming, stream_body, body_input_state};
 ghost use Rattle.tiny_http_body.specs.Body.{FillsFromBody};
 ghost use Rattle.tiny_http_connection.specs.Pending.{WaitsAt, left_text, SendsLeft, FinishesFront, LeavesText};
-ghost use Rattle.tiny_http_connection.specs.Pending.{waiting_answer_context, is_readable, is_writable, owes_continue};
+ghost use Rattle.tiny_http_connection.specs.Pending.{waiting_response_context, is_readable, is_writable, owes_continue};
 ghost use Rattle.tiny_http_connection.specs.Pending.{holds_next_head_at, refuses_at, refuses_upgrade_at};
 ghost use Rattle.tiny_http_connection.specs.Pending.{is_last_with_stream_at, closing_if_asked, last_holds_next_head};
 ghost use Rattle.tiny_http_connection.specs.Pending.{kept_body, GivesUpIfKept, number_with_body, begins_left};
@@ -91,7 +91,7 @@ impl Pending {
     /// Whether this number waits for its answer.
     #[inline(always)]
     pub fn is_waiting(&self, number: u64) -> bool
-        ensures { result ≡ is_some (waiting_answer_context (slice_get self.now.requests number)) }
+        ensures { result ≡ is_some (waiting_response_context (slice_get self.now.requests number)) }
     {
         matches!(self.requests.get(number), Some(Unfinished::Waiting(_)))
     }
@@ -223,7 +223,7 @@ impl Pending {
             → self.new.requests ≡ slice_set self.old.requests number
             (Some (Unfinished.Waiting (record w { owes_continue = false }))) }
         ensures sends { (w : OpenRequest UnreadBody) → WaitsAt self.old.requests number w → w.owes_continue ≡ true
-            → SendsQuietlyOn outlet.old outlet.new (own_text_by 100 (printing_in w.answer_context now))
+            → SendsQuietlyOn outlet.old outlet.new (own_text_by 100 (printing_in w.response_context now))
             × HasSentAll outlet.new }
         ensures fails_once { FailsOnce outlet.old outlet.new }
         ensures turns { self.new.turns ≡ self.old.turns }
@@ -256,7 +256,7 @@ impl Pending {
         ensures sends { (w : OpenRequest UnreadBody) → WaitsAt self.old.requests number w
             → ((content : Feed) → SendsQuietlyOn outlet.old outlet.new
             (upgrade_text (record { answer = response.answer; content = content }) protocol.now
-            (printing_in w.answer_context now)))
+            (printing_in w.response_context now)))
             × HasSentAll outlet.new }
         ensures fails_once { FailsOnce outlet.old outlet.new }
         ensures turns { self.new.turns ≡ self.old.turns }
@@ -287,14 +287,15 @@ impl Pending {
             × (self.new.requests ≡ slice_set self.old.requests number (Some (number_with_body body u)))
             × FillsFromBody was source.old.feed body source.new.feed result buf.new
             × (is_streaming was ≡ false → source.new ≡ source.old)
-            × (is_streaming was ≡ true → source.new.standing ≡ body_standing body source.old.standing)
-            × (R.told source.new.reader ≤ R.told source.old.reader + ends_met was (bytes_given result) body) }
+            × (is_streaming was ≡ true → source.new.input_state ≡ body_input_state body source.old.input_state)
+            × (R.stop_count source.new.reader
+            ≤ R.stop_count source.old.reader + ends_met was (bytes_given result) body) }
         ensures turns { self.new.turns ≡ self.old.turns }
         ensures goes_on { GoesOn source.old.feed source.new.feed }
         // The source's reader is asked for no second end or fault, and for none once the buffer is full.
-        ensures told { R.told source.new.reader ≤ R.told source.old.reader + 1 }
+        ensures stop_count { R.stop_count source.new.reader ≤ R.stop_count source.old.reader + 1 }
         ensures lazy { IfOk result
-            (λ n. n ≡ length buf.new → R.told source.new.reader ≤ R.told source.old.reader) }
+            (λ n. n ≡ length buf.new → R.stop_count source.new.reader ≤ R.stop_count source.old.reader) }
     {
         let Some(mut unfinished) = self.requests.replace(number, Some(Unfinished::Raw)) else {
             return Ok(0);
@@ -309,7 +310,7 @@ impl Pending {
     pub fn take(&mut self, number: u64, then: Option<Unfinished>) -> Option<OpenRequest<UnreadBody>>
         ensures some { IfSome result (λ w. (WaitsAt self.old.requests number w)
             × (self.new.requests ≡ slice_set self.old.requests number then)) }
-        ensures none { IfNone result ((waiting_answer_context (slice_get self.old.requests number) ≡ None)
+        ensures none { IfNone result ((waiting_response_context (slice_get self.old.requests number) ≡ None)
             × (self.new.requests ≡ self.old.requests)) }
         ensures turns { self.new.turns ≡ self.old.turns }
     {
@@ -425,12 +426,12 @@ fn fill_from<R: ReadDevice>(
         → (body : UnreadBody) × (unfinished.new ≡ number_with_body body unfinished.old)
         × FillsFromBody was source.old.feed body source.new.feed result buf.new
         × (is_streaming was ≡ false → source.new ≡ source.old)
-        × (is_streaming was ≡ true → source.new.standing ≡ body_standing body source.old.standing)
-        × (R.told source.new.reader ≤ R.told source.old.reader + ends_met was (bytes_given result) body) }
+        × (is_streaming was ≡ true → source.new.input_state ≡ body_input_state body source.old.input_state)
+        × (R.stop_count source.new.reader ≤ R.stop_count source.old.reader + ends_met was (bytes_given result) body) }
     ensures goes_on { GoesOn source.old.feed source.new.feed }
-    ensures told { R.told source.new.reader ≤ R.told source.old.reader + 1 }
+    ensures stop_count { R.stop_count source.new.reader ≤ R.stop_count source.old.reader + 1 }
     ensures lazy { IfOk result
-        (λ n. n ≡ length buf.new → R.told source.new.reader ≤ R.told source.old.reader) }
+        (λ n. n ≡ length buf.new → R.stop_count source.new.reader ≤ R.stop_count source.old.reader) }
 {
     match unfinished {
         Unfinished::Waiting(request) => request.body.fill(source, buf),

@@ -57,7 +57,7 @@ pub fn run<R: ReadDevice + Drop, W: WriteDevice + Drop, D: ReadDevice + Drop>(
     ensures conversation { IfOk result
         (IsConversationOf R.feed W.sink D.feed Profile.Lenient reader writer steps.items) }
     // Whatever reader, writer and data state.
-    ensures run { IfOk result (RunsSteps R.feed R.told W.sink D.feed Profile.Lenient reader writer steps.items) }
+    ensures run { IfOk result (RunsSteps R.feed R.stop_count W.sink D.feed Profile.Lenient reader writer steps.items) }
     ensures err { IfErr result (λ e. (e.reader ≡ reader) × (e.writer ≡ writer)) }
     ensures asked { OnErr result (0 < length steps.items) }
 {
@@ -78,7 +78,7 @@ pub fn run_with<R: ReadDevice + Drop, W: WriteDevice + Drop, D: ReadDevice + Dro
     // The connection theorem.
     ensures conversation { IfOk result (IsConversationOf R.feed W.sink D.feed profile reader writer steps.items) }
     // Whatever reader, writer and data state.
-    ensures run { IfOk result (RunsSteps R.feed R.told W.sink D.feed profile reader writer steps.items) }
+    ensures run { IfOk result (RunsSteps R.feed R.stop_count W.sink D.feed profile reader writer steps.items) }
     ensures err { IfErr result (λ e. (e.reader ≡ reader) × (e.writer ≡ writer)) }
     ensures asked { OnErr result (0 < length steps.items) }
 {

@@ -9,8 +9,8 @@ use Rattle.tiny_http_head.specs.declared.common.HTTPVersion.{HTTPVersion}
 use Rattle.tiny_http_head.specs.declared.common.Header.{Header}
 use Rattle.tiny_http_response.specs.declared.coding.FramingHeader.{FramingHeader}
 use Rattle.tiny_http_response.specs.declared.coding.FramingHeader.TheVariants.{Neither, TransferEncoding, ContentLength}
-use Rattle.tiny_http_response.specs.declared.answer_context.Persistence.{Persistence}
-use Rattle.tiny_http_response.specs.declared.answer_context.Persistence.TheVariants.{Persistent, Close}
+use Rattle.tiny_http_response.specs.declared.response_context.Persistence.{Persistence}
+use Rattle.tiny_http_response.specs.declared.response_context.Persistence.TheVariants.{Persistent, Close}
 use Rattle.tiny_http_response.specs.Coding.{is_up_to_1_0}
 use Rattle.tiny_http_head.specs.Common.{same_name}
 use Rattle.tiny_http_io.specs.Device.{Feed}
@@ -22,7 +22,7 @@ use Rattle.httpdate.specs.Date.{date_text}
 use Rattle.tiny_http_body.specs.Text.{Ending, Whole, Broken}
 use Rattle.tiny_http_response.specs.Answer.{text_plain}
 use Rattle.tiny_http_body.specs.declared.framing.Profile.TheVariants.{Standard}
-use Rattle.tiny_http_open_request.specs.OwnAnswer.{persistence_of, refusal_response}
+use Rattle.tiny_http_open_request.specs.ErrorResponse.{persistence_of, refusal_response}
 use Rattle.tiny_http_open_request.specs.Pipeline.{Item, Asks, Refuses, Refusal, BadRequest, RequestTimeout, ExpectationFailed, HeaderFieldsTooLarge, VersionNotSupported, RequestLineTooLong, CodingNotImplemented, MajorVersionNotSupported}
 use Rattle.tiny_http_response.specs.ResponseValue.{ResponseValue}
 use Rattle.tiny_http_connection.specs.Segments.{Slot, Stage, Unanswered, Answered, ByServer, Raw, Upgraded, printing_for, server_response, stage_text}

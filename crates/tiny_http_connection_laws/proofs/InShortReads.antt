@@ -220,22 +220,22 @@ record Told (s : Slot) (slots : List Slot) (k : ℕ) : Type 0 where
   get : slice_get (with_last closing_slot slots) k ≡ Some slot
   same : Same s slot
 
-told : (s : Slot) (slots : List Slot) (k : ℕ) → slice_get slots k ≡ Some s → Told s slots k
-told s [] k e = cc
-told s (x ∷ []) zero e =
+stop_count : (s : Slot) (slots : List Slot) (k : ℕ) → slice_get slots k ≡ Some s → Told s slots k
+stop_count s [] k e = cc
+stop_count s (x ∷ []) zero e =
     let is : x ≡ s = same-some x s e in
     let same : Same x (closing_slot x) = by-closing (λ t. Same x t) x (λ u. record { item = refl; given = refl; stage = λ v. v }) (record { item = refl; given = refl; stage = λ v. v }) in
     let T : Slot → Type 0 = λ y. Told y (x ∷ []) zero in
     subst T is (record { slot = closing_slot x; get = refl; same = same })
-told s (x ∷ []) (suc k) e = cc
-told s (x ∷ y ∷ slots) zero e = record { slot = s; get = e; same = record { item = refl; given = refl; stage = λ v. v } }
-told s (x ∷ y ∷ slots) (suc k) e = let t = told s (y ∷ slots) k e in record { slot = t.slot; get = t.get; same = t.same }
+stop_count s (x ∷ []) (suc k) e = cc
+stop_count s (x ∷ y ∷ slots) zero e = record { slot = s; get = e; same = record { item = refl; given = refl; stage = λ v. v } }
+stop_count s (x ∷ y ∷ slots) (suc k) e = let t = stop_count s (y ∷ slots) k e in record { slot = t.slot; get = t.get; same = t.same }
 
 asked-stands : (k : ℕ) (r : Request) (feed : Feed) (old : Reached) (closes : Bool) → Stands k r feed old.slots old.rest → Stands k r feed (asked_to_close closes old).slots (asked_to_close closes old).rest
 asked-stands k r feed old false h = h
 asked-stands k r feed old true h =
     ⊎_elim
-    (λ u. let t = told u.slot old.slots k u.get in inl (same-under k r feed old.slots u (with_last closing_slot old.slots) t.slot t.get t.same))
+    (λ u. let t = stop_count u.slot old.slots k u.get in inl (same-under k r feed old.slots u (with_last closing_slot old.slots) t.slot t.get t.same))
     (λ a. inr (ahead-of k r feed old.slots old.rest a (with_last closing_slot old.slots) (closing-length old.slots)))
     h
 

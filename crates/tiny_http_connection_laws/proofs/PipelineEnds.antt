@@ -9,7 +9,7 @@ use Rattle.tiny_http_io.specs.Device.{Feed}
 use Rattle.tiny_http_io.specs.declared.device.Stop.{Stop}
 use Rattle.tiny_http_head.specs.Heads.{Message, is_too_new, version}
 use Rattle.tiny_http_standard_head.specs.Heads.{is_begun, Reading, ReadWhole, ReadBad, ReadTooMany, ReadOpen, AreReadAs}
-use Rattle.tiny_http_standard_head.specs.Judging.{has_body, is_1_0}
+use Rattle.tiny_http_standard_head.specs.Validation.{has_body, is_1_0}
 use Rattle.tiny_http_standard_head.specs.Lists.{has_element}
 use Rattle.tiny_http_body.specs.declared.framing.TheConstants.{LONGEST_WITH_HEAD, STANDARD_HEAD}
 use Rattle.tiny_http_body.specs.declared.framing.Profile.{Profile}

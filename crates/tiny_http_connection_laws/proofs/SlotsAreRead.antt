@@ -9,8 +9,8 @@ use Rattle.tiny_http_head.specs.declared.common.Method.{Method}
 use Rattle.tiny_http_head.specs.declared.common.Method.TheVariants.{Get, Head}
 use Rattle.tiny_http_head.specs.declared.common.Header.{Header}
 use Rattle.tiny_http_head.specs.declared.common.HTTPVersion.{HTTPVersion}
-use Rattle.tiny_http_response.specs.declared.answer_context.Persistence.{Persistence}
-use Rattle.tiny_http_response.specs.declared.answer_context.Persistence.TheVariants.{Persistent, Close}
+use Rattle.tiny_http_response.specs.declared.response_context.Persistence.{Persistence}
+use Rattle.tiny_http_response.specs.declared.response_context.Persistence.TheVariants.{Persistent, Close}
 use Rattle.tiny_http_response.specs.Coding.{is_up_to_1_0}
 use Rattle.tiny_http_response.specs.ByStandard.{persistence_option, connection_header, options_with_upgrade, connection_headers, safe_value, safe_headers, listed_headers}
 use Rattle.tiny_http_io.specs.Device.{IsFront}
@@ -19,7 +19,7 @@ use Rattle.tiny_http_response.specs.Answer.{Answer, Printing, text_plain}
 use Rattle.tiny_http_response.specs.Readable.{IsReadable}
 use Rattle.tiny_http_body.specs.declared.framing.Profile.{Profile}
 use Rattle.tiny_http_open_request.specs.Pipeline.{Item, Asks, Refuses, Refusal, BadRequest, RequestTimeout, ExpectationFailed, HeaderFieldsTooLarge, VersionNotSupported, RequestLineTooLong, CodingNotImplemented, MajorVersionNotSupported, is_head_method}
-use Rattle.tiny_http_open_request.specs.OwnAnswer.{persistence_of, refusal_response}
+use Rattle.tiny_http_open_request.specs.ErrorResponse.{persistence_of, refusal_response}
 use Rattle.tiny_http_response.specs.ResponseValue.{ResponseValue, response_of, response_text}
 use Rattle.tiny_http_connection.specs.Segments.{Slot, Stage, Unanswered, Answered, ByServer, Raw, Upgraded, drop_response, continue_response, printing_for, server_response, text_if, stage_text, opening, segment, is_broken, is_slot_broken, is_stage_finished, is_finished}
 use Rattle.tiny_http_connection.specs.Slots.{is_output_broken, joined}

@@ -97,7 +97,7 @@ pub fn numbers_are_as_told()
         → (k : ℕ)
         → IsHanded k (handed replies)
         → (s : Slot) × (slice_get c.end.reached.slots k ≡ Some s) }
-    ensures told { (p : Profile) (feed : Feed) (before after : Sink) (steps : List TimedValue)
+    ensures stop_count { (p : Profile) (feed : Feed) (before after : Sink) (steps : List TimedValue)
         (replies : List ReplyValue) (held : List ℕ) (ended : Bool) (unread : Option Feed)
         → (c : IsConversation p feed before steps replies after held ended unread)
         → (k : ℕ) (s : Slot)

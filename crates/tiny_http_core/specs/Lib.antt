@@ -12,7 +12,7 @@ pub use Rattle.tiny_http_body.specs.FramingReading
 pub use Rattle.tiny_http_body.specs.Body
 pub use Rattle.tiny_http_response.specs.ResponseValue
 pub use Rattle.tiny_http_response.specs.Sending
-pub use Rattle.tiny_http_open_request.specs.OwnAnswer
+pub use Rattle.tiny_http_open_request.specs.ErrorResponse
 pub use Rattle.tiny_http_open_request.specs.OwnPage
 pub use Rattle.tiny_http_open_request.specs.TextState
 pub use Rattle.tiny_http_open_request.specs.Pipeline

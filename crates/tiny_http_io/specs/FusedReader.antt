@@ -23,8 +23,8 @@ abbrev pub fused_feed : {R : Type 0} → (R → Option Feed) → FusedReader R �
 fused_feed feed r = feed_unless r.over (feed r.inner)
 
 -- how many ends and faults the reader inside has told
-abbrev pub fused_told : {R : Type 0} → (R → ℕ) → FusedReader R → ℕ
-fused_told told r = told r.inner
+abbrev pub fused_stop_count : {R : Type 0} → (R → ℕ) → FusedReader R → ℕ
+fused_stop_count stop_count r = stop_count r.inner
 
 -- ONE READ. Of what it still gives it is a read; and whatever the reader inside states: into an empty buffer it changes
 -- nothing; a byte or a fault is no end; and the reader isn't called again after its end.

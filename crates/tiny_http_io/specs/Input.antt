@@ -18,8 +18,8 @@ abbrev pub input_reader : {R : Type 0} → Input R → R
 input_reader s = s.inner
 
 -- what the reader has told of ends and faults, and one that it may still tell until it has stopped
-abbrev pub input_told : {R : Type 0} → (R → ℕ) → Input R → ℕ
-input_told told s = told s.inner + stops_to_come s.stop
+abbrev pub input_stop_count : {R : Type 0} → (R → ℕ) → Input R → ℕ
+input_stop_count stop_count s = stop_count s.inner + stops_to_come s.stop
 
 -- the bytes that are held
 abbrev pub input_held : {R : Type 0} → Input R → List ℕ

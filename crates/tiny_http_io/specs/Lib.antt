@@ -7,7 +7,7 @@ pub mod FailsAt
 pub mod LineEnds
 pub mod ToCome
 pub mod Input
-pub mod Standing
+pub mod InputState
 pub mod Source
 pub mod Outlet
 pub mod FeedParts

@@ -17,7 +17,7 @@ use Rattle.tiny_http_io.specs.ToCome.{skipped, stopped, stops_to_come, HasByte, 
 use Rattle.tiny_http_io.specs.LineEnds.{EndsLine}
 use Rattle.tiny_http_io.specs.declared.source.FirstLine.{FirstLine}
 use Rattle.tiny_http_io.specs.declared.source.FirstLine.TheVariants.{Held, Taken}
-use Rattle.tiny_http_io.specs.declared.source.Standing.{Standing}
+use Rattle.tiny_http_io.specs.declared.source.InputState.{InputState}
 use Rattle.tiny_http_io.specs.declared.source.LineFault.{LineFault}
 use Rattle.tiny_http_io.specs.declared.source.LineFault.TheVariants.{NotAscii, TooLong, Broken, Memory}
 use Rattle.tiny_http_io.specs.declared.source.LineFault.TheVariants.{End as EndOfLines, TimedOut as LineTimedOut}
@@ -32,12 +32,13 @@ pub record SourceState (R : Type 0) : Type 0 where
   pub reader : R
   pub held : List ℕ
   pub skip : ℕ
-  pub standing : Standing
+  pub input_state : InputState
 
 -- HOW MANY ENDS AND FAULTS A SOURCE MEETS, by the count of those that its reader told. A call never raises the sum of
 -- that count and of the stops that are still to come: one at most in all calls of a source together.
 abbrev pub CallsReader : {R : Type 0} → (R → ℕ) → SourceState R → SourceState R → Type 0
-CallsReader told old new = told new.reader + stops_to_come new.stop ≤ told old.reader + stops_to_come old.stop
+CallsReader stop_count old new = stop_count new.reader + stops_to_come new.stop
+    ≤ stop_count old.reader + stops_to_come old.stop
 
 -- a whole line lies in the held bytes
 abbrev pub HoldsLine : {R : Type 0} → SourceState R → Type 0
@@ -130,7 +131,7 @@ pub record ReadsSource {R : Type 0} (old new : SourceState R) (r : Result ℕ Er
   pub stays : old.is_over ≡ true → (new ≡ old) × IfSome old.stop (λ stop. 0 < length buf → AnswersStop stop r)
   pub lazy : IfOk r (λ n. 0 < n → new.stop ≡ old.stop)
   pub held : old.skip < length old.held → new.reader ≡ old.reader
-  pub standing : new.standing ≡ old.standing
+  pub input_state : new.input_state ≡ old.input_state
 
 -- the feed goes on after this much
 abbrev pub feed_from : Feed → List ℕ → Option Feed
@@ -172,7 +173,7 @@ pub record LooksForByte {R : Type 0} (old new : SourceState R) (found : Bool) : 
   pub holds : IsTrue found → new.skip < length new.held
   pub skipped : IsTrue found → new.skip ≡ 0
   pub stays : old.is_over ≡ true → (found ≡ false) × (new ≡ old)
-  pub standing : new.standing ≡ old.standing
+  pub input_state : new.input_state ≡ old.input_state
 
 -- so many bytes more are skipped; the reader isn't called, but where 2^64 bytes and more are to be skipped together
 pub record SkipsBytes {R : Type 0} (n : ℕ) (old new : SourceState R) : Type 0 where
@@ -180,14 +181,14 @@ pub record SkipsBytes {R : Type 0} (n : ℕ) (old new : SourceState R) : Type 0 
   pub alone : old.skip + n < 2 ^ 64 → (new.reader ≡ old.reader) × (new.stop ≡ old.stop)
   pub adds : old.skip + n < 2 ^ 64 → (new.skip ≡ old.skip + n) × (new.held ≡ old.held)
   pub once : IsSome old.stop → IsSome new.stop × (new.reader ≡ old.reader)
-  pub standing : new.standing ≡ old.standing
+  pub input_state : new.input_state ≡ old.input_state
 
 -- what is left of the input is given up, and the reader isn't called
 pub record EndsHere {R : Type 0} (old new : SourceState R) : Type 0 where
   pub feed : new.feed ≡ option_map (λ _. stopped End) old.feed
   pub at_end : IsAtEnd new
   pub reader : new.reader ≡ old.reader
-  pub standing : new.standing ≡ old.standing
+  pub input_state : new.input_state ≡ old.input_state
 
 -- A line was read, within the limit if there is one; or there is none. After any fault but a line that isn't ASCII
 -- the source is over. After a refusal of memory, and after a line that is too long, it is as at its end. Where as
@@ -208,7 +209,7 @@ pub record ReadsOneLine {R : Type 0} (left : Option ℕ) (old new : SourceState 
   pub passed : r ≡ Err NotAscii → new.stop ≡ old.stop
   pub held : HoldsLine old → new.reader ≡ old.reader
   pub full : IfSome left (λ n. old.skip + n ≤ length old.held → new.reader ≡ old.reader)
-  pub standing : new.standing ≡ old.standing
+  pub input_state : new.input_state ≡ old.input_state
 
 -- The same of a line that is found, whatever bytes it has: it is held, or taken off.
 pub record FindsOneLine {R : Type 0} (left : Option ℕ) (old new : SourceState R)
@@ -225,7 +226,7 @@ pub record FindsOneLine {R : Type 0} (left : Option ℕ) (old new : SourceState 
   pub stays : old.is_over ≡ true → left ≢ Some 0 → (new ≡ old) × IfSome old.stop (λ stop. r ≡ Err (line_fault_of stop))
   pub memory : r ≡ Err Memory → has_crlf (drop old.skip old.held) ≡ false
   pub lazy : OnOk r (new.stop ≡ old.stop)
-  pub standing : new.standing ≡ old.standing
+  pub input_state : new.input_state ≡ old.input_state
 
 -- a held line of n bytes is taken off, with its CR LF, and the reader isn't called
 pub record PassesLine {R : Type 0} (n : ℕ) (old new : SourceState R) : Type 0 where
@@ -234,7 +235,7 @@ pub record PassesLine {R : Type 0} (n : ℕ) (old new : SourceState R) : Type 0 
   pub rest : (new.held ≡ drop (n + 2) old.held) × (new.skip ≡ 0)
   pub reader : new.reader ≡ old.reader
   pub stop : new.stop ≡ old.stop
-  pub standing : new.standing ≡ old.standing
+  pub input_state : new.input_state ≡ old.input_state
 
 -- n bytes that are held are taken off, and the reader isn't called
 pub record TakesHeld {R : Type 0} (n : ℕ) (old new : SourceState R) : Type 0 where
@@ -243,7 +244,7 @@ pub record TakesHeld {R : Type 0} (n : ℕ) (old new : SourceState R) : Type 0 w
   pub rest : (new.held ≡ drop n old.held) × (new.skip ≡ 0)
   pub reader : new.reader ≡ old.reader
   pub stop : new.stop ≡ old.stop
-  pub standing : new.standing ≡ old.standing
+  pub input_state : new.input_state ≡ old.input_state
 
 -- n bytes are taken; or fewer are left, all of which are taken, and the source is over; or memory was refused, and
 -- nothing has changed
@@ -257,4 +258,4 @@ pub record TakesBytes {R : Type 0} (n : ℕ) (old new : SourceState R)
   pub lazy : IfOk r (λ body. IsSome body → new.stop ≡ old.stop)
   pub held : old.skip + n ≤ length old.held → new.reader ≡ old.reader
   pub goes_on : GoesOn old.feed new.feed
-  pub standing : new.standing ≡ old.standing
+  pub input_state : new.input_state ≡ old.input_state

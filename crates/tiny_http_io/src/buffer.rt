@@ -118,7 +118,7 @@ impl Buffer {
         ensures end { IfOk result (λ n. n ≡ 0 → StopsBy End (R.feed device.old)) }
         ensures fault { IfErr result (λ e. StopsBy (Fault (error_kind e)) (R.feed device.old)) }
         ensures again { OnErr result ((R.feed device.new ≡ R.feed device.old) × (self.new ≡ [])) }
-        ensures told { Tells (R.told device.old) (R.told device.new) result }
+        ensures stop_count { Tells (R.stop_count device.old) (R.stop_count device.new) result }
     {
         self.start = 0;
         self.end = 0;

@@ -34,14 +34,14 @@ impl<R, W> CustomStream<R, W> {
 impl<R: ReadDevice, W> ReadDevice for CustomStream<R, W> {
     ghost feed = { λ s. R.feed (custom_reader s) };
 
-    ghost told = { λ s. R.told (custom_reader s) };
+    ghost stop_count = { λ s. R.stop_count (custom_reader s) };
 
     /// Reads from the reader. The writer isn't touched. The error is the reader's.
     fn read_in(&mut self, buf: &mut [u8]) -> Result<usize, io::Error>
         ensures reads { Reads (R.feed (custom_reader self.old)) (R.feed (custom_reader self.new)) result buf.new }
         ensures empty { length buf.new ≡ 0 → (result ≡ Ok 0) × (self.new ≡ self.old) }
         ensures writer { custom_writer self.new ≡ custom_writer self.old }
-        ensures told { Tells (R.told (custom_reader self.old)) (R.told (custom_reader self.new)) result }
+        ensures stop_count { Tells (R.stop_count (custom_reader self.old)) (R.stop_count (custom_reader self.new)) result }
     {
         self.reader.read_in(buf)
     }
@@ -96,7 +96,7 @@ impl<R: ReadDevice, W> Read for CustomStream<R, W> {
         ensures reads { Reads (R.feed (custom_reader self.old)) (R.feed (custom_reader self.new)) result buf.new }
         ensures empty { length buf.new ≡ 0 → (result ≡ Ok 0) × (self.new ≡ self.old) }
         ensures writer { custom_writer self.new ≡ custom_writer self.old }
-        ensures told { Tells (R.told (custom_reader self.old)) (R.told (custom_reader self.new)) result }
+        ensures stop_count { Tells (R.stop_count (custom_reader self.old)) (R.stop_count (custom_reader self.new)) result }
     {
         self.read_in(buf)
     }

@@ -27,14 +27,14 @@ pub trait ReadDevice {
 
     /// How many ends and faults it has told, if it counts them. A wrapper states the count of its inner reader. By
     /// this count a contract says that no second end or fault was asked for behind the first.
-    ghost told: { Self → ℕ } = { λ _. 0 };
+    ghost stop_count: { Self → ℕ } = { λ _. 0 };
 
     /// Reads some bytes into the front of `buf`, and says how many: 0 at the end, and where `buf`
     /// is empty. After the last byte each call answers the stop. An error gives no byte.
     fn read_in(&mut self, buf: &mut [u8]) -> Result<usize, io::Error>
         ensures reads { Reads (feed self.old) (feed self.new) result buf.new }
         ensures empty { length buf.new ≡ 0 → (result ≡ Ok 0) × (self.new ≡ self.old) }
-        ensures told { Tells (told self.old) (told self.new) result };
+        ensures stop_count { Tells (stop_count self.old) (stop_count self.new) result };
 }
 
 /// A writer that counts its failures, and may state the bytes that it took and how it failed last.
@@ -379,7 +379,7 @@ impl WriteDevice for Budget {
 pub fn read_some<R: ReadDevice>(reader: &mut R, buf: &mut [u8]) -> Result<usize, io::Error>
     ensures bound { IfOk result (λ n. n ≤ length buf.new) }
     ensures bytes { ReadsFrom (R.feed reader.old) (R.feed reader.new) result buf.new }
-    ensures told { Tells (R.told reader.old) (R.told reader.new) result }
+    ensures stop_count { Tells (R.stop_count reader.old) (R.stop_count reader.new) result }
 {
     reader.read_in(buf)
 }
@@ -400,7 +400,7 @@ pub fn read_front<R: ReadDevice>(
     ensures again { OnErr result (R.feed reader.new ≡ R.feed reader.old) }
     ensures empty { min most (length buf.old) ≡ 0 → (result ≡ Ok 0) × (reader.new ≡ reader.old) }
     ensures len { length buf.new ≡ length buf.old }
-    ensures told { Tells (R.told reader.old) (R.told reader.new) result }
+    ensures stop_count { Tells (R.stop_count reader.old) (R.stop_count reader.new) result }
 {
     let room = most.min(buf.len());
     let front = &mut buf[..room];
@@ -461,7 +461,7 @@ impl<R: ReadDevice> ReadDevice for ByPieces<R> {
 
     ghost feed = { λ p. R.feed (pieces_inner p) };
 
-    ghost told = { λ p. R.told (pieces_inner p) };
+    ghost stop_count = { λ p. R.stop_count (pieces_inner p) };
 
     /// Reads once from the reader, into the front of `buf`.
     fn read_in(&mut self, buf: &mut [u8]) -> Result<usize, io::Error>
@@ -469,7 +469,7 @@ impl<R: ReadDevice> ReadDevice for ByPieces<R> {
         ensures empty { length buf.new ≡ 0 → (result ≡ Ok 0) × (self.new ≡ self.old) }
         ensures most { IfOk result (λ n. n ≤ pieces_most self.old) }
         ensures stays { pieces_most self.new ≡ pieces_most self.old }
-        ensures told { Tells (R.told (pieces_inner self.old)) (R.told (pieces_inner self.new)) result }
+        ensures stop_count { Tells (R.stop_count (pieces_inner self.old)) (R.stop_count (pieces_inner self.new)) result }
     {
         read_front(&mut self.inner, self.most.max(1), buf)
     }
@@ -537,7 +537,7 @@ impl<S: ReadDevice> ReadDevice for FailsAt<S> {
     ghost use Rattle.std.specs.Prelude.{◌≢◌};
     ghost use Rattle.tiny_http_io.specs.FailsAt.{fails_at_inner, calls_left, IsCounted, FailsNow};
 
-    ghost told = { λ f. S.told (fails_at_inner f) };
+    ghost stop_count = { λ f. S.stop_count (fails_at_inner f) };
 
     /// Reads once from the reader, or fails. It states no feed, since what it gives may go on behind a fault.
     fn read_in(&mut self, buf: &mut [u8]) -> Result<usize, io::Error>
@@ -548,7 +548,7 @@ impl<S: ReadDevice> ReadDevice for FailsAt<S> {
         // What came is the reader's, if it states what it still gives.
         ensures stream { calls_left self.old ≢ 1
             → ReadsFrom (S.feed (fails_at_inner self.old)) (S.feed (fails_at_inner self.new)) result buf.new }
-        ensures told { Tells (S.told (fails_at_inner self.old)) (S.told (fails_at_inner self.new)) result }
+        ensures stop_count { Tells (S.stop_count (fails_at_inner self.old)) (S.stop_count (fails_at_inner self.new)) result }
     {
         if buf.is_empty() {
             return Ok(0);
@@ -593,7 +593,7 @@ impl<S: Write> Write for FailsAt<S> {
 impl<R: ReadDevice> ReadDevice for &mut R {
     ghost feed = { λ r. R.feed r.now };
 
-    ghost told = { λ r. R.told r.now };
+    ghost stop_count = { λ r. R.stop_count r.now };
 
     /// Reads from the reader that is lent.
     fn read_in(&mut self, buf: &mut [u8]) -> Result<usize, io::Error> {

@@ -23,7 +23,7 @@ pub struct EqualReader<R: ReadDevice + Drop> {
 // Reads so many bytes away. It stops at an end or a fault.
 fn read_away<R: ReadDevice>(inner: &mut R, size: usize)
     ensures feed { R.feed inner.new ≡ option_map (feed_behind size) (R.feed inner.old) }
-    ensures told { R.told inner.new ≤ R.told inner.old + 1 }
+    ensures stop_count { R.stop_count inner.new ≤ R.stop_count inner.old + 1 }
 {
     let mut left = size;
     let mut buf = [0u8; PIECE];
@@ -55,7 +55,7 @@ impl<R: ReadDevice + Drop> EqualReader<R> {
     pub fn finish(self) -> R
         ensures feed { R.feed result ≡ option_map (feed_behind (equal_left self)) (R.feed (equal_inner self)) }
         // It is asked for no second end or fault.
-        ensures told { R.told result ≤ R.told (equal_inner self) + 1 }
+        ensures stop_count { R.stop_count result ≤ R.stop_count (equal_inner self) + 1 }
     {
         let EqualReader { mut inner, left } = self;
         read_away(&mut inner, left);
@@ -77,7 +77,7 @@ impl<R: ReadDevice + Drop> EqualReader<R> {
         // What is read away, now or later, stays the same.
         ensures behind { option_map (feed_behind (equal_left self.new)) (R.feed (equal_inner self.new))
             ≡ option_map (feed_behind (equal_left self.old)) (R.feed (equal_inner self.old)) }
-        ensures told { Tells (R.told (equal_inner self.old)) (R.told (equal_inner self.new)) result }
+        ensures stop_count { Tells (R.stop_count (equal_inner self.old)) (R.stop_count (equal_inner self.new)) result }
     {
         if self.left == 0 {
             return Ok(0);
@@ -97,12 +97,12 @@ impl<R: ReadDevice + Drop> ReadDevice for EqualReader<R> {
 
     ghost feed = { equal_feed R.feed };
 
-    ghost told = { λ r. R.told (equal_inner r) };
+    ghost stop_count = { λ r. R.stop_count (equal_inner r) };
 
     /// Reads some of the bytes that are left, straight into `buf`.
     fn read_in(&mut self, buf: &mut [u8]) -> Result<usize, io::Error>
         ensures reads { ReadsPart R.feed self.old self.new result buf.new }
-        ensures told { Tells (R.told (equal_inner self.old)) (R.told (equal_inner self.new)) result }
+        ensures stop_count { Tells (R.stop_count (equal_inner self.old)) (R.stop_count (equal_inner self.new)) result }
     {
         self.read_part(buf)
     }
@@ -129,7 +129,7 @@ impl<R: ReadDevice + Drop> Read for EqualReader<R> {
         ensures bytes { ReadConsumes (bytes_of (equal_feed R.feed self.old)) (bytes_of (equal_feed R.feed self.new))
             result buf.new }
         ensures reads { ReadsPart R.feed self.old self.new result buf.new }
-        ensures told { Tells (R.told (equal_inner self.old)) (R.told (equal_inner self.new)) result }
+        ensures stop_count { Tells (R.stop_count (equal_inner self.old)) (R.stop_count (equal_inner self.new)) result }
     {
         self.read_in(buf)
     }

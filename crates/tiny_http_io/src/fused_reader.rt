@@ -40,16 +40,16 @@ impl<R: ReadDevice + Drop> FusedReader<R> {
 }
 
 impl<R: ReadDevice> ReadDevice for FusedReader<R> {
-    ghost use Rattle.tiny_http_io.specs.FusedReader.{fused_feed, fused_told, ReadsFused};
+    ghost use Rattle.tiny_http_io.specs.FusedReader.{fused_feed, fused_stop_count, ReadsFused};
 
     ghost feed = { fused_feed R.feed };
 
-    ghost told = { fused_told R.told };
+    ghost stop_count = { fused_stop_count R.stop_count };
 
     /// Reads some bytes. A read into an empty buffer is no end.
     fn read_in(&mut self, buf: &mut [u8]) -> Result<usize, io::Error>
         ensures reads { ReadsFused R.feed self.old self.new result buf.new }
-        ensures told { Tells (fused_told R.told self.old) (fused_told R.told self.new) result }
+        ensures stop_count { Tells (fused_stop_count R.stop_count self.old) (fused_stop_count R.stop_count self.new) result }
     {
         if self.over || buf.is_empty() {
             return Ok(0);
@@ -69,7 +69,7 @@ impl<R: ReadDevice> ReadDevice for FusedReader<R> {
 impl<R: ReadDevice> Read for FusedReader<R> {
     ghost use Rattle.std.specs.Io.{ReadsAtMost};
     ghost use Rattle.std.specs.Io.KnownBytes.{ReadConsumes};
-    ghost use Rattle.tiny_http_io.specs.FusedReader.{fused_feed, fused_told, ReadsFused};
+    ghost use Rattle.tiny_http_io.specs.FusedReader.{fused_feed, fused_stop_count, ReadsFused};
     ghost use Rattle.tiny_http_io.specs.Device.{bytes_of};
 
     ghost remaining = { λ r. bytes_of (fused_feed R.feed r) };
@@ -80,7 +80,7 @@ impl<R: ReadDevice> Read for FusedReader<R> {
         ensures bytes { ReadConsumes (bytes_of (fused_feed R.feed self.old)) (bytes_of (fused_feed R.feed self.new))
             result buf.new }
         ensures reads { ReadsFused R.feed self.old self.new result buf.new }
-        ensures told { Tells (fused_told R.told self.old) (fused_told R.told self.new) result }
+        ensures stop_count { Tells (fused_stop_count R.stop_count self.old) (fused_stop_count R.stop_count self.new) result }
     {
         self.read_in(buf)
     }

@@ -30,7 +30,7 @@ pub(crate) struct Input<R> {
 
 impl<R: ReadDevice> Input<R> {
     ghost use Rattle.tiny_http_io.specs.Input.{input_feed, input_stop, input_reader, input_held, input_skip};
-    ghost use Rattle.tiny_http_io.specs.Input.{input_told, IsInputOver, SkipsHeld};
+    ghost use Rattle.tiny_http_io.specs.Input.{input_stop_count, IsInputOver, SkipsHeld};
     ghost use Rattle.tiny_http_io.specs.Source.{line_fault_of, ReadsWithin, TakesLine, FindsLine, TakesExactly, GoesOn};
 
     pub fn new(inner: R) -> Input<R>
@@ -76,7 +76,7 @@ impl<R: ReadDevice> Input<R> {
         ensures holds { IsTrue result → input_skip self.new < length (input_held self.new) }
         ensures skipped { IsTrue result → input_skip self.new ≡ 0 }
         ensures stays { IsInputOver self.old → (result ≡ false) × (self.new ≡ self.old) }
-        ensures calls { input_told R.told self.new ≤ input_told R.told self.old }
+        ensures calls { input_stop_count R.stop_count self.new ≤ input_stop_count R.stop_count self.old }
     {
         self.fill();
         !self.held.is_empty()
@@ -87,7 +87,7 @@ impl<R: ReadDevice> Input<R> {
         ensures feed { input_feed R.feed self.new ≡ input_feed R.feed self.old }
         ensures fields { let n = min self.old.skip (length self.old.held) in
             self.new ≡ record self.old { held = drop n self.old.held; skip = self.old.skip - n } }
-        ensures calls { input_told R.told self.new ≤ input_told R.told self.old }
+        ensures calls { input_stop_count R.stop_count self.new ≤ input_stop_count R.stop_count self.old }
     {
         let n = self.skip.min(self.held.len());
         self.held.consume(n);
@@ -102,7 +102,7 @@ impl<R: ReadDevice> Input<R> {
         ensures skip { self.new.skip ≡ self.old.skip }
         ensures some { self.new.stop ≡ None → 0 < length self.new.held }
         ensures none { IsSome self.new.stop → self.new.held ≡ [] }
-        ensures calls { input_told R.told self.new ≤ input_told R.told self.old }
+        ensures calls { input_stop_count R.stop_count self.new ≤ input_stop_count R.stop_count self.old }
     {
         match self.held.read_from(&mut self.inner) {
             Ok(0) => self.stop = Some(Stop::End),
@@ -122,7 +122,7 @@ impl<R: ReadDevice> Input<R> {
         ensures stays { IsInputOver self.old → self.new ≡ self.old }
         ensures lazy { 0 < length self.new.held → input_stop self.new ≡ input_stop self.old }
         ensures held { input_skip self.old < length (input_held self.old) → SkipsHeld self.old self.new }
-        ensures calls { input_told R.told self.new ≤ input_told R.told self.old }
+        ensures calls { input_stop_count R.stop_count self.new ≤ input_stop_count R.stop_count self.old }
     {
         if self.skip == 0 && !self.held.is_empty() {
             return;
@@ -178,7 +178,7 @@ impl<R: ReadDevice> Input<R> {
         ensures memory { result ≡ Err LineFault.Memory
             → has_crlf (drop (input_skip self.old) (input_held self.old)) ≡ false }
         ensures lazy { OnOk result (input_stop self.new ≡ input_stop self.old) }
-        ensures calls { input_told R.told self.new ≤ input_told R.told self.old }
+        ensures calls { input_stop_count R.stop_count self.new ≤ input_stop_count R.stop_count self.old }
     {
         if is_reached(left, 0) {
             self.end();
@@ -239,7 +239,7 @@ impl<R: ReadDevice> Input<R> {
         ensures rest { OnOk result (self.new ≡ record self.old { held = drop (n + 2) self.old.held }) }
         ensures err { IfErr result (λ fault. (fault ≡ LineFault.Memory) × (self.new ≡ self.old)) }
         ensures reader { input_reader self.new ≡ input_reader self.old }
-        ensures calls { input_told R.told self.new ≤ input_told R.told self.old }
+        ensures calls { input_stop_count R.stop_count self.new ≤ input_stop_count R.stop_count self.old }
     {
         let Ok(text) = self.held.as_slice()[..n].to_vec(alloc) else {
             return Err(LineFault::Memory);
@@ -271,7 +271,7 @@ impl<R: ReadDevice> Input<R> {
             → left ≢ Some 0
             → (self.new ≡ self.old) × IfSome (input_stop self.old) (λ stop. result ≡ Err (line_fault_of stop)) }
         ensures lazy { OnOk result (input_stop self.new ≡ input_stop self.old) }
-        ensures calls { input_told R.told self.new ≤ input_told R.told self.old }
+        ensures calls { input_stop_count R.stop_count self.new ≤ input_stop_count R.stop_count self.old }
     {
         let mut text = Vec::new(alloc);
         let mut after_return = false;
@@ -299,7 +299,7 @@ impl<R: ReadDevice> Input<R> {
         ensures over { IsInputOver self.new }
         ensures stop { input_stop self.new ≡ Some Stop.End }
         ensures reader { input_reader self.new ≡ input_reader self.old }
-        ensures calls { input_told R.told self.new ≤ input_told R.told self.old }
+        ensures calls { input_stop_count R.stop_count self.new ≤ input_stop_count R.stop_count self.old }
     {
         self.held.clear();
         self.skip = 0;
@@ -334,7 +334,7 @@ impl<R: ReadDevice> Input<R> {
             → input_reader self.new ≡ input_reader self.old }
         ensures full { IfSome left (λ n. input_skip self.old + n ≤ length (input_held self.old)
             → input_reader self.new ≡ input_reader self.old) }
-        ensures calls { input_told R.told self.new ≤ input_told R.told self.old }
+        ensures calls { input_stop_count R.stop_count self.new ≤ input_stop_count R.stop_count self.old }
     {
         let text = match self.find_line(alloc, left)? {
             FirstLine::Taken(text) => text,
@@ -366,7 +366,7 @@ impl<R: ReadDevice> Input<R> {
         ensures held { input_skip self.old + n ≤ length (input_held self.old)
             → input_reader self.new ≡ input_reader self.old }
         ensures goes_on { GoesOn (input_feed R.feed self.old) (input_feed R.feed self.new) }
-        ensures calls { input_told R.told self.new ≤ input_told R.told self.old }
+        ensures calls { input_stop_count R.stop_count self.new ≤ input_stop_count R.stop_count self.old }
     {
         let mut body = Vec::with_capacity(alloc, n)?;
         while body.len() < n {
@@ -400,7 +400,7 @@ impl<R: ReadDevice> Input<R> {
         // After an end or a fault the reader isn't called again.
         ensures once { IsSome (input_stop self.old)
             → IsSome (input_stop self.new) × (input_reader self.new ≡ input_reader self.old) }
-        ensures calls { input_told R.told self.new ≤ input_told R.told self.old }
+        ensures calls { input_stop_count R.stop_count self.new ≤ input_stop_count R.stop_count self.old }
     {
         match self.skip.checked_add(n) {
             Some(sum) => self.skip = sum,
@@ -426,7 +426,7 @@ impl<R: ReadDevice> Input<R> {
         ensures held { input_skip self.old < length (input_held self.old)
             → (input_reader self.new ≡ input_reader self.old) × (input_skip self.new ≡ 0)
             × (length (input_held self.new) + input_skip self.old + 1 ≡ length (input_held self.old)) }
-        ensures calls { input_told R.told self.new ≤ input_told R.told self.old }
+        ensures calls { input_stop_count R.stop_count self.new ≤ input_stop_count R.stop_count self.old }
     {
         self.fill();
         self.held.pop()
@@ -447,7 +447,7 @@ impl<R: ReadDevice> Input<R> {
         ensures none { IfOk result (λ n. n ≡ 0 → IsInputOver self.new × (input_stop self.new ≡ Some Stop.End)) }
         ensures kind { IfErr result (λ e. input_stop self.new ≡ Some (Stop.Fault (error_kind e))) }
         ensures lazy { IfOk result (λ n. 0 < n → input_stop self.new ≡ None) }
-        ensures calls { input_told R.told self.new ≤ input_told R.told self.old }
+        ensures calls { input_stop_count R.stop_count self.new ≤ input_stop_count R.stop_count self.old }
     {
         match self.inner.read_in(buf) {
             Ok(0) => {
@@ -486,8 +486,8 @@ impl<R: ReadDevice> Input<R> {
         ensures lazy { IfOk result (λ n. 0 < n → input_stop self.new ≡ input_stop self.old) }
         ensures held { input_skip self.old < length (input_held self.old)
             → input_reader self.new ≡ input_reader self.old }
-        ensures told { Tells (R.told (input_reader self.old)) (R.told (input_reader self.new)) result }
-        ensures calls { input_told R.told self.new ≤ input_told R.told self.old }
+        ensures stop_count { Tells (R.stop_count (input_reader self.old)) (R.stop_count (input_reader self.new)) result }
+        ensures calls { input_stop_count R.stop_count self.new ≤ input_stop_count R.stop_count self.old }
     {
         if buf.is_empty() {
             return Ok(0);

@@ -42,7 +42,7 @@ pub enum FirstLine {
 
 /// Where a source stands among the heads and bodies of its connection.
 #[derive(Clone, Copy, Debug, PartialEq, Eq)]
-pub enum Standing {
+pub enum InputState {
     /// A head comes next.
     Head,
     /// The rest of a body comes next. A head follows once that was read or given up.
@@ -55,36 +55,36 @@ pub enum Standing {
     Broken(ErrorKind),
 }
 
-impl Standing {
-    ghost use Rattle.tiny_http_io.specs.Standing.{after_body, after_fault, after_abandoned};
+impl InputState {
+    ghost use Rattle.tiny_http_io.specs.InputState.{after_body, after_fault, after_abandoned};
 
     /// The standing after a body that was read or given up whole.
-    pub fn after_body(self) -> Standing
+    pub fn after_body(self) -> InputState
         ensures { result ≡ after_body self }
     {
         match self {
-            Standing::Body => Standing::Head,
-            standing => standing,
+            InputState::Body => InputState::Head,
+            input_state => input_state,
         }
     }
 
     /// The standing after a body that broke off by this fault.
-    pub fn after_fault(self, kind: ErrorKind) -> Standing
+    pub fn after_fault(self, kind: ErrorKind) -> InputState
         ensures { result ≡ after_fault kind self }
     {
         match self {
-            Standing::Body => Standing::Broken(kind),
-            standing => standing,
+            InputState::Body => InputState::Broken(kind),
+            input_state => input_state,
         }
     }
 
     /// The standing after a chunked body that was given up before its end was read.
-    pub fn after_abandoned(self) -> Standing
+    pub fn after_abandoned(self) -> InputState
         ensures { result ≡ after_abandoned self }
     {
         match self {
-            Standing::Body => Standing::Abandoned,
-            standing => standing,
+            InputState::Body => InputState::Abandoned,
+            input_state => input_state,
         }
     }
 }
@@ -97,7 +97,7 @@ impl Standing {
 #[derive(Drop)]
 pub struct Source<R: ReadDevice> {
     input: Input<R>,
-    standing: Standing,
+    input_state: InputState,
 }
 
 impl<R: ReadDevice> Model for Source<R> {
@@ -115,12 +115,13 @@ impl<R: ReadDevice> Model for Source<R> {
       reader = input_reader s.input;
       held = input_held s.input;
       skip = input_skip s.input;
-      standing = s.standing;
+      input_state = s.input_state;
     } };
 }
 
 impl<R: ReadDevice> Source<R> {
-    ghost use Rattle.tiny_http_io.specs.Source.{CallsReader, ReadsLine, ReadsSource, LooksForByte, SkipsBytes, EndsHere};
+    ghost use Rattle.tiny_http_io.specs.Source.{CallsReader, ReadsLine, ReadsSource, LooksForByte, SkipsBytes};
+    ghost use Rattle.tiny_http_io.specs.Source.{EndsHere};
     ghost use Rattle.tiny_http_io.specs.Source.{ReadsOneLine, FindsOneLine, PassesLine, TakesHeld, TakesBytes};
 
     /// A source over this reader. A head comes first.
@@ -129,26 +130,26 @@ impl<R: ReadDevice> Source<R> {
         ensures stop { result.stop ≡ None }
         ensures reader { result.reader ≡ inner }
         ensures held { (result.held ≡ []) × (result.skip ≡ 0) }
-        ensures standing { result.standing ≡ Standing.Head }
+        ensures input_state { result.input_state ≡ InputState.Head }
     {
         Source {
             input: Input::new(inner),
-            standing: Standing::Head,
+            input_state: InputState::Head,
         }
     }
 
     /// Where the source stands.
-    pub fn standing(&self) -> Standing
-        ensures { result ≡ self.now.standing }
+    pub fn input_state(&self) -> InputState
+        ensures { result ≡ self.now.input_state }
     {
-        self.standing
+        self.input_state
     }
 
     /// Says where the source stands from now on; for the crates above, which read heads and bodies from it.
-    pub fn stand_at(&mut self, standing: Standing)
-        ensures { self.new ≡ record self.old { standing = standing } }
+    pub fn stand_at(&mut self, input_state: InputState)
+        ensures { self.new ≡ record self.old { input_state = input_state } }
     {
-        self.standing = standing;
+        self.input_state = input_state;
     }
 
     /// How the input stopped, or was made to end, if it has.
@@ -162,7 +163,7 @@ impl<R: ReadDevice> Source<R> {
     /// Whether a byte is still to come. It waits for one, or for the end or a fault.
     pub fn has_byte(&mut self) -> bool
         ensures looks { LooksForByte self.old self.new result }
-        ensures calls { CallsReader R.told self.old self.new }
+        ensures calls { CallsReader R.stop_count self.old self.new }
     {
         self.input.has_byte()
     }
@@ -178,7 +179,7 @@ impl<R: ReadDevice> Source<R> {
     /// called, but where 2^64 bytes and more are to be skipped together.
     pub fn skip(&mut self, n: usize)
         ensures skips { SkipsBytes n self.old self.new }
-        ensures calls { CallsReader R.told self.old self.new }
+        ensures calls { CallsReader R.stop_count self.old self.new }
     {
         self.input.skip(n)
     }
@@ -194,7 +195,7 @@ impl<R: ReadDevice> Source<R> {
     pub fn read_line(&mut self, alloc: Global) -> Result<AsciiString, LineFault>
         ensures line { ReadsLine self.old.feed self.new.feed result }
         ensures reads { ReadsOneLine None self.old self.new result }
-        ensures calls { CallsReader R.told self.old self.new }
+        ensures calls { CallsReader R.stop_count self.old self.new }
     {
         self.input.read_line(alloc, None)
     }
@@ -203,7 +204,7 @@ impl<R: ReadDevice> Source<R> {
     /// so many bytes came, and the source ends. It holds no more of them. The other faults are those of `read_line`.
     pub fn read_line_within(&mut self, alloc: Global, left: usize) -> Result<AsciiString, LineFault>
         ensures reads { ReadsOneLine (Some left) self.old self.new result }
-        ensures calls { CallsReader R.told self.old self.new }
+        ensures calls { CallsReader R.stop_count self.old self.new }
     {
         self.input.read_line(alloc, Some(left))
     }
@@ -213,7 +214,7 @@ impl<R: ReadDevice> Source<R> {
     /// is taken off. The faults are those of `read_line_within`, but `NotAscii`.
     pub fn find_line(&mut self, alloc: Global, left: Option<usize>) -> Result<FirstLine, LineFault>
         ensures finds { FindsOneLine left self.old self.new result }
-        ensures calls { CallsReader R.told self.old self.new }
+        ensures calls { CallsReader R.stop_count self.old self.new }
     {
         self.input.find_line(alloc, left)
     }
@@ -248,8 +249,8 @@ impl<R: ReadDevice> Source<R> {
     /// a read into 1024 bytes or more goes straight to the reader.
     pub fn read(&mut self, buf: &mut [u8]) -> Result<usize, io::Error>
         ensures reads { ReadsSource self.old self.new result buf.new }
-        ensures told { Tells (R.told self.old.reader) (R.told self.new.reader) result }
-        ensures calls { CallsReader R.told self.old self.new }
+        ensures stop_count { Tells (R.stop_count self.old.reader) (R.stop_count self.new.reader) result }
+        ensures calls { CallsReader R.stop_count self.old self.new }
     {
         self.input.read(buf)
     }
@@ -258,7 +259,7 @@ impl<R: ReadDevice> Source<R> {
     /// error where there is no memory for them; then nothing has changed.
     pub fn take_exactly(&mut self, alloc: Global, n: usize) -> Result<Option<Vec<u8>>, AllocError>
         ensures takes { TakesBytes n self.old self.new result }
-        ensures calls { CallsReader R.told self.old self.new }
+        ensures calls { CallsReader R.stop_count self.old self.new }
     {
         self.input.take_exactly(alloc, n)
     }
@@ -270,13 +271,13 @@ impl<R: ReadDevice> ReadDevice for Source<R> {
     ghost feed = { λ s. s.feed };
 
     // Its reader's.
-    ghost told = { λ s. R.told s.reader };
+    ghost stop_count = { λ s. R.stop_count s.reader };
 
     /// Reads some bytes, as `Source::read`.
     fn read_in(&mut self, buf: &mut [u8]) -> Result<usize, io::Error>
         ensures reads { ReadsSource self.old self.new result buf.new }
-        ensures told { Tells (R.told self.old.reader) (R.told self.new.reader) result }
-        ensures calls { CallsReader R.told self.old self.new }
+        ensures stop_count { Tells (R.stop_count self.old.reader) (R.stop_count self.new.reader) result }
+        ensures calls { CallsReader R.stop_count self.old self.new }
     {
         self.input.read(buf)
     }
@@ -295,8 +296,8 @@ impl<R: ReadDevice> Read for Source<R> {
         ensures bound { ReadsAtMost result buf.new }
         ensures bytes { ReadConsumes (bytes_of self.old.feed) (bytes_of self.new.feed) result buf.new }
         ensures reads { ReadsSource self.old self.new result buf.new }
-        ensures told { Tells (R.told self.old.reader) (R.told self.new.reader) result }
-        ensures calls { CallsReader R.told self.old self.new }
+        ensures stop_count { Tells (R.stop_count self.old.reader) (R.stop_count self.new.reader) result }
+        ensures calls { CallsReader R.stop_count self.old self.new }
     {
         self.read_in(buf)
     }

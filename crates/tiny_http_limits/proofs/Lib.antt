@@ -1,1 +1,1 @@
-pub mod CensusLemmas
+pub mod ConnectionTableLemmas

@@ -1,4 +1,4 @@
-pub mod Census
+pub mod ConnectionTable
 pub mod Counts
 pub mod CountsText
 pub mod Times

@@ -4,7 +4,7 @@
 #![tactic(auto)]
 
 pub mod backoff;
-pub mod census;
+pub mod connection_table;
 pub mod counts;
 pub mod headcount;
 pub mod limits;

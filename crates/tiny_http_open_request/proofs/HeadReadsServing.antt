@@ -53,8 +53,8 @@ use Rattle.tiny_http_open_request.specs.Pipeline.{Manner, plainly, Asks, Refusal
 use Rattle.tiny_http_open_request.specs.HeadReads.{ReadsMessage, ReadsHead, RefusesWith, AnswersCut, AnswersFault, RefusesTooNew, IsBadLine, IsRefusedUncut, IsOkEnd, HasByteOrTimedOut, Begins, ComesWith, IsBeforeHead, RulesEndBy, EndsBy, cut_end, end_at, message_of, head_message, head_framing, FitsFraming, FitsHead}
 use Rattle.tiny_http_open_request.specs.declared.exchange.EndOfRequests.{EndOfRequests}
 use Rattle.tiny_http_open_request.specs.declared.exchange.EndOfRequests.TheVariants as because
-use Rattle.tiny_http_io.specs.declared.source.Standing.{Standing}
-use Rattle.tiny_http_io.specs.declared.source.Standing.TheVariants as at
+use Rattle.tiny_http_io.specs.declared.source.InputState.{InputState}
+use Rattle.tiny_http_io.specs.declared.source.InputState.TheVariants as at
 use Rattle.tiny_http_io.specs.Source.{SourceState}
 use Rattle.tiny_http_io.specs.ToCome.{HasByte, HasNoByte}
 use Rattle.tiny_http_io.specs.Device.{StopsBy}
@@ -62,7 +62,7 @@ use Rattle.tiny_http_text.specs.Bytes.{crlf}
 use Rattle.std.specs.Prelude.{IfSome, IfOk, OnOk, IsSome, IsErr, ◌≢◌}
 use Rattle.tiny_http_io.proofs.ToComeLemmas.{skipped-within, skipped-beyond}
 use Rattle.tiny_http_response.specs.ResponseValue.{response_of}
-use Rattle.tiny_http_open_request.specs.OwnAnswer.{refusal_response, refused_text}
+use Rattle.tiny_http_open_request.specs.ErrorResponse.{refusal_response, refused_text}
 use Rattle.tiny_http_open_request.proofs.PipelineLemmas.{pipeline-sized-is}
 
 -- what stands there by the rules of tiny_http
@@ -475,7 +475,7 @@ begun-is o f e some = let P : Option Feed → Type 0 = λ x. HasByte x in sym (l
     more (b ∷ bs) h = omega arith
 
 -- an end at its place is one after a body that was given up, or broke off, but for its reason
-pub head-end : (profile : Profile) (s : Standing) (date : HttpDate) (o p q : Option Feed) (why : EndOfRequests) → IsBeforeHead s → ReadsHead profile at.Head date o p (Ok (read.Ended why)) → ReadsHead profile s date o q (Ok (read.Ended (end_at s why)))
+pub head-end : (profile : Profile) (s : InputState) (date : HttpDate) (o p q : Option Feed) (why : EndOfRequests) → IsBeforeHead s → ReadsHead profile at.Head date o p (Ok (read.Ended why)) → ReadsHead profile s date o q (Ok (read.Ended (end_at s why)))
 head-end profile s date None p q why here h = tt
 head-end profile at.Head date (Some f) p q why here h = h
 head-end profile at.Abandoned date (Some f) p q why here h = (h.0, refl)

@@ -3,7 +3,7 @@ pub mod HeadReadsServing
 pub mod StandardServing
 pub mod NextRequestLemmas
 pub mod BodyRemainsLemmas
-pub mod OwnAnswerLemmas
+pub mod ErrorResponseLemmas
 pub mod WithinLemmas
 pub mod SeenLemmas
 pub mod StandardLemmas

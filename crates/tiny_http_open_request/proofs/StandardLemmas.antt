@@ -4,8 +4,8 @@ use Rattle.std.proofs.lemmas.Bool.{lt-ltb}
 use Rattle.std.specs.Prelude.{nat_lt, ◌&&◌, if◌then◌else◌}
 use Rattle.tiny_http_io.specs.declared.device.Stop.{Stop}
 use Rattle.tiny_http_head.specs.Heads.{Message}
-use Rattle.tiny_http_standard_head.specs.declared.judging.HeadSummary.{HeadSummary}
-use Rattle.tiny_http_standard_head.specs.Judging.{Judges}
+use Rattle.tiny_http_standard_head.specs.declared.validation.HeadSummary.{HeadSummary}
+use Rattle.tiny_http_standard_head.specs.Validation.{Validates}
 use Rattle.tiny_http_standard_head.specs.Heads.{is_begun, BeginsWithHead, ReadWhole, ReadBad, ReadTooMany, ReadOpen}
 use Rattle.tiny_http_body.specs.declared.framing.TheConstants.{STANDARD_HEAD}
 use Rattle.tiny_http_body.specs.declared.framing.Framing.{Framing}
@@ -19,7 +19,7 @@ pub record IsStandardHeads (bytes : List ℕ) (m : Message) (f : Framing) (after
   pub summary : HeadSummary
   pub front : List ℕ
   pub begins : BeginsWithHead (standard_front bytes) message front
-  pub judges : Judges message.version message.method message.headers (Ok summary)
+  pub validates : Validates message.version message.method message.headers (Ok summary)
   pub served : m ≡ served_message message
   pub framed : f ≡ standard_framing summary
   pub behind : after ≡ front ++ drop STANDARD_HEAD bytes
@@ -46,9 +46,9 @@ cut-is Counted n after e h = h
 cut-is Rest n after e h = h
 cut-is Chunked n after e h = h
 
-whole-parts : (bytes : List ℕ) (stop : Stop) (m : Message) (f : Framing) (after : List ℕ) (n : Message) (front : List ℕ) (s : HeadSummary) → BeginsWithHead (standard_front bytes) n front → Judges n.version n.method n.headers (Ok s)
+whole-parts : (bytes : List ℕ) (stop : Stop) (m : Message) (f : Framing) (after : List ℕ) (n : Message) (front : List ℕ) (s : HeadSummary) → BeginsWithHead (standard_front bytes) n front → Validates n.version n.method n.headers (Ok s)
     → Heads m f after ≡ standard_heads (served_message n) (standard_framing s) (front ++ drop STANDARD_HEAD bytes) stop → IsStandardHeads bytes m f after
-whole-parts bytes stop m f after n front s begins judges e = by (is_cut_with_head g.form (body_length_or_0 g) behind) refl e
+whole-parts bytes stop m f after n front s begins validates e = by (is_cut_with_head g.form (body_length_or_0 g) behind) refl e
   where
     g : Framing
     g = standard_framing s
@@ -63,7 +63,7 @@ whole-parts bytes stop m f after n front s begins judges e = by (is_cut_with_hea
         let b : f ≡ g = cc in
         let d : after ≡ behind = cc in
         let no : IsCutWithHead f.form (body_length_or_0 f) after → ⊥ = subst (λ (x : Framing). IsCutWithHead x.form (body_length_or_0 x) after → ⊥) (sym b) (subst (λ (x : List ℕ). IsCutWithHead g.form (body_length_or_0 g) x → ⊥) (sym d) (cut-is g.form (body_length_or_0 g) behind c)) in
-        record { message = n; summary = s; front = front; begins = begins; judges = judges; served = a; framed = b; behind = d; uncut = no }
+        record { message = n; summary = s; front = front; begins = begins; validates = validates; served = a; framed = b; behind = d; uncut = no }
 
 pub standard-parts : (bytes : List ℕ) (stop : Stop) (m : Message) (f : Framing) (after : List ℕ) → StandardHeadAt bytes stop (Heads m f after) → IsStandardHeads bytes m f after
 standard-parts bytes stop m f after (ReadBad, a, e) = cc

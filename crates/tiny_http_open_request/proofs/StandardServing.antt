@@ -14,13 +14,13 @@ use Rattle.tiny_http_io.specs.Device.{Feed, StopsBy}
 use Rattle.tiny_http_head.specs.Heads.{Message, version, is_too_new}
 use Rattle.tiny_http_io.specs.Source.{SourceState}
 use Rattle.tiny_http_io.specs.ToCome.{HasNoByte}
-use Rattle.tiny_http_io.specs.declared.source.Standing.TheVariants as at
+use Rattle.tiny_http_io.specs.declared.source.InputState.TheVariants as at
 use Rattle.tiny_http_standard_head.specs.declared.heads.StandardHead.{StandardHead}
 use Rattle.tiny_http_standard_head.specs.declared.heads.StandardFault.{StandardFault}
 use Rattle.tiny_http_standard_head.specs.declared.heads.StandardFault.TheVariants as fault
 use Rattle.tiny_http_standard_head.specs.declared.heads.StandardRead.TheVariants as standard
-use Rattle.tiny_http_standard_head.specs.declared.judging.Judgement.TheVariants as judged
-use Rattle.tiny_http_standard_head.specs.Judging.{is_1_0, Judges}
+use Rattle.tiny_http_standard_head.specs.declared.validation.HeadError.TheVariants as validated
+use Rattle.tiny_http_standard_head.specs.Validation.{is_1_0, Validates}
 use Rattle.tiny_http_standard_head.specs.Heads.{Line, behind_empty_line, BeginsWithFieldLines, BeginsWithHead, HasOpenRequestLine, HasOpenField, is_begun, status_of, message_of, Reads, ReadWhole, ReadBad, ReadTooMany, ReadOpen}
 use Rattle.tiny_http_standard_head.specs.SourceHeads.{ReadsFrom}
 use Rattle.tiny_http_standard_head.proofs.HeadsLemmas.{line-shorter}
@@ -45,7 +45,7 @@ fault_refusal fault.BadLine = BadRequest
 fault_refusal fault.RequestLineTooLong = RequestLineTooLong
 fault_refusal fault.HeaderFieldsTooLarge = HeaderFieldsTooLarge
 fault_refusal fault.TooManyFields = HeaderFieldsTooLarge
-fault_refusal (fault.Judged refusal) = standard_refusal refusal
+fault_refusal (fault.Invalid refusal) = standard_refusal refusal
 
 long-at : (behind : Bool) (bytes : List ℕ) (stop : Stop) → STANDARD_HEAD ≤ length bytes → Refused (long_refusal behind) by_the_standard ≡ standard_open behind bytes stop
 long-at behind bytes stop le = rw (le-ltb (length bytes) STANDARD_HEAD le) refl
@@ -55,7 +55,7 @@ faulty-at f fault.BadLine h = (ReadBad, h, refl)
 faulty-at f fault.RequestLineTooLong h = (ReadOpen false, h.1, long-at false f.bytes f.stop h.0)
 faulty-at f fault.HeaderFieldsTooLarge h = (ReadOpen true, h.1, long-at true f.bytes f.stop h.0)
 faulty-at f fault.TooManyFields h = (ReadTooMany, h, refl)
-faulty-at f (fault.Judged refusal) h = (ReadWhole h.0 h.1 (Err refusal), (h.2, h.3), refl)
+faulty-at f (fault.Invalid refusal) h = (ReadWhole h.0 h.1 (Err refusal), (h.2, h.3), refl)
 
 pub standard-faulty : (date : HttpDate) (o p : Option Feed) (e : StandardFault) (r : Result HeadRead AllocError) → ReadsFrom STANDARD_HEAD o p (standard.Refused e) → RefusesWith (status_of e) by_the_standard date r → ReadsHead Standard at.Head date o p r
 standard-faulty date None p e r h k = tt
@@ -63,10 +63,10 @@ standard-faulty date (Some f) p fault.BadLine r h k = refused-at Standard date f
 standard-faulty date (Some f) p fault.RequestLineTooLong r h k = refused-at Standard date f p RequestLineTooLong by_the_standard r refl (faulty-at f fault.RequestLineTooLong h.0) k
 standard-faulty date (Some f) p fault.HeaderFieldsTooLarge r h k = refused-at Standard date f p HeaderFieldsTooLarge by_the_standard r refl (faulty-at f fault.HeaderFieldsTooLarge h.0) k
 standard-faulty date (Some f) p fault.TooManyFields r h k = refused-at Standard date f p HeaderFieldsTooLarge by_the_standard r refl (faulty-at f fault.TooManyFields h.0) k
-standard-faulty date (Some f) p (fault.Judged judged.UnsupportedVersion) r h k = refused-at Standard date f p MajorVersionNotSupported by_the_standard r refl (faulty-at f (fault.Judged judged.UnsupportedVersion) h.0) k
-standard-faulty date (Some f) p (fault.Judged judged.InvalidHead) r h k = refused-at Standard date f p BadRequest by_the_standard r refl (faulty-at f (fault.Judged judged.InvalidHead) h.0) k
-standard-faulty date (Some f) p (fault.Judged judged.UnknownCoding) r h k = refused-at Standard date f p CodingNotImplemented by_the_standard r refl (faulty-at f (fault.Judged judged.UnknownCoding) h.0) k
-standard-faulty date (Some f) p (fault.Judged judged.UnknownExpectation) r h k = refused-at Standard date f p ExpectationFailed by_the_standard r refl (faulty-at f (fault.Judged judged.UnknownExpectation) h.0) k
+standard-faulty date (Some f) p (fault.Invalid validated.UnsupportedVersion) r h k = refused-at Standard date f p MajorVersionNotSupported by_the_standard r refl (faulty-at f (fault.Invalid validated.UnsupportedVersion) h.0) k
+standard-faulty date (Some f) p (fault.Invalid validated.InvalidHead) r h k = refused-at Standard date f p BadRequest by_the_standard r refl (faulty-at f (fault.Invalid validated.InvalidHead) h.0) k
+standard-faulty date (Some f) p (fault.Invalid validated.UnknownCoding) r h k = refused-at Standard date f p CodingNotImplemented by_the_standard r refl (faulty-at f (fault.Invalid validated.UnknownCoding) h.0) k
+standard-faulty date (Some f) p (fault.Invalid validated.UnknownExpectation) r h k = refused-at Standard date f p ExpectationFailed by_the_standard r refl (faulty-at f (fault.Invalid validated.UnknownExpectation) h.0) k
 
 -- A HEAD THAT IS CUT
 cut-answered : (date : HttpDate) (f : Feed) (p : Option Feed) (b : Bool) (r : Result HeadRead AllocError) → HeadAt Standard f.bytes f.stop (standard_cut b f.stop) → b ≡ is_begun f.bytes → AnswersStandardCut f.stop b date r → ReadsHead Standard at.Head date (Some f) p r
@@ -226,10 +226,10 @@ standard-body_cut date (Some x) p q h f stop r is k begins ends answers =
     (subst (λ (y : Option Stop). IfSome y (λ s. AnswersCut s true true date r)) (ends (record { bytes = drop h.length x.bytes; stop = x.stop }) k.1) answers)
 
 -- whatever the reader states, it is judged so
-pub standard-framed : (date : HttpDate) (h : StandardHead) (f : Framing) (head : Head) (y : Exchange) → Judges h.version h.method h.headers.items (Ok h.summary) → head_message head ≡ served_message (message_of h) → f ≡ standard_framing h.summary
+pub standard-framed : (date : HttpDate) (h : StandardHead) (f : Framing) (head : Head) (y : Exchange) → Validates h.version h.method h.headers.items (Ok h.summary) → head_message head ≡ served_message (message_of h) → f ≡ standard_framing h.summary
     → head_framing head ≡ f → y.head ≡ head → KeepsHead y.open_request head date → IsFramedBy Standard date y.head y.open_request
-standard-framed date h f head y judges says is framed heads keeps =
+standard-framed date h f head y validates says is framed heads keeps =
     let method : head.method ≡ h.method = ap (λ (m : Message). m.method) says in
     let headers : head.headers.items ≡ h.headers.items = ap (λ (m : Message). m.headers) says in
-    let judged = subst (λ (m : Method). Judges h.version m head.headers.items (Ok h.summary)) (sym method) (subst (λ (hs : List Header). Judges h.version h.method hs (Ok h.summary)) (sym headers) judges) in
-    subst (λ (x : Head). IsFramedBy Standard date x y.open_request) (sym heads) ((h.version, h.summary, judged, ap (λ (m : Message). m.version) says, framed ∙ is), keeps)
+    let validated = subst (λ (m : Method). Validates h.version m head.headers.items (Ok h.summary)) (sym method) (subst (λ (hs : List Header). Validates h.version h.method hs (Ok h.summary)) (sym headers) validates) in
+    subst (λ (x : Head). IsFramedBy Standard date x y.open_request) (sym heads) ((h.version, h.summary, validated, ap (λ (m : Message). m.version) says, framed ∙ is), keeps)

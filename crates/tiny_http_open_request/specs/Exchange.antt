@@ -11,7 +11,7 @@ use Rattle.tiny_http_io.specs.Source.{SourceState}
 use Rattle.tiny_http_response.specs.ResponseValue.{printing_in}
 use Rattle.tiny_http_response.specs.Answer.{Printing}
 use Rattle.tiny_http_open_request.specs.OpenRequest.{KeepsHead, final_context, request_check}
-use Rattle.tiny_http_response.specs.declared.answer_context.AnswerContext.{AnswerContext}
+use Rattle.tiny_http_response.specs.declared.response_context.ResponseContext.{ResponseContext}
 use Rattle.tiny_http_open_request.specs.TextState.{drop_text}
 use Rattle.tiny_http_body.specs.Body.{Remaining, remaining, remainder, is_streaming, is_whole, Fits, GivesUp}
 
@@ -37,10 +37,10 @@ exchange_left x feed = remaining x.open_request.body feed
 
 -- how a 100 of this date is printed, and the answer of an upgrade
 abbrev pub exchange_printing : Exchange → HttpDate → Printing
-exchange_printing x date = printing_in x.open_request.answer_context date
+exchange_printing x date = printing_in x.open_request.response_context date
 
 -- how it is answered now, by what is left of its body
-abbrev pub exchange_context : Exchange → AnswerContext
+abbrev pub exchange_context : Exchange → ResponseContext
 exchange_context x = final_context x.open_request (remainder x.open_request.body)
 
 -- its body is read from the input, which has to stand after it before the next head is read

@@ -20,16 +20,16 @@ use Rattle.tiny_http_body.specs.declared.framing.Profile.{Profile}
 use Rattle.tiny_http_body.specs.declared.framing.Profile.TheVariants as under
 use Rattle.tiny_http_body.specs.declared.framing.HeadRules.{HeadRules}
 use Rattle.tiny_http_body.specs.declared.framing.HeadRules.TheVariants as rules
-use Rattle.tiny_http_standard_head.specs.declared.judging.HeadSummary.{HeadSummary}
-use Rattle.tiny_http_standard_head.specs.Judging.{Judges}
+use Rattle.tiny_http_standard_head.specs.declared.validation.HeadSummary.{HeadSummary}
+use Rattle.tiny_http_standard_head.specs.Validation.{Validates}
 use Rattle.tiny_http_standard_head.specs.Heads.{is_begun}
 use Rattle.tiny_http_body.specs.declared.framing.Framing.{Framing}
 use Rattle.tiny_http_open_request.specs.declared.exchange.Head.{Head}
 use Rattle.tiny_http_open_request.specs.declared.exchange.Exchange.{Exchange}
 use Rattle.tiny_http_open_request.specs.declared.exchange.EndOfRequests.{EndOfRequests}
 use Rattle.tiny_http_open_request.specs.declared.exchange.EndOfRequests.TheVariants as because
-use Rattle.tiny_http_io.specs.declared.source.Standing.{Standing}
-use Rattle.tiny_http_io.specs.declared.source.Standing.TheVariants as at
+use Rattle.tiny_http_io.specs.declared.source.InputState.{InputState}
+use Rattle.tiny_http_io.specs.declared.source.InputState.TheVariants as at
 use Rattle.tiny_http_io.specs.ToCome.{HasByte}
 use Rattle.tiny_http_open_request.specs.declared.exchange.HeadRead.{HeadRead}
 use Rattle.tiny_http_open_request.specs.declared.exchange.HeadRead.TheVariants as read
@@ -47,7 +47,7 @@ use Rattle.tiny_http_open_request.specs.Pipeline.{VersionNotSupported, refusal_s
 use Rattle.tiny_http_open_request.specs.Pipeline.{BeginsWithin, IsUnfinishedHead, IsTooLarge, IsCutWithHead}
 use Rattle.tiny_http_open_request.specs.Pipeline.{IsCutHead, IsNotAsciiHead, BodyAt, OneHead, body_length_or_0}
 use Rattle.tiny_http_open_request.specs.Pipeline.{place_after, served_version, standard_framing}
-use Rattle.tiny_http_open_request.specs.OwnAnswer.{own_text, refusal_response, refused_text}
+use Rattle.tiny_http_open_request.specs.ErrorResponse.{own_text, refusal_response, refused_text}
 use Rattle.tiny_http_body.specs.Body.{Remaining, remaining, Fits}
 use Rattle.tiny_http_open_request.specs.Exchange.{exchange_head, exchange_open, exchange_left, exchange_streams}
 use Rattle.tiny_http_open_request.specs.Exchange.{exchange_body, KeepsRequest}
@@ -225,13 +225,13 @@ EndsBy under.Strict bytes stop why = RulesEndBy rules.Strict bytes stop why
 EndsBy under.Standard bytes stop why = why ≡ cut_end stop (is_begun bytes)
 
 -- the same at a place: after a body that was given up, or broke off, that is the reason
-abbrev pub EndsAt : Profile → Standing → List ℕ → Stop → EndOfRequests → Type 0
+abbrev pub EndsAt : Profile → InputState → List ℕ → Stop → EndOfRequests → Type 0
 EndsAt p at.Abandoned bytes stop why = why ≡ because.AbandonedBody
 EndsAt p (at.Broken kind) bytes stop why = why ≡ because.BrokenBody kind
 EndsAt p _ bytes stop why = EndsBy p bytes stop why
 
 -- the reason at a place, where the input alone gives this one
-abbrev pub end_at : Standing → EndOfRequests → EndOfRequests
+abbrev pub end_at : InputState → EndOfRequests → EndOfRequests
 end_at at.Abandoned why = because.AbandonedBody
 end_at (at.Broken kind) why = because.BrokenBody kind
 end_at _ why = why
@@ -304,7 +304,7 @@ GoesOnAt false stop next new = new ≡ Some (place_feed stop next)
 
 -- ONE HEAD, read at a place: the item that stands there, what is still to come of its body, and where the next head
 -- begins after that, unless the request is the last; or why no request comes.
-abbrev pub ReadsHead : Profile → Standing → HttpDate → Option Feed → Option Feed → Result HeadRead AllocError → Type 0
+abbrev pub ReadsHead : Profile → InputState → HttpDate → Option Feed → Option Feed → Result HeadRead AllocError → Type 0
 ReadsHead p from_here date None new r = ⊤
 ReadsHead p from_here date (Some f) new (Ok (read.Request x)) =
     (body : Feed)
@@ -332,7 +332,7 @@ EndsUnlessHanded (Ok (read.Refused status text false)) s = ⊤
 EndsUnlessHanded _ s = IsAtEnd s
 
 -- a source stands in front of a head, or where one would begin
-abbrev pub IsBeforeHead : Standing → Type 0
+abbrev pub IsBeforeHead : InputState → Type 0
 IsBeforeHead at.Head = Unit {0}
 IsBeforeHead at.Abandoned = Unit {0}
 IsBeforeHead (at.Broken kind) = Unit {0}
@@ -362,7 +362,7 @@ IsFramedAs under.Strict m f = framing rules.Strict m.version m.headers ≡ Ok f
 IsFramedAs under.Standard m f =
     (v : HTTPVersion)
     × (s : HeadSummary)
-    × Judges v m.method m.headers (Ok s)
+    × Validates v m.method m.headers (Ok s)
     × (m.version ≡ served_version v)
     × (f ≡ standard_framing s)
 
@@ -385,26 +385,26 @@ FitsHead (read.Request x) = FitsFraming (head_framing (exchange_head x)) (exchan
 FitsHead _ = ⊤
 
 -- where a source stands after the head of this request
-abbrev pub standing_of : Exchange → Standing
-standing_of x =
+abbrev pub input_state_of : Exchange → InputState
+input_state_of x =
     if (exchange_head x).framing.is_last then at.Last else if exchange_streams x then at.Body else at.Head
 
 -- and after a head was read, or none
-abbrev pub standing_read : Result HeadRead AllocError → Standing → Standing
-standing_read (Ok (read.Request x)) old = standing_of x
-standing_read (Ok (read.Refused status text false)) old = at.Head
-standing_read _ old = old
+abbrev pub input_state_read : Result HeadRead AllocError → InputState → InputState
+input_state_read (Ok (read.Request x)) old = input_state_of x
+input_state_read (Ok (read.Refused status text false)) old = at.Head
+input_state_read _ old = old
 
 -- ONE CALL THAT READS A HEAD, from wherever the source stands.
 pub record TakesHead {R : Type 0} (p : Profile) (date : HttpDate) (old new : SourceState R)
     (r : Result HeadRead AllocError) : Type 0 where
   -- Where a head would begin: the item that stands there, or why none follows. After anything but a request, or a
   -- refused head behind which the next one stands, the source has ended.
-  pub reads : IsBeforeHead old.standing → ReadsHead p old.standing date old.feed new.feed r
-  pub ends : IsBeforeHead old.standing → EndsUnlessHanded r new
+  pub reads : IsBeforeHead old.input_state → ReadsHead p old.input_state date old.feed new.feed r
+  pub ends : IsBeforeHead old.input_state → EndsUnlessHanded r new
   -- after the last request nothing is read; within a body neither, and the source ends there
-  pub last : old.standing ≡ at.Last → (r ≡ Ok (read.Ended because.LastRequest)) × (new ≡ old)
-  pub unread : old.standing ≡ at.Body
+  pub last : old.input_state ≡ at.Last → (r ≡ Ok (read.Ended because.LastRequest)) × (new ≡ old)
+  pub unread : old.input_state ≡ at.Body
       → (r ≡ Ok (read.Ended because.UnreadBody)) × IsAtEnd new × (new.reader ≡ old.reader)
   -- the source goes on, or stays
   pub goes_on : GoesOn old.feed new.feed
@@ -419,4 +419,4 @@ pub record TakesHead {R : Type 0} (p : Profile) (date : HttpDate) (old new : Sou
   pub fits : IfOk r FitsHead
   -- nothing is read ahead: where a request was read no end or fault of the reader was met
   pub lazy : IfOk r (λ x. IsRequest x → new.stop ≡ old.stop)
-  pub standing : new.standing ≡ standing_read r old.standing
+  pub input_state : new.input_state ≡ input_state_read r old.input_state

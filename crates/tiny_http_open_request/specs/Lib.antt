@@ -1,4 +1,4 @@
-pub mod OwnAnswer
+pub mod ErrorResponse
 pub mod OwnPage
 pub mod TextState
 pub mod Pipeline

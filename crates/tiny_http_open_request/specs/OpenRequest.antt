@@ -10,15 +10,15 @@ use Rattle.tiny_http_response.specs.declared.coding.Coding.{Coding}
 use Rattle.tiny_http_response.specs.declared.coding.Coding.TheVariants.{Chunked}
 use Rattle.tiny_http_head.specs.declared.common.Header.{Header}
 use Rattle.tiny_http_standard_head.specs.Te.{asks_chunked}
-use Rattle.tiny_http_standard_head.specs.Judging.{names_protocol}
+use Rattle.tiny_http_standard_head.specs.Validation.{names_protocol}
 use Rattle.tiny_http_io.specs.Outlet.{OutletState, output_of, outlet_held, SentOn}
 use Rattle.tiny_http_response.specs.Sending.{IsFlushed}
 use Rattle.tiny_http_open_request.specs.declared.exchange.Head.{Head}
-use Rattle.tiny_http_response.specs.declared.answer_context.AnswerContext.{AnswerContext}
+use Rattle.tiny_http_response.specs.declared.response_context.ResponseContext.{ResponseContext}
 use Rattle.tiny_http_body.specs.declared.streamed.StreamedForm.{StreamedForm}
 use Rattle.tiny_http_body.specs.declared.streamed.StreamedForm.TheVariants.{Plain}
 use Rattle.tiny_http_response.specs.Streaming.{streamed_form}
-use Rattle.tiny_http_response.specs.declared.answer_context.Persistence.TheVariants.{Close}
+use Rattle.tiny_http_response.specs.declared.response_context.Persistence.TheVariants.{Close}
 use Rattle.tiny_http_body.specs.declared.body.Remainder.{Remainder}
 use Rattle.tiny_http_body.specs.declared.body.UnreadBody.{UnreadBody}
 use Rattle.tiny_http_body.specs.declared.body.UnreadBody.TheVariants.{Over}
@@ -27,7 +27,7 @@ use Rattle.tiny_http_open_request.specs.declared.open_request.OpenRequest.{OpenR
 use Rattle.tiny_http_open_request.specs.declared.upgrading.UpgradeError.{UpgradeError}
 use Rattle.tiny_http_open_request.specs.declared.upgrading.UpgradeError.TheVariants.{Protocol, NotAsked, Status}
 use Rattle.tiny_http_open_request.specs.declared.upgrading.UpgradeError.TheVariants.{UnfinishedBody}
-use Rattle.tiny_http_open_request.specs.OwnAnswer.{persistence_of}
+use Rattle.tiny_http_open_request.specs.ErrorResponse.{persistence_of}
 use Rattle.tiny_http_open_request.specs.Pipeline.{is_head_method, is_connect_method}
 
 -- the coding that the headers of a request ask for: by the standard, chunks or none
@@ -62,10 +62,10 @@ abbrev pub closes_once_answered : Bool → Bool → Remainder → Bool
 closes_once_answered closes owed left = closes || (owed || not (is_skipped left))
 
 -- how it is answered now; where the request is the last by its head, its context says so already
-abbrev pub final_context : {B : Type 0} → OpenRequest B → Remainder → AnswerContext
+abbrev pub final_context : {B : Type 0} → OpenRequest B → Remainder → ResponseContext
 final_context w left =
-    if w.by_standard && closes_once_answered w.closes w.owes_continue left then record w.answer_context
-    { persistence = Some Close } else w.answer_context
+    if w.by_standard && closes_once_answered w.closes w.owes_continue left then record w.response_context
+    { persistence = Some Close } else w.response_context
 
 -- a body that goes on up to the end of the connection
 abbrev pub is_plain : StreamedForm → Bool
@@ -74,9 +74,9 @@ is_plain _ = false
 
 -- How the head of an answer is printed to this request whose body grows: by the standard it says that the connection
 -- ends where another answer would, and where the body goes on up to that end.
-abbrev pub streaming_context : {B : Type 0} → OpenRequest B → ℕ → Remainder → AnswerContext
+abbrev pub streaming_context : {B : Type 0} → OpenRequest B → ℕ → Remainder → ResponseContext
 streaming_context w status left =
-    if w.by_standard && is_plain (streamed_form w.answer_context status) then record (final_context w left)
+    if w.by_standard && is_plain (streamed_form w.response_context status) then record (final_context w left)
     { persistence = Some Close } else final_context w left
 
 -- A connection can be upgraded to this protocol by an answer with this code, or why not. By the standard the request
@@ -97,7 +97,7 @@ request_check w protocol code is_whole =
 -- the same request, with this in the place of its body
 abbrev pub with_body : {A B : Type 0} → OpenRequest A → B → OpenRequest B
 with_body w body = record {
-  answer_context = w.answer_context;
+  response_context = w.response_context;
   owes_continue = w.owes_continue;
   holds_next_head = w.holds_next_head;
   by_standard = w.by_standard;
@@ -135,10 +135,10 @@ HasSentAll o = (outlet_held o ≡ []) × SentOn o × IsFlushed (output_of o)
 
 -- this is kept of a request with this head that was handed out on this date
 pub record KeepsHead {B : Type 0} (w : OpenRequest B) (h : Head) (date : HttpDate) : Type 0 where
-  pub version : w.answer_context.version ≡ h.version
-  pub asked_coding : w.answer_context.asked_coding ≡ coding_for h.framing.by_standard h.headers.items
-  pub no_body : w.answer_context.no_body ≡ is_head_method h.method
-  pub persistence : w.answer_context.persistence ≡ persistence_of h.framing.by_standard h.framing.is_last
+  pub version : w.response_context.version ≡ h.version
+  pub asked_coding : w.response_context.asked_coding ≡ coding_for h.framing.by_standard h.headers.items
+  pub no_body : w.response_context.no_body ≡ is_head_method h.method
+  pub persistence : w.response_context.persistence ≡ persistence_of h.framing.by_standard h.framing.is_last
   pub owes_continue : w.owes_continue ≡ h.framing.owes_continue
   pub holds_next_head : w.holds_next_head ≡ (h.framing.asks_upgrade && not h.framing.is_last)
   pub by_standard : w.by_standard ≡ h.framing.by_standard

@@ -1,7 +1,7 @@
 -- What a writer into room of its own reports.
 use Rattle.std.specs.Prelude.{Some, None, false}
 use Rattle.tiny_http_io.specs.Device.{Sink}
-use Rattle.tiny_http_open_request.specs.declared.own_answer.OwnPage.{OwnPage}
+use Rattle.tiny_http_open_request.specs.declared.error_response.OwnPage.{OwnPage}
 
 -- nothing is held back
 abbrev pub page_sink : OwnPage → Sink

@@ -13,10 +13,10 @@ use Rattle.tiny_http_body.specs.Chunks.{WholeChunksBy, CutChunksBy}
 use Rattle.tiny_http_head.specs.Heads.{Message, BeginsWithRequestHead, FaultyHead, Cut, NotAscii, Malformed, version}
 use Rattle.tiny_http_head.specs.Heads.{is_too_new}
 use Rattle.tiny_http_io.specs.Source.{seen_within}
-use Rattle.tiny_http_standard_head.specs.declared.judging.HeadSummary.{HeadSummary}
-use Rattle.tiny_http_standard_head.specs.declared.judging.Judgement.{Judgement}
-use Rattle.tiny_http_standard_head.specs.declared.judging.Judgement.TheVariants as judged
-use Rattle.tiny_http_standard_head.specs.Judging.{is_1_0}
+use Rattle.tiny_http_standard_head.specs.declared.validation.HeadSummary.{HeadSummary}
+use Rattle.tiny_http_standard_head.specs.declared.validation.HeadError.{HeadError}
+use Rattle.tiny_http_standard_head.specs.declared.validation.HeadError.TheVariants as validated
+use Rattle.tiny_http_standard_head.specs.Validation.{is_1_0}
 use Rattle.tiny_http_standard_head.specs.Heads.{is_begun, Reading, ReadWhole, ReadBad, ReadTooMany, ReadOpen, AreReadAs}
 use Rattle.tiny_http_body.specs.declared.framing.TheConstants.{STANDARD_HEAD}
 use Rattle.tiny_http_body.specs.declared.framing.HeadRules.{HeadRules}
@@ -221,11 +221,11 @@ standard_framing s =
     }
 
 -- how a head is refused by its judgement
-abbrev pub standard_refusal : Judgement → Refusal
-standard_refusal judged.UnsupportedVersion = MajorVersionNotSupported
-standard_refusal judged.InvalidHead = BadRequest
-standard_refusal judged.UnknownCoding = CodingNotImplemented
-standard_refusal judged.UnknownExpectation = ExpectationFailed
+abbrev pub standard_refusal : HeadError → Refusal
+standard_refusal validated.UnsupportedVersion = MajorVersionNotSupported
+standard_refusal validated.InvalidHead = BadRequest
+standard_refusal validated.UnknownCoding = CodingNotImplemented
+standard_refusal validated.UnknownExpectation = ExpectationFailed
 
 -- as many bytes came as a head may have, and it hasn't ended: in its request line, or behind it
 abbrev pub long_refusal : Bool → Refusal

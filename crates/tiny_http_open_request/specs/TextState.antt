@@ -1,14 +1,14 @@
 -- What a contract sees of a text that isn't printed yet.
 use Rattle.std.specs.Prelude.{ℕ, Bool, List, [], if◌then◌else◌}
 use Rattle.httpdate.specs.declared.date.HttpDate.{HttpDate}
-use Rattle.tiny_http_response.specs.declared.answer_context.AnswerContext.{AnswerContext}
+use Rattle.tiny_http_response.specs.declared.response_context.ResponseContext.{ResponseContext}
 use Rattle.tiny_http_response.specs.ResponseValue.{printing_in}
-use Rattle.tiny_http_open_request.specs.OwnAnswer.{own_text_by}
+use Rattle.tiny_http_open_request.specs.ErrorResponse.{own_text_by}
 
 pub record TextState : Type 0 where
   pub is_taken : Bool
   pub date : HttpDate
 
 -- what is sent if a request is dropped: an empty 500; no byte, once that was taken
-abbrev pub drop_text : TextState → AnswerContext → List ℕ
+abbrev pub drop_text : TextState → ResponseContext → List ℕ
 drop_text t context = if t.is_taken then [] else own_text_by 500 (printing_in context t.date)

@@ -23,7 +23,7 @@ pub fn begin_body<R: ReadDevice>(
     ensures goes_on { GoesOn source.old.feed source.new.feed }
     ensures lazy { IfOk result (λ body. IsSome body → source.new.stop ≡ source.old.stop) }
     ensures cut { IfOk result (λ body. body ≡ None → IsCutOff source.old source.new) }
-    ensures standing { source.new.standing ≡ source.old.standing }
+    ensures input_state { source.new.input_state ≡ source.old.input_state }
 {
     let length = framing.body_length.unwrap_or(0);
     match framing.form {

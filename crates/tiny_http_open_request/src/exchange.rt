@@ -6,8 +6,8 @@ ghost use Rattle.tiny_http_body.specs.Body.{ReadsBody, bytes_given, ends_met};
 ghost use Rattle.tiny_http_io.specs.Device.{Feed, Tells};
 ghost use Rattle.tiny_http_io.specs.Outlet.{outlet_held, SentOn};
 ghost use Rattle.tiny_http_response.specs.Sending.{FailsOnce, SendsQuietlyOn, SendsAnswer};
-ghost use Rattle.tiny_http_open_request.specs.OwnAnswer.{own_text_by};
-ghost use Rattle.tiny_http_open_request.specs.HeadReads.{standing_of};
+ghost use Rattle.tiny_http_open_request.specs.ErrorResponse.{own_text_by};
+ghost use Rattle.tiny_http_open_request.specs.HeadReads.{input_state_of};
 
 use crate::open_request::OpenRequest;
 pub use crate::read_head::{read_head, read_head_with};
@@ -22,7 +22,7 @@ use tiny_http_body::framing::Framing;
 use tiny_http_head::common::{HTTPVersion, Header, Method, StatusCode};
 use tiny_http_io::device::{ReadDevice, WriteDevice};
 use tiny_http_io::outlet::Outlet;
-use tiny_http_io::source::{Source, Standing};
+use tiny_http_io::source::{InputState, Source};
 use tiny_http_response::response::Response;
 use tiny_http_text::ascii::AsciiString;
 
@@ -133,9 +133,9 @@ impl Exchange {
             buf.new }
         ensures kept { KeepsButBody self.old self.new }
         // The source's reader is asked for no second end or fault, nor for more than the bytes that came.
-        ensures told { Tells (R.told source.old.reader) (R.told source.new.reader) result }
+        ensures stop_count { Tells (R.stop_count source.old.reader) (R.stop_count source.new.reader) result }
         // It is asked for none where the body has its own end.
-        ensures whole { R.told source.new.reader ≤ R.told source.old.reader
+        ensures whole { R.stop_count source.new.reader ≤ R.stop_count source.old.reader
             + ends_met (exchange_body self.old) (bytes_given result) (exchange_body self.new) }
     {
         self.open_request.read(source, buf)
@@ -257,14 +257,14 @@ impl Exchange {
 }
 
 // Where a source stands after the head of this request.
-pub(crate) fn standing_of(exchange: &Exchange) -> Standing
-    ensures { result ≡ standing_of exchange.now }
+pub(crate) fn input_state_of(exchange: &Exchange) -> InputState
+    ensures { result ≡ input_state_of exchange.now }
 {
     if exchange.head.is_last() {
-        return Standing::Last;
+        return InputState::Last;
     }
     if exchange.open_request.body.holds_reader() {
-        return Standing::Body;
+        return InputState::Body;
     }
-    Standing::Head
+    InputState::Head
 }

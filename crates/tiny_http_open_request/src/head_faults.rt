@@ -5,9 +5,9 @@ ghost use Rattle.tiny_http_open_request.specs.Pipeline.{is_timed_out, ends_too_n
 ghost use Rattle.tiny_http_body.specs.Body.{PassesOver};
 ghost use Rattle.tiny_http_open_request.specs.HeadReads.{RefusesWith, RefusesTooNew, AnswersCut, AnswersFault, cut_end};
 
+use crate::error_response::{error_response, too_new_answer};
 use crate::exchange::{EndOfRequests, HeadRead};
 use crate::heads::HeadFault;
-use crate::own_answer::{own_answer, too_new_answer};
 use httpdate::HttpDate;
 use std::alloc::{AllocError, Global};
 use std::io::ErrorKind;
@@ -45,7 +45,7 @@ pub(crate) fn refused_with(
 ) -> Result<HeadRead, AllocError>
     ensures { RefusesWith status.0 (record { version = version; by_standard = by_standard }) now result }
 {
-    let text = own_answer(alloc, status, version, by_standard, now)?;
+    let text = error_response(alloc, status, version, by_standard, now)?;
     Ok(HeadRead::Refused {
         status,
         text,
@@ -72,10 +72,10 @@ fn ends_too_new(form: Form) -> bool
 
 // Passes over a body of which nothing was read. It doesn't call the reader, unless 2^64 bytes and more are to be
 // skipped.
-fn pass_over<R: ReadDevice>(source: &mut Source<R>, body: &UnreadBody)
+fn skip<R: ReadDevice>(source: &mut Source<R>, body: &UnreadBody)
     ensures passes { PassesOver body.now source.old source.new }
     ensures goes_on { GoesOn source.old.feed source.new.feed }
-    ensures standing { source.new.standing ≡ source.old.standing }
+    ensures input_state { source.new.input_state ≡ source.old.input_state }
 {
     match body {
         UnreadBody::Counted { left, .. } => source.skip(*left),
@@ -99,7 +99,7 @@ pub(crate) fn refuse_too_new<R: ReadDevice>(
     ensures passes { OnOk result (ends_too_new form ≡ false → PassesOver body.now source.old source.new) }
     ensures stays { ends_too_new form ≡ true → source.new ≡ source.old }
     ensures goes_on { GoesOn source.old.feed source.new.feed }
-    ensures standing { source.new.standing ≡ source.old.standing }
+    ensures input_state { source.new.input_state ≡ source.old.input_state }
 {
     let text = too_new_answer(alloc, no_body, now)?;
     let status = StatusCode(505);
@@ -107,7 +107,7 @@ pub(crate) fn refuse_too_new<R: ReadDevice>(
     if last {
         return Ok(HeadRead::Refused { status, text, last });
     }
-    pass_over(source, body);
+    skip(source, body);
     Ok(HeadRead::Refused { status, text, last })
 }
 

@@ -53,7 +53,7 @@ fn find_text_line<R: ReadDevice>(
     ensures goes_on { GoesOn source.old.feed source.new.feed }
     ensures cut { result ≡ Err HeadFault.Cut → IsCutOff source.old source.new }
     ensures lazy { OnOk result (source.new.stop ≡ source.old.stop) }
-    ensures standing { source.new.standing ≡ source.old.standing }
+    ensures input_state { source.new.input_state ≡ source.old.input_state }
     ensures at_end { IsAtEnd source.old → left ≢ Some 0 → (result ≡ Err HeadFault.Cut) × (source.new ≡ source.old) }
 {
     match source.find_line(alloc, left) {
@@ -98,7 +98,7 @@ fn read_start<R: ReadDevice>(
     ensures cut { result ≡ Err HeadFault.Cut → IsCutOff source.old source.new }
     ensures lazy { OnOk result (source.new.stop ≡ source.old.stop) }
     ensures passed { IfErr result (λ fault. IsBadLine fault → source.new.stop ≡ source.old.stop) }
-    ensures standing { source.new.standing ≡ source.old.standing }
+    ensures input_state { source.new.input_state ≡ source.old.input_state }
     ensures at_end { IsAtEnd source.old → left.old ≢ Some 0 → (result ≡ Err HeadFault.Cut) × (source.new ≡ source.old) }
 {
     match find_text_line(alloc, source, *left)? {
@@ -143,7 +143,7 @@ fn read_field<R: ReadDevice>(
     ensures cut { result ≡ Err HeadFault.Cut → IsCutOff source.old source.new }
     ensures lazy { OnOk result (source.new.stop ≡ source.old.stop) }
     ensures passed { IfErr result (λ fault. IsBadLine fault → source.new.stop ≡ source.old.stop) }
-    ensures standing { source.new.standing ≡ source.old.standing }
+    ensures input_state { source.new.input_state ≡ source.old.input_state }
 {
     match find_text_line(alloc, source, *left)? {
         FirstLine::Taken(text) => {
@@ -170,7 +170,7 @@ fn read_fields<R: ReadDevice>(
     ensures cut { result ≡ Err HeadFault.Cut → IsCutOff source.old source.new }
     ensures lazy { OnOk result (source.new.stop ≡ source.old.stop) }
     ensures passed { IfErr result (λ fault. IsBadLine fault → source.new.stop ≡ source.old.stop) }
-    ensures standing { source.new.standing ≡ source.old.standing }
+    ensures input_state { source.new.input_state ≡ source.old.input_state }
 {
     let mut headers = Vec::new(alloc);
     loop {
@@ -198,7 +198,7 @@ pub(crate) fn read_message<R: ReadDevice>(
     ensures cut { IfErr result (λ e. e.1 ≡ HeadFault.Cut → IsCutOff source.old source.new) }
     ensures lazy { OnOk result (source.new.stop ≡ source.old.stop) }
     ensures passed { IfErr result (λ e. IsBadLine e.1 → source.new.stop ≡ source.old.stop) }
-    ensures standing { source.new.standing ≡ source.old.standing }
+    ensures input_state { source.new.input_state ≡ source.old.input_state }
     ensures at_end { IsAtEnd source.old
         → limit ≢ Some 0
         → (result ≡ Err (None, HeadFault.Cut)) × (source.new ≡ source.old) }

@@ -4,6 +4,7 @@
 #![tactic(auto)]
 
 pub mod body_start;
+pub mod error_response;
 pub mod exchange;
 mod head_faults;
 mod head_values;
@@ -11,7 +12,6 @@ mod heads;
 pub mod laws;
 pub mod next_request;
 pub mod open_request;
-pub mod own_answer;
 mod read_head;
 mod standard;
 pub mod upgrading;

@@ -2,7 +2,7 @@
 //! `Connection` keeps it under its number, a `Request` beside its turn. They see to the turn; what is sent, and what
 //! is owed after it, is decided here.
 ghost use Rattle.std.specs.Prelude.{◌≡◌, ◌+◌, ◌≤◌, ℕ, List, true, false, IfOk};
-ghost use Rattle.tiny_http_standard_head.specs.Judging.{names_protocol};
+ghost use Rattle.tiny_http_standard_head.specs.Validation.{names_protocol};
 ghost use Rattle.std.specs.List.{list_all};
 ghost use Rattle.tiny_http_text.specs.Bytes.{is_ascii};
 ghost use Rattle.tiny_http_io.specs.Device.{Feed, Puts, Tells};
@@ -11,7 +11,7 @@ ghost use Rattle.tiny_http_io.specs.Outlet.{output_of};
 ghost use Rattle.tiny_http_response.specs.ResponseValue.{printing_in, upgrade_text};
 ghost use Rattle.tiny_http_response.specs.Sending.{FailsOnce, SendsQuietlyOn, SendsAnswer};
 ghost use Rattle.tiny_http_open_request.specs.TextState.{drop_text};
-ghost use Rattle.tiny_http_open_request.specs.OwnAnswer.{own_text_by};
+ghost use Rattle.tiny_http_open_request.specs.ErrorResponse.{own_text_by};
 ghost use Rattle.tiny_http_open_request.specs.OpenRequest.{coding_for, KeepsHead, closing, OwesNoContinue};
 ghost use Rattle.tiny_http_open_request.specs.OpenRequest.{with_body};
 ghost use Rattle.tiny_http_open_request.specs.OpenRequest.{HasNoDropText, HasNoBodyLeft, HasSentAll, final_context};
@@ -20,8 +20,8 @@ ghost use Rattle.tiny_http_open_request.specs.OpenRequest.{is_last_with_stream, 
 ghost use Rattle.tiny_http_open_request.specs.Pipeline.{is_head_method};
 ghost use Rattle.tiny_http_body.specs.Body.{ReadsBody, GivesUp, bytes_given, ends_met};
 
+use crate::error_response::{DropText, persistence_of, send_own_quietly};
 use crate::exchange::Head;
-use crate::own_answer::{DropText, persistence_of, send_own_quietly};
 use crate::upgrading::{UpgradeError, check_upgrade, send_upgrade_quietly};
 use httpdate::HttpDate;
 use std::alloc::{AllocError, Global};
@@ -32,17 +32,17 @@ use tiny_http_head::common::{Header, Method, StatusCode};
 use tiny_http_io::device::{ReadDevice, WriteDevice};
 use tiny_http_io::outlet::Outlet;
 use tiny_http_io::source::Source;
-use tiny_http_response::answer_context::{AnswerContext, Persistence};
 use tiny_http_response::coding::{Coding, asked_coding};
 use tiny_http_response::response::Response;
+use tiny_http_response::response_context::{Persistence, ResponseContext};
 use tiny_http_response::sending::send_unless_ended;
-use tiny_http_standard_head::judging::{asks_chunked, names_protocol};
+use tiny_http_standard_head::validation::{asks_chunked, names_protocol};
 
 /// A request that was handed out and isn't answered yet. Its head isn't part of it.
 #[derive(Drop)]
 pub struct OpenRequest<B> {
     /// How its answer is printed.
-    pub answer_context: AnswerContext,
+    pub response_context: ResponseContext,
     /// Whether a 100 is owed that wasn't sent yet.
     pub owes_continue: bool,
     /// Whether the next head isn't read before the answer: the request asks for an upgrade, and isn't its
@@ -75,7 +75,7 @@ impl<B: Drop> OpenRequest<B> {
         ensures { IfOk result (λ w. (w.body ≡ body) × KeepsHead w head.now now) }
     {
         let framing = head.framing;
-        let answer_context = AnswerContext {
+        let response_context = ResponseContext {
             version: head.version,
             asked_coding: coding_for(framing.by_standard, head.headers.as_slice()),
             no_body: is_head(&head.method),
@@ -89,7 +89,7 @@ impl<B: Drop> OpenRequest<B> {
         };
         let dropped = DropText::new(alloc, now)?;
         Ok(OpenRequest {
-            answer_context,
+            response_context,
             owes_continue: framing.owes_continue,
             holds_next_head,
             by_standard: framing.by_standard,
@@ -109,7 +109,7 @@ impl<B: Drop> OpenRequest<B> {
         ensures same { result ≡ with_body self result.body }
     {
         OpenRequest {
-            answer_context: self.answer_context,
+            response_context: self.response_context,
             owes_continue: self.owes_continue,
             holds_next_head: self.holds_next_head,
             by_standard: self.by_standard,
@@ -149,10 +149,10 @@ impl<B: Drop> OpenRequest<B> {
     // How it is answered now, where this is left of its body: by the standard the answer says that the connection
     // ends where the request is the last by its head, `close` was called, its 100 is owed, or what is left isn't
     // skipped: it is long, or its end isn't known (RFC 9112, section 9.6).
-    fn final_context(&self, left: Remainder) -> AnswerContext
+    fn final_context(&self, left: Remainder) -> ResponseContext
         ensures { result ≡ final_context self.now left }
     {
-        let mut context = self.answer_context;
+        let mut context = self.response_context;
         let closes = self.closes || self.owes_continue || left != Remainder::Skipped;
         if self.by_standard && closes {
             context.persistence = Some(Persistence::Close);
@@ -211,16 +211,16 @@ impl<B: Drop> OpenRequest<B> {
     }
 
     /// How a body is sent that grows behind the answer to this request with this code, as
-    /// `AnswerContext::streamed_form` says.
+    /// `ResponseContext::streamed_form` says.
     pub fn streamed_form(&self, status: StatusCode) -> StreamedForm
-        ensures { result ≡ streamed_form self.now.answer_context status.0 }
+        ensures { result ≡ streamed_form self.now.response_context status.0 }
     {
-        self.answer_context.streamed_form(status)
+        self.response_context.streamed_form(status)
     }
 
     // How the head of an answer is printed whose body grows. By the standard it says that the connection ends where
     // it would else, and where the body goes on up to that end.
-    fn streaming_context(&self, status: StatusCode, left: Remainder) -> AnswerContext
+    fn streaming_context(&self, status: StatusCode, left: Remainder) -> ResponseContext
         ensures { result ≡ streaming_context self.now status.0 left }
     {
         let mut context = self.final_context(left);
@@ -264,13 +264,13 @@ impl<B: Drop> OpenRequest<B> {
     )
         ensures unowed { self.old.owes_continue ≡ false → (self.new ≡ self.old) × (outlet.new ≡ outlet.old) }
         ensures sends { self.old.owes_continue ≡ true
-            → SendsQuietlyOn outlet.old outlet.new (own_text_by 100 (printing_in self.old.answer_context now)) }
+            → SendsQuietlyOn outlet.old outlet.new (own_text_by 100 (printing_in self.old.response_context now)) }
         ensures once { OwesNoContinue self.old self.new }
         ensures fails_once { FailsOnce outlet.old outlet.new }
         ensures sent { self.old.owes_continue ≡ true → HasSentAll outlet.new }
     {
         if self.owes_continue {
-            let context = self.answer_context;
+            let context = self.response_context;
             send_own_quietly(alloc, outlet, StatusCode(100), context, now);
             self.owes_continue = false;
         }
@@ -294,13 +294,20 @@ impl<B: Drop> OpenRequest<B> {
         // Whatever the data are.
         ensures sends { (content : Feed) → SendsQuietlyOn outlet.old outlet.new
             (upgrade_text (record { answer = response.answer; content = content }) protocol.now
-            (printing_in self.old.answer_context now)) }
+            (printing_in self.old.response_context now)) }
         ensures once { OwesNoContinue self.old self.new }
         ensures fails_once { FailsOnce outlet.old outlet.new }
         ensures sent { HasSentAll outlet.new }
     {
         self.owes_continue = false;
-        send_upgrade_quietly(alloc, outlet, response, self.answer_context, protocol, now);
+        send_upgrade_quietly(
+            alloc,
+            outlet,
+            response,
+            self.response_context,
+            protocol,
+            now,
+        );
     }
 
     /// Takes the text that answers this request if it is dropped: an empty 500, printed for its version, its headers
@@ -339,10 +346,10 @@ impl OpenRequest<UnreadBody> {
         ensures reads { ReadsBody self.old.body self.new.body source.old source.new result buf.new }
         ensures kept { self.new ≡ record self.old { body = self.new.body } }
         // The source's reader is asked for no second end or fault, nor for more than the bytes that came.
-        ensures told { Tells (R.told source.old.reader) (R.told source.new.reader) result }
+        ensures stop_count { Tells (R.stop_count source.old.reader) (R.stop_count source.new.reader) result }
         // It is asked for none where the body has its own end.
-        ensures whole { R.told source.new.reader
-            ≤ R.told source.old.reader + ends_met self.old.body (bytes_given result) self.new.body }
+        ensures whole { R.stop_count source.new.reader
+            ≤ R.stop_count source.old.reader + ends_met self.old.body (bytes_given result) self.new.body }
     {
         self.body.read(source, buf)
     }

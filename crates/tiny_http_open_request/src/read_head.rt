@@ -7,7 +7,7 @@ ghost use Rattle.tiny_http_open_request.specs.HeadReads.{IsFramedRequest, IsRefu
 ghost use Rattle.tiny_http_open_request.specs.HeadReads.{message_of, head_message, head_framing};
 
 use crate::body_start::begin_body;
-use crate::exchange::{EndOfRequests, Exchange, Head, HeadRead, standing_of};
+use crate::exchange::{EndOfRequests, Exchange, Head, HeadRead, input_state_of};
 use crate::head_faults::{answer_cut, answer_fault, refusal_of, refuse_too_new, refused_with};
 use crate::heads::{MessageHead, read_message};
 use crate::open_request::{OpenRequest, is_head};
@@ -16,7 +16,7 @@ use httpdate::HttpDate;
 use std::alloc::{AllocError, Global};
 use tiny_http_body::framing::{Framing, HeadRules, Profile, framing_of, is_too_new};
 use tiny_http_io::device::ReadDevice;
-use tiny_http_io::source::{Source, Standing};
+use tiny_http_io::source::{InputState, Source};
 
 // The head that a message and its framing make.
 #[inline(always)]
@@ -41,7 +41,7 @@ fn read_by_rules<R: ReadDevice>(
     rules: HeadRules,
     now: HttpDate,
 ) -> Result<HeadRead, AllocError>
-    ensures reads { ReadsHead (profile_of rules) Standing.Head now source.old.feed source.new.feed result }
+    ensures reads { ReadsHead (profile_of rules) InputState.Head now source.old.feed source.new.feed result }
     ensures goes_on { GoesOn source.old.feed source.new.feed }
     ensures at_end { IsAtEnd source.old → IsOkEnd result × (source.new ≡ source.old) }
     ensures begun { (IsOkEnd result → ⊥) → HasByteOrTimedOut (profile_of rules) source.old.feed }
@@ -49,7 +49,7 @@ fn read_by_rules<R: ReadDevice>(
     ensures fits { IfOk result FitsHead }
     ensures lazy { IfOk result (λ read. IsRequest read → source.new.stop ≡ source.old.stop) }
     ensures passed { IfOk result (λ read. IsRefusedUncut read → source.new.stop ≡ source.old.stop) }
-    ensures standing { source.new.standing ≡ source.old.standing }
+    ensures input_state { source.new.input_state ≡ source.old.input_state }
 {
     if !source.has_byte() {
         return answer_cut(alloc, source.stop(), false, false, now);
@@ -87,7 +87,7 @@ fn read_item<R: ReadDevice>(
     profile: Profile,
     now: HttpDate,
 ) -> Result<HeadRead, AllocError>
-    ensures reads { ReadsHead profile Standing.Head now source.old.feed source.new.feed result }
+    ensures reads { ReadsHead profile InputState.Head now source.old.feed source.new.feed result }
     ensures goes_on { GoesOn source.old.feed source.new.feed }
     ensures at_end { IsAtEnd source.old → IsOkEnd result × (source.new ≡ source.old) }
     ensures begun { (IsOkEnd result → ⊥) → HasByteOrTimedOut profile source.old.feed }
@@ -95,7 +95,7 @@ fn read_item<R: ReadDevice>(
     ensures fits { IfOk result FitsHead }
     ensures lazy { IfOk result (λ read. IsRequest read → source.new.stop ≡ source.old.stop) }
     ensures passed { IfOk result (λ read. IsRefusedUncut read → source.new.stop ≡ source.old.stop) }
-    ensures standing { source.new.standing ≡ source.old.standing }
+    ensures input_state { source.new.input_state ≡ source.old.input_state }
 {
     let rules = match profile {
         Profile::Lenient => HeadRules::Lenient,
@@ -106,12 +106,12 @@ fn read_item<R: ReadDevice>(
 }
 
 // Why no request comes from this standing, where the input at that standing ends for this reason.
-fn end_at(standing: Standing, why: EndOfRequests) -> EndOfRequests
-    ensures { result ≡ end_at standing why }
+fn end_at(input_state: InputState, why: EndOfRequests) -> EndOfRequests
+    ensures { result ≡ end_at input_state why }
 {
-    match standing {
-        Standing::Abandoned => EndOfRequests::AbandonedBody,
-        Standing::Broken(kind) => EndOfRequests::BrokenBody(kind),
+    match input_state {
+        InputState::Abandoned => EndOfRequests::AbandonedBody,
+        InputState::Broken(kind) => EndOfRequests::BrokenBody(kind),
         _ => why,
     }
 }
@@ -150,27 +150,27 @@ pub fn read_head_with<R: ReadDevice>(
 ) -> Result<HeadRead, AllocError>
     ensures { TakesHead profile now source.old source.new result }
 {
-    let standing = source.standing();
-    match standing {
-        Standing::Last => return Ok(HeadRead::Ended(EndOfRequests::LastRequest)),
-        Standing::Body => {
+    let input_state = source.input_state();
+    match input_state {
+        InputState::Last => return Ok(HeadRead::Ended(EndOfRequests::LastRequest)),
+        InputState::Body => {
             source.end();
             return Ok(HeadRead::Ended(EndOfRequests::UnreadBody));
         }
-        Standing::Head | Standing::Abandoned | Standing::Broken(_) => {}
+        InputState::Head | InputState::Abandoned | InputState::Broken(_) => {}
     }
     let read = read_item(alloc, source, profile, now);
     match &read {
-        Ok(HeadRead::Request(exchange)) => source.stand_at(standing_of(exchange)),
+        Ok(HeadRead::Request(exchange)) => source.stand_at(input_state_of(exchange)),
         Ok(HeadRead::Ended(why)) => {
             source.end();
-            return Ok(HeadRead::Ended(end_at(standing, *why)));
+            return Ok(HeadRead::Ended(end_at(input_state, *why)));
         }
         Ok(HeadRead::Refused { last, .. }) => {
             if *last {
                 source.end();
             } else {
-                source.stand_at(Standing::Head);
+                source.stand_at(InputState::Head);
             }
         }
         Err(_) => source.end(),

@@ -19,10 +19,10 @@ use std::alloc::{AllocError, Global};
 use tiny_http_body::framing::{Form, Framing, Profile, STANDARD_HEAD, sized_form};
 use tiny_http_head::common::{HTTPVersion, StatusCode};
 use tiny_http_io::device::{ReadDevice, Stop};
-use tiny_http_io::source::{Source, Standing};
+use tiny_http_io::source::{InputState, Source};
 use tiny_http_standard_head::heads::{StandardFault, StandardHead, StandardRead};
-use tiny_http_standard_head::judging::HeadSummary;
 use tiny_http_standard_head::source_heads::read_head_from;
+use tiny_http_standard_head::validation::HeadSummary;
 
 // The version in which a request is served: each one after 1.0 counts as 1.1.
 fn served_version(version: HTTPVersion) -> HTTPVersion
@@ -106,7 +106,7 @@ pub(crate) fn read_standard<R: ReadDevice>(
     source: &mut Source<R>,
     now: HttpDate,
 ) -> Result<HeadRead, AllocError>
-    ensures reads { ReadsHead Profile.Standard Standing.Head now source.old.feed source.new.feed result }
+    ensures reads { ReadsHead Profile.Standard InputState.Head now source.old.feed source.new.feed result }
     ensures goes_on { GoesOn source.old.feed source.new.feed }
     ensures at_end { IsAtEnd source.old → IsOkEnd result × (source.new ≡ source.old) }
     ensures begun { (IsOkEnd result → ⊥) → HasByte source.old.feed }
@@ -114,7 +114,7 @@ pub(crate) fn read_standard<R: ReadDevice>(
     ensures fits { IfOk result FitsHead }
     ensures lazy { IfOk result (λ read. IsRequest read → source.new.stop ≡ source.old.stop) }
     ensures passed { IfOk result (λ read. IsRefusedUncut read → source.new.stop ≡ source.old.stop) }
-    ensures standing { source.new.standing ≡ source.old.standing }
+    ensures input_state { source.new.input_state ≡ source.old.input_state }
 {
     if !source.has_byte() {
         return answer_standard_cut(alloc, source.stop(), false, now);

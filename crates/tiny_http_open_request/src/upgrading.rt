@@ -13,8 +13,8 @@ use thiserror::Error;
 use tiny_http_head::common::StatusCode;
 use tiny_http_io::device::WriteDevice;
 use tiny_http_io::outlet::Outlet;
-use tiny_http_response::answer_context::AnswerContext;
 use tiny_http_response::response::Response;
+use tiny_http_response::response_context::ResponseContext;
 use tiny_http_response::sending::send_upgrade;
 use tiny_http_text::bytes::are_ascii;
 
@@ -75,7 +75,7 @@ pub(crate) fn send_upgrade_quietly<W: WriteDevice, D: Drop>(
     alloc: Global,
     outlet: &mut Outlet<W>,
     response: Response<D>,
-    context: AnswerContext,
+    context: ResponseContext,
     protocol: &str,
     now: HttpDate,
 )

@@ -8,7 +8,7 @@ use Rattle.tiny_http_body.specs.Body.{is_streaming}
 use Rattle.httpdate.specs.declared.date.HttpDate.{HttpDate}
 use Rattle.tiny_http_io.specs.Device.{Feed}
 use Rattle.tiny_http_io.specs.Source.{SourceState}
-use Rattle.tiny_http_io.specs.declared.source.Standing.TheVariants.{Head as AtHead}
+use Rattle.tiny_http_io.specs.declared.source.InputState.TheVariants.{Head as AtHead}
 use Rattle.tiny_http_head.specs.declared.common.StatusCode.{StatusCode}
 use Rattle.tiny_http_open_request.specs.declared.exchange.Exchange.{Exchange}
 use Rattle.tiny_http_open_request.specs.declared.exchange.HeadRead.TheVariants as read
@@ -68,7 +68,7 @@ pub record IsFreshSource {R : Type 0} (stated : R → Option Feed) (reader : R) 
     pub within : source.reader ≡ reader
     pub stop : source.stop ≡ None
     pub nothing_held : source.held ≡ []
-    pub standing : source.standing ≡ AtHead
+    pub input_state : source.input_state ≡ AtHead
 
 -- so many heads are refused one after another, and another head stands behind each
 abbrev pub PassesRefused : {R : Type 0} → Profile → HttpDate → ℕ → SourceState R → SourceState R → Type 0

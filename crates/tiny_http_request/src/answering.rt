@@ -35,7 +35,7 @@ pub(crate) fn begin_answer<R: ReadDevice + Drop, W: WriteDevice + Drop, Rt: Wait
     }
     let _ = writer.hold();
     if ends {
-        writer.close_line();
+        writer.close_queue();
     }
     if writer.is_last() {
         open_request.close();

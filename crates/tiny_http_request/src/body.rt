@@ -16,7 +16,7 @@ use std::marker::Model;
 use std::sync::Wait;
 use tiny_http_body::body::{Remainder, UnreadBody};
 use tiny_http_io::device::ReadDevice;
-use tiny_http_io::source::{Source, Standing};
+use tiny_http_io::source::{InputState, Source};
 use tiny_http_threads::held_reader::HeldReader;
 
 // When the connection's input is given on to the next head.
@@ -33,7 +33,7 @@ pub(crate) enum GivesOn {
 // Has no head read behind this reader, and drops it.
 fn end_behind<R: ReadDevice + Drop, Rt: Wait + Drop>(reader: HeldReader<Source<R>, Rt>) {
     let mut reader = reader;
-    reader.turn.item.stand_at(Standing::Last);
+    reader.turn.item.stand_at(InputState::Last);
 }
 
 /// The body of a request. While bytes of it are to be read from the connection it holds the connection's input, and
@@ -283,7 +283,7 @@ impl<R: ReadDevice + Drop, Rt: Wait + Drop> Drop for Body<R, Rt> {
             let source = &mut *reader.turn.item;
             unread.give_up(source);
             if matches!(gives_on, GivesOn::Never) {
-                source.stand_at(Standing::Last);
+                source.stand_at(InputState::Last);
             }
         }
     }

@@ -20,8 +20,8 @@ use tiny_http_io::source::Source;
 use tiny_http_open_request::exchange::{EndOfRequests, Head};
 use tiny_http_open_request::next_request::{NextRequest, RefusalPlace, next_request};
 use tiny_http_open_request::open_request::OpenRequest;
+use tiny_http_socket::connection_timers::ConnectionTimers;
 use tiny_http_socket::cork::FlushPolicy;
-use tiny_http_socket::pace::Pace;
 use tiny_http_socket::refined_tcp_stream::RefinedTcpStream;
 use tiny_http_threads::held_reader::HeldReader;
 use tiny_http_threads::sequential::{
@@ -43,7 +43,7 @@ pub(crate) struct Links {
     /// Whether the connection's flushes may leave their bytes, where they ever may.
     pub flush_policy: Option<Arc<FlushPolicy>>,
     /// What the reads of the connection are told, where the request reads from it and they are to know.
-    pub pace: Option<Arc<Pace>>,
+    pub timers: Option<Arc<ConnectionTimers>>,
 }
 
 /// A connection, whose requests are handed out one after another. Any thread may hold one, also while the next is read.
@@ -187,7 +187,7 @@ impl<R: ReadDevice + Drop, W: WriteDevice + Drop, Rt: Wait + Copy> ClientConnect
             },
             links: Links {
                 flush_policy: None,
-                pace: None,
+                timers: None,
             },
             source,
             sink,
@@ -219,22 +219,22 @@ impl<R: ReadDevice + Drop, W: WriteDevice + Drop, Rt: Wait + Copy> ClientConnect
 
     /// Has `next` say here when it waits for a head and when it hands out a request. It keeps the limit of open
     /// requests from now on, 2 at least: in front of a head, and of the answer to a refused one, it waits until fewer
-    /// are open. Once this was stopped, `next` answers `None`. A `PacedReader` and a `PacedWriter` keep the other
+    /// are open. Once this was stopped, `next` answers `None`. A `TimedReader` and a `TimedWriter` keep the other
     /// limits. With limits `next` answers `None`, too, once an answer ended the output without being whole: its data
     /// were too short or failed, or the writer did. The client of a socket sees the end then. An error where no
     /// handle is left.
-    pub fn set_pace(&mut self, pace: Arc<Pace>) -> Result<(), AllocError>
+    pub fn set_timers(&mut self, timers: Arc<ConnectionTimers>) -> Result<(), AllocError>
         ensures over { IsOver self.new ↔ IsOver self.old }
         ensures input { client_source self.new ≡ client_source self.old }
         ensures same { (client_secure self.new ≡ client_secure self.old)
             × (client_address self.new ≡ client_address self.old)
             × (client_profile self.new ≡ client_profile self.old) }
     {
-        self.sink.set_open(Arc::try_clone(pace.open())?);
-        if pace.limits().is_some() {
+        self.sink.set_open(Arc::try_clone(timers.open())?);
+        if timers.limits().is_some() {
             self.sink.close_when_broken();
         }
-        self.links.pace = Some(pace);
+        self.links.timers = Some(timers);
         Ok(())
     }
 
@@ -270,16 +270,16 @@ impl<R: ReadDevice + Drop, W: WriteDevice + Drop, Rt: Wait + Copy> ClientConnect
         if self.sink.is_closed() {
             return Ok(None);
         }
-        wait_if_full(&self.sink, &self.links.pace);
+        wait_if_full(&self.sink, &self.links.timers);
         let (alloc, profile) = (self.alloc, self.profile);
         let mut reader = next_head.hold();
         let source = &mut *reader.turn.item;
-        if self.sink.is_closed() || !begins_head(&self.links.pace, source) {
+        if self.sink.is_closed() || !begins_head(&self.links.timers, source) {
             return Ok(None);
         }
         let sink = &mut self.sink;
         let mut place = NextWriter {
-            pace: &self.links.pace,
+            timers: &self.links.timers,
         };
         match next_request(alloc, source, profile, &mut place, sink, now) {
             Ok(NextRequest::Request(head, open_request)) => {
@@ -292,7 +292,7 @@ impl<R: ReadDevice + Drop, W: WriteDevice + Drop, Rt: Wait + Copy> ClientConnect
                 }
             }
             Ok(NextRequest::Ended(end)) => {
-                note_end(&self.links.pace, end);
+                note_end(&self.links.timers, end);
                 Ok(None)
             }
             Err(_) if self.sink.is_closed() => Ok(None),
@@ -343,7 +343,7 @@ impl<R: ReadDevice + Drop, W: WriteDevice + Drop, Rt: Wait + Copy> ClientConnect
         let may_leave = !holds_reader && writer.is_next();
         let links = Links {
             flush_policy: set_policy(&self.links.flush_policy, may_leave)?,
-            pace: begin_body(&self.links.pace, holds_reader)?,
+            timers: begin_body(&self.links.timers, holds_reader)?,
         };
         let (reader, held) = if holds_reader {
             (Some(reader), None)
@@ -383,35 +383,35 @@ fn next_head<R: ReadDevice + Drop, Rt: Wait + Copy>(
 }
 
 // The next head is to be read from here. False where the connection was stopped.
-fn begins_head<R: ReadDevice>(pace: &Option<Arc<Pace>>, source: &Source<R>) -> bool {
-    match pace {
-        Some(pace) => pace.begin_head(!source.held().is_empty()),
+fn begins_head<R: ReadDevice>(timers: &Option<Arc<ConnectionTimers>>, source: &Source<R>) -> bool {
+    match timers {
+        Some(timers) => timers.begin_head(!source.held().is_empty()),
         None => true,
     }
 }
 
 // Notes the status by which a head was refused, if the requests ended so.
-fn note_end(pace: &Option<Arc<Pace>>, end: EndOfRequests) {
-    if let Some(pace) = pace
+fn note_end(timers: &Option<Arc<ConnectionTimers>>, end: EndOfRequests) {
+    if let Some(timers) = timers
         && let EndOfRequests::Refused(status) = end
     {
-        pace.refused(status.0);
+        timers.refused(status.0);
     }
 }
 
 // A request is handed out. Another handle for it, if it reads from the connection. An error where no handle is left.
 fn begin_body(
-    pace: &Option<Arc<Pace>>,
+    timers: &Option<Arc<ConnectionTimers>>,
     holds_reader: bool,
-) -> Result<Option<Arc<Pace>>, AllocError> {
-    let Some(pace) = pace else {
+) -> Result<Option<Arc<ConnectionTimers>>, AllocError> {
+    let Some(timers) = timers else {
         return Ok(None);
     };
-    pace.begin_body();
+    timers.begin_body();
     if !holds_reader {
         return Ok(None);
     }
-    Ok(Some(Arc::try_clone(pace)?))
+    Ok(Some(Arc::try_clone(timers)?))
 }
 
 // Sets this policy, if there is one, and gives another handle of it, for a request. An error where no handle is left.
@@ -433,10 +433,10 @@ fn set_policy(
 // Where as many requests and refused heads are open as may be, waits until one of them is finished.
 fn wait_if_full<W: WriteDevice + Drop, Rt: Wait + Copy>(
     sink: &SequentialWriterBuilder<Outlet<W>, Rt>,
-    pace: &Option<Arc<Pace>>,
+    timers: &Option<Arc<ConnectionTimers>>,
 ) {
-    if let Some(pace) = pace
-        && let Some(most) = pace.full_at()
+    if let Some(timers) = timers
+        && let Some(most) = timers.full_at()
     {
         sink.wait_for_room(most);
     }
@@ -445,7 +445,7 @@ fn wait_if_full<W: WriteDevice + Drop, Rt: Wait + Copy>(
 // Where refused heads are answered: each by the next writer. It waits where as many are open as may be.
 #[derive(Drop)]
 struct NextWriter<'a> {
-    pace: &'a Option<Arc<Pace>>,
+    timers: &'a Option<Arc<ConnectionTimers>>,
 }
 
 impl<W: WriteDevice + Drop, Rt: Wait + Copy> RefusalPlace<SequentialWriterBuilder<Outlet<W>, Rt>>
@@ -460,7 +460,7 @@ impl<W: WriteDevice + Drop, Rt: Wait + Copy> RefusalPlace<SequentialWriterBuilde
         sink: &mut SequentialWriterBuilder<Outlet<W>, Rt>,
         text: Vec<u8>,
     ) -> Result<(), AllocError> {
-        wait_if_full(sink, self.pace);
+        wait_if_full(sink, self.timers);
         let Some(writer) = sink.next_unless_closed()? else {
             return Err(AllocError);
         };

@@ -57,7 +57,7 @@ use tiny_http_open_request::open_request::OpenRequest;
 pub use tiny_http_open_request::upgrading::UpgradeError;
 use tiny_http_response::response::Response;
 use tiny_http_response::sending::reported;
-use tiny_http_socket::pace::Pace;
+use tiny_http_socket::connection_timers::ConnectionTimers;
 use tiny_http_text::ascii::AsciiString;
 use tiny_http_threads::held_reader::HeldReader;
 use tiny_http_threads::sequential::{
@@ -445,7 +445,7 @@ impl<R: ReadDevice + Drop, W: WriteDevice + Drop, Rt: Wait + Drop> Request<R, W,
             response.answer.status ≡ true
             → IsInvalidInput result }
         ensures form { IfOk result
-            (λ body. form_of body ≡ streamed_form (request_open self).answer_context response.answer.status) }
+            (λ body. form_of body ≡ streamed_form (request_open self).response_context response.answer.status) }
     {
         let status = response.status_code();
         if self.open_request.refuses(status) {
@@ -567,17 +567,17 @@ impl<R: ReadDevice + Drop, W: WriteDevice + Drop, Rt: Wait + Drop> Request<R, W,
     }
 
     // What the reads of its stream are told, where that still reads from the connection.
-    fn stream_pace(&self, is_whole: bool) -> Option<&Arc<Pace>> {
+    fn stream_timers(&self, is_whole: bool) -> Option<&Arc<ConnectionTimers>> {
         if !self.open_request.by_standard && is_whole {
             return None;
         }
-        self.links.pace.as_ref()
+        self.links.timers.as_ref()
     }
 
     // The connection is to be upgraded. False where as many are as may be.
     fn enters_stream(&self, is_whole: bool) -> bool {
-        match self.stream_pace(is_whole) {
-            Some(pace) => pace.enter_stream(),
+        match self.stream_timers(is_whole) {
+            Some(timers) => timers.enter_stream(),
             None => true,
         }
     }
@@ -600,8 +600,8 @@ impl<R: ReadDevice + Drop, W: WriteDevice + Drop, Rt: Wait + Drop> Request<R, W,
         ensures stream { ReadsStream self (custom_reader result) }
     {
         self.send_at_flush();
-        if let Some(pace) = self.stream_pace(is_whole) {
-            pace.begin_stream();
+        if let Some(timers) = self.stream_timers(is_whole) {
+            timers.begin_stream();
         }
         let alloc = self.alloc;
         let (mut open_request, mut writer) = self.into_parts();
@@ -747,7 +747,7 @@ pub fn new_request<R: ReadDevice + Drop, W: WriteDevice + Drop, Rt: Wait + Copy>
     };
     let links = Links {
         flush_policy: None,
-        pace: None,
+        timers: None,
     };
     Ok(Request::from_parts(alloc, client, head, open_request, reader, writer, links))
 }

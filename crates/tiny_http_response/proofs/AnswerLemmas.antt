@@ -20,12 +20,12 @@ use Rattle.tiny_http_io.specs.declared.device.Stop.TheVariants.{End, Fault}
 use Rattle.tiny_http_io.proofs.DeviceLemmas.{Took-nil}
 use Rattle.tiny_http_body.proofs.DeviceCopies.{Prints-from_puts, Prints-head_failed, Prints-behind}
 use Rattle.tiny_http_response.specs.Answer.{Answer, PrintsText, LacksMemory, PrintsUncoded, PrintsAnswer, PrintsGathered, Printing, with_upgrade, text_by_code, head_text_of, listed_with, status_line, gathered_body, answer_head_text, is_withheld, uncoded_text, coded_text, body_unless_withheld, text_of, answer_coding}
-use Rattle.tiny_http_response.specs.declared.answer_head.Top.{Top}
-use Rattle.tiny_http_response.specs.Top.{top_text, top_listed}
+use Rattle.tiny_http_response.specs.declared.answer_head.ResponseHead.{ResponseHead}
+use Rattle.tiny_http_response.specs.ResponseHead.{response_head_text, response_head_listed}
 use Rattle.tiny_http_response.specs.ByStandard.{status_version, contentless_framing}
 use Rattle.tiny_http_response.specs.Owing.{owed, owing, owing_feed}
 use Rattle.tiny_http_response.specs.declared.owing.OwingReader.{OwingReader}
-use Rattle.tiny_http_response.specs.declared.answer_context.Persistence.{Persistence}
+use Rattle.tiny_http_response.specs.declared.response_context.Persistence.{Persistence}
 use Rattle.tiny_http_body.specs.Text.{Text, Whole, Broken, Prints, whole, nothing_sent, prepend_text, identity_body, chunked_body}
 
 -- a head has bytes
@@ -38,11 +38,11 @@ unfolding answer_head_text status_line
 head-alone version status upgrade headers listed date framing e = cc
 
 -- a head, by what the printing functions pass on
-pub top-some : (top : Top) (upgrade : Option (List ℕ)) (framing : FramingHeader) (rest : List ℕ) → top_text top upgrade framing ++ rest ≡ [] → ⊥
-top-some top upgrade framing rest e = head-some (status_version top.persistence top.version) top.status.0 upgrade top.headers.now (top_listed top upgrade) top.date framing rest e
+pub head-some : (head : ResponseHead) (upgrade : Option (List ℕ)) (framing : FramingHeader) (rest : List ℕ) → response_head_text head upgrade framing ++ rest ≡ [] → ⊥
+head-some head upgrade framing rest e = head-some (status_version head.persistence head.version) head.status.0 upgrade head.headers.now (response_head_listed head upgrade) head.date framing rest e
 
-pub top-alone : (top : Top) (upgrade : Option (List ℕ)) (framing : FramingHeader) → top_text top upgrade framing ≡ [] → ⊥
-top-alone top upgrade framing e = head-alone (status_version top.persistence top.version) top.status.0 upgrade top.headers.now (top_listed top upgrade) top.date framing e
+pub head-alone : (head : ResponseHead) (upgrade : Option (List ℕ)) (framing : FramingHeader) → response_head_text head upgrade framing ≡ [] → ⊥
+head-alone head upgrade framing e = head-alone (status_version head.persistence head.version) head.status.0 upgrade head.headers.now (response_head_listed head upgrade) head.date framing e
 
 -- an upgrade
 pub Answered-upgrade : {T : Type 0} (o : Option Feed) (a b : Sink) (r : Result T Error) (ans : Answer) (p : Printing) (protocol : List ℕ) → p.upgrade ≡ Some protocol → PrintsText a b r (if list_all is_ascii protocol then whole (head_text_of ans (record p { upgrade = Some protocol }) Neither) else nothing_sent InvalidInput) → IfSome o (λ f. length f.bytes < 2 ^ 63 → PrintsAnswer a b r ans f p)
@@ -64,22 +64,22 @@ Answered-contentless {T = T} (Some f) a b r ans p framing u e h = λ few.
 
 -- any other answer: in chunks, from data that owe their length by the standard; or not coded
 abbrev pub PrintsIn : {T : Type 0} → Option Feed → Sink → Sink → Result T Error → Coding → Option Persistence → Option ℕ → (FramingHeader → List ℕ) → Bool → Type 0
-PrintsIn o a b r Identity says known top withheld = IfSome o (λ f. length f.bytes < 2 ^ 63 → PrintsUncoded a b r known (uncoded_text known top withheld f))
-PrintsIn o a b r Chunked says known top withheld = IfSome (option_map (owing (owed says known)) o) (λ f. length f.bytes < 2 ^ 63 → Prints a b r (prepend_text (top TransferEncoding) (body_unless_withheld withheld (chunked_body f))))
+PrintsIn o a b r Identity says known head withheld = IfSome o (λ f. length f.bytes < 2 ^ 63 → PrintsUncoded a b r known (uncoded_text known head withheld f))
+PrintsIn o a b r Chunked says known head withheld = IfSome (option_map (owing (owed says known)) o) (λ f. length f.bytes < 2 ^ 63 → Prints a b r (prepend_text (head TransferEncoding) (body_unless_withheld withheld (chunked_body f))))
 
 -- what is printed of a reader of data that owe
-pub Printed-owing : {R T : Type 0} (feed : R → Option Feed) (source : OwingReader R) (inner : R) (k : ℕ) (a b : Sink) (r : Result T Error) (says : Option Persistence) (known : Option ℕ) (top : FramingHeader → List ℕ) (withheld : Bool) → source ≡ record { inner = inner; left = k } → k ≡ owed says known
-    → IfSome (owing_feed feed source) (λ f. length f.bytes < 2 ^ 63 → Prints a b r (prepend_text (top TransferEncoding) (body_unless_withheld withheld (chunked_body f)))) → PrintsIn (feed inner) a b r Chunked says known top withheld
-Printed-owing {R} {T} feed source inner k a b r says known top withheld e l h =
-    let P : Feed → Type 0 = λ f. length f.bytes < 2 ^ 63 → Prints a b r (prepend_text (top TransferEncoding) (body_unless_withheld withheld (chunked_body f))) in
+pub Printed-owing : {R T : Type 0} (feed : R → Option Feed) (source : OwingReader R) (inner : R) (k : ℕ) (a b : Sink) (r : Result T Error) (says : Option Persistence) (known : Option ℕ) (head : FramingHeader → List ℕ) (withheld : Bool) → source ≡ record { inner = inner; left = k } → k ≡ owed says known
+    → IfSome (owing_feed feed source) (λ f. length f.bytes < 2 ^ 63 → Prints a b r (prepend_text (head TransferEncoding) (body_unless_withheld withheld (chunked_body f)))) → PrintsIn (feed inner) a b r Chunked says known head withheld
+Printed-owing {R} {T} feed source inner k a b r says known head withheld e l h =
+    let P : Feed → Type 0 = λ f. length f.bytes < 2 ^ 63 → Prints a b r (prepend_text (head TransferEncoding) (body_unless_withheld withheld (chunked_body f))) in
     let Q : OwingReader R → Type 0 = λ x. IfSome (owing_feed feed x) P in
     let L : ℕ → Type 0 = λ n. IfSome (option_map (owing n) (feed inner)) P in
     subst L l (subst Q e h)
 
-coded : {T : Type 0} (f : Feed) (a b : Sink) (r : Result T Error) (coding : Coding) (says : Option Persistence) (known : Option ℕ) (top : FramingHeader → List ℕ) (withheld : Bool) → length f.bytes < 2 ^ 63 → PrintsIn (Some f) a b r coding says known top withheld
-    → ((framing : FramingHeader) (rest : List ℕ) → top framing ++ rest ≡ [] → ⊥) → PrintsText a b r (coded_text coding says known top withheld f) ⊎ ((coding ≡ Identity) × (known ≡ None) × LacksMemory a b r)
-coded f a b r Identity says known top withheld few h some = ⊎_elim (λ x. inl x) (λ x. inr (refl, x.0, x.1)) (h few)
-coded f a b r Chunked says known top withheld few h some = inl (h few, λ e. absurd (some TransferEncoding (body_unless_withheld withheld (chunked_body (owing (owed says known) f))).bytes e))
+coded : {T : Type 0} (f : Feed) (a b : Sink) (r : Result T Error) (coding : Coding) (says : Option Persistence) (known : Option ℕ) (head : FramingHeader → List ℕ) (withheld : Bool) → length f.bytes < 2 ^ 63 → PrintsIn (Some f) a b r coding says known head withheld
+    → ((framing : FramingHeader) (rest : List ℕ) → head framing ++ rest ≡ [] → ⊥) → PrintsText a b r (coded_text coding says known head withheld f) ⊎ ((coding ≡ Identity) × (known ≡ None) × LacksMemory a b r)
+coded f a b r Identity says known head withheld few h some = ⊎_elim (λ x. inl x) (λ x. inr (refl, x.0, x.1)) (h few)
+coded f a b r Chunked says known head withheld few h some = inl (h few, λ e. absurd (some TransferEncoding (body_unless_withheld withheld (chunked_body (owing (owed says known) f))).bytes e))
 
 pub Answered-coded : {T : Type 0} (o : Option Feed) (a b : Sink) (r : Result T Error) (ans : Answer) (p : Printing) (coding : Coding) (withheld : Bool) → p.upgrade ≡ None → contentless_framing p.persistence ans.contentless ans.status ans.data_length ≡ None → coding ≡ chosen_coding p.version p.asked_coding ans.status ans.threshold ans.data_length → withheld ≡ is_withheld p.no_body ans.status
     → PrintsIn o a b r coding p.persistence ans.data_length (λ framing. head_text_of ans p framing) withheld
@@ -87,12 +87,12 @@ pub Answered-coded : {T : Type 0} (o : Option Feed) (a b : Sink) (r : Result T E
 unfolding text_of answer_coding
 Answered-coded None a b r ans p coding withheld u k e w h = tt
 Answered-coded {T = T} (Some f) a b r ans p coding withheld u k e w h = λ few.
-    let top : FramingHeader → List ℕ = λ framing. head_text_of ans p framing in
-    let W : Bool → Type 0 = λ x. PrintsIn (Some f) a b r coding p.persistence ans.data_length top x in
+    let head : FramingHeader → List ℕ = λ framing. head_text_of ans p framing in
+    let W : Bool → Type 0 = λ x. PrintsIn (Some f) a b r coding p.persistence ans.data_length head x in
     let U : Option (List ℕ) → Type 0 = λ x. PrintsText a b r (with_upgrade x ans f p) in
     let K : Option FramingHeader → Type 0 = λ x. PrintsText a b r (text_by_code x ans f p) in
-    let P : Coding → Type 0 = λ x. PrintsText a b r (coded_text x p.persistence ans.data_length top (is_withheld p.no_body ans.status) f) ⊎ ((x ≡ Identity) × (ans.data_length ≡ None) × LacksMemory a b r) in
-    ⊎_elim (λ x. inl (subst U (sym u) (subst K (sym k) x))) (λ x. inr ((u, k, x.0, x.1), x.2)) (subst P e (coded f a b r coding p.persistence ans.data_length top (is_withheld p.no_body ans.status) few (subst W w h) (λ framing. head-some (status_version p.persistence p.version) ans.status p.upgrade ans.headers (listed_with p.upgrade p.persistence p.version ans) p.date framing)))
+    let P : Coding → Type 0 = λ x. PrintsText a b r (coded_text x p.persistence ans.data_length head (is_withheld p.no_body ans.status) f) ⊎ ((x ≡ Identity) × (ans.data_length ≡ None) × LacksMemory a b r) in
+    ⊎_elim (λ x. inl (subst U (sym u) (subst K (sym k) x))) (λ x. inr ((u, k, x.0, x.1), x.2)) (subst P e (coded f a b r coding p.persistence ans.data_length head (is_withheld p.no_body ans.status) few (subst W w h) (λ framing. head-some (status_version p.persistence p.version) ans.status p.upgrade ans.headers (listed_with p.upgrade p.persistence p.version ans) p.date framing)))
 
 pub few-failed : (o : Option Feed) (a b : Sink) (front : List ℕ) (e : Error) (body : Feed → Text) → Failed a b front (error_kind e) → IfSome o (λ f. length f.bytes < 2 ^ 63 → Prints {T = Unit {0}} a b (Err e) (prepend_text front (body f)))
 few-failed None a b front e body h = tt
@@ -137,12 +137,12 @@ Uncoded-gathered None a b r front withheld h = tt
 Uncoded-gathered (Some f) a b r front withheld h = λ few. ⊎_elim (λ x. inl x) (λ x. inr (refl, x)) (h few)
 
 -- an answer whose text was sent has bytes
-coded-some : (coding : Coding) (says : Option Persistence) (known : Option ℕ) (top : FramingHeader → List ℕ) (withheld : Bool) (f : Feed) → ((framing : FramingHeader) (rest : List ℕ) → top framing ++ rest ≡ [] → ⊥) → (coded_text coding says known top withheld f).ending ≡ Whole → (coded_text coding says known top withheld f).bytes ≡ [] → ⊥
-coded-some Chunked says known top withheld f some e none = some TransferEncoding (body_unless_withheld withheld (chunked_body (owing (owed says known) f))).bytes none
-coded-some Identity says (Some n) top withheld f some e none = some (ContentLength n) (body_unless_withheld withheld (identity_body n f)).bytes none
-coded-some Identity says None top withheld f some e none = by f.stop e none
+coded-some : (coding : Coding) (says : Option Persistence) (known : Option ℕ) (head : FramingHeader → List ℕ) (withheld : Bool) (f : Feed) → ((framing : FramingHeader) (rest : List ℕ) → head framing ++ rest ≡ [] → ⊥) → (coded_text coding says known head withheld f).ending ≡ Whole → (coded_text coding says known head withheld f).bytes ≡ [] → ⊥
+coded-some Chunked says known head withheld f some e none = some TransferEncoding (body_unless_withheld withheld (chunked_body (owing (owed says known) f))).bytes none
+coded-some Identity says (Some n) head withheld f some e none = some (ContentLength n) (body_unless_withheld withheld (identity_body n f)).bytes none
+coded-some Identity says None head withheld f some e none = by f.stop e none
   where
-    by : (s : Stop) → (gathered_body s (top (ContentLength (length f.bytes))) withheld f.bytes).ending ≡ Whole → (gathered_body s (top (ContentLength (length f.bytes))) withheld f.bytes).bytes ≡ [] → ⊥
+    by : (s : Stop) → (gathered_body s (head (ContentLength (length f.bytes))) withheld f.bytes).ending ≡ Whole → (gathered_body s (head (ContentLength (length f.bytes))) withheld f.bytes).bytes ≡ [] → ⊥
     by End e none = some (ContentLength (length f.bytes)) (if withheld then [] else f.bytes) none
     by (Fault kind) e none = let no : Broken kind ≡ Whole = e in cc
 

@@ -194,12 +194,12 @@ rose a b c n true e same u (inr l) = l.1.failures ∙ ap next_count (eqb-true b.
 rose a b c n false e same u m = m.failures ∙ u
 
 -- the writer's count could not rise
-at-top : (n : ℕ) → next_count n ≡ n → n < 2 ^ 64 - 1 → ⊥
-at-top n h lt = omega (arith, h, lt)
+at-head : (n : ℕ) → next_count n ≡ n → n < 2 ^ 64 - 1 → ⊥
+at-head n h lt = omega (arith, h, lt)
 
 -- what the writer stated of its fault stays as the outlet ends, where its count rose
 kind-stays : (a b c : Sink) (n : ℕ) (t : Bool) → (b.failures == n) ≡ t → n ≡ a.failures → b.failures ≡ next_count a.failures → MatchBool t (EndsQuietly b c) (DropsHeld b c) → a.failures < 2 ^ 64 - 1 → c.last_kind ≡ b.last_kind
-kind-stays a b c n true e same u m lt = absurd (at-top a.failures (sym u ∙ eqb-true b.failures n e ∙ same) lt)
+kind-stays a b c n true e same u m lt = absurd (at-head a.failures (sym u ∙ eqb-true b.failures n e ∙ same) lt)
 kind-stays a b c n false e same u m lt = m.last_kind
 
 failed-by : (a b c : Sink) (n : ℕ) (kind : ErrorKind) → n ≡ a.failures → Faulted a b kind → MatchBool (b.failures == n) (EndsQuietly b c) (DropsHeld b c) → FailedBy a c kind
@@ -214,12 +214,12 @@ flushed-honest {T = T} a b c (Err e) ans o p same puts = inl (puts.failures ∙ 
 
 honest-by : (T : Type 0) (o : Option Feed) (a b c : Sink) (n : ℕ) (e : Error) (ans : Answer) (p : Printing) (t : Bool) → (next_count a.failures == a.failures) ≡ t → b.failures ≡ a.failures
     → IfSome o (λ feed. length feed.bytes < 2 ^ 63 → PrintsAnswer {T = T} a b (Err e) ans feed p) → n ≡ a.failures → MatchBool (b.failures == n) (EndsQuietly b c) (DropsHeld b c) → IsHonest a c ans o p (error_kind e)
-honest-by T o a b c n e ans p true top u h same m =
-    let stays = eqb-true (next_count a.failures) a.failures top in
-    inl (rose a b c n (b.failures == n) refl same (u ∙ sym stays) m, λ lt. absurd (at-top a.failures stays lt))
-honest-by T None a b c n e ans p false top u h same m = inr tt
-honest-by T (Some f) a b c n e ans p false top u h same m =
-    let low : b.failures ≡ next_count a.failures → ⊥ = λ q. (let z : true ≡ false = sym (eq-eqb (next_count a.failures) a.failures (sym q ∙ u)) ∙ top in cc) in
+honest-by T o a b c n e ans p true head u h same m =
+    let stays = eqb-true (next_count a.failures) a.failures head in
+    inl (rose a b c n (b.failures == n) refl same (u ∙ sym stays) m, λ lt. absurd (at-head a.failures stays lt))
+honest-by T None a b c n e ans p false head u h same m = inr tt
+honest-by T (Some f) a b c n e ans p false head u h same m =
+    let low : b.failures ≡ next_count a.failures → ⊥ = λ q. (let z : true ≡ false = sym (eq-eqb (next_count a.failures) a.failures (sym q ∙ u)) ∙ head in cc) in
     inr (λ few. data-breaks T a b e ans f p low (h few))
 
 pub printed-honest : (T : Type 0) (o : Option Feed) (a b c : Sink) (n : ℕ) (e : Error) (ans : Answer) (p : Printing) → IfSome o (λ feed. length feed.bytes < 2 ^ 63 → PrintsAnswer {T = T} a b (Err e) ans feed p)

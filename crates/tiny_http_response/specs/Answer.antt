@@ -19,7 +19,7 @@ use Rattle.tiny_http_head.specs.Common.{version_text, same_name, reason_phrase}
 use Rattle.tiny_http_io.specs.Device.{Feed, Sink}
 use Rattle.tiny_http_io.specs.declared.device.Stop.{Stop}
 use Rattle.tiny_http_io.specs.declared.device.Stop.TheVariants.{End, Fault}
-use Rattle.tiny_http_response.specs.declared.answer_context.Persistence.{Persistence}
+use Rattle.tiny_http_response.specs.declared.response_context.Persistence.{Persistence}
 use Rattle.tiny_http_response.specs.ByStandard.{status_version, own_headers, listed_headers, has_no_content}
 use Rattle.tiny_http_response.specs.ByStandard.{contentless_framing}
 use Rattle.tiny_http_response.specs.Owing.{owed, owing}
@@ -146,16 +146,16 @@ gathered_body (Fault kind) front withheld bytes = nothing_sent kind
 -- Head and body by the coding and the known length, where `top` is the head with what it says of the
 -- body's length.
 abbrev pub uncoded_text : Option ℕ → (FramingHeader → List ℕ) → Bool → Feed → Text
-uncoded_text (Some n) top withheld feed =
-    prepend_text (top (ContentLength n)) (body_unless_withheld withheld (identity_body n feed))
-uncoded_text None top withheld feed =
-    gathered_body feed.stop (top (ContentLength (length feed.bytes))) withheld feed.bytes
+uncoded_text (Some n) head withheld feed =
+    prepend_text (head (ContentLength n)) (body_unless_withheld withheld (identity_body n feed))
+uncoded_text None head withheld feed =
+    gathered_body feed.stop (head (ContentLength (length feed.bytes))) withheld feed.bytes
 
 -- In chunks an end of the data before the length that they owe is a fault: no last chunk follows.
 abbrev pub coded_text : Coding → Option Persistence → Option ℕ → (FramingHeader → List ℕ) → Bool → Feed → Text
-coded_text Identity says length top withheld feed = uncoded_text length top withheld feed
-coded_text Chunked says length top withheld feed =
-    prepend_text (top TransferEncoding) (body_unless_withheld withheld (chunked_body (owing (owed says length) feed)))
+coded_text Identity says length head withheld feed = uncoded_text length head withheld feed
+coded_text Chunked says length head withheld feed =
+    prepend_text (head TransferEncoding) (body_unless_withheld withheld (chunked_body (owing (owed says length) feed)))
 
 -- the headers behind the date: an upgrade says nothing more of its connection
 abbrev pub listed_with : Option (List ℕ) → Option Persistence → HTTPVersion → Answer → List Header

@@ -8,8 +8,8 @@ use Rattle.tiny_http_head.specs.declared.common.Header.{Header}
 use Rattle.tiny_http_response.specs.Coding.{is_up_to_1_0}
 use Rattle.tiny_http_response.specs.declared.coding.FramingHeader.{FramingHeader}
 use Rattle.tiny_http_response.specs.declared.coding.FramingHeader.TheVariants.{Neither, ContentLength}
-use Rattle.tiny_http_response.specs.declared.answer_context.Persistence.{Persistence}
-use Rattle.tiny_http_response.specs.declared.answer_context.Persistence.TheVariants.{Persistent, Close}
+use Rattle.tiny_http_response.specs.declared.response_context.Persistence.{Persistence}
+use Rattle.tiny_http_response.specs.declared.response_context.Persistence.TheVariants.{Persistent, Close}
 
 -- by the standard each status line is in version 1.1
 abbrev pub status_version : Option Persistence → HTTPVersion → HTTPVersion

@@ -8,7 +8,7 @@ pub mod AddHeader
 pub mod ResponseHeaders
 pub mod Readable
 pub mod HeaderPlace
-pub mod Top
+pub mod ResponseHead
 pub mod Page
 pub mod ResponseValue
 pub mod Sending

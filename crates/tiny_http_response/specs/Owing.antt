@@ -3,7 +3,7 @@ use Rattle.std.specs.Prelude.{ℕ, length, nat_le, Option, Some, if◌then◌els
 use Rattle.std.specs.Option.{option_map}
 use Rattle.tiny_http_io.specs.Device.{Feed, fault_of}
 use Rattle.tiny_http_io.specs.declared.device.Stop.TheVariants.{Fault}
-use Rattle.tiny_http_response.specs.declared.answer_context.Persistence.{Persistence}
+use Rattle.tiny_http_response.specs.declared.response_context.Persistence.{Persistence}
 use Rattle.tiny_http_response.specs.declared.owing.OwingReader.{OwingReader}
 
 -- how many bytes the data owe: by the standard as many as are stated

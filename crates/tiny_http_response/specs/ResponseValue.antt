@@ -3,8 +3,8 @@ use Rattle.std.specs.Prelude.{ℕ, Bool, List, length, Option, Some, None}
 use Rattle.httpdate.specs.declared.date.HttpDate.{HttpDate}
 use Rattle.tiny_http_head.specs.declared.common.HTTPVersion.{HTTPVersion}
 use Rattle.tiny_http_head.specs.declared.common.Header.{Header}
-use Rattle.tiny_http_response.specs.declared.answer_context.AnswerContext.{AnswerContext}
-use Rattle.tiny_http_response.specs.declared.answer_context.Persistence.{Persistence}
+use Rattle.tiny_http_response.specs.declared.response_context.ResponseContext.{ResponseContext}
+use Rattle.tiny_http_response.specs.declared.response_context.Persistence.{Persistence}
 use Rattle.tiny_http_response.specs.declared.coding.Coding.{Coding}
 use Rattle.tiny_http_io.specs.Device.{Feed, whole_feed}
 use Rattle.tiny_http_body.specs.Text.{Text}
@@ -36,11 +36,11 @@ printing_to asked version no_body persistence date =
     }
 
 -- how the answer to a request is printed, by what is kept of it
-abbrev pub printing_in : AnswerContext → HttpDate → Printing
+abbrev pub printing_in : ResponseContext → HttpDate → Printing
 printing_in context date = printing_to context.asked_coding context.version context.no_body context.persistence date
 
 -- the same, with an upgrade to this protocol, if there is one
-abbrev pub printing_with : AnswerContext → Option (List ℕ) → HttpDate → Printing
+abbrev pub printing_with : ResponseContext → Option (List ℕ) → HttpDate → Printing
 printing_with context upgrade date = record (printing_in context date) { upgrade = upgrade }
 
 -- the same way of printing, with an upgrade to this protocol

@@ -152,7 +152,7 @@ pub record SendsAnswer {W D : Type 0}
   -- or that of data that state fewer than 2^63 bytes; of other data nothing is said. After a fault the outlet has
   -- ended. Nothing is held, and a writer that goes on has sent all on.
   pub fails_once : FailsOnce old new
-  pub told : ReportsFailure (output_of old) (output_of new) r
+  pub reports : ReportsFailure (output_of old) (output_of new) r
   pub honest : IfErr r
       (λ e. IsHonest (output_of old) (output_of new) response.answer (stated response.data_reader) p (error_kind e))
   pub ended : OnErr r (new.ended ≡ true)

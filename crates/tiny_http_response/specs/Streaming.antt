@@ -6,7 +6,7 @@ use Rattle.tiny_http_response.specs.declared.coding.FramingHeader.{FramingHeader
 use Rattle.tiny_http_response.specs.declared.coding.FramingHeader.TheVariants.{Neither, TransferEncoding}
 use Rattle.tiny_http_body.specs.declared.streamed.StreamedForm.{StreamedForm}
 use Rattle.tiny_http_body.specs.declared.streamed.StreamedForm.TheVariants.{Chunks, Plain, Absent}
-use Rattle.tiny_http_response.specs.declared.answer_context.AnswerContext.{AnswerContext}
+use Rattle.tiny_http_response.specs.declared.response_context.ResponseContext.{ResponseContext}
 use Rattle.tiny_http_response.specs.ByStandard.{status_version, listed_headers, contentless_framing}
 use Rattle.tiny_http_response.specs.Answer.{Answer, answer_head_text}
 
@@ -19,7 +19,7 @@ form_by None false true = Plain
 form_by None false false = Chunks
 
 -- HOW SUCH A BODY IS SENT with this code (RFC 9112, sections 6.3 and 7.1)
-abbrev pub streamed_form : AnswerContext → ℕ → StreamedForm
+abbrev pub streamed_form : ResponseContext → ℕ → StreamedForm
 streamed_form context status =
     form_by (contentless_framing context.persistence true status None) context.no_body (is_up_to_1_0 context.version)
 
@@ -30,12 +30,12 @@ framing_by (Some framing) is_old = framing
 framing_by None true = Neither
 framing_by None false = TransferEncoding
 
-abbrev pub streamed_framing : AnswerContext → ℕ → FramingHeader
+abbrev pub streamed_framing : ResponseContext → ℕ → FramingHeader
 streamed_framing context status =
     framing_by (contentless_framing context.persistence true status None) (is_up_to_1_0 context.version)
 
 -- THE HEAD of such an answer
-abbrev pub streamed_head : Answer → AnswerContext → HttpDate → List ℕ
+abbrev pub streamed_head : Answer → ResponseContext → HttpDate → List ℕ
 streamed_head a context date =
     answer_head_text (status_version context.persistence context.version) a.status None a.headers
     (listed_headers context.persistence context.version a.status a.offered a.headers) date

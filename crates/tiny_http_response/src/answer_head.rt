@@ -3,15 +3,15 @@ ghost use Rattle.std.specs.Prelude.{◌≡◌};
 ghost use Rattle.std.specs.List.{flat_map};
 ghost use Rattle.std.specs.Option.{option_copied};
 ghost use Rattle.tiny_http_io.specs.Device.{Puts};
-ghost use Rattle.tiny_http_response.specs.Top.{top_text, top_listed};
+ghost use Rattle.tiny_http_response.specs.ResponseHead.{response_head_text, response_head_listed};
 ghost use Rattle.tiny_http_response.specs.ByStandard.{status_version};
 ghost use Rattle.tiny_http_response.specs.Answer.{has_header, status_line, field_line, field_line_of, protocol_lines};
 ghost use Rattle.tiny_http_response.specs.Answer.{upgrade_lines, server_line, date_line, length_line, framing_line};
 
-use crate::answer_context::Persistence;
 use crate::by_standard::{persistence_option, put_connection, put_safe_headers};
 use crate::coding::FramingHeader;
 use crate::page::Page;
+use crate::response_context::Persistence;
 use httpdate::HttpDate;
 use std::io;
 use tiny_http_head::common::{HTTPVersion, Header, StatusCode};
@@ -21,7 +21,7 @@ use tiny_http_text::number::Numeral;
 
 /// What the head of an answer is made of, beside how it says the length of the body.
 #[derive(Clone, Copy)]
-pub(crate) struct Top<'a> {
+pub(crate) struct ResponseHead<'a> {
     /// The version of the request.
     pub(crate) version: HTTPVersion,
     /// What the answer says of its connection, by the standard.
@@ -186,53 +186,53 @@ fn put_framing<W: WriteDevice>(writer: &mut W, framing: FramingHeader) -> Result
 }
 
 // The status line of a head.
-fn put_status<W: WriteDevice>(writer: &mut W, top: &Top<'_>) -> Result<(), io::Error>
+fn put_status<W: WriteDevice>(writer: &mut W, head: &ResponseHead<'_>) -> Result<(), io::Error>
     ensures { Puts (W.sink writer.old) (W.sink writer.new) result
-        (status_line (status_version top.now.persistence top.now.version) top.now.status.0) }
+        (status_line (status_version head.now.persistence head.now.version) head.now.status.0) }
 {
-    match top.persistence {
-        None => put_status_line(writer, top.version, top.status),
-        Some(_) => put_status_line(writer, HTTPVersion(1, 1), top.status),
+    match head.persistence {
+        None => put_status_line(writer, head.version, head.status),
+        Some(_) => put_status_line(writer, HTTPVersion(1, 1), head.status),
     }
 }
 
 // The header lines behind the date, for an upgrade or not.
 fn put_listed<W: WriteDevice>(
     writer: &mut W,
-    top: &Top<'_>,
+    head: &ResponseHead<'_>,
     upgrade: Option<&str>,
 ) -> Result<(), io::Error>
     ensures { Puts (W.sink writer.old) (W.sink writer.new) result
-        (flat_map field_line_of (top_listed top.now (option_copied upgrade.entry))) }
+        (flat_map field_line_of (response_head_listed head.now (option_copied upgrade.entry))) }
 {
-    let Some(persistence) = top.persistence else {
-        return put_headers(writer, top.headers);
+    let Some(persistence) = head.persistence else {
+        return put_headers(writer, head.headers);
     };
-    if upgrade.is_none() && top.status.0 >= 200 {
+    if upgrade.is_none() && head.status.0 >= 200 {
         put_connection(
             writer,
-            top.offered,
-            persistence_option(top.version, persistence),
+            head.offered,
+            persistence_option(head.version, persistence),
         )?;
     }
-    put_safe_headers(writer, top.headers)
+    put_safe_headers(writer, head.headers)
 }
 
 // The lines of a head, piece by piece, and the empty line.
 fn put_lines<W: WriteDevice>(
     writer: &mut W,
-    top: &Top<'_>,
+    head: &ResponseHead<'_>,
     upgrade: Option<&str>,
     framing: FramingHeader,
 ) -> Result<(), io::Error>
     ensures { Puts (W.sink writer.old) (W.sink writer.new) result
-        (top_text top.now (option_copied upgrade.entry) framing) }
+        (response_head_text head.now (option_copied upgrade.entry) framing) }
 {
-    put_status(writer, top)?;
+    put_status(writer, head)?;
     put_upgrade(writer, upgrade)?;
-    put_server(writer, top.headers)?;
-    put_date(writer, top.headers, top.date)?;
-    put_listed(writer, top, upgrade)?;
+    put_server(writer, head.headers)?;
+    put_date(writer, head.headers, head.date)?;
+    put_listed(writer, head, upgrade)?;
     put_framing(writer, framing)?;
     put(writer, b"\r\n")
 }
@@ -244,16 +244,16 @@ fn put_lines<W: WriteDevice>(
 /// written as one piece.
 pub(crate) fn put_head<W: WriteDevice>(
     writer: &mut W,
-    top: &Top<'_>,
+    head: &ResponseHead<'_>,
     upgrade: Option<&str>,
     framing: FramingHeader,
 ) -> Result<(), io::Error>
     ensures { Puts (W.sink writer.old) (W.sink writer.new) result
-        (top_text top.now (option_copied upgrade.entry) framing) }
+        (response_head_text head.now (option_copied upgrade.entry) framing) }
 {
     let mut page = Page::new();
-    match put_lines(&mut page, top, upgrade, framing) {
+    match put_lines(&mut page, head, upgrade, framing) {
         Ok(()) => put(writer, page.as_slice()),
-        Err(_) => put_lines(writer, top, upgrade, framing),
+        Err(_) => put_lines(writer, head, upgrade, framing),
     }
 }

@@ -10,9 +10,9 @@ ghost use Rattle.tiny_http_response.specs.ByStandard.{options_with_upgrade, safe
 ghost use Rattle.tiny_http_response.specs.ByStandard.{contentless_framing, framing_by_standard, has_no_content};
 ghost use Rattle.tiny_http_response.specs.ByStandard.{framing_of_304};
 
-use crate::answer_context::Persistence;
 use crate::answer_head::put_field;
 use crate::coding::FramingHeader;
+use crate::response_context::Persistence;
 use httparse::{is_header_value, is_header_value_token, is_token};
 use std::io;
 use tiny_http_head::common::{HTTPVersion, Header, StatusCode};

@@ -1,10 +1,9 @@
 //! Answers (RFC 9110, and RFC 9112, sections 4 to 7): what a response holds, which coding its body has, how it is
 //! printed, and how it leaves through a connection's outlet. It stands on `tiny_http_body`; `tiny_http_wire` names
-//! `response`, `answer_context` and `coding` again.
+//! `response`, `response_context` and `coding` again.
 #![tactic(auto)]
 
 mod add_header;
-pub mod answer_context;
 mod answer_head;
 mod by_standard;
 pub mod coding;
@@ -14,4 +13,5 @@ mod owing;
 mod page;
 mod readable;
 pub mod response;
+pub mod response_context;
 pub mod sending;

@@ -2,7 +2,7 @@
 ghost use Rattle.std.specs.Prelude.{◌≡◌};
 ghost use Rattle.tiny_http_response.specs.Owing.{owed};
 
-use crate::answer_context::Persistence;
+use crate::response_context::Persistence;
 use std::io;
 use std::io::ErrorKind;
 use tiny_http_io::device::ReadDevice;
@@ -43,7 +43,7 @@ impl<R: ReadDevice> ReadDevice for OwingReader<R> {
 
     ghost feed = { owing_feed R.feed };
 
-    ghost told = { λ r. R.told (owing_inner r) };
+    ghost stop_count = { λ r. R.stop_count (owing_inner r) };
 
     /// Reads once from the inner reader.
     fn read_in(&mut self, buf: &mut [u8]) -> Result<usize, io::Error> {

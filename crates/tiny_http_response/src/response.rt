@@ -16,17 +16,17 @@ ghost use Rattle.tiny_http_response.specs.Streaming.{streamed_head};
 ghost use Rattle.tiny_http_body.specs.Text.{Prints, prepend_text, whole, identity_body, chunked_body, nothing_sent};
 ghost use Rattle.tiny_http_io.specs.Cursor.{cursor_bytes};
 ghost use Rattle.tiny_http_io.specs.Metered.{metered_inner};
-ghost use Rattle.tiny_http_response.specs.Top.{top_text};
+ghost use Rattle.tiny_http_response.specs.ResponseHead.{response_head_text};
 ghost use Rattle.tiny_http_response.specs.Coding.{coding_asked};
 ghost use Rattle.tiny_http_io.specs.Device.{Puts, CountsFaults, fault_count};
 
 use crate::add_header::{add, add_all, add_in_place};
-use crate::answer_context::AnswerContext;
-use crate::answer_head::{Top, put_head};
+use crate::answer_head::{ResponseHead, put_head};
 use crate::by_standard::{contentless_framing, has_no_content};
 use crate::coding::{Coding, FramingHeader, asked_coding, choose};
 use crate::owing::{OwingReader, owed};
 use crate::readable::are_readable;
+use crate::response_context::ResponseContext;
 use httpdate::HttpDate;
 use std::alloc::{AllocError, Global};
 use std::fs::OpenFile;
@@ -460,7 +460,7 @@ impl<R> Response<R> {
         // Whatever the data and the writer state: a fault of the writer's is one that its count has.
         ensures uses { CountsFaults (W.sink writer.old) (W.sink writer.new) result }
     {
-        let context = AnswerContext {
+        let context = ResponseContext {
             version,
             asked_coding: asked_coding(request_headers),
             no_body,
@@ -479,7 +479,7 @@ impl<R> Response<R> {
         self,
         alloc: Global,
         writer: &mut W,
-        context: AnswerContext,
+        context: ResponseContext,
         upgrade: Option<&str>,
         now: HttpDate,
     ) -> Result<(), io::Error>
@@ -500,7 +500,7 @@ impl<R> Response<R> {
         let mut data = self.reader;
         let headers = self.headers;
         let offered = self.offered;
-        let top = Top {
+        let head = ResponseHead {
             version: context.version,
             persistence: context.persistence,
             status: self.status,
@@ -509,7 +509,7 @@ impl<R> Response<R> {
             date: now,
         };
         if let Some(protocol) = upgrade {
-            return print_upgrade(writer, &top, protocol);
+            return print_upgrade(writer, &head, protocol);
         }
         let (length, threshold) = (self.data_length, self.threshold);
         if let Some(framing) = contentless_framing(
@@ -518,7 +518,7 @@ impl<R> Response<R> {
             self.status,
             length,
         ) {
-            return put_head(writer, &top, None, framing);
+            return put_head(writer, &head, None, framing);
         }
         let coding = choose(
             context.version,
@@ -531,26 +531,26 @@ impl<R> Response<R> {
         match coding {
             Coding::Chunked => {
                 let mut data = OwingReader::new(data, owed(context.persistence, length));
-                print_in_chunks(&mut data, writer, &top, withheld)
+                print_in_chunks(&mut data, writer, &head, withheld)
             }
-            Coding::Identity => print_uncoded(alloc, &mut data, writer, &top, length, withheld),
+            Coding::Identity => print_uncoded(alloc, &mut data, writer, &head, length, withheld),
         }
     }
 
     /// Prints the head alone of an answer whose body comes later, and grows while it is sent:
-    /// `AnswerContext::streamed_form` says how that is to be sent. The head says chunks to a version from 1.1 on,
+    /// `ResponseContext::streamed_form` says how that is to be sent. The head says chunks to a version from 1.1 on,
     /// also where no body is asked for, and neither a length nor a coding to an earlier one (RFC 9112, section 6).
     /// The answer's data, their length and its threshold are passed over. It is printed by the standard where `print`
     /// would be. The error is the writer's first fault, after which nothing more is written. It doesn't flush.
     pub fn print_head<W: WriteDevice>(
         &self,
         writer: &mut W,
-        context: AnswerContext,
+        context: ResponseContext,
         now: HttpDate,
     ) -> Result<(), io::Error>
         ensures { Puts (W.sink writer.old) (W.sink writer.new) result (streamed_head self.now.answer context now) }
     {
-        let top = Top {
+        let head = ResponseHead {
             version: context.version,
             persistence: context.persistence,
             status: self.status,
@@ -558,7 +558,7 @@ impl<R> Response<R> {
             offered: &self.offered,
             date: now,
         };
-        put_head(writer, &top, None, context.streamed_framing(self.status))
+        put_head(writer, &head, None, context.streamed_framing(self.status))
     }
 
     /// Gives the reader of the data.
@@ -580,20 +580,20 @@ fn is_withheld(no_body: bool, status: StatusCode) -> bool
 fn print_as_it_is<D: ReadDevice, W: WriteDevice>(
     source: &mut D,
     writer: &mut W,
-    top: &Top<'_>,
+    head: &ResponseHead<'_>,
     withheld: bool,
     n: usize,
 ) -> Result<(), io::Error>
     ensures text { IfSome (D.feed source.old) (λ feed.
         Prints (W.sink writer.old) (W.sink writer.new) result
-        (prepend_text (top_text top.now None (FramingHeader.ContentLength n))
+        (prepend_text (response_head_text head.now None (FramingHeader.ContentLength n))
         (if withheld then whole [] else identity_body n feed))) }
     ensures unread { withheld ≡ true → source.new ≡ source.old }
     ensures uses { CountsFaults (W.sink writer.old) (W.sink writer.new) result }
     // `Ok` meets no end of the data; a fault, one end or fault of them at most.
-    ensures told { D.told source.new ≤ D.told source.old + fault_count result }
+    ensures stop_count { D.stop_count source.new ≤ D.stop_count source.old + fault_count result }
 {
-    put_head(writer, top, None, FramingHeader::ContentLength(n))?;
+    put_head(writer, head, None, FramingHeader::ContentLength(n))?;
     if withheld {
         return Ok(());
     }
@@ -604,14 +604,19 @@ fn print_as_it_is<D: ReadDevice, W: WriteDevice>(
 fn print_bytes<W: WriteDevice>(
     bytes: &[u8],
     writer: &mut W,
-    top: &Top<'_>,
+    head: &ResponseHead<'_>,
     withheld: bool,
 ) -> Result<(), io::Error>
     ensures { Puts (W.sink writer.old) (W.sink writer.new) result
-        (top_text top.now None (FramingHeader.ContentLength (length bytes.now))
+        (response_head_text head.now None (FramingHeader.ContentLength (length bytes.now))
         ++ (if withheld then [] else bytes.now)) }
 {
-    put_head(writer, top, None, FramingHeader::ContentLength(bytes.len()))?;
+    put_head(
+        writer,
+        head,
+        None,
+        FramingHeader::ContentLength(bytes.len()),
+    )?;
     if withheld {
         return Ok(());
     }
@@ -623,19 +628,19 @@ fn print_gathered<D: ReadDevice, W: WriteDevice>(
     alloc: Global,
     source: &mut D,
     writer: &mut W,
-    top: &Top<'_>,
+    head: &ResponseHead<'_>,
     withheld: bool,
 ) -> Result<(), io::Error>
     ensures text { IfSome (D.feed source.old) (λ feed. length feed.bytes < 2 ^ 63 →
         PrintsGathered (W.sink writer.old) (W.sink writer.new) result
-        (top_text top.now None (FramingHeader.ContentLength (length feed.bytes)))
+        (response_head_text head.now None (FramingHeader.ContentLength (length feed.bytes)))
         withheld feed) }
     ensures uses { CountsFaults (W.sink writer.old) (W.sink writer.new) result }
     // Reads no data after their end or fault.
-    ensures told { D.told source.new ≤ D.told source.old + 1 }
+    ensures stop_count { D.stop_count source.new ≤ D.stop_count source.old + 1 }
 {
     let bytes = gather(alloc, source)?;
-    print_bytes(bytes.as_slice(), writer, top, withheld)
+    print_bytes(bytes.as_slice(), writer, head, withheld)
 }
 
 // Prints an answer whose body isn't coded, by its length.
@@ -643,20 +648,20 @@ fn print_uncoded<D: ReadDevice, W: WriteDevice>(
     alloc: Global,
     source: &mut D,
     writer: &mut W,
-    top: &Top<'_>,
+    head: &ResponseHead<'_>,
     data_length: Option<usize>,
     withheld: bool,
 ) -> Result<(), io::Error>
     ensures text { IfSome (D.feed source.old) (λ feed. length feed.bytes < 2 ^ 63 →
         PrintsUncoded (W.sink writer.old) (W.sink writer.new) result data_length
-        (uncoded_text data_length (λ framing. top_text top.now None framing) withheld feed)) }
+        (uncoded_text data_length (λ framing. response_head_text head.now None framing) withheld feed)) }
     ensures uses { CountsFaults (W.sink writer.old) (W.sink writer.new) result }
     // Reads no data after their end or fault.
-    ensures told { D.told source.new ≤ D.told source.old + 1 }
+    ensures stop_count { D.stop_count source.new ≤ D.stop_count source.old + 1 }
 {
     match data_length {
-        Some(n) => print_as_it_is(source, writer, top, withheld, n),
-        None => print_gathered(alloc, source, writer, top, withheld),
+        Some(n) => print_as_it_is(source, writer, head, withheld, n),
+        None => print_gathered(alloc, source, writer, head, withheld),
     }
 }
 
@@ -664,19 +669,19 @@ fn print_uncoded<D: ReadDevice, W: WriteDevice>(
 fn print_in_chunks<D: ReadDevice, W: WriteDevice>(
     source: &mut D,
     writer: &mut W,
-    top: &Top<'_>,
+    head: &ResponseHead<'_>,
     withheld: bool,
 ) -> Result<(), io::Error>
     ensures text { IfSome (D.feed source.old) (λ feed. length feed.bytes < 2 ^ 63 →
         Prints (W.sink writer.old) (W.sink writer.new) result
-        (prepend_text (top_text top.now None FramingHeader.TransferEncoding)
+        (prepend_text (response_head_text head.now None FramingHeader.TransferEncoding)
         (body_unless_withheld withheld (chunked_body feed)))) }
     ensures unread { withheld ≡ true → source.new ≡ source.old }
     ensures uses { CountsFaults (W.sink writer.old) (W.sink writer.new) result }
     // Reads no data after their end or fault.
-    ensures told { D.told source.new ≤ D.told source.old + 1 }
+    ensures stop_count { D.stop_count source.new ≤ D.stop_count source.old + 1 }
 {
-    put_head(writer, top, None, FramingHeader::TransferEncoding)?;
+    put_head(writer, head, None, FramingHeader::TransferEncoding)?;
     if withheld {
         return Ok(());
     }
@@ -686,16 +691,16 @@ fn print_in_chunks<D: ReadDevice, W: WriteDevice>(
 // Prints an upgrade's answer.
 fn print_upgrade<W: WriteDevice>(
     writer: &mut W,
-    top: &Top<'_>,
+    head: &ResponseHead<'_>,
     protocol: &str,
 ) -> Result<(), io::Error>
     ensures { PrintsText (W.sink writer.old) (W.sink writer.new) result
         (if list_all is_ascii protocol.now
-        then whole (top_text top.now (Some protocol.now) FramingHeader.Neither)
+        then whole (response_head_text head.now (Some protocol.now) FramingHeader.Neither)
         else nothing_sent ErrorKind.InvalidInput) }
 {
     if !are_ascii(protocol.as_bytes()) {
         return Err(ErrorKind::InvalidInput.into());
     }
-    put_head(writer, top, Some(protocol), FramingHeader::Neither)
+    put_head(writer, head, Some(protocol), FramingHeader::Neither)
 }

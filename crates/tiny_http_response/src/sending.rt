@@ -10,8 +10,8 @@ ghost use Rattle.tiny_http_response.specs.Sending.{Sends, SendsText, EndsQuietly
 ghost use Rattle.tiny_http_response.specs.Sending.{IsHonest, is_closed_client, reported, FailsOnce, SendsQuietlyOn};
 ghost use Rattle.tiny_http_response.specs.Sending.{SendsAnswer, ReportsFailure, KeepsSent};
 
-use crate::answer_context::AnswerContext;
 use crate::response::Response;
+use crate::response_context::ResponseContext;
 use httpdate::HttpDate;
 use std::alloc::Global;
 use std::io;
@@ -41,25 +41,25 @@ fn send_printed<W: WriteDevice, D: ReadDevice + Drop>(
     alloc: Global,
     outlet: &mut Outlet<W>,
     response: Response<D>,
-    answer_context: AnswerContext,
+    response_context: ResponseContext,
     upgrade: Option<&str>,
     now: HttpDate,
 ) -> Result<(), io::Error>
     ensures sends { (content : Feed) → D.feed response.data_reader ≡ Some content → length content.bytes < 2 ^ 63
         → CanSend (output_of outlet.old)
         → Sends (output_of outlet.old) (output_of outlet.new) (outlet_ended outlet.new) result response.answer
-        content (printing_with answer_context (option_copied upgrade.entry) now) }
+        content (printing_with response_context (option_copied upgrade.entry) now) }
     ensures fails_once { SinkFailsOnce (output_of outlet.old) (output_of outlet.new) (outlet_ended outlet.new) }
-    ensures told { ReportsFailure (output_of outlet.old) (output_of outlet.new) result }
+    ensures reports { ReportsFailure (output_of outlet.old) (output_of outlet.new) result }
     ensures honest { IfErr result (λ e.
         IsHonest (output_of outlet.old) (output_of outlet.new) response.answer (D.feed response.data_reader)
-        (printing_with answer_context (option_copied upgrade.entry) now) (error_kind e)) }
+        (printing_with response_context (option_copied upgrade.entry) now) (error_kind e)) }
     ensures ended { OnErr result (outlet_ended outlet.new ≡ true) }
     ensures flushed { outlet_held outlet.new ≡ [] }
     ensures sent_on { SentOn outlet.new }
 {
     let failures = outlet.failures();
-    let printed = response.print(alloc, outlet, answer_context, upgrade, now);
+    let printed = response.print(alloc, outlet, response_context, upgrade, now);
     if let Err(fault) = printed {
         end_behind_fault(outlet, failures);
         return Err(fault);
@@ -73,23 +73,23 @@ pub fn send<W: WriteDevice, D: ReadDevice + Drop>(
     alloc: Global,
     outlet: &mut Outlet<W>,
     response: Response<D>,
-    answer_context: AnswerContext,
+    response_context: ResponseContext,
     now: HttpDate,
 ) -> Result<(), io::Error>
     ensures sends { (content : Feed) → D.feed response.data_reader ≡ Some content → length content.bytes < 2 ^ 63
         → CanSend (output_of outlet.old)
         → Sends (output_of outlet.old) (output_of outlet.new) (outlet_ended outlet.new) result response.answer
-        content (printing_in answer_context now) }
+        content (printing_in response_context now) }
     ensures fails_once { SinkFailsOnce (output_of outlet.old) (output_of outlet.new) (outlet_ended outlet.new) }
-    ensures told { ReportsFailure (output_of outlet.old) (output_of outlet.new) result }
+    ensures reports { ReportsFailure (output_of outlet.old) (output_of outlet.new) result }
     ensures honest { IfErr result (λ e.
         IsHonest (output_of outlet.old) (output_of outlet.new) response.answer (D.feed response.data_reader)
-        (printing_in answer_context now) (error_kind e)) }
+        (printing_in response_context now) (error_kind e)) }
     ensures ended { OnErr result (outlet_ended outlet.new ≡ true) }
     ensures flushed { outlet_held outlet.new ≡ [] }
     ensures sent_on { SentOn outlet.new }
 {
-    send_printed(alloc, outlet, response, answer_context, None, now)
+    send_printed(alloc, outlet, response, response_context, None, now)
 }
 
 /// Sends an answer as `send` does, unless the output has ended: then nothing is sent, the data aren't read, and the
@@ -98,16 +98,16 @@ pub fn send_unless_ended<W: WriteDevice, D: ReadDevice + Drop>(
     alloc: Global,
     outlet: &mut Outlet<W>,
     response: Response<D>,
-    answer_context: AnswerContext,
+    response_context: ResponseContext,
     now: HttpDate,
 ) -> Result<(), io::Error>
-    ensures { SendsAnswer D.feed outlet.old outlet.new result response (printing_in answer_context now) }
+    ensures { SendsAnswer D.feed outlet.old outlet.new result response (printing_in response_context now) }
 {
     if outlet.is_ended() {
         outlet.facts();
         return Ok(());
     }
-    send(alloc, outlet, response, answer_context, now)
+    send(alloc, outlet, response, response_context, now)
 }
 
 /// Whether a fault of this kind says that the client has closed the connection: an answer to it is no failure.
@@ -142,21 +142,21 @@ pub fn send_upgrade<W: WriteDevice, D: Drop>(
     alloc: Global,
     outlet: &mut Outlet<W>,
     response: Response<D>,
-    answer_context: AnswerContext,
+    response_context: ResponseContext,
     protocol: &str,
     now: HttpDate,
 ) -> Result<(), io::Error>
     // Whatever the data are.
     ensures sends { (content : Feed) → CanSend (output_of outlet.old)
         → SendsText (output_of outlet.old) (output_of outlet.new) (outlet_ended outlet.new) result
-        (text_of response.answer content (upgrading protocol.now (printing_in answer_context now))) }
+        (text_of response.answer content (upgrading protocol.now (printing_in response_context now))) }
     ensures fails_once { SinkFailsOnce (output_of outlet.old) (output_of outlet.new) (outlet_ended outlet.new) }
     ensures ended { OnErr result (outlet_ended outlet.new ≡ true) }
     ensures flushed { outlet_held outlet.new ≡ [] }
     ensures sent_on { SentOn outlet.new }
 {
     let answer = response.with_data(io::empty(), Some(0));
-    send_printed(alloc, outlet, answer, answer_context, Some(protocol), now)
+    send_printed(alloc, outlet, answer, response_context, Some(protocol), now)
 }
 
 /// Writes a text. No reply reports a fault that is met there.

@@ -39,11 +39,11 @@ fails-within a b c lent again waiting text n kind same same-again within took-le
     (Failed-append a b c (take n waiting) (drop n waiting) kind (subst T (take-append-le n waiting text within) took) (subst P (take_all (length waiting - n) (drop n waiting) fits) failed)))
 
 -- the writer failed in what waited and a text behind it, and that is reported
-pub fails-now : {W : Type 0} (c m e : CorkedState W) (text : List ℕ) (met told : ErrorKind) → c.state ≡ Open → Failed c.sink m.sink (c.waiting ++ text) met → BeginsKnown m.sink.sent m.sink.taken
-    → m ≡ record c { waiting = []; writer = m.writer; sink = m.sink } → e ≡ record m { waiting = []; state = Ended; failures = next_count m.failures; last = Some met } → told ≡ met
-    → Failed (corked_sink c) (corked_sink e) text told
-fails-now {W = W} c m e text met told is_open failed begins same ended kind =
-    let P : CorkedState W → Type 0 = λ x. Failed (corked_sink c) (corked_sink x) text told in
+pub fails-now : {W : Type 0} (c m e : CorkedState W) (text : List ℕ) (met stop_count : ErrorKind) → c.state ≡ Open → Failed c.sink m.sink (c.waiting ++ text) met → BeginsKnown m.sink.sent m.sink.taken
+    → m ≡ record c { waiting = []; writer = m.writer; sink = m.sink } → e ≡ record m { waiting = []; state = Ended; failures = next_count m.failures; last = Some met } → stop_count ≡ met
+    → Failed (corked_sink c) (corked_sink e) text stop_count
+fails-now {W = W} c m e text met stop_count is_open failed begins same ended kind =
+    let P : CorkedState W → Type 0 = λ x. Failed (corked_sink c) (corked_sink x) text stop_count in
     subst P (sym ended) (record {
       bytes = (failed.bytes.0, whole ∙ failed.bytes.1);
       sent = failed.sent;
@@ -57,11 +57,11 @@ fails-now {W = W} c m e text met told is_open failed begins same ended kind =
     whole = ap (λ s. append_known (taken_by s c.sink c.waiting) text) is_open ∙ ap (λ b. append_known (grown b c.sink.taken c.waiting) text) failed.was_open ∙ append_known-append c.sink.taken c.waiting text
 
 -- a fault that was met earlier is reported
-pub fails-later : {W : Type 0} (c e : CorkedState W) (text : List ℕ) (met told last : ErrorKind) → c.state ≡ Broken met → BeginsKnown c.sink.sent c.sink.taken
-    → e ≡ record c { waiting = []; state = Ended; failures = next_count c.failures; last = Some last } → told ≡ last
-    → Failed (corked_sink c) (corked_sink e) text told
-fails-later {W = W} c e text met told last broken begins ended kind =
-    let P : CorkedState W → Type 0 = λ x. Failed (corked_sink c) (corked_sink x) text told in
+pub fails-later : {W : Type 0} (c e : CorkedState W) (text : List ℕ) (met stop_count last : ErrorKind) → c.state ≡ Broken met → BeginsKnown c.sink.sent c.sink.taken
+    → e ≡ record c { waiting = []; state = Ended; failures = next_count c.failures; last = Some last } → stop_count ≡ last
+    → Failed (corked_sink c) (corked_sink e) text stop_count
+fails-later {W = W} c e text met stop_count last broken begins ended kind =
+    let P : CorkedState W → Type 0 = λ x. Failed (corked_sink c) (corked_sink x) text stop_count in
     subst P (sym ended) (record {
       bytes = (text, ap (λ s. append_known (taken_by s c.sink c.waiting) text) broken);
       sent = IsFront-same c.sink.sent;

@@ -4,16 +4,16 @@ use Rattle.std.specs.IoError.{error_kind}
 use Rattle.std.specs.declared.io.Error.{Error}
 use Rattle.tiny_http_io.specs.Device.{Feed, Sink, next_count}
 use Rattle.tiny_http_socket.specs.ReadAhead.{ahead_feed}
-use Rattle.tiny_http_socket.specs.declared.cork.CorkedReader.{CorkedReader}
+use Rattle.tiny_http_socket.specs.declared.cork.FlushingReader.{FlushingReader}
 use Rattle.tiny_http_socket.specs.declared.cork.CorkedWriter.{CorkedWriter}
 
 -- the bytes that the half still gives that is read
-abbrev pub reader_feed : {R W : Type 0} → CorkedReader R W → Option Feed
+abbrev pub reader_feed : {R W : Type 0} → FlushingReader R W → Option Feed
 reader_feed r = ahead_feed r.ahead
 
 -- how many ends and faults the reader of that half told
-abbrev pub reader_told : {R W : Type 0} → (R → ℕ) → CorkedReader R W → ℕ
-reader_told told r = told r.ahead.reader
+abbrev pub reader_stop_count : {R W : Type 0} → (R → ℕ) → FlushingReader R W → ℕ
+reader_stop_count stop_count r = stop_count r.ahead.reader
 
 -- what the half states that is written: its failures, and no bytes
 abbrev pub writer_sink : {W Rt : Type 0} → CorkedWriter W Rt → Sink

@@ -3,4 +3,4 @@ pub mod Stream
 pub mod Corked
 pub mod ReadAhead
 pub mod Cork
-pub mod Paced
+pub mod Timed

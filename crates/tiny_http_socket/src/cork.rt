@@ -243,17 +243,17 @@ impl<W: WriteBoth + Drop> BeforeRead for Sending<W> {
 /// The half of a connection that is read. Before it calls the socket it has what waits sent, and from then on each
 /// flush sends.
 #[derive(Drop)]
-pub struct CorkedReader<R: ReadDevice + Drop, W: WriteBoth + Drop> {
+pub struct FlushingReader<R: ReadDevice + Drop, W: WriteBoth + Drop> {
     ahead: ReadAhead<R>,
     sending: Sending<W>,
 }
 
-impl<R: ReadDevice + Drop, W: WriteBoth + Drop> ReadDevice for CorkedReader<R, W> {
-    ghost use Rattle.tiny_http_socket.specs.Cork.{reader_feed, reader_told};
+impl<R: ReadDevice + Drop, W: WriteBoth + Drop> ReadDevice for FlushingReader<R, W> {
+    ghost use Rattle.tiny_http_socket.specs.Cork.{reader_feed, reader_stop_count};
 
     ghost feed = { reader_feed };
 
-    ghost told = { reader_told R.told };
+    ghost stop_count = { reader_stop_count R.stop_count };
 
     /// Gives bytes that were read before, if there are some; else has what waits sent, and reads a piece.
     fn read_in(&mut self, buf: &mut [u8]) -> Result<usize, io::Error> {
@@ -267,7 +267,7 @@ pub fn halves<R: ReadDevice + Drop, W: WriteBoth + Drop, Rt: Wait + Drop>(
     alloc: Global,
     reader: R,
     writer: W,
-) -> Result<(CorkedReader<R, W>, CorkedWriter<W, Rt>), AllocError>
+) -> Result<(FlushingReader<R, W>, CorkedWriter<W, Rt>), AllocError>
     ensures feed { IfOk result (λ halves. reader_feed halves.0 ≡ R.feed reader) }
     ensures sink { IfOk result (λ halves. writer_sink halves.1 ≡ fresh_sink) }
 {
@@ -276,7 +276,7 @@ pub fn halves<R: ReadDevice + Drop, W: WriteBoth + Drop, Rt: Wait + Drop>(
     let sending = Sending {
         cork: Arc::try_clone(&cork)?,
     };
-    let reader = CorkedReader { ahead, sending };
+    let reader = FlushingReader { ahead, sending };
     let writer = CorkedWriter {
         rt,
         cork,

@@ -5,11 +5,11 @@
 #![tactic(auto)]
 
 pub mod connection;
+pub mod connection_timers;
 pub mod cork;
 pub mod corked;
-pub mod pace;
-pub mod paced_reader;
-pub mod paced_writer;
 pub mod read_ahead;
 pub mod refined_tcp_stream;
+pub mod timed_reader;
+pub mod timed_writer;
 pub mod write_both;

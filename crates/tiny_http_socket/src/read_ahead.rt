@@ -92,8 +92,9 @@ impl<R: ReadDevice> ReadAhead<R> {
         ensures end { OnOk result (self.new.held ≡ [] → StopsBy End self.old.feed) }
         ensures fault { IfErr result (λ e. StopsBy (Fault (error_kind e)) self.old.feed) }
         ensures again { OnErr result ((self.new.held ≡ []) × (self.new.feed ≡ self.old.feed)) }
-        ensures told { R.told self.new.reader ≤ R.told self.old.reader + 1 }
-        ensures lazy { OnOk result (0 < length self.new.held → R.told self.new.reader ≤ R.told self.old.reader) }
+        ensures stop_count { R.stop_count self.new.reader ≤ R.stop_count self.old.reader + 1 }
+        ensures lazy { OnOk result
+            (0 < length self.new.held → R.stop_count self.new.reader ≤ R.stop_count self.old.reader) }
     {
         let read = self.reader.read_in(self.piece.as_mut_slice());
         self.start = 0;
@@ -111,7 +112,7 @@ impl<R: ReadDevice> ReadAhead<R> {
         buf: &mut [u8],
     ) -> Result<usize, io::Error>
         ensures reads { Reads (ahead_feed self.old) (ahead_feed self.new) result buf.new }
-        ensures told { Tells (R.told self.old.reader) (R.told self.new.reader) result }
+        ensures stop_count { Tells (R.stop_count self.old.reader) (R.stop_count self.new.reader) result }
         ensures empty { length buf.new ≡ 0 → (result ≡ Ok 0) × (self.new ≡ self.old) × (before.new ≡ before.old) }
         ensures held { self.old.held ≢ [] → (self.new.reader ≡ self.old.reader) × (before.new ≡ before.old) }
         ensures calls { self.old.held ≡ [] → 0 < length buf.new → B.does before.old before.new }
@@ -130,7 +131,7 @@ impl<R: ReadDevice> ReadAhead<R> {
     fn read_more(&mut self, buf: &mut [u8]) -> Result<usize, io::Error>
         requires none { self.old.held ≡ [] }
         ensures reads { Reads self.old.feed (ahead_feed self.new) result buf.new }
-        ensures told { Tells (R.told self.old.reader) (R.told self.new.reader) result }
+        ensures stop_count { Tells (R.stop_count self.old.reader) (R.stop_count self.new.reader) result }
     {
         if buf.len() >= PIECE {
             return self.reader.read_in(buf);

@@ -9,12 +9,12 @@ use Rattle.tiny_http_head.specs.ContentLength.{IsOneLength, one_length}
 use Rattle.tiny_http_head.proofs.ContentLengthLemmas.{one-is, one-reads}
 use Rattle.tiny_http_head.specs.declared.common.HTTPVersion.{HTTPVersion}
 use Rattle.tiny_http_head.proofs.FirstByte.{contrary}
-use Rattle.tiny_http_standard_head.specs.declared.judging.Codings.{Codings}
-use Rattle.tiny_http_standard_head.specs.declared.judging.Codings.TheVariants.{Absent, Others, Chunked, Behind, Bad}
-use Rattle.tiny_http_standard_head.specs.declared.judging.Judgement.{Judgement}
-use Rattle.tiny_http_standard_head.specs.declared.judging.Judgement.TheVariants.{InvalidHead, UnknownCoding}
-use Rattle.tiny_http_standard_head.specs.Judging.{is_chunked, is_unknown_coding, is_1_0, IsBodyFraming, HasUnknownCodings}
-use Rattle.tiny_http_standard_head.specs.JudgingReading.{coding_after, codings_on, body_by}
+use Rattle.tiny_http_standard_head.specs.declared.validation.Codings.{Codings}
+use Rattle.tiny_http_standard_head.specs.declared.validation.Codings.TheVariants.{Absent, Others, Chunked, Behind, Bad}
+use Rattle.tiny_http_standard_head.specs.declared.validation.HeadError.{HeadError}
+use Rattle.tiny_http_standard_head.specs.declared.validation.HeadError.TheVariants.{InvalidHead, UnknownCoding}
+use Rattle.tiny_http_standard_head.specs.Validation.{is_chunked, is_unknown_coding, is_1_0, IsBodyFraming, HasUnknownCodings}
+use Rattle.tiny_http_standard_head.specs.ValidationReading.{coding_after, codings_on, body_by}
 
 not-true : (b : Bool) → not b ≡ true → b ≡ false
 not-true true h = contrary false h refl
@@ -109,9 +109,9 @@ from-absent (x ∷ xs) = by (is_chunked x) (bytes_eq x []) refl refl xs (from-ot
     by false false ea eb ys f = further ys (unknown-is x ea eb) (rw (ea, eb) refl) f
 
 abbrev Read : Type 0
-Read = Result (Option ℕ × Bool) Judgement
+Read = Result (Option ℕ × Bool) HeadError
 
-ok-no_err : {G : Type 0} (x : Option ℕ × Bool) (e : Judgement) → ◌≡◌ {A = Read} (Ok x) (Err e) → G
+ok-no_err : {G : Type 0} (x : Option ℕ × Bool) (e : HeadError) → ◌≡◌ {A = Read} (Ok x) (Err e) → G
 ok-no_err x e h = cc
 
 -- codings without a length in version 1.1, or a refusal
@@ -222,16 +222,16 @@ body-invalid v lengths codings h = (
   (λ n chunked b. ok-no_err (n, chunked) InvalidHead (sym (framed-reads v lengths codings n chunked b) ∙ h)),
 )
 
-same-refusal : (x e : Judgement) → ◌≡◌ {A = Read} (Err x) (Err e) → e ≡ x
+same-refusal : (x e : HeadError) → ◌≡◌ {A = Read} (Err x) (Err e) → e ≡ x
 same-refusal x e h = cc
 
-coded-fails : (old : Bool) (n : Option ℕ) (r : Read) (e : Judgement) → coded old n r ≡ Err e → (e ≡ InvalidHead) ⊎ (r ≡ Err e)
+coded-fails : (old : Bool) (n : Option ℕ) (r : Read) (e : HeadError) → coded old n r ≡ Err e → (e ≡ InvalidHead) ⊎ (r ≡ Err e)
 coded-fails true n r e h = inl (same-refusal InvalidHead e h)
 coded-fails false (Some x) r e h = inl (same-refusal InvalidHead e h)
 coded-fails false None r e h = inr h
 
 -- a body is refused in two ways
-pub body-fails : (v : HTTPVersion) (lengths : List (List ℕ)) (o : Codings) (r : Result (Option ℕ) InvalidLength) (e : Judgement) → one_length lengths ≡ r → body_by v o r ≡ Err e → (e ≡ InvalidHead) ⊎ (e ≡ UnknownCoding)
+pub body-fails : (v : HTTPVersion) (lengths : List (List ℕ)) (o : Codings) (r : Result (Option ℕ) InvalidLength) (e : HeadError) → one_length lengths ≡ r → body_by v o r ≡ Err e → (e ≡ InvalidHead) ⊎ (e ≡ UnknownCoding)
 body-fails v lengths o (Err x) e is h = inl (same-refusal InvalidHead e h)
 body-fails v lengths Absent (Ok n) e is h = ok-no_err (n, false) e h
 body-fails v lengths Others (Ok n) e is h = elim (coded-fails (is_1_0 v) n (Err InvalidHead) e h) [ inl i ↦ inl i | inr g ↦ inl (same-refusal InvalidHead e g) ]

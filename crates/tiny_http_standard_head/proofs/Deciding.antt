@@ -202,14 +202,14 @@ dec-field_line text = elim (cut-first 58 text) [
   | inl none ↦ inr (no-colon text none)
   | inr a ↦ elim (dec-both (dec-true (is_token a.0)) (dec-true (list_all is_value_byte a.1))) [
     | inr bad ↦ inr (λ field value l. let p = field-parts text a.0 a.1 a.2 a.3 field value l in bad (p.0, p.1))
-    | inl good ↦ elim (dec-judged (must_be_ascii a.0) (list_all is_ascii (trimmed is_ows a.1))) [
-      | inl judged ↦ inl (a.0, trimmed is_ows a.1, record { padded = a.1; joins = a.2; field_is = good.0; bytes = good.1; trims = trims-is is_ows a.1; ascii = judged })
+    | inl good ↦ elim (dec-validated (must_be_ascii a.0) (list_all is_ascii (trimmed is_ows a.1))) [
+      | inl validated ↦ inl (a.0, trimmed is_ows a.1, record { padded = a.1; joins = a.2; field_is = good.0; bytes = good.1; trims = trims-is is_ows a.1; ascii = validated })
       | inr bad ↦ inr (λ field value l. bad (field-parts text a.0 a.1 a.2 a.3 field value l).2)
     ]
   ]
 ]
   where
-    dec-judged : (judged ascii : Bool) → Decided (IsTrue judged → IsTrue ascii)
-    dec-judged false ascii = inl (λ e. contrary false e refl)
-    dec-judged true true = inl (λ e. refl)
-    dec-judged true false = inr (λ h. contrary false (h refl) refl)
+    dec-validated : (validated ascii : Bool) → Decided (IsTrue validated → IsTrue ascii)
+    dec-validated false ascii = inl (λ e. contrary false e refl)
+    dec-validated true true = inl (λ e. refl)
+    dec-validated true false = inr (λ h. contrary false (h refl) refl)

@@ -11,16 +11,16 @@ use Rattle.tiny_http_head.specs.declared.common.Header.{Header}
 use Rattle.tiny_http_head.specs.Heads.{Message, method_of}
 use Rattle.tiny_http_head.proofs.FirstByte.{contrary}
 use Rattle.tiny_http_standard_head.specs.declared.heads.TheConstants.{MOST_HEADERS}
-use Rattle.tiny_http_standard_head.specs.declared.judging.HeadSummary.{HeadSummary}
-use Rattle.tiny_http_standard_head.specs.declared.judging.Judgement.{Judgement}
-use Rattle.tiny_http_standard_head.specs.declared.judging.Judgement.TheVariants.{UnsupportedVersion, InvalidHead, UnknownExpectation}
+use Rattle.tiny_http_standard_head.specs.declared.validation.HeadSummary.{HeadSummary}
+use Rattle.tiny_http_standard_head.specs.declared.validation.HeadError.{HeadError}
+use Rattle.tiny_http_standard_head.specs.declared.validation.HeadError.TheVariants.{UnsupportedVersion, InvalidHead, UnknownExpectation}
 use Rattle.tiny_http_standard_head.specs.Lines.{percent_encoded, ReadsFieldLine}
 use Rattle.tiny_http_standard_head.specs.Lists.{values_of, has_element_that}
-use Rattle.tiny_http_standard_head.specs.Judging.{is_1_0, HasValidHost, Judges, owes_continue, asks_upgrade, is_last, is_unknown_expectation}
+use Rattle.tiny_http_standard_head.specs.Validation.{is_1_0, HasValidHost, Validates, owes_continue, asks_upgrade, is_last, is_unknown_expectation}
 use Rattle.tiny_http_head.specs.Heads.{line_feed}
 use Rattle.tiny_http_standard_head.specs.Heads.{is_carriage_return, Line, BeginsWithBareLine, behind_empty_line, BeginsWithRequestLine, BeginsWithFieldLines, BeginsWithHead, ComesToField, HasBadLine, HasOpenRequestLine, HasOpenField, HasTooManyFields, Reading, ReadWhole, ReadBad, ReadTooMany, ReadOpen, AreReadAs}
 use Rattle.tiny_http_standard_head.proofs.HeadsLemmas.{line-shorter}
-use Rattle.tiny_http_standard_head.proofs.JudgeLemmas.{body_read, judge-served, judge-fails}
+use Rattle.tiny_http_standard_head.proofs.ValidateLemmas.{body_read, validate-served, validate-fails}
 use Rattle.tiny_http_standard_head.proofs.ReadingLemmas.{Ending, Finished, Bad, Open, EndsAs, AreFields}
 use Rattle.tiny_http_standard_head.proofs.Deciding.{Decided, dec-true, dec-empty, dec-host_value, cut-first, dec-request_line, dec-field_line}
 
@@ -140,8 +140,8 @@ dec-one n = by (n == 1) refl
     by false e = inr (λ same. grind (arith, e, same))
 
 -- EACH HEAD HAS A JUDGEMENT
-pub some-judgement : (v : HTTPVersion) (method : Method) (headers : List Header) → (r : Result HeadSummary Judgement) × Judges v method headers r
-some-judgement v method headers = elim (dec-one v.0) [
+pub some-error : (v : HTTPVersion) (method : Method) (headers : List Header) → (r : Result HeadSummary HeadError) × Validates v method headers r
+some-error v method headers = elim (dec-one v.0) [
   | inr other ↦ (Err UnsupportedVersion, other)
   | inl one ↦ elim (dec-hosted v (values_of (codes "Host") headers)) [
     | inr bad ↦ (Err InvalidHead, (one, λ valid. bad valid.0))
@@ -149,21 +149,21 @@ some-judgement v method headers = elim (dec-one v.0) [
   ]
 ]
   where
-    served : (one : v.0 ≡ 1) → HasValidHost v (values_of (codes "Host") headers) → (k : Option ℕ × Bool) → body_read v headers ≡ Ok k → (t : Bool) → has_element_that (codes "Expect") is_unknown_expectation headers ≡ t → (r : Result HeadSummary Judgement) × Judges v method headers r
-    served one host k is true e = (Err UnknownExpectation, (k.0, k.1, judge-served v headers k.0 k.1 one host is, e))
+    served : (one : v.0 ≡ 1) → HasValidHost v (values_of (codes "Host") headers) → (k : Option ℕ × Bool) → body_read v headers ≡ Ok k → (t : Bool) → has_element_that (codes "Expect") is_unknown_expectation headers ≡ t → (r : Result HeadSummary HeadError) × Validates v method headers r
+    served one host k is true e = (Err UnknownExpectation, (k.0, k.1, validate-served v headers k.0 k.1 one host is, e))
     served one host k is false e = (
       Ok (record { body_length = k.0; is_chunked = k.1; owes_continue = owes_continue v headers k.0 k.1; asks_upgrade = asks_upgrade v headers; is_last = is_last v method headers }),
-      (judge-served v headers k.0 k.1 one host is, e, refl, refl, refl),
+      (validate-served v headers k.0 k.1 one host is, e, refl, refl, refl),
     )
 
-    by : (one : v.0 ≡ 1) → HasValidHost v (values_of (codes "Host") headers) → (r : Result (Option ℕ × Bool) Judgement) → body_read v headers ≡ r → (r : Result HeadSummary Judgement) × Judges v method headers r
-    by one host (Err fault) is = (Err fault, judge-fails v method headers fault one host is)
+    by : (one : v.0 ≡ 1) → HasValidHost v (values_of (codes "Host") headers) → (r : Result (Option ℕ × Bool) HeadError) → body_read v headers ≡ r → (r : Result HeadSummary HeadError) × Validates v method headers r
+    by one host (Err fault) is = (Err fault, validate-fails v method headers fault one host is)
     by one host (Ok k) is = served one host k is (has_element_that (codes "Expect") is_unknown_expectation headers) refl
 
 -- ALL BYTES ARE READ AS SOMETHING
 pub some-reading : (bytes : List ℕ) → (r : Reading) × AreReadAs bytes r
 some-reading bytes = elim (some-head bytes) [
-  | inl h ↦ (let m : Message = h.0 in let j = some-judgement m.version m.method m.headers in (ReadWhole m h.1 j.0, (h.2, j.1)))
+  | inl h ↦ (let m : Message = h.0 in let j = some-error m.version m.method m.headers in (ReadWhole m h.1 j.0, (h.2, j.1)))
   | inr none ↦ elim none [
     | inl bad ↦ (ReadBad, bad)
     | inr more ↦ elim more [

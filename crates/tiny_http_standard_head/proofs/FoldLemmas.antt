@@ -4,9 +4,9 @@ use Rattle.httparse.specs.Grammar.{is_ows}
 use Rattle.tiny_http_text.specs.Bytes.{trimmed}
 use Rattle.tiny_http_head.specs.declared.common.Header.{Header}
 use Rattle.tiny_http_head.specs.Common.{same_name}
-use Rattle.tiny_http_standard_head.specs.declared.judging.Codings.{Codings}
+use Rattle.tiny_http_standard_head.specs.declared.validation.Codings.{Codings}
 use Rattle.tiny_http_standard_head.specs.Lists.{between_commas, elements_of}
-use Rattle.tiny_http_standard_head.specs.JudgingReading.{coding_after, codings_on}
+use Rattle.tiny_http_standard_head.specs.ValidationReading.{coding_after, codings_on}
 use Rattle.tiny_http_head.proofs.ListsLemmas.{IsAt}
 use Rattle.tiny_http_standard_head.proofs.ListsLemmas.{from_here, element-here, header-added}
 

@@ -11,7 +11,7 @@ use Rattle.tiny_http_head.specs.declared.common.Method.{Method}
 use Rattle.tiny_http_head.specs.declared.common.HTTPVersion.{HTTPVersion}
 use Rattle.tiny_http_head.specs.declared.common.Header.{Header}
 use Rattle.tiny_http_head.specs.Heads.{Message}
-use Rattle.tiny_http_standard_head.specs.declared.heads.StandardFault.TheVariants.{BadLine, RequestLineTooLong, HeaderFieldsTooLarge, TooManyFields, Judged}
+use Rattle.tiny_http_standard_head.specs.declared.heads.StandardFault.TheVariants.{BadLine, RequestLineTooLong, HeaderFieldsTooLarge, TooManyFields, Invalid}
 use Rattle.tiny_http_standard_head.specs.declared.heads.TheConstants.{MOST_HEADERS}
 use Rattle.tiny_http_standard_head.specs.declared.heads.StandardRead.{StandardRead}
 use Rattle.tiny_http_standard_head.specs.declared.heads.StandardRead.TheVariants.{Whole, Refused, Unfinished}
@@ -144,7 +144,7 @@ open-field limit bytes r h full open_ = elim (cases_lt (length bytes) limit) [
 -- a head that has come whole
 pub reads-whole : (limit : ℕ) (bytes : List ℕ) (r : StandardRead) → ReadsWhole (take limit bytes) r → Reads limit bytes r
 reads-whole limit bytes (Whole h) w = w
-reads-whole limit bytes (Refused (Judged e)) w = w
+reads-whole limit bytes (Refused (Invalid e)) w = w
 reads-whole limit bytes (Refused BadLine) w = absurd w
 reads-whole limit bytes (Refused RequestLineTooLong) w = absurd w
 reads-whole limit bytes (Refused HeaderFieldsTooLarge) w = absurd w

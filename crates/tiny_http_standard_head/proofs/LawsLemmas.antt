@@ -8,17 +8,17 @@ use Rattle.tiny_http_text.proofs.BytesLemmas.{trims-one}
 use Rattle.tiny_http_head.specs.declared.common.Method.{Method}
 use Rattle.tiny_http_head.specs.declared.common.HTTPVersion.{HTTPVersion}
 use Rattle.tiny_http_head.specs.declared.common.Header.{Header}
-use Rattle.tiny_http_standard_head.specs.declared.judging.HeadSummary.{HeadSummary}
-use Rattle.tiny_http_standard_head.specs.declared.judging.Judgement.{Judgement}
-use Rattle.tiny_http_standard_head.specs.declared.judging.Judgement.TheVariants.{UnsupportedVersion, InvalidHead, UnknownCoding, UnknownExpectation}
+use Rattle.tiny_http_standard_head.specs.declared.validation.HeadSummary.{HeadSummary}
+use Rattle.tiny_http_standard_head.specs.declared.validation.HeadError.{HeadError}
+use Rattle.tiny_http_standard_head.specs.declared.validation.HeadError.TheVariants.{UnsupportedVersion, InvalidHead, UnknownCoding, UnknownExpectation}
 use Rattle.tiny_http_standard_head.specs.Lines.{IsVersion, RequestLine, FieldLine}
 use Rattle.tiny_http_standard_head.specs.Lists.{elements_of, has_element_that}
-use Rattle.tiny_http_standard_head.specs.Judging.{IsFramedRequest, IsValid, NamesUnknownCodings, Judges, owes_continue, is_unknown_expectation}
+use Rattle.tiny_http_standard_head.specs.Validation.{IsFramedRequest, IsValid, NamesUnknownCodings, Validates, owes_continue, is_unknown_expectation}
 use Rattle.tiny_http_head.proofs.HeaderTextsLemmas.{token-bytes}
 use Rattle.tiny_http_head.proofs.FirstByte.{all-without, contrary, one-first}
 use Rattle.tiny_http_standard_head.proofs.LinesLemmas.{method-rest, space-no_token, colon-no_token}
 use Rattle.tiny_http_standard_head.proofs.BodyLemmas.{framed-reads, unknown-reads}
-use Rattle.tiny_http_standard_head.proofs.JudgeLemmas.{body_read}
+use Rattle.tiny_http_standard_head.proofs.ValidateLemmas.{body_read}
 
 same-version : (a b : HTTPVersion) → a.0 ≡ b.0 → a.1 ≡ b.1 → a ≡ b
 same-version a b major minor = ap (λ (x : ℕ). record { 0 = x; 1 = a.1 }) major ∙ ap (λ (x : ℕ). record { 0 = b.0; 1 = x }) minor
@@ -47,17 +47,17 @@ served-reads v headers n chunked s = framed-reads v (elements_of (codes "Content
 
 served-known : (v : HTTPVersion) (headers : List Header) (n : Option ℕ) (chunked : Bool) → IsFramedRequest v headers n chunked → NamesUnknownCodings v headers → ⊥
 served-known v headers n chunked s u =
-    let never : ◌≡◌ {A = Result (Option ℕ × Bool) Judgement} (Ok (n, chunked)) (Err UnknownCoding) =
+    let never : ◌≡◌ {A = Result (Option ℕ × Bool) HeadError} (Ok (n, chunked)) (Err UnknownCoding) =
     sym (served-reads v headers n chunked s) ∙ unknown-reads v (elements_of (codes "Content-Length") headers) (elements_of (codes "Transfer-Encoding") headers) u in
     no-both never
   where
-    no-both : ◌≡◌ {A = Result (Option ℕ × Bool) Judgement} (Ok (n, chunked)) (Err UnknownCoding) → ⊥
+    no-both : ◌≡◌ {A = Result (Option ℕ × Bool) HeadError} (Ok (n, chunked)) (Err UnknownCoding) → ⊥
     no-both e = cc
 
 served-valid : (v : HTTPVersion) (headers : List Header) (n : Option ℕ) (chunked : Bool) → IsFramedRequest v headers n chunked → IsValid v headers
 served-valid v headers n chunked s = (s.host, inr (n, chunked, s))
 
-same-pair : (n m : Option ℕ) (b c : Bool) → ◌≡◌ {A = Result (Option ℕ × Bool) Judgement} (Ok (n, b)) (Ok (m, c)) → (n ≡ m) × (b ≡ c)
+same-pair : (n m : Option ℕ) (b c : Bool) → ◌≡◌ {A = Result (Option ℕ × Bool) HeadError} (Ok (n, b)) (Ok (m, c)) → (n ≡ m) × (b ≡ c)
 same-pair n m b c e = let same : ◌≡◌ {A = Option ℕ × Bool} (n, b) (m, c) = cc in (ap (λ x. x.0) same, ap (λ x. x.1) same)
 
 same-head : (a b : HeadSummary) → a.body_length ≡ b.body_length → a.is_chunked ≡ b.is_chunked → a.owes_continue ≡ b.owes_continue → a.asks_upgrade ≡ b.asks_upgrade → a.is_last ≡ b.is_last → a ≡ b
@@ -68,32 +68,32 @@ same-head a b p q r s t =
     ∙ ap (λ (x : Bool). record { body_length = b.body_length; is_chunked = b.is_chunked; owes_continue = b.owes_continue; asks_upgrade = x; is_last = a.is_last }) s
     ∙ ap (λ (x : Bool). record { body_length = b.body_length; is_chunked = b.is_chunked; owes_continue = b.owes_continue; asks_upgrade = b.asks_upgrade; is_last = x }) t
 
-pub judged-once : (v : HTTPVersion) (method : Method) (headers : List Header) (r s : Result HeadSummary Judgement) → Judges v method headers r → Judges v method headers s → r ≡ s
-judged-once v method headers (Err UnsupportedVersion) (Err UnsupportedVersion) j k = refl
-judged-once v method headers (Err UnsupportedVersion) (Err InvalidHead) j k = absurd (j k.0)
-judged-once v method headers (Err UnsupportedVersion) (Err UnknownCoding) j k = absurd (j k.0)
-judged-once v method headers (Err UnsupportedVersion) (Err UnknownExpectation) j k = absurd (j k.2.version)
-judged-once v method headers (Err UnsupportedVersion) (Ok b) j k = absurd (j k.0.version)
-judged-once v method headers (Err InvalidHead) (Err UnsupportedVersion) j k = absurd (k j.0)
-judged-once v method headers (Err InvalidHead) (Err InvalidHead) j k = refl
-judged-once v method headers (Err InvalidHead) (Err UnknownCoding) j k = absurd (j.1 (k.1, inl k.2))
-judged-once v method headers (Err InvalidHead) (Err UnknownExpectation) j k = absurd (j.1 (served-valid v headers k.0 k.1 k.2))
-judged-once v method headers (Err InvalidHead) (Ok b) j k = absurd (j.1 (served-valid v headers b.body_length b.is_chunked k.0))
-judged-once v method headers (Err UnknownCoding) (Err UnsupportedVersion) j k = absurd (k j.0)
-judged-once v method headers (Err UnknownCoding) (Err InvalidHead) j k = absurd (k.1 (j.1, inl j.2))
-judged-once v method headers (Err UnknownCoding) (Err UnknownCoding) j k = refl
-judged-once v method headers (Err UnknownCoding) (Err UnknownExpectation) j k = absurd (served-known v headers k.0 k.1 k.2 j.2)
-judged-once v method headers (Err UnknownCoding) (Ok b) j k = absurd (served-known v headers b.body_length b.is_chunked k.0 j.2)
-judged-once v method headers (Err UnknownExpectation) (Err UnsupportedVersion) j k = absurd (k j.2.version)
-judged-once v method headers (Err UnknownExpectation) (Err InvalidHead) j k = absurd (k.1 (served-valid v headers j.0 j.1 j.2))
-judged-once v method headers (Err UnknownExpectation) (Err UnknownCoding) j k = absurd (served-known v headers j.0 j.1 j.2 k.2)
-judged-once v method headers (Err UnknownExpectation) (Err UnknownExpectation) j k = refl
-judged-once v method headers (Err UnknownExpectation) (Ok b) j k = contrary (has_element_that (codes "Expect") is_unknown_expectation headers) j.3 k.1
-judged-once v method headers (Ok a) (Err UnsupportedVersion) j k = absurd (k j.0.version)
-judged-once v method headers (Ok a) (Err InvalidHead) j k = absurd (k.1 (served-valid v headers a.body_length a.is_chunked j.0))
-judged-once v method headers (Ok a) (Err UnknownCoding) j k = absurd (served-known v headers a.body_length a.is_chunked j.0 k.2)
-judged-once v method headers (Ok a) (Err UnknownExpectation) j k = contrary (has_element_that (codes "Expect") is_unknown_expectation headers) k.3 j.1
-judged-once v method headers (Ok a) (Ok b) j k =
+pub validated-once : (v : HTTPVersion) (method : Method) (headers : List Header) (r s : Result HeadSummary HeadError) → Validates v method headers r → Validates v method headers s → r ≡ s
+validated-once v method headers (Err UnsupportedVersion) (Err UnsupportedVersion) j k = refl
+validated-once v method headers (Err UnsupportedVersion) (Err InvalidHead) j k = absurd (j k.0)
+validated-once v method headers (Err UnsupportedVersion) (Err UnknownCoding) j k = absurd (j k.0)
+validated-once v method headers (Err UnsupportedVersion) (Err UnknownExpectation) j k = absurd (j k.2.version)
+validated-once v method headers (Err UnsupportedVersion) (Ok b) j k = absurd (j k.0.version)
+validated-once v method headers (Err InvalidHead) (Err UnsupportedVersion) j k = absurd (k j.0)
+validated-once v method headers (Err InvalidHead) (Err InvalidHead) j k = refl
+validated-once v method headers (Err InvalidHead) (Err UnknownCoding) j k = absurd (j.1 (k.1, inl k.2))
+validated-once v method headers (Err InvalidHead) (Err UnknownExpectation) j k = absurd (j.1 (served-valid v headers k.0 k.1 k.2))
+validated-once v method headers (Err InvalidHead) (Ok b) j k = absurd (j.1 (served-valid v headers b.body_length b.is_chunked k.0))
+validated-once v method headers (Err UnknownCoding) (Err UnsupportedVersion) j k = absurd (k j.0)
+validated-once v method headers (Err UnknownCoding) (Err InvalidHead) j k = absurd (k.1 (j.1, inl j.2))
+validated-once v method headers (Err UnknownCoding) (Err UnknownCoding) j k = refl
+validated-once v method headers (Err UnknownCoding) (Err UnknownExpectation) j k = absurd (served-known v headers k.0 k.1 k.2 j.2)
+validated-once v method headers (Err UnknownCoding) (Ok b) j k = absurd (served-known v headers b.body_length b.is_chunked k.0 j.2)
+validated-once v method headers (Err UnknownExpectation) (Err UnsupportedVersion) j k = absurd (k j.2.version)
+validated-once v method headers (Err UnknownExpectation) (Err InvalidHead) j k = absurd (k.1 (served-valid v headers j.0 j.1 j.2))
+validated-once v method headers (Err UnknownExpectation) (Err UnknownCoding) j k = absurd (served-known v headers j.0 j.1 j.2 k.2)
+validated-once v method headers (Err UnknownExpectation) (Err UnknownExpectation) j k = refl
+validated-once v method headers (Err UnknownExpectation) (Ok b) j k = contrary (has_element_that (codes "Expect") is_unknown_expectation headers) j.3 k.1
+validated-once v method headers (Ok a) (Err UnsupportedVersion) j k = absurd (k j.0.version)
+validated-once v method headers (Ok a) (Err InvalidHead) j k = absurd (k.1 (served-valid v headers a.body_length a.is_chunked j.0))
+validated-once v method headers (Ok a) (Err UnknownCoding) j k = absurd (served-known v headers a.body_length a.is_chunked j.0 k.2)
+validated-once v method headers (Ok a) (Err UnknownExpectation) j k = contrary (has_element_that (codes "Expect") is_unknown_expectation headers) k.3 j.1
+validated-once v method headers (Ok a) (Ok b) j k =
     let p = same-pair a.body_length b.body_length a.is_chunked b.is_chunked (sym (served-reads v headers a.body_length a.is_chunked j.0) ∙ served-reads v headers b.body_length b.is_chunked k.0) in
     let owed : a.owes_continue ≡ b.owes_continue = j.2 ∙ ap (λ (n : Option ℕ). owes_continue v headers n a.is_chunked) p.0 ∙ ap (owes_continue v headers b.body_length) p.1 ∙ sym k.2 in
     ap Ok (same-head a b p.0 p.1 owed (j.3 ∙ sym k.3) (j.4 ∙ sym k.4))

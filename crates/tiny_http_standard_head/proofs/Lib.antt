@@ -3,10 +3,10 @@ pub mod LinesLemmas
 pub mod ListsLemmas
 pub mod TeLemmas
 pub mod TeRows
-pub mod JudgingLemmas
+pub mod ValidationLemmas
 pub mod FoldLemmas
 pub mod BodyLemmas
-pub mod JudgeLemmas
+pub mod ValidateLemmas
 pub mod LawsLemmas
 pub mod HeadsLemmas
 pub mod ReadingLemmas

@@ -120,7 +120,7 @@ field-parts text f padded joins without field value l =
     let same : value ≡ trimmed is_ows padded = sym (trims-one is_ows l.padded value l.trims) ∙ ap (trimmed is_ows) a.1 in (
       subst (λ (x : List ℕ). IsTrue (is_token x)) a.0 l.field_is,
       subst (λ (x : List ℕ). IsTrue (list_all is_value_byte x)) a.1 l.bytes,
-      λ judged. subst AreAscii same (l.ascii (subst (λ (x : List ℕ). IsTrue (must_be_ascii x)) (sym a.0) judged)),
+      λ validated. subst AreAscii same (l.ascii (subst (λ (x : List ℕ). IsTrue (must_be_ascii x)) (sym a.0) validated)),
     )
 
 -- a target that can be in absolute-form alone

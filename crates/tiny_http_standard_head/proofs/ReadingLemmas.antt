@@ -9,18 +9,18 @@ use Rattle.tiny_http_head.specs.declared.common.HTTPVersion.{HTTPVersion}
 use Rattle.tiny_http_head.specs.declared.common.Header.{Header}
 use Rattle.tiny_http_head.specs.Heads.{Message, method_of}
 use Rattle.tiny_http_head.proofs.FirstByte.{contrary, not-without, one-first}
-use Rattle.tiny_http_standard_head.specs.declared.judging.HeadSummary.{HeadSummary}
-use Rattle.tiny_http_standard_head.specs.declared.judging.Judgement.{Judgement}
-use Rattle.tiny_http_standard_head.specs.declared.heads.StandardFault.TheVariants.{BadLine, RequestLineTooLong, HeaderFieldsTooLarge, TooManyFields, Judged}
+use Rattle.tiny_http_standard_head.specs.declared.validation.HeadSummary.{HeadSummary}
+use Rattle.tiny_http_standard_head.specs.declared.validation.HeadError.{HeadError}
+use Rattle.tiny_http_standard_head.specs.declared.heads.StandardFault.TheVariants.{BadLine, RequestLineTooLong, HeaderFieldsTooLarge, TooManyFields, Invalid}
 use Rattle.tiny_http_standard_head.specs.declared.heads.TheConstants.{MOST_HEADERS}
 use Rattle.tiny_http_standard_head.specs.declared.heads.StandardRead.{StandardRead}
 use Rattle.tiny_http_standard_head.specs.declared.heads.StandardRead.TheVariants.{Whole, Refused, Unfinished}
 use Rattle.tiny_http_standard_head.specs.Lines.{percent_encoded, ReadsFieldLine, ReadsRequestLine, IsNoRequestLine}
-use Rattle.tiny_http_standard_head.specs.Judging.{Judges}
+use Rattle.tiny_http_standard_head.specs.Validation.{Validates}
 use Rattle.tiny_http_head.specs.Heads.{line_feed}
 use Rattle.tiny_http_standard_head.specs.Heads.{is_carriage_return, Line, BeginsWithBareLine, behind_empty_line, BeginsWithRequestLine, BeginsWithFieldLines, BeginsWithHead, BeginsWithBadLine, IsNoFieldOrEnd, ComesToField, HasOpenRequestLine, HasOpenField, HasTooManyFields, message_of, is_begun, Reads, IsSameRead, Reading, ReadWhole, ReadBad, ReadTooMany, ReadOpen, AreReadAs}
 use Rattle.tiny_http_standard_head.proofs.HostsLemmas.{one-last}
-use Rattle.tiny_http_standard_head.proofs.LawsLemmas.{request-line-once, field-line-once, judged-once}
+use Rattle.tiny_http_standard_head.proofs.LawsLemmas.{request-line-once, field-line-once, validated-once}
 
 -- a line with its CR has no LF
 with-return : (text : List ℕ) → HasNo line_feed text → HasNo line_feed (text ++ 13 ∷ [])
@@ -187,10 +187,10 @@ point-once bytes (Behind m e) (Behind n f) a b =
     ap (λ (x : Message). Behind x e) (same-message m n start.0 start.1 start.2 more.0) ∙ ap (Behind n) more.1
 
 -- what a reading is at a point
-abbrev IsJudged : ℕ → List ℕ → Message → List ℕ → StandardRead → Type 0
-IsJudged limit bytes m after (Whole h) = (message_of h ≡ m) × (h.length + length after ≡ length (take limit bytes)) × Judges m.version m.method m.headers (Ok h.summary)
-IsJudged limit bytes m after (Refused (Judged e)) = Judges m.version m.method m.headers (Err e)
-IsJudged limit bytes m after _ = ⊥
+abbrev IsValidated : ℕ → List ℕ → Message → List ℕ → StandardRead → Type 0
+IsValidated limit bytes m after (Whole h) = (message_of h ≡ m) × (h.length + length after ≡ length (take limit bytes)) × Validates m.version m.method m.headers (Ok h.summary)
+IsValidated limit bytes m after (Refused (Invalid e)) = Validates m.version m.method m.headers (Err e)
+IsValidated limit bytes m after _ = ⊥
 
 abbrev IsOpenAs : ℕ → List ℕ → StandardRead → StandardRead → Type 0
 IsOpenAs limit bytes refused r = ((limit ≤ length bytes) × (r ≡ refused)) ⊎ ((length bytes < limit) × (r ≡ Unfinished (is_begun bytes)))
@@ -199,7 +199,7 @@ abbrev Matches : ℕ → List ℕ → Point → StandardRead → Type 0
 Matches limit bytes AtBad r = r ≡ Refused BadLine
 Matches limit bytes AtOpen r = IsOpenAs limit bytes (Refused RequestLineTooLong) r
 Matches limit bytes AtMany r = r ≡ Refused TooManyFields
-Matches limit bytes (Behind m (Finished after)) r = IsJudged limit bytes m after r
+Matches limit bytes (Behind m (Finished after)) r = IsValidated limit bytes m after r
 Matches limit bytes (Behind m Bad) r = r ≡ Refused BadLine
 Matches limit bytes (Behind m Open) r = IsOpenAs limit bytes (Refused HeaderFieldsTooLarge) r
 
@@ -217,7 +217,7 @@ view limit bytes (Whole h) w = (Behind (message_of h) (Finished w.0), of-head (t
 view limit bytes (Refused BadLine) (inl bad) = (AtBad, bad, refl)
 view limit bytes (Refused BadLine) (inr w) = (Behind (record { method = w.1.method; path = w.1.target; version = w.1.version; headers = w.1.headers }) Bad, of-field (take limit bytes) w.0 Bad w.1 w.2, refl)
 view limit bytes (Refused TooManyFields) w = (AtMany, w, refl)
-view limit bytes (Refused (Judged e)) w = (Behind w.0 (Finished w.1), of-head (take limit bytes) w.0 w.1 w.2, w.3)
+view limit bytes (Refused (Invalid e)) w = (Behind w.0 (Finished w.1), of-head (take limit bytes) w.0 w.1 w.2, w.3)
 view limit bytes (Refused RequestLineTooLong) w = (AtOpen, w.1, inl (w.0, refl))
 view limit bytes (Refused HeaderFieldsTooLarge) w = (Behind (record { method = w.1.1.method; path = w.1.1.target; version = w.1.1.version; headers = w.1.1.headers }) Open, of-field (take limit bytes) w.1.0 Open w.1.1 w.1.2, inl (w.0, refl))
 view limit bytes (Unfinished b) w = by w.1
@@ -239,42 +239,42 @@ same-open limit bytes t r s self (inl a) (inr b) = absurd (omega (arith, a.0, b.
 same-open limit bytes t r s self (inr a) (inl b) = absurd (omega (arith, a.0, b.0))
 same-open limit bytes t r s self (inr a) (inr b) = same-self r s (Unfinished (is_begun bytes)) a.1 b.1 refl
 
-ok-summary : (a b : HeadSummary) → ◌≡◌ {A = Result HeadSummary Judgement} (Ok a) (Ok b) → a ≡ b
+ok-summary : (a b : HeadSummary) → ◌≡◌ {A = Result HeadSummary HeadError} (Ok a) (Ok b) → a ≡ b
 ok-summary a b e = cc
 
-ok-no_err : (a : HeadSummary) (e : Judgement) → ◌≡◌ {A = Result HeadSummary Judgement} (Ok a) (Err e) → ⊥
+ok-no_err : (a : HeadSummary) (e : HeadError) → ◌≡◌ {A = Result HeadSummary HeadError} (Ok a) (Err e) → ⊥
 ok-no_err a e h = cc
 
-err-refusal : (d e : Judgement) → ◌≡◌ {A = Result HeadSummary Judgement} (Err d) (Err e) → d ≡ e
+err-refusal : (d e : HeadError) → ◌≡◌ {A = Result HeadSummary HeadError} (Err d) (Err e) → d ≡ e
 err-refusal d e h = cc
 
-same-judged : (limit : ℕ) (bytes : List ℕ) (m : Message) (after : List ℕ) (r s : StandardRead) → IsJudged limit bytes m after r → IsJudged limit bytes m after s → IsSameRead r s
-same-judged limit bytes m after (Whole h) (Whole k) a b =
-    (a.0 ∙ sym b.0, omega (arith, a.1, b.1), ok-summary h.summary k.summary (judged-once m.version m.method m.headers (Ok h.summary) (Ok k.summary) a.2 b.2))
-same-judged limit bytes m after (Whole h) (Refused (Judged e)) a b = ok-no_err h.summary e (judged-once m.version m.method m.headers (Ok h.summary) (Err e) a.2 b)
-same-judged limit bytes m after (Whole h) (Refused BadLine) a b = absurd b
-same-judged limit bytes m after (Whole h) (Refused RequestLineTooLong) a b = absurd b
-same-judged limit bytes m after (Whole h) (Refused HeaderFieldsTooLarge) a b = absurd b
-same-judged limit bytes m after (Whole h) (Refused TooManyFields) a b = absurd b
-same-judged limit bytes m after (Whole h) (Unfinished x) a b = absurd b
-same-judged limit bytes m after (Refused (Judged e)) (Whole k) a b = ok-no_err k.summary e (judged-once m.version m.method m.headers (Ok k.summary) (Err e) b.2 a)
-same-judged limit bytes m after (Refused (Judged d)) (Refused (Judged e)) a b = ap Judged (err-refusal d e (judged-once m.version m.method m.headers (Err d) (Err e) a b))
-same-judged limit bytes m after (Refused (Judged d)) (Refused BadLine) a b = absurd b
-same-judged limit bytes m after (Refused (Judged d)) (Refused RequestLineTooLong) a b = absurd b
-same-judged limit bytes m after (Refused (Judged d)) (Refused HeaderFieldsTooLarge) a b = absurd b
-same-judged limit bytes m after (Refused (Judged d)) (Refused TooManyFields) a b = absurd b
-same-judged limit bytes m after (Refused (Judged d)) (Unfinished x) a b = absurd b
-same-judged limit bytes m after (Refused BadLine) s a b = absurd a
-same-judged limit bytes m after (Refused RequestLineTooLong) s a b = absurd a
-same-judged limit bytes m after (Refused HeaderFieldsTooLarge) s a b = absurd a
-same-judged limit bytes m after (Refused TooManyFields) s a b = absurd a
-same-judged limit bytes m after (Unfinished x) s a b = absurd a
+same-validated : (limit : ℕ) (bytes : List ℕ) (m : Message) (after : List ℕ) (r s : StandardRead) → IsValidated limit bytes m after r → IsValidated limit bytes m after s → IsSameRead r s
+same-validated limit bytes m after (Whole h) (Whole k) a b =
+    (a.0 ∙ sym b.0, omega (arith, a.1, b.1), ok-summary h.summary k.summary (validated-once m.version m.method m.headers (Ok h.summary) (Ok k.summary) a.2 b.2))
+same-validated limit bytes m after (Whole h) (Refused (Invalid e)) a b = ok-no_err h.summary e (validated-once m.version m.method m.headers (Ok h.summary) (Err e) a.2 b)
+same-validated limit bytes m after (Whole h) (Refused BadLine) a b = absurd b
+same-validated limit bytes m after (Whole h) (Refused RequestLineTooLong) a b = absurd b
+same-validated limit bytes m after (Whole h) (Refused HeaderFieldsTooLarge) a b = absurd b
+same-validated limit bytes m after (Whole h) (Refused TooManyFields) a b = absurd b
+same-validated limit bytes m after (Whole h) (Unfinished x) a b = absurd b
+same-validated limit bytes m after (Refused (Invalid e)) (Whole k) a b = ok-no_err k.summary e (validated-once m.version m.method m.headers (Ok k.summary) (Err e) b.2 a)
+same-validated limit bytes m after (Refused (Invalid d)) (Refused (Invalid e)) a b = ap Invalid (err-refusal d e (validated-once m.version m.method m.headers (Err d) (Err e) a b))
+same-validated limit bytes m after (Refused (Invalid d)) (Refused BadLine) a b = absurd b
+same-validated limit bytes m after (Refused (Invalid d)) (Refused RequestLineTooLong) a b = absurd b
+same-validated limit bytes m after (Refused (Invalid d)) (Refused HeaderFieldsTooLarge) a b = absurd b
+same-validated limit bytes m after (Refused (Invalid d)) (Refused TooManyFields) a b = absurd b
+same-validated limit bytes m after (Refused (Invalid d)) (Unfinished x) a b = absurd b
+same-validated limit bytes m after (Refused BadLine) s a b = absurd a
+same-validated limit bytes m after (Refused RequestLineTooLong) s a b = absurd a
+same-validated limit bytes m after (Refused HeaderFieldsTooLarge) s a b = absurd a
+same-validated limit bytes m after (Refused TooManyFields) s a b = absurd a
+same-validated limit bytes m after (Unfinished x) s a b = absurd a
 
 same-at : (limit : ℕ) (bytes : List ℕ) (p : Point) (r s : StandardRead) → Matches limit bytes p r → Matches limit bytes p s → IsSameRead r s
 same-at limit bytes AtBad r s a b = same-self r s (Refused BadLine) a b refl
 same-at limit bytes AtOpen r s a b = same-open limit bytes (Refused RequestLineTooLong) r s refl a b
 same-at limit bytes AtMany r s a b = same-self r s (Refused TooManyFields) a b refl
-same-at limit bytes (Behind m (Finished after)) r s a b = same-judged limit bytes m after r s a b
+same-at limit bytes (Behind m (Finished after)) r s a b = same-validated limit bytes m after r s a b
 same-at limit bytes (Behind m Bad) r s a b = same-self r s (Refused BadLine) a b refl
 same-at limit bytes (Behind m Open) r s a b = same-open limit bytes (Refused HeaderFieldsTooLarge) r s refl a b
 
@@ -290,7 +290,7 @@ abbrev Shows : Point → Reading → Type 0
 Shows AtBad r = r ≡ ReadBad
 Shows AtOpen r = r ≡ ReadOpen false
 Shows AtMany r = r ≡ ReadTooMany
-Shows (Behind m (Finished after)) r = (j : Result HeadSummary Judgement) × (r ≡ ReadWhole m after j) × Judges m.version m.method m.headers j
+Shows (Behind m (Finished after)) r = (j : Result HeadSummary HeadError) × (r ≡ ReadWhole m after j) × Validates m.version m.method m.headers j
 Shows (Behind m Bad) r = r ≡ ReadBad
 Shows (Behind m Open) r = r ≡ ReadOpen true
 
@@ -306,7 +306,7 @@ shows-once : (p : Point) (r s : Reading) → Shows p r → Shows p s → r ≡ s
 shows-once AtBad r s a b = a ∙ sym b
 shows-once AtOpen r s a b = a ∙ sym b
 shows-once AtMany r s a b = a ∙ sym b
-shows-once (Behind m (Finished after)) r s a b = a.1 ∙ ap (ReadWhole m after) (judged-once m.version m.method m.headers a.0 b.0 a.2 b.2) ∙ sym b.1
+shows-once (Behind m (Finished after)) r s a b = a.1 ∙ ap (ReadWhole m after) (validated-once m.version m.method m.headers a.0 b.0 a.2 b.2) ∙ sym b.1
 shows-once (Behind m Bad) r s a b = a ∙ sym b
 shows-once (Behind m Open) r s a b = a ∙ sym b
 

@@ -11,7 +11,7 @@ use Rattle.tiny_http_io.specs.Source.{feed_from}
 use Rattle.tiny_http_head.specs.declared.common.Method.{Method}
 use Rattle.tiny_http_head.specs.declared.common.HTTPVersion.{HTTPVersion}
 use Rattle.tiny_http_head.specs.declared.common.Header.{Header}
-use Rattle.tiny_http_standard_head.specs.declared.heads.StandardFault.TheVariants.{BadLine, RequestLineTooLong, HeaderFieldsTooLarge, TooManyFields, Judged}
+use Rattle.tiny_http_standard_head.specs.declared.heads.StandardFault.TheVariants.{BadLine, RequestLineTooLong, HeaderFieldsTooLarge, TooManyFields, Invalid}
 use Rattle.tiny_http_standard_head.specs.declared.source_lines.NoLine.{NoLine}
 use Rattle.tiny_http_standard_head.specs.declared.source_lines.NoLine.TheVariants as no_line
 use Rattle.tiny_http_standard_head.specs.declared.source_heads.NoHead.{NoHead}
@@ -80,7 +80,7 @@ request-at limit left f new line (Err (Refused BadLine)) t h = bad-at IsNoReques
 request-at limit left f new line (Err (Refused RequestLineTooLong)) t h = absurd h
 request-at limit left f new line (Err (Refused HeaderFieldsTooLarge)) t h = absurd h
 request-at limit left f new line (Err (Refused TooManyFields)) t h = absurd h
-request-at limit left f new line (Err (Refused (Judged x))) t h = absurd h
+request-at limit left f new line (Err (Refused (Invalid x))) t h = absurd h
 request-at limit left f new line (Err (Unfinished b)) t h = absurd h
 request-at limit left f new line (Err Memory) t h = tt
 
@@ -91,7 +91,7 @@ field-at limit left f new line (Err (Refused BadLine)) t h = bad-at IsNoFieldOrE
 field-at limit left f new line (Err (Refused RequestLineTooLong)) t h = absurd h
 field-at limit left f new line (Err (Refused HeaderFieldsTooLarge)) t h = absurd h
 field-at limit left f new line (Err (Refused TooManyFields)) t h = absurd h
-field-at limit left f new line (Err (Refused (Judged x))) t h = absurd h
+field-at limit left f new line (Err (Refused (Invalid x))) t h = absurd h
 field-at limit left f new line (Err (Unfinished b)) t h = absurd h
 field-at limit left f new line (Err Memory) t h = tt
 

@@ -14,15 +14,15 @@ use Rattle.tiny_http_head.specs.declared.common.Header.{Header}
 use Rattle.tiny_http_head.specs.Heads.{Message, method_of}
 use Rattle.tiny_http_standard_head.specs.declared.heads.TheConstants.{MOST_HEADERS}
 use Rattle.tiny_http_standard_head.specs.declared.heads.StandardHead.{StandardHead}
-use Rattle.tiny_http_standard_head.specs.declared.heads.StandardFault.TheVariants.{BadLine, RequestLineTooLong, HeaderFieldsTooLarge, TooManyFields, Judged}
+use Rattle.tiny_http_standard_head.specs.declared.heads.StandardFault.TheVariants.{BadLine, RequestLineTooLong, HeaderFieldsTooLarge, TooManyFields, Invalid}
 use Rattle.tiny_http_standard_head.specs.declared.heads.StandardRead.{StandardRead}
 use Rattle.tiny_http_standard_head.specs.declared.heads.StandardRead.TheVariants as read
-use Rattle.tiny_http_standard_head.specs.declared.judging.Judgement.{Judgement}
+use Rattle.tiny_http_standard_head.specs.declared.validation.HeadError.{HeadError}
 use Rattle.tiny_http_standard_head.specs.declared.heads.NoHead.TheVariants as stop
 use Rattle.tiny_http_standard_head.specs.declared.source_heads.NoHead.{NoHead}
 use Rattle.tiny_http_standard_head.specs.declared.source_heads.NoHead.TheVariants.{Refused, Unfinished, Memory}
 use Rattle.tiny_http_standard_head.specs.Lines.{ReadsRequestLine, IsNoRequestLine, IsNoFieldLine}
-use Rattle.tiny_http_standard_head.specs.Judging.{Judges}
+use Rattle.tiny_http_standard_head.specs.Validation.{Validates}
 use Rattle.tiny_http_head.specs.Heads.{line_feed}
 use Rattle.tiny_http_standard_head.specs.Heads.{carriage_return, is_carriage_return, Line, BeginsWithBareLine, behind_empty_line, BeginsWithRequestLine, BeginsWithFieldLines, BeginsWithBadLine, HasOpenRequestLine, HasOpenField, BeginsWithHead, is_begun, message_of}
 use Rattle.tiny_http_standard_head.specs.SourceHeads.{IsNoRequestOrEmpty, LacksMemory, LacksMemoryAtStart, IsSpent, TakesText, ReadsRequest, ReadsField, ReadsStart, HasReadFields, ReadsFields, IsWithoutHead, ReadsFrom}
@@ -107,7 +107,7 @@ first-err limit left (Some f) new (Refused BadLine) h = subst (BeginsWithBadLine
 first-err limit left (Some f) new (Refused RequestLineTooLong) h = (subst (HasNo line_feed) (sym (open-kept (take limit f.bytes) h.0)) h.0, h.1)
 first-err limit left (Some f) new (Refused HeaderFieldsTooLarge) h = absurd h
 first-err limit left (Some f) new (Refused TooManyFields) h = absurd h
-first-err limit left (Some f) new (Refused (Judged x)) h = absurd h
+first-err limit left (Some f) new (Refused (Invalid x)) h = absurd h
 first-err limit left (Some f) new (Unfinished b) h =
     let same = open-kept f.bytes h.0.0 in
     let all : take limit f.bytes ≡ f.bytes = take_all limit f.bytes (omega (arith, h.0.1)) in
@@ -180,7 +180,7 @@ second-err limit mid left f new rest (Refused BadLine) l spent h = subst (Begins
 second-err limit mid left f new rest (Refused RequestLineTooLong) l spent h = (subst (HasNo line_feed) (sym (empty-passed (take limit f.bytes) (take mid rest) l)) h.0, omega (arith, spent, h.1))
 second-err limit mid left f new rest (Refused HeaderFieldsTooLarge) l spent h = absurd h
 second-err limit mid left f new rest (Refused TooManyFields) l spent h = absurd h
-second-err limit mid left f new rest (Refused (Judged x)) l spent h = absurd h
+second-err limit mid left f new rest (Refused (Invalid x)) l spent h = absurd h
 second-err limit mid left f new rest (Unfinished b) l spent h =
     let short : length f.bytes < limit = omega (arith, spent, h.0.1) in
     let all : take limit f.bytes ≡ f.bytes = take_all limit f.bytes (omega (arith, short)) in
@@ -266,7 +266,7 @@ fields-err-at limit mid left f new hs rest (Refused BadLine) b few spent h = (hs
 fields-err-at limit mid left f new hs rest (Refused HeaderFieldsTooLarge) b few spent h = ((hs, take mid rest, b, few, h.0), omega (arith, spent, h.1))
 fields-err-at limit mid left f new hs rest (Refused RequestLineTooLong) b few spent h = absurd h
 fields-err-at limit mid left f new hs rest (Refused TooManyFields) b few spent h = absurd h
-fields-err-at limit mid left f new hs rest (Refused (Judged x)) b few spent h = absurd h
+fields-err-at limit mid left f new hs rest (Refused (Invalid x)) b few spent h = absurd h
 fields-err-at limit mid left f new hs rest (Unfinished begun) b few spent h =
     let all : take mid rest ≡ rest = take_all mid rest (omega (arith, h.0.1)) in
     ((hs, take mid rest, b, few, subst (HasNo line_feed) (sym all) h.0.0), omega (arith, spent, h.0.1), h.1)
@@ -295,7 +295,7 @@ reads-start_err limit left (Some f) new (Refused BadLine) r h k = subst (ReadsFr
 reads-start_err limit left (Some f) new (Refused RequestLineTooLong) r h k = subst (ReadsFrom limit (Some f) new) (ok-read r (read.Refused RequestLineTooLong) k) ((h.1, h.0), tt)
 reads-start_err limit left (Some f) new (Refused HeaderFieldsTooLarge) r h k = absurd h
 reads-start_err limit left (Some f) new (Refused TooManyFields) r h k = absurd h
-reads-start_err limit left (Some f) new (Refused (Judged x)) r h k = absurd h
+reads-start_err limit left (Some f) new (Refused (Invalid x)) r h k = absurd h
 reads-start_err limit left (Some f) new (Unfinished b) r h k =
     let all : take limit f.bytes ≡ f.bytes = take_all limit f.bytes (omega (arith, h.1)) in
     subst (ReadsFrom limit (Some f) new) (ok-read r (read.Unfinished b) k) ((h.1, inl (subst HasOpenRequestLine all h.0), h.2), tt)
@@ -319,7 +319,7 @@ fields-err-from limit mid left f new start rest (Refused HeaderFieldsTooLarge) r
 fields-err-from limit mid left f new start rest (Refused TooManyFields) r request spent h k =
     subst (ReadsFrom limit (Some f) new) (ok-read r (read.Refused TooManyFields) k) (fields-stop (take limit f.bytes) start.0 start.1 start.2 (take mid rest) stop.TooMany request h, tt)
 fields-err-from limit mid left f new start rest (Refused RequestLineTooLong) r request spent h k = absurd h
-fields-err-from limit mid left f new start rest (Refused (Judged x)) r request spent h k = absurd h
+fields-err-from limit mid left f new start rest (Refused (Invalid x)) r request spent h k = absurd h
 fields-err-from limit mid left f new start rest (Unfinished b) r request spent h k =
     let short : length f.bytes < limit = omega (arith, spent, h.1) in
     let all : take limit f.bytes ≡ f.bytes = take_all limit f.bytes (omega (arith, short)) in
@@ -349,21 +349,21 @@ head-length : (limit left : ℕ) (bytes rest : List ℕ) → left ≤ limit → 
 head-length limit left bytes rest le spent = grind (arith, le, spent, length-take)
 
 pub reads-whole_head : (limit mid left : ℕ) (old at new : Option Feed) (start : Method × List ℕ × HTTPVersion) (headers : Vec Header) (h : StandardHead) → left ≤ limit → GoesOn old new → ReadsStart limit mid old at (Ok start) → ReadsFields mid left at new (Ok headers)
-    → message_of h ≡ record { method = start.0; path = start.1; version = start.2; headers = headers.items } → h.length ≡ limit - left → Judges h.version h.method h.headers.items (Ok h.summary) → ReadsFrom limit old new (read.Whole h)
-reads-whole_head limit mid left None at new start headers h le goes s k is long judged = tt
-reads-whole_head limit mid left (Some f) at new start headers h le goes s k is long judged =
+    → message_of h ≡ record { method = start.0; path = start.1; version = start.2; headers = headers.items } → h.length ≡ limit - left → Validates h.version h.method h.headers.items (Ok h.summary) → ReadsFrom limit old new (read.Whole h)
+reads-whole_head limit mid left None at new start headers h le goes s k is long validated = tt
+reads-whole_head limit mid left (Some f) at new start headers h le goes s k is long validated =
     let n = subst (λ (x : Option Feed). ReadsFields mid left x new (Ok headers)) s.2 k in
     let spent : IsSpent limit f.bytes left n.0 = omega (arith, s.3, n.3) in
     let head = whole-head (take limit f.bytes) start.0 start.1 start.2 (take mid s.0) headers.items (take left n.0) s.1 n.1 in
     let count : h.length + length (take left n.0) ≡ length (take limit f.bytes) = ap (λ (x : ℕ). x + length (take left n.0)) long ∙ head-length limit left f.bytes n.0 le spent in (
-      (take left n.0, subst (λ (m : Message). BeginsWithHead (take limit f.bytes) m (take left n.0)) (sym is) head, count, judged),
+      (take left n.0, subst (λ (m : Message). BeginsWithHead (take limit f.bytes) m (take left n.0)) (sym is) head, count, validated),
       left-behind f new n.0 h.length goes n.2 (omega (arith, spent, long, le)),
     )
 
-pub reads-refused_head : (limit mid left : ℕ) (old at new : Option Feed) (start : Method × List ℕ × HTTPVersion) (headers : Vec Header) (refusal : Judgement) → ReadsStart limit mid old at (Ok start) → ReadsFields mid left at new (Ok headers)
-    → Judges start.2 start.0 headers.items (Err refusal) → ReadsFrom limit old new (read.Refused (Judged refusal))
-reads-refused_head limit mid left None at new start headers refusal s k judged = tt
-reads-refused_head limit mid left (Some f) at new start headers refusal s k judged =
+pub reads-refused_head : (limit mid left : ℕ) (old at new : Option Feed) (start : Method × List ℕ × HTTPVersion) (headers : Vec Header) (refusal : HeadError) → ReadsStart limit mid old at (Ok start) → ReadsFields mid left at new (Ok headers)
+    → Validates start.2 start.0 headers.items (Err refusal) → ReadsFrom limit old new (read.Refused (Invalid refusal))
+reads-refused_head limit mid left None at new start headers refusal s k validated = tt
+reads-refused_head limit mid left (Some f) at new start headers refusal s k validated =
     let n = subst (λ (x : Option Feed). ReadsFields mid left x new (Ok headers)) s.2 k in
     let head = whole-head (take limit f.bytes) start.0 start.1 start.2 (take mid s.0) headers.items (take left n.0) s.1 n.1 in
-    ((record { method = start.0; path = start.1; version = start.2; headers = headers.items }, take left n.0, head, judged), tt)
+    ((record { method = start.0; path = start.1; version = start.2; headers = headers.items }, take left n.0, head, validated), tt)

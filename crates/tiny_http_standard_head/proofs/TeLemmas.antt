@@ -4,7 +4,7 @@ use Rattle.std.specs.Prelude.{if◌then◌else◌}
 use Rattle.httparse.specs.Grammar.{is_ows}
 use Rattle.tiny_http_text.specs.Bytes.{HasNo, trimmed, parts, semicolon}
 use Rattle.tiny_http_text.proofs.BytesLemmas.{parts-word, parts-last}
-use Rattle.tiny_http_standard_head.specs.Judging.{is_chunked}
+use Rattle.tiny_http_standard_head.specs.Validation.{is_chunked}
 use Rattle.tiny_http_standard_head.specs.Te.{between_semicolons, is_weight, weight_value, is_zero, has_zero_weight, coding_asks_chunked, element_asks_chunked}
 use Rattle.tiny_http_head.proofs.ListsLemmas.{IsAt}
 use Rattle.tiny_http_standard_head.proofs.ListsLemmas.{from_here, element-here}

@@ -4,7 +4,7 @@ use Rattle.tiny_http_text.specs.Bytes.{HasNo}
 use Rattle.tiny_http_head.specs.declared.common.Header.{Header}
 use Rattle.tiny_http_head.specs.Heads.{Message}
 use Rattle.tiny_http_standard_head.specs.declared.heads.TheConstants.{MOST_HEADERS}
-use Rattle.tiny_http_standard_head.specs.declared.heads.StandardFault.TheVariants.{Judged}
+use Rattle.tiny_http_standard_head.specs.declared.heads.StandardFault.TheVariants.{Invalid}
 use Rattle.tiny_http_standard_head.specs.declared.heads.StandardRead.{StandardRead}
 use Rattle.tiny_http_standard_head.specs.declared.heads.StandardRead.TheVariants.{Whole, Refused}
 use Rattle.tiny_http_standard_head.specs.declared.heads.NoLine.{NoLine}
@@ -17,7 +17,7 @@ use Rattle.tiny_http_standard_head.specs.Heads.{Line, BeginsWithBareLine, behind
 use Rattle.tiny_http_standard_head.specs.Heads.{BeginsWithFieldLines, BeginsWithBadLine, IsNoFieldOrEnd, HasBadLine}
 use Rattle.tiny_http_standard_head.specs.Heads.{HasOpenRequestLine, HasOpenField, HasTooManyFields, BeginsWithHead}
 use Rattle.tiny_http_standard_head.specs.Heads.{HasGoodRequestLine, message_of}
-use Rattle.tiny_http_standard_head.specs.Judging.{Judges}
+use Rattle.tiny_http_standard_head.specs.Validation.{Validates}
 
 -- why the bytes don't begin with a line
 abbrev pub HasNoLine : NoLine → List ℕ → Type 0
@@ -80,10 +80,10 @@ ReadsWhole bytes (Whole h) =
     (after : List ℕ)
     × BeginsWithHead bytes (message_of h) after
     × (h.length + length after ≡ length bytes)
-    × Judges h.version h.method h.headers.items (Ok h.summary)
-ReadsWhole bytes (Refused (Judged refusal)) =
+    × Validates h.version h.method h.headers.items (Ok h.summary)
+ReadsWhole bytes (Refused (Invalid refusal)) =
     (m : Message)
     × (after : List ℕ)
     × BeginsWithHead bytes m after
-    × Judges m.version m.method m.headers (Err refusal)
+    × Validates m.version m.method m.headers (Err refusal)
 ReadsWhole bytes _ = ⊥

@@ -12,15 +12,15 @@ use Rattle.tiny_http_standard_head.specs.declared.heads.StandardHead.{StandardHe
 use Rattle.tiny_http_standard_head.specs.declared.heads.StandardFault.{StandardFault}
 use Rattle.tiny_http_standard_head.specs.declared.heads.StandardFault.TheVariants.{BadLine, RequestLineTooLong}
 use Rattle.tiny_http_standard_head.specs.declared.heads.StandardFault.TheVariants.{HeaderFieldsTooLarge, TooManyFields}
-use Rattle.tiny_http_standard_head.specs.declared.heads.StandardFault.TheVariants.{Judged}
+use Rattle.tiny_http_standard_head.specs.declared.heads.StandardFault.TheVariants.{Invalid}
 use Rattle.tiny_http_standard_head.specs.declared.heads.StandardRead.{StandardRead}
 use Rattle.tiny_http_standard_head.specs.declared.heads.StandardRead.TheVariants.{Whole, Refused, Unfinished}
-use Rattle.tiny_http_standard_head.specs.declared.judging.HeadSummary.{HeadSummary}
-use Rattle.tiny_http_standard_head.specs.declared.judging.Judgement.{Judgement}
-use Rattle.tiny_http_standard_head.specs.declared.judging.Judgement.TheVariants.{UnsupportedVersion, InvalidHead}
-use Rattle.tiny_http_standard_head.specs.declared.judging.Judgement.TheVariants.{UnknownCoding, UnknownExpectation}
+use Rattle.tiny_http_standard_head.specs.declared.validation.HeadSummary.{HeadSummary}
+use Rattle.tiny_http_standard_head.specs.declared.validation.HeadError.{HeadError}
+use Rattle.tiny_http_standard_head.specs.declared.validation.HeadError.TheVariants.{UnsupportedVersion, InvalidHead}
+use Rattle.tiny_http_standard_head.specs.declared.validation.HeadError.TheVariants.{UnknownCoding, UnknownExpectation}
 use Rattle.tiny_http_standard_head.specs.Lines.{ReadsRequestLine, IsNoRequestLine, ReadsFieldLine, IsNoFieldLine}
-use Rattle.tiny_http_standard_head.specs.Judging.{Judges}
+use Rattle.tiny_http_standard_head.specs.Validation.{Validates}
 
 abbrev pub carriage_return : ℕ
 carriage_return = 13
@@ -128,14 +128,15 @@ HasOpenField bytes = (rest : List ℕ) × ComesToField bytes rest × HasNo line_
 -- what bytes are read as: a whole head, with what follows it and how it is judged; a bad line; a field line too many;
 -- or a line that hasn't ended, the request line or one behind it
 pub data Reading : Type 0 where
-  ReadWhole : (message : Message) (after : List ℕ) (judged : Result HeadSummary Judgement) → Reading
+  ReadWhole : (message : Message) (after : List ℕ) (validated : Result HeadSummary HeadError) → Reading
   ReadBad : Reading
   ReadTooMany : Reading
   ReadOpen : (behind_request_line : Bool) → Reading
 
 -- WHAT BYTES ARE READ AS
 abbrev pub AreReadAs : List ℕ → Reading → Type 0
-AreReadAs bytes (ReadWhole m after judged) = BeginsWithHead bytes m after × Judges m.version m.method m.headers judged
+AreReadAs bytes (ReadWhole m after validated) = BeginsWithHead bytes m after
+    × Validates m.version m.method m.headers validated
 AreReadAs bytes ReadBad = HasBadLine bytes
 AreReadAs bytes ReadTooMany = HasTooManyFields bytes
 AreReadAs bytes (ReadOpen false) = HasOpenRequestLine bytes
@@ -147,10 +148,10 @@ status_of BadLine = 400
 status_of RequestLineTooLong = 414
 status_of HeaderFieldsTooLarge = 431
 status_of TooManyFields = 431
-status_of (Judged UnsupportedVersion) = 505
-status_of (Judged InvalidHead) = 400
-status_of (Judged UnknownCoding) = 501
-status_of (Judged UnknownExpectation) = 417
+status_of (Invalid UnsupportedVersion) = 505
+status_of (Invalid InvalidHead) = 400
+status_of (Invalid UnknownCoding) = 501
+status_of (Invalid UnknownExpectation) = 417
 
 abbrev pub message_of : StandardHead → Message
 message_of h = record { method = h.method; path = h.target; version = h.version; headers = h.headers.items }
@@ -165,13 +166,13 @@ Reads limit bytes (Whole h) =
     (after : List ℕ)
     × BeginsWithHead (take limit bytes) (message_of h) after
     × (h.length + length after ≡ length (take limit bytes))
-    × Judges h.version h.method h.headers.items (Ok h.summary)
+    × Validates h.version h.method h.headers.items (Ok h.summary)
 Reads limit bytes (Refused BadLine) = HasBadLine (take limit bytes)
-Reads limit bytes (Refused (Judged refusal)) =
+Reads limit bytes (Refused (Invalid refusal)) =
     (m : Message)
     × (after : List ℕ)
     × BeginsWithHead (take limit bytes) m after
-    × Judges m.version m.method m.headers (Err refusal)
+    × Validates m.version m.method m.headers (Err refusal)
 Reads limit bytes (Refused RequestLineTooLong) = (limit ≤ length bytes) × HasOpenRequestLine (take limit bytes)
 Reads limit bytes (Refused HeaderFieldsTooLarge) = (limit ≤ length bytes) × HasOpenField (take limit bytes)
 Reads limit bytes (Refused TooManyFields) = HasTooManyFields (take limit bytes)

@@ -1,9 +1,9 @@
 pub mod Hosts
 pub mod Lines
 pub mod Lists
-pub mod Judging
+pub mod Validation
 pub mod Te
-pub mod JudgingReading
+pub mod ValidationReading
 pub mod Heads
 pub mod HeadParts
 pub mod SourceLines

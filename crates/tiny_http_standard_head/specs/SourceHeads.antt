@@ -21,7 +21,7 @@ use Rattle.tiny_http_standard_head.specs.declared.source_heads.NoHead.{NoHead}
 use Rattle.tiny_http_standard_head.specs.declared.source_heads.NoHead.TheVariants.{Refused, Unfinished, Memory}
 use Rattle.tiny_http_standard_head.specs.Lines.{ReadsRequestLine, IsNoRequestLine, ReadsFieldLine, IsNoFieldLine}
 use Rattle.tiny_http_standard_head.specs.declared.heads.NoHead.TheVariants as stop
-use Rattle.tiny_http_standard_head.specs.Judging.{Judges}
+use Rattle.tiny_http_standard_head.specs.Validation.{Validates}
 use Rattle.tiny_http_standard_head.specs.HeadParts.{StopsFields, EndsFields}
 use Rattle.tiny_http_head.specs.Heads.{line_feed}
 use Rattle.tiny_http_standard_head.specs.Heads.{carriage_return, is_carriage_return, Line}
@@ -199,6 +199,6 @@ ReadsFrom limit None new r = ⊤
 ReadsFrom limit (Some f) new r = Reads limit f.bytes r × LeavesBehind f new r
 
 -- whatever the source states: a whole head is judged as it says
-abbrev pub IsJudged : StandardRead → Type 0
-IsJudged (read.Whole h) = Judges h.version h.method h.headers.items (Ok h.summary)
-IsJudged _ = ⊤
+abbrev pub IsValidated : StandardRead → Type 0
+IsValidated (read.Whole h) = Validates h.version h.method h.headers.items (Ok h.summary)
+IsValidated _ = ⊤

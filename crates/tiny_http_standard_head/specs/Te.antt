@@ -7,7 +7,7 @@ use Rattle.tiny_http_text.specs.Bytes.{trimmed, parts, semicolon}
 use Rattle.tiny_http_head.specs.declared.common.Header.{Header}
 use Rattle.tiny_http_head.specs.Common.{same_name}
 use Rattle.tiny_http_standard_head.specs.Lists.{has_element_that}
-use Rattle.tiny_http_standard_head.specs.Judging.{is_chunked}
+use Rattle.tiny_http_standard_head.specs.Validation.{is_chunked}
 
 -- what stands between the semicolons of an element, without white space (space and tab) round it
 abbrev pub between_semicolons : List ℕ → List (List ℕ)

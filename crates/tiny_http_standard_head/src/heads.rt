@@ -5,8 +5,8 @@ ghost use Rattle.tiny_http_standard_head.specs.Heads.{HasGoodRequestLine, Reads,
 ghost use Rattle.tiny_http_standard_head.specs.HeadParts.{HasNoLine, StopsRequest, StopsFields, EndsFields};
 ghost use Rattle.tiny_http_standard_head.specs.HeadParts.{ReadsWhole, StopsHead};
 
-use crate::judging::{HeadSummary, Judgement, judge};
 use crate::lines::{parse_field_line, parse_request_line};
+use crate::validation::{HeadError, HeadSummary, validate};
 use std::alloc::{AllocError, Global};
 use tiny_http_head::common::{HTTPVersion, Header, Method};
 use tiny_http_text::ascii::AsciiString;
@@ -44,7 +44,7 @@ pub enum StandardFault {
     /// A good header line came after `MOST_HEADERS` others.
     TooManyFields,
     /// Its lines are good, and it is refused.
-    Judged(Judgement),
+    Invalid(HeadError),
 }
 
 impl StandardFault {
@@ -53,12 +53,12 @@ impl StandardFault {
         ensures { result ≡ status_of self }
     {
         match self {
-            StandardFault::BadLine | StandardFault::Judged(Judgement::InvalidHead) => 400,
+            StandardFault::BadLine | StandardFault::Invalid(HeadError::InvalidHead) => 400,
             StandardFault::RequestLineTooLong => 414,
             StandardFault::HeaderFieldsTooLarge | StandardFault::TooManyFields => 431,
-            StandardFault::Judged(Judgement::UnsupportedVersion) => 505,
-            StandardFault::Judged(Judgement::UnknownCoding) => 501,
-            StandardFault::Judged(Judgement::UnknownExpectation) => 417,
+            StandardFault::Invalid(HeadError::UnsupportedVersion) => 505,
+            StandardFault::Invalid(HeadError::UnknownCoding) => 501,
+            StandardFault::Invalid(HeadError::UnknownExpectation) => 417,
         }
     }
 }
@@ -189,7 +189,7 @@ fn read_whole(alloc: Global, bytes: &[u8]) -> Result<StandardRead, NoHead>
         Ok(fields) => fields,
         Err(stop) => return Err(stop),
     };
-    match judge(version, &method, headers.as_slice()) {
+    match validate(version, &method, headers.as_slice()) {
         Ok(summary) => Ok(StandardRead::Whole(StandardHead {
             method,
             target,
@@ -198,7 +198,7 @@ fn read_whole(alloc: Global, bytes: &[u8]) -> Result<StandardRead, NoHead>
             summary,
             length: bytes.len() - after.len(),
         })),
-        Err(refusal) => Ok(StandardRead::Refused(StandardFault::Judged(refusal))),
+        Err(refusal) => Ok(StandardRead::Refused(StandardFault::Invalid(refusal))),
     }
 }
 

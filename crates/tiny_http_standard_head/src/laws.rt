@@ -3,12 +3,12 @@ ghost use Rattle.std.specs.Prelude.{◌≡◌, ℕ, List, Result};
 ghost use Rattle.tiny_http_head.specs.declared.common.Method.{Method};
 ghost use Rattle.tiny_http_head.specs.declared.common.HTTPVersion.{HTTPVersion};
 ghost use Rattle.tiny_http_head.specs.declared.common.Header.{Header};
-ghost use Rattle.tiny_http_standard_head.specs.declared.judging.HeadSummary.{HeadSummary};
-ghost use Rattle.tiny_http_standard_head.specs.declared.judging.Judgement.{Judgement};
+ghost use Rattle.tiny_http_standard_head.specs.declared.validation.HeadSummary.{HeadSummary};
+ghost use Rattle.tiny_http_standard_head.specs.declared.validation.HeadError.{HeadError};
 ghost use Rattle.tiny_http_standard_head.specs.declared.heads.StandardRead.{StandardRead};
 ghost use Rattle.tiny_http_standard_head.specs.Heads.{Reading, AreReadAs, Reads, IsSameRead};
 ghost use Rattle.tiny_http_standard_head.specs.Lines.{RequestLine, FieldLine};
-ghost use Rattle.tiny_http_standard_head.specs.Judging.{Judges};
+ghost use Rattle.tiny_http_standard_head.specs.Validation.{Validates};
 
 /// A text is one request line at most: one method, one target and one version.
 pub fn one_request_line()
@@ -27,12 +27,12 @@ pub fn one_field_line()
 {}
 
 /// A head has a judgement, and one.
-pub fn one_judgement()
+pub fn one_validation()
     ensures some { (v : HTTPVersion) (method : Method) (headers : List Header)
-        → (r : Result HeadSummary Judgement) × Judges v method headers r }
-    ensures one { (v : HTTPVersion) (method : Method) (headers : List Header) (r r' : Result HeadSummary Judgement)
-        → Judges v method headers r
-        → Judges v method headers r'
+        → (r : Result HeadSummary HeadError) × Validates v method headers r }
+    ensures one { (v : HTTPVersion) (method : Method) (headers : List Header) (r r' : Result HeadSummary HeadError)
+        → Validates v method headers r
+        → Validates v method headers r'
         → r ≡ r' }
 {}
 

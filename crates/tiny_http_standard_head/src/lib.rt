@@ -4,9 +4,9 @@
 
 pub mod heads;
 pub mod hosts;
-pub mod judging;
 pub mod laws;
 pub mod lines;
 pub mod lists;
 pub mod source_heads;
 mod source_lines;
+pub mod validation;

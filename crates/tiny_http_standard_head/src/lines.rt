@@ -120,7 +120,7 @@ pub fn parse_request_line(
 ) -> Result<Option<(Method, AsciiString, HTTPVersion)>, AllocError>
     ensures some { IfOk result (λ found. IfSome found (λ r. ReadsRequestLine text.now r.0 r.1 r.2)) }
     ensures none { result ≡ Ok None → IsNoRequestLine text.now }
-    ensures judged { OnErr result (IsNoRequestLine text.now → ⊥) }
+    ensures validated { OnErr result (IsNoRequestLine text.now → ⊥) }
 {
     let Some((method, target, version)) = split_request_line(text) else {
         return Ok(None);
@@ -199,7 +199,7 @@ fn split_field_line(text: &[u8]) -> Option<(&[u8], &[u8])>
 pub fn parse_field_line(alloc: Global, text: &[u8]) -> Result<Option<Header>, AllocError>
     ensures some { IfOk result (λ found. IfSome found (λ h. ReadsFieldLine text.now h)) }
     ensures none { result ≡ Ok None → IsNoFieldLine text.now }
-    ensures judged { OnErr result (IsNoFieldLine text.now → ⊥) }
+    ensures validated { OnErr result (IsNoFieldLine text.now → ⊥) }
 {
     let Some((field, value)) = split_field_line(text) else {
         return Ok(None);

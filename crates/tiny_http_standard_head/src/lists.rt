@@ -4,7 +4,7 @@ ghost use Rattle.std.specs.List.{list_any};
 ghost use Rattle.tiny_http_head.specs.Common.{same_name};
 ghost use Rattle.tiny_http_standard_head.specs.Lists.{between_commas, has_element};
 
-use crate::judging::trim;
+use crate::validation::trim;
 use tiny_http_head::common::Header;
 
 // Whether the element is this word, without case.

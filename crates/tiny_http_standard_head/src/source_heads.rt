@@ -6,15 +6,16 @@ ghost use Rattle.tiny_http_io.specs.Device.{prepended};
 ghost use Rattle.tiny_http_io.specs.Source.{GoesOn, IsCutOff};
 ghost use Rattle.tiny_http_standard_head.specs.Heads.{carriage_return, is_carriage_return};
 ghost use Rattle.tiny_http_standard_head.specs.SourceHeads.{RequestIn, FieldIn, ReadsRequest, ReadsField, ReadsStart};
-ghost use Rattle.tiny_http_standard_head.specs.SourceHeads.{ReadsFields, ReadsFrom, IsJudged, no_head, IsWithoutHead};
+ghost use Rattle.tiny_http_standard_head.specs.SourceHeads.{ReadsFields, ReadsFrom, IsValidated, no_head};
+ghost use Rattle.tiny_http_standard_head.specs.SourceHeads.{IsWithoutHead};
 ghost use Rattle.tiny_http_standard_head.specs.SourceHeads.{IsUnfinished, IsUnfinishedRead, LacksMemory};
 ghost use Rattle.tiny_http_standard_head.specs.SourceHeads.{LacksMemoryAtStart};
 ghost use Rattle.tiny_http_standard_head.specs.Lines.{IsNoRequestLine, IsNoFieldLine};
 
 use crate::heads::{MOST_HEADERS, StandardFault, StandardHead, StandardRead};
-use crate::judging::judge;
 use crate::lines::{parse_field_line, parse_request_line};
 use crate::source_lines::{FoundLine, NoLine, find_line};
+use crate::validation::validate;
 use std::alloc::{AllocError, Global};
 use tiny_http_head::common::{HTTPVersion, Header, Method};
 use tiny_http_io::device::ReadDevice;
@@ -109,7 +110,7 @@ fn read_request<R: ReadDevice>(
     ensures cut { IfErr result (λ why. IsUnfinished why → IsCutOff source.old source.new) }
     ensures lazy { OnOk result (source.new.stop ≡ source.old.stop) }
     ensures passed { IfErr result (λ why. (IsUnfinished why → ⊥) → source.new.stop ≡ source.old.stop) }
-    ensures standing { source.new.standing ≡ source.old.standing }
+    ensures input_state { source.new.input_state ≡ source.old.input_state }
 {
     match find_line(alloc, source, *left) {
         Ok(FoundLine::Taken(line)) => {
@@ -140,7 +141,7 @@ fn read_field<R: ReadDevice>(
     ensures cut { IfErr result (λ why. IsUnfinished why → IsCutOff source.old source.new) }
     ensures lazy { OnOk result (source.new.stop ≡ source.old.stop) }
     ensures passed { IfErr result (λ why. (IsUnfinished why → ⊥) → source.new.stop ≡ source.old.stop) }
-    ensures standing { source.new.standing ≡ source.old.standing }
+    ensures input_state { source.new.input_state ≡ source.old.input_state }
 {
     match find_line(alloc, source, *left) {
         Ok(FoundLine::Taken(line)) => {
@@ -171,7 +172,7 @@ fn read_start<R: ReadDevice>(
     ensures cut { IfErr result (λ why. IsUnfinished why → IsCutOff source.old source.new) }
     ensures lazy { OnOk result (source.new.stop ≡ source.old.stop) }
     ensures passed { IfErr result (λ why. (IsUnfinished why → ⊥) → source.new.stop ≡ source.old.stop) }
-    ensures standing { source.new.standing ≡ source.old.standing }
+    ensures input_state { source.new.input_state ≡ source.old.input_state }
 {
     match read_request(alloc, source, left) {
         Ok(Some(start)) => return Ok(start),
@@ -200,7 +201,7 @@ fn read_fields<R: ReadDevice>(
     ensures cut { IfErr result (λ why. IsUnfinished why → IsCutOff source.old source.new) }
     ensures lazy { OnOk result (source.new.stop ≡ source.old.stop) }
     ensures passed { IfErr result (λ why. (IsUnfinished why → ⊥) → source.new.stop ≡ source.old.stop) }
-    ensures standing { source.new.standing ≡ source.old.standing }
+    ensures input_state { source.new.input_state ≡ source.old.input_state }
 {
     let mut headers = Vec::new(alloc);
     loop {
@@ -245,11 +246,11 @@ pub fn read_head_from<R: ReadDevice>(
     // Memory is wanted for a good request line and what stands behind it, or for one that isn't whole in the buffer.
     ensures memory { OnErr result (IfSome source.old.feed
         (λ f. LacksMemoryAtStart limit f source.new.feed source.new.held)) }
-    ensures judged { IfOk result IsJudged }
+    ensures validated { IfOk result IsValidated }
     ensures goes_on { GoesOn source.old.feed source.new.feed }
     ensures cut { IfOk result (λ read. IsUnfinishedRead read → IsCutOff source.old source.new) }
     ensures lazy { IfOk result (λ read. (IsUnfinishedRead read → ⊥) → source.new.stop ≡ source.old.stop) }
-    ensures standing { source.new.standing ≡ source.old.standing }
+    ensures input_state { source.new.input_state ≡ source.old.input_state }
 {
     let mut left = limit;
     let (method, target, version) = match read_start(alloc, source, &mut left) {
@@ -260,7 +261,7 @@ pub fn read_head_from<R: ReadDevice>(
         Ok(headers) => headers,
         Err(why) => return without_head(why),
     };
-    match judge(version, &method, headers.as_slice()) {
+    match validate(version, &method, headers.as_slice()) {
         Ok(summary) => Ok(StandardRead::Whole(StandardHead {
             method,
             target,
@@ -269,6 +270,6 @@ pub fn read_head_from<R: ReadDevice>(
             summary,
             length: limit - left,
         })),
-        Err(refusal) => Ok(StandardRead::Refused(StandardFault::Judged(refusal))),
+        Err(refusal) => Ok(StandardRead::Refused(StandardFault::Invalid(refusal))),
     }
 }

@@ -63,7 +63,7 @@ fn take_line<R: ReadDevice>(
     ensures cut { IfErr result (λ why. IsCut why → source.new.is_over ≡ true) }
     ensures lazy { OnOk result (source.new.stop ≡ source.old.stop) }
     ensures passed { IfErr result (λ why. (IsCut why → ⊥) → source.new.stop ≡ source.old.stop) }
-    ensures standing { source.new.standing ≡ source.old.standing }
+    ensures input_state { source.new.input_state ≡ source.old.input_state }
 {
     let mut line = Vec::new(alloc);
     loop {
@@ -109,7 +109,7 @@ pub(crate) fn find_line<R: ReadDevice>(
     ensures cut { IfErr result (λ why. IsCut why → IsCutOff source.old source.new) }
     ensures lazy { OnOk result (source.new.stop ≡ source.old.stop) }
     ensures passed { IfErr result (λ why. (IsCut why → ⊥) → source.new.stop ≡ source.old.stop) }
-    ensures standing { source.new.standing ≡ source.old.standing }
+    ensures input_state { source.new.input_state ≡ source.old.input_state }
 {
     if limit == 0 {
         return Err(NoLine::TooLong);

@@ -1,1 +1,1 @@
-pub mod LineLemmas
+pub mod TurnQueueLemmas

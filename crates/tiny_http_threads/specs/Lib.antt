@@ -3,4 +3,4 @@ pub mod Pool
 pub mod Roster
 pub mod Sequential
 pub mod HeldReader
-pub mod Line
+pub mod TurnQueue

@@ -1,6 +1,6 @@
 //! A reader whose turn has come.
-pub use crate::line::Held;
 use crate::sequential::Reading;
+pub use crate::turn_queue::Held;
 use std::sync::Wait;
 use tiny_http_turns::passing::{HeldTurn, pass_on};
 

@@ -18,8 +18,8 @@
 
 pub mod held_reader;
 pub mod laws;
-mod line;
 pub mod messages_queue;
 pub mod roster;
 pub mod sequential;
 pub mod task_pool;
+mod turn_queue;

@@ -7,7 +7,7 @@ ghost use Rattle.tiny_http_io.specs.Device.{Reads, Puts, PutsFront, HoldsNothing
 ghost use Rattle.tiny_http_threads.specs.HeldReader.{held_item};
 
 use crate::held_reader::HeldReader;
-use crate::line::{Held, Line, Turn};
+use crate::turn_queue::{Held, Turn, TurnQueue};
 use std::alloc::{AllocError, Global};
 use std::io;
 use std::io::{ErrorKind, Read, Write};
@@ -22,7 +22,7 @@ use tiny_http_turns::passing::{HeldTurn, pass_on};
 pub struct SequentialReaderBuilder<I, R: Wait> {
     rt: R,
     alloc: Global,
-    line: Arc<Line<I>>,
+    queue: Arc<TurnQueue<I>>,
 }
 
 impl<I: Read + Drop, R: Wait + Copy> SequentialReaderBuilder<I, R> {
@@ -32,8 +32,8 @@ impl<I: Read + Drop, R: Wait + Copy> SequentialReaderBuilder<I, R> {
         alloc: Global,
         reader: I,
     ) -> Result<SequentialReaderBuilder<I, R>, AllocError> {
-        let line = Line::new(alloc, reader)?;
-        Ok(SequentialReaderBuilder { rt, alloc, line })
+        let queue = TurnQueue::new(alloc, reader)?;
+        Ok(SequentialReaderBuilder { rt, alloc, queue })
     }
 
     /// Gives out readers of this one. The first, which is in the result, has its turn. An error where memory was
@@ -47,16 +47,16 @@ impl<I: Read + Drop, R: Wait + Copy> SequentialReaderBuilder<I, R> {
         ensures { IfOk result (λ made. held_item made.1 ≡ reader) }
     {
         let turn = Held::first(rt, alloc, reader)?;
-        let line = turn.line()?;
+        let queue = turn.queue()?;
         Ok((
-            SequentialReaderBuilder { rt, alloc, line },
+            SequentialReaderBuilder { rt, alloc, queue },
             HeldReader { turn },
         ))
     }
 
     /// The next reader. An error where memory was refused, or 2^64 - 1 readers were given out.
     pub fn next(&mut self) -> Result<SequentialReader<I, R>, AllocError> {
-        let turn = Turn::new(self.rt, self.alloc, &self.line)?;
+        let turn = Turn::new(self.rt, self.alloc, &self.queue)?;
         Ok(SequentialReader { turn })
     }
 }
@@ -100,7 +100,7 @@ impl<I: Read + Drop, R: Wait + Drop> Drop for SequentialReader<I, R> {
 pub struct SequentialWriterBuilder<W, R: Wait> {
     rt: R,
     alloc: Global,
-    line: Arc<Line<W>>,
+    queue: Arc<TurnQueue<W>>,
 }
 
 impl<W: Write + Drop, R: Wait + Copy> SequentialWriterBuilder<W, R> {
@@ -110,13 +110,13 @@ impl<W: Write + Drop, R: Wait + Copy> SequentialWriterBuilder<W, R> {
         alloc: Global,
         writer: W,
     ) -> Result<SequentialWriterBuilder<W, R>, AllocError> {
-        let line = Line::new(alloc, writer)?;
-        Ok(SequentialWriterBuilder { rt, alloc, line })
+        let queue = TurnQueue::new(alloc, writer)?;
+        Ok(SequentialWriterBuilder { rt, alloc, queue })
     }
 
     /// The next writer. An error where memory was refused, or 2^64 - 1 writers were given out.
     pub fn next(&mut self) -> Result<SequentialWriter<W, R>, AllocError> {
-        let turn = Turn::new(self.rt, self.alloc, &self.line)?;
+        let turn = Turn::new(self.rt, self.alloc, &self.queue)?;
         Ok(SequentialWriter { turn, failures: 0 })
     }
 
@@ -124,33 +124,33 @@ impl<W: Write + Drop, R: Wait + Copy> SequentialWriterBuilder<W, R> {
     /// broke (`close_when_broken`). An error as in `next`.
     #[doc(hidden)]
     pub fn next_unless_closed(&mut self) -> Result<Option<SequentialWriter<W, R>>, AllocError> {
-        let turn = Turn::new_unless_closed(self.rt, self.alloc, &self.line)?;
+        let turn = Turn::new_unless_closed(self.rt, self.alloc, &self.queue)?;
         Ok(turn.map(|turn| SequentialWriter { turn, failures: 0 }))
     }
 
     /// Whether the line was closed, as `next_unless_closed` reports.
     #[doc(hidden)]
     pub fn is_closed(&self) -> bool {
-        self.line.is_closed()
+        self.queue.is_closed()
     }
 
     /// Closes the line, from now on, once one of its writers meets a fault, or `close_if_broken` finds the output
     /// ended.
     #[doc(hidden)]
     pub fn close_when_broken(&self) {
-        self.line.close_when_broken();
+        self.queue.close_when_broken();
     }
 
     /// Counts here, from now on, the writers that were given out and aren't finished.
     #[doc(hidden)]
     pub fn set_open(&self, open: Arc<AtomicU64>) {
-        self.line.set_open(&self.rt, open);
+        self.queue.set_open(&self.rt, open);
     }
 
     /// Waits until fewer writers than `most`, or none where that is 0, were given out and aren't finished.
     #[doc(hidden)]
     pub fn wait_for_room(&self, most: usize) {
-        self.line.wait_for_room(&self.rt, most);
+        self.queue.wait_for_room(&self.rt, most);
     }
 }
 
@@ -233,7 +233,7 @@ fn write_and_flush<W: Write + Drop, R: Wait + Drop>(held: &mut Held<W, R>, text:
     let written = held.item.write_all(text);
     let flushed = held.item.flush();
     if written.is_err() || flushed.is_err() {
-        held.place.break_line();
+        held.place.break_queue();
     }
 }
 
@@ -261,8 +261,8 @@ impl<W: Write + Drop, R: Wait + Drop> SequentialWriter<W, R> {
 
     /// Closes the line: `next_unless_closed` gives out no further writer.
     #[doc(hidden)]
-    pub fn close_line(&self) {
-        self.turn.place.close_line();
+    pub fn close_queue(&self) {
+        self.turn.place.close_queue();
     }
 
     /// Whether what is written is lost, where `close_when_broken` was called: the output broke, or was ended by
@@ -275,7 +275,7 @@ impl<W: Write + Drop, R: Wait + Drop> SequentialWriter<W, R> {
     // A fault of the writer breaks it.
     fn note<T>(&self, outcome: &io::Result<T>) {
         if outcome.is_err() {
-            self.turn.place.break_line();
+            self.turn.place.break_queue();
         }
     }
 
@@ -333,11 +333,11 @@ impl<W: WriteDevice + Drop, R: Wait + Drop> SequentialWriter<Outlet<W>, R> {
     /// well.
     pub fn close(self) -> io::Result<()> {
         let mut writer = self;
-        writer.close_line();
+        writer.close_queue();
         let outlet = writer.hold();
         let sent = outlet.end();
         outlet.end_out();
-        writer.turn.place.break_line();
+        writer.turn.place.break_queue();
         drop(writer);
         sent
     }
@@ -351,7 +351,7 @@ impl<W: WriteDevice + Drop, R: Wait + Drop> SequentialWriter<Outlet<W>, R> {
             return;
         }
         if self.hold().is_ended() {
-            self.turn.place.break_line();
+            self.turn.place.break_queue();
             self.hold().end_out();
         }
     }

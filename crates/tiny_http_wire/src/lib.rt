@@ -8,5 +8,5 @@ pub mod laws;
 pub use tiny_http_body::{chunked, encoder, streamed};
 pub use tiny_http_head::{common, grammar, target};
 pub use tiny_http_io::device;
-pub use tiny_http_response::{answer_context, coding, response};
+pub use tiny_http_response::{coding, response, response_context};
 pub use tiny_http_text::{ascii, header_value, number};

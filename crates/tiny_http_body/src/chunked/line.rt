@@ -99,7 +99,7 @@ pub(crate) fn next_byte<R: ReadDevice>(reader: &mut R) -> Result<u8, ErrorKind>
     ensures cut { IfErr result (λ kind. CutBy kind (R.feed reader.old)) }
     ensures again { OnErr result (R.feed reader.new ≡ R.feed reader.old) }
     // The reader is asked for no second end or fault.
-    ensures told { R.told reader.new ≤ R.told reader.old + fault_count result }
+    ensures stop_count { R.stop_count reader.new ≤ R.stop_count reader.old + fault_count result }
 {
     let mut buf = [0u8];
     match reader.read_in(&mut buf) {
@@ -128,7 +128,7 @@ pub(crate) fn next_line<R: ReadDevice>(
 ) -> Result<ChunkLine, ErrorKind>
     ensures line { IfOk result (OneLine rules (R.feed reader.old) (R.feed reader.new)) }
     ensures none { IfErr result (NoLine rules (R.feed reader.old) (R.feed reader.new)) }
-    ensures told { R.told reader.new ≤ R.told reader.old + fault_count result }
+    ensures stop_count { R.stop_count reader.new ≤ R.stop_count reader.old + fault_count result }
 {
     let mut scan = Scan {
         said: Said {

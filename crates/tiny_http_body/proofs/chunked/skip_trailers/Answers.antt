@@ -13,7 +13,7 @@ returns-then-line-eq0-clause-comes g c = trail-over c.args.rules _ _ _ (128 - c.
 pub loop-lines-preserved : goal.loop-lines-preserved
 loop-lines-preserved g c = record {
   comes = trail-more c.args.rules _ _ _ (128 - c.loop-lines.lines) (128 - (c.loop-lines.lines + 1)) c.in-Ok.ensures.line c.if-line-eq0.false (sym c.is_trailer.ensures ∙ c.if-not-is_trailer.false) (one_less 128 c.loop-lines.lines c.loop-lines-test.true) ∙ c.loop-lines.invariant.comes;
-  told = search rules;
+  stop_count = search rules;
   needed = λ new t. c.loop-lines.invariant.needed new (trailers-take_more c.args.rules (128 - c.loop-lines.lines) (128 - (c.loop-lines.lines + 1)) _ _ new _ c.in-Ok.ensures.line c.if-line-eq0.false (sym c.is_trailer.ensures ∙ c.if-not-is_trailer.false) (one_less 128 c.loop-lines.lines c.loop-lines-test.true) t);
 }
 

@@ -33,7 +33,7 @@ returns-in_err-put_chunk-clause-uses g c =
 pub loop-turn-preserved : goal.loop-turn-preserved
 loop-turn-preserved g c = record {
   size = omega arith;
-  told = search rules;
+  stop_count = search rules;
   copied = ChunkedTo-more _ _ _ _ _ _ c.loop-turn._turn c.in_ok-count.count c.fill.new.buf (omega arith) (omega (arith, c.in_ok-count.ensures.bound)) c.loop-turn.invariant.copied c.in_ok-count.ensures.bytes c.in_ok-put_chunk.ensures;
   same = SameFaults-append _ _ _ c.loop-turn.invariant.same (Took-same _ _ _ c.in_ok-put_chunk.ensures);
 }

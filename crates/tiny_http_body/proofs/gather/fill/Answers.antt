@@ -13,6 +13,6 @@ loop-at-preserved g c =
     let h = c.in_ok-n.ensures in
     record {
       within = omega (arith, h.bound);
-      told = search rules;
+      stop_count = search rules;
       filled = FilledTo-more _ _ _ c.loop-at.at c.in_ok-n.n c.loop-at.buf c.read_behind.new.buf (omega arith) (omega arith) h.bound h.front c.loop-at.invariant.filled h.bytes;
     }

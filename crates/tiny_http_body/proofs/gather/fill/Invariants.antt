@@ -5,7 +5,7 @@ use Rattle.tiny_http_body.proofs.gather.fill.Given as goal
 abbrev pub invariant-loop-at : goal.invariant-loop-at
 invariant-loop-at g l = record {
   within : l.at ≤ length l.buf;
-  told : g.D.ReadDevice.told l.source ≤ g.D.ReadDevice.told l.initial.source;
+  stop_count : g.D.ReadDevice.stop_count l.source ≤ g.D.ReadDevice.stop_count l.initial.source;
   filled : FilledTo (g.D.ReadDevice.feed l.initial.source) (g.D.ReadDevice.feed l.source) l.at l.buf;
 }
 

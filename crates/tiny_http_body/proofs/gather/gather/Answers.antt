@@ -20,7 +20,7 @@ returns-then-n-lt-PIECE-clause-gathers g c =
 pub loop-turn-preserved : goal.loop-turn-preserved
 loop-turn-preserved g c = record {
   size = omega arith;
-  told = search rules;
+  stop_count = search rules;
   gathered = GatheredTo-more _ _ _ c.loop-turn._turn c.in_ok-n.n _ _ c.fill.new.buf (omega arith) (omega (arith, c.in_ok-n.ensures.bound)) c.loop-turn.invariant.gathered c.in_ok-n.ensures.bytes c.in_ok-extend_from_slice.ensures.items;
 }
 

@@ -15,7 +15,7 @@ loop-left-preserved g c =
     let sum : (c.args.n - c.loop-left.left) + c.in_ok-left.field-0 ≡ c.args.n - (c.loop-left.left - c.in_ok-left.field-0) = omega (arith, h.0, h.1) in
     record {
       within = omega arith;
-      told = search rules;
+      stop_count = search rules;
       copied = rw (← sum) (Copied-more _ _ _ _ _ _ _ _ c.loop-left.invariant.copied h.2);
       same = SameFaults-append _ _ _ c.loop-left.invariant.same c.in_ok-left.ensures.uses;
     }

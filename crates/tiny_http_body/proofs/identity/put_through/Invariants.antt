@@ -5,7 +5,7 @@ use Rattle.tiny_http_body.proofs.identity.put_through.Given as goal
 abbrev pub invariant-loop-left : goal.invariant-loop-left
 invariant-loop-left g l = record {
   within : l.left ≤ l.n;
-  told : g.D.ReadDevice.told l.source ≤ g.D.ReadDevice.told l.initial.source;
+  stop_count : g.D.ReadDevice.stop_count l.source ≤ g.D.ReadDevice.stop_count l.initial.source;
   copied : CopiedKnown (g.D.ReadDevice.feed l.initial.source) (g.D.ReadDevice.feed l.source) (g.W.WriteDevice.sink l.initial.writer) (g.W.WriteDevice.sink l.writer) (l.n - l.left);
   same : SameFaults (g.W.WriteDevice.sink l.initial.writer) (g.W.WriteDevice.sink l.writer);
 }

@@ -50,9 +50,9 @@ fault-is (Err e) kind P E is over holds = by (is_closed_client (error_kind e)) i
     by false is = let same : error_kind e ≡ kind = (let h : Fault (error_kind e) ≡ Fault kind = is in cc) in (over, subst P same holds)
 
 -- what is told of a failure of the writer
-told-by : (r : Result (Unit {0}) Error) (same ended : Type 0) (P : ErrorKind → Type 0) (reply : ReplyValue) → reply ≡ reply_to r → OnOk r same → OnErr r ended → IfErr r (λ e. P (error_kind e)) → same ⊎ ((kind : ErrorKind) × (reply ≡ fault_reply kind) × ended × P kind)
-told-by (Ok x) same ended P reply is ok over h = inl ok
-told-by (Err e) same ended P reply is ok over h = inr (error_kind e, is, over, h)
+stop_count-by : (r : Result (Unit {0}) Error) (same ended : Type 0) (P : ErrorKind → Type 0) (reply : ReplyValue) → reply ≡ reply_to r → OnOk r same → OnErr r ended → IfErr r (λ e. P (error_kind e)) → same ⊎ ((kind : ErrorKind) × (reply ≡ fault_reply kind) × ended × P kind)
+stop_count-by (Ok x) same ended P reply is ok over h = inl ok
+stop_count-by (Err e) same ended P reply is ok over h = inr (error_kind e, is, over, h)
 
 pub returns : goal.returns
 returns g c =
@@ -70,5 +70,5 @@ returns g c =
       body = ap (λ x. x.body) c.respond.ensures.once;
       done = subst IsAnswered (sym replied) (is-answered (reported r));
       honest = λ kind e. fault-is r kind H _ (sym replied ∙ e) a.ended a.honest;
-      tells = told-by r _ _ H _ is a.told a.ended a.honest;
+      tells = stop_count-by r _ _ H _ is a.stop_count a.ended a.honest;
     }

@@ -58,7 +58,7 @@ loop-timed-preserved g c =
       sent_on = λ none e. step.makes.sent_on (all_sent c.loop-timed.yielded c.loop-timed.replies.items true) (inv.sent_on none) (before e);
       first = inv.first;
       begins = inv.begins;
-      takes = rw c.push_reserved.ensures.items (takes-snoc g.R.ReadDevice.told g.D.ReadDevice.feed inv.first old new done replies c.in-Some.timed c.step-reply.result inv.takes step.makes c.step-reply.ensures.meets);
+      takes = rw c.push_reserved.ensures.items (takes-snoc g.R.ReadDevice.stop_count g.D.ReadDevice.feed inv.first old new done replies c.in-Some.timed c.step-reply.result inv.takes step.makes c.step-reply.ensures.meets);
     }
 
 pub returns-clause-conversation : goal.returns-clause-conversation

@@ -17,7 +17,7 @@ use Rattle.tiny_http_connection.specs.Driving.{HasDone}
 use Rattle.tiny_http_connection.proofs.run.run_with.Given as goal
 
 -- what holds before each step
-pub record Goes {R W D : Type 0} (told : R → ℕ) (feed : D → Option Feed) (from : R) (reader : Option Feed) (to : W) (writer : Sink) (all done rest : List (Timed D)) (replies : List Reply) (profile : Profile) (c : ConnectionState R W) (count room : ℕ) : Type 0 where
+pub record Goes {R W D : Type 0} (stop_count : R → ℕ) (feed : D → Option Feed) (from : R) (reader : Option Feed) (to : W) (writer : Sink) (all done rest : List (Timed D)) (replies : List Reply) (profile : Profile) (c : ConnectionState R W) (count room : ℕ) : Type 0 where
   pub joins : all ≡ done ++ rest
   pub counted : count ≡ length done
   pub as_many : length done ≡ length replies
@@ -29,8 +29,8 @@ pub record Goes {R W D : Type 0} (told : R → ℕ) (feed : D → Option Feed) (
   pub sent_on : HoldsNothing writer → all_sent done replies true ≡ true → SentOn c.outlet
   pub first : ConnectionState R W
   pub begins : IsNew profile from reader to writer first
-  pub takes : TakesSteps told feed first done replies c
+  pub takes : TakesSteps stop_count feed first done replies c
 
 abbrev pub invariant-loop-timed : goal.invariant-loop-timed
 invariant-loop-timed g l =
-    Goes g.R.ReadDevice.told g.D.ReadDevice.feed l.fn.reader (g.R.ReadDevice.feed l.fn.reader) l.fn.writer (g.W.WriteDevice.sink l.fn.writer) l.fn.steps.items l.yielded (into_iter_items l.timed-iterator) l.replies.items l.fn.profile l.connection (vec_len l.replies) (vec_capacity l.replies)
+    Goes g.R.ReadDevice.stop_count g.D.ReadDevice.feed l.fn.reader (g.R.ReadDevice.feed l.fn.reader) l.fn.writer (g.W.WriteDevice.sink l.fn.writer) l.fn.steps.items l.yielded (into_iter_items l.timed-iterator) l.replies.items l.fn.profile l.connection (vec_len l.replies) (vec_capacity l.replies)

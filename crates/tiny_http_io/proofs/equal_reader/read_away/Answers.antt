@@ -22,7 +22,7 @@ loop-left-preserved g c =
     let e = c.in-Ok.ensures in
     record {
       feed = last-bytes _ _ (take c.in-Ok.n c.read_front.new.buf) c.loop-left.left c.in-Ok.n e.bytes (length-take-le c.in-Ok.n c.read_front.new.buf e.bound) e.most ∙ c.loop-left.invariant.feed;
-      told = search rules;
+      stop_count = search rules;
     }
 
 pub returns-clause-feed : goal.returns-clause-feed

@@ -2,7 +2,7 @@ use Rattle.std.proofs.Common.{sym, subst}
 use Rattle.tiny_http_body.specs.declared.body.UnreadBody.{UnreadBody}
 use Rattle.tiny_http_body.specs.Body.{PassesOver}
 use Rattle.tiny_http_body.proofs.BodyReads.{goes-on_skips}
-use Rattle.tiny_http_open_request.proofs.head_faults.pass_over.Goals as goal
+use Rattle.tiny_http_open_request.proofs.head_faults.skip.Goals as goal
 
 pub returns-in-Counted-clause-passes : goal.returns-in-Counted-clause-passes
 returns-in-Counted-clause-passes g c =

@@ -9,7 +9,7 @@ loop-header-init g c = record {
   fields = rw c.new-headers.ensures.items (fields-none c.args.left.now c.args.source.now.feed);
   goes_on = goes-on_same c.args.source.now.feed;
   lazy = refl;
-  standing = refl;
+  input_state = refl;
 }
 
 pub loop-header-preserved : goal.loop-header-preserved
@@ -20,7 +20,7 @@ loop-header-preserved g c =
       fields = rw (c.push.ensures.items, ok) (fields-more c.args.left.now c.loop-header.left _ _ c.loop-header.source.feed _ c.loop-header.headers.items c.in-Ok-Some.header c.loop-header.invariant.fields read.reads);
       goes_on = goes-on_more _ _ _ c.loop-header.invariant.goes_on read.goes_on;
       lazy = read.lazy ∙ c.loop-header.invariant.lazy;
-      standing = read.standing ∙ c.loop-header.invariant.standing;
+      input_state = read.input_state ∙ c.loop-header.invariant.input_state;
     }
 
 pub returns-then-is_err-clause-goes_on : goal.returns-then-is_err-clause-goes_on

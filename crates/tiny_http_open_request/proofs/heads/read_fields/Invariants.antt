@@ -8,7 +8,7 @@ invariant-loop-header g l = record {
   fields : HasReadFields l.fn.left l.left l.fn.source.feed l.source.feed l.headers.items;
   goes_on : GoesOn l.fn.source.feed l.source.feed;
   lazy : l.source.stop ≡ l.fn.source.stop;
-  standing : l.source.standing ≡ l.fn.source.standing;
+  input_state : l.source.input_state ≡ l.fn.source.input_state;
 }
 
 abbrev pub decreases-loop-header : goal.decreases-loop-header

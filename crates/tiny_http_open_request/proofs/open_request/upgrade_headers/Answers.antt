@@ -1,7 +1,7 @@
 use Rattle.std.proofs.Common.{refl, sym, ap, ◌∙◌, subst, ◌+◌, List, ◌∷◌, [], ◌++◌, codes}
 use Rattle.std.specs.List.{list_any}
 use Rattle.tiny_http_head.specs.declared.common.Header.{Header}
-use Rattle.tiny_http_standard_head.specs.Judging.{is_protocol_named}
+use Rattle.tiny_http_standard_head.specs.Validation.{is_protocol_named}
 use Rattle.tiny_http_open_request.proofs.UpgradesLemmas.{AreKeptOf, kept-one, kept-none, kept-all}
 use Rattle.tiny_http_open_request.proofs.open_request.upgrade_headers.Goals.{then-equiv+in_ok-try_clone+in_ok-push, else-equiv}
 use Rattle.tiny_http_open_request.proofs.open_request.upgrade_headers.Goals as goal

@@ -1,7 +1,7 @@
 use Rattle.std.proofs.Common.{rules, refl, sym, ap, ◌∙◌, subst, ℕ, Bool, true, false, Option, Ok, Err}
 use Rattle.tiny_http_io.specs.Device.{Feed}
 use Rattle.tiny_http_io.specs.Source.{GoesOn}
-use Rattle.tiny_http_io.specs.declared.source.Standing.TheVariants as at
+use Rattle.tiny_http_io.specs.declared.source.InputState.TheVariants as at
 use Rattle.tiny_http_open_request.specs.declared.exchange.HeadRead.TheVariants as read
 use Rattle.tiny_http_open_request.specs.HeadReads.{ReadsHead, ReadsMessage, RefusesWith, RefusesTooNew, head_framing}
 use Rattle.tiny_http_open_request.specs.Pipeline.{ends_too_new, plainly, profile_of}

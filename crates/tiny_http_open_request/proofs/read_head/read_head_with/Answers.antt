@@ -1,6 +1,6 @@
 use Rattle.std.proofs.Common.{rules, ◌≡◌, sym, ap, ◌∙◌, subst, Ok, Result}
 use Rattle.std.specs.declared.alloc.AllocError.{AllocError}
-use Rattle.tiny_http_io.specs.declared.source.Standing.TheVariants as at
+use Rattle.tiny_http_io.specs.declared.source.InputState.TheVariants as at
 use Rattle.tiny_http_open_request.specs.declared.exchange.HeadRead.{HeadRead}
 use Rattle.tiny_http_open_request.specs.declared.exchange.HeadRead.TheVariants as read
 use Rattle.tiny_http_open_request.specs.declared.exchange.EndOfRequests.{EndOfRequests}
@@ -23,7 +23,7 @@ returns-in-Body g c =
       framed = search rules;
       fits = search rules;
       lazy = search rules;
-      standing = search rules;
+      input_state = search rules;
     }
 
 pub returns-in-Ok-Ended : goal.returns-in-Ok-Ended
@@ -32,10 +32,10 @@ returns-in-Ok-Ended g c =
     let new = c.end-in-Ok-Ended.new.self.feed in
     let why = c.in-Ok-Ended.why in
     let P : Result HeadRead AllocError → Type 0 = λ r. ReadsHead c.args.profile at.Head c.args.now old.feed c.read_item-read.new.source.feed r in
-    let Q : EndOfRequests → Type 0 = λ x. ReadsHead c.args.profile old.standing c.args.now old.feed new (Ok (read.Ended x)) in
+    let Q : EndOfRequests → Type 0 = λ x. ReadsHead c.args.profile old.input_state c.args.now old.feed new (Ok (read.Ended x)) in
     let is : c.read_item-read.result ≡ Ok (read.Ended why) = search rules in
     record {
-      reads = λ here. subst Q (sym (c.end_at.ensures ∙ ap (λ s. end_at s why) c.standing-standing.ensures)) (head-end c.args.profile old.standing c.args.now old.feed c.read_item-read.new.source.feed new why here (subst P is c.read_item-read.ensures.reads));
+      reads = λ here. subst Q (sym (c.end_at.ensures ∙ ap (λ s. end_at s why) c.input_state-input_state.ensures)) (head-end c.args.profile old.input_state c.args.now old.feed c.read_item-read.new.source.feed new why here (subst P is c.read_item-read.ensures.reads));
       ends = search rules;
       last = search rules;
       unread = search rules;
@@ -45,7 +45,7 @@ returns-in-Ok-Ended g c =
       framed = search rules;
       fits = search rules;
       lazy = search rules;
-      standing = search rules;
+      input_state = search rules;
     }
 
 pub returns-then-last : goal.returns-then-last
@@ -61,7 +61,7 @@ returns-then-last g c =
       framed = search rules;
       fits = search rules;
       lazy = search rules;
-      standing = search rules;
+      input_state = search rules;
     }
 
 pub returns-in-Err : goal.returns-in-Err
@@ -77,5 +77,5 @@ returns-in-Err g c =
       framed = search rules;
       fits = search rules;
       lazy = search rules;
-      standing = search rules;
+      input_state = search rules;
     }

@@ -1,7 +1,7 @@
 use Rattle.std.proofs.Common.{rules, refl, ap, ◌∙◌, subst, Option, Ok}
 use Rattle.tiny_http_io.specs.Device.{Feed}
 use Rattle.tiny_http_io.specs.Source.{GoesOn}
-use Rattle.tiny_http_io.specs.declared.source.Standing.TheVariants as at
+use Rattle.tiny_http_io.specs.declared.source.InputState.TheVariants as at
 use Rattle.tiny_http_io.proofs.SourceGoesOn.{goes-on_more}
 use Rattle.tiny_http_body.specs.declared.framing.Profile.TheVariants.{Standard}
 use Rattle.tiny_http_open_request.specs.declared.exchange.HeadRead.TheVariants as read
@@ -62,10 +62,10 @@ returns-in-Err-begin_body-clause-goes_on g c = subst (λ (o : Option Feed). Goes
 
 pub returns-in-Ok-clause-framed : goal.returns-in-Ok-clause-framed
 returns-in-Ok-clause-framed g c =
-    let judged = rw c.in-Ok-Whole.field-0-is at c.in-Ok-Whole.ensures.judged in
+    let validated = rw c.in-Ok-Whole.field-0-is at c.in-Ok-Whole.ensures.validated in
     let kept = c.in-Ok.ensures in
     let says = c.new-in-Ok.ensures in
-    standard-framed c.args.now c.in-Ok-Whole.head c.framing_of-framing.result c.head_of-head.result c.new-in-Ok.result judged c.head_of-head.ensures.message c.framing_of-framing.ensures c.head_of-head.ensures.framing says.head (search (rules, says.open, kept.1))
+    standard-framed c.args.now c.in-Ok-Whole.head c.framing_of-framing.result c.head_of-head.result c.new-in-Ok.result validated c.head_of-head.ensures.message c.framing_of-framing.ensures c.head_of-head.ensures.framing says.head (search (rules, says.open, kept.1))
 
 pub returns-in-Ok-clause-fits : goal.returns-in-Ok-clause-fits
 returns-in-Ok-clause-fits g c =

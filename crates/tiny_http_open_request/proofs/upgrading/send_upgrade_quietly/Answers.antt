@@ -4,7 +4,7 @@ use Rattle.tiny_http_text.specs.Bytes.{is_ascii}
 use Rattle.tiny_http_io.specs.Outlet.{output_of, outlet_ended}
 use Rattle.tiny_http_response.specs.Sending.{SendsUnlessEnded}
 use Rattle.tiny_http_response.specs.ResponseValue.{printing_in, upgrade_text}
-use Rattle.tiny_http_open_request.proofs.OwnAnswerLemmas.{upgrade-quietly}
+use Rattle.tiny_http_open_request.proofs.ErrorResponseLemmas.{upgrade-quietly}
 use Rattle.tiny_http_open_request.proofs.upgrading.send_upgrade_quietly.Goals as goal
 
 pub returns-clause-sends : goal.returns-clause-sends

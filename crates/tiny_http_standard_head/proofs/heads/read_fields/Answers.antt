@@ -33,7 +33,7 @@ returns-then-len-ge-MOST_HEADERS-clause-none c =
 pub returns-in-Err-clause-none : goal.returns-in-Err-clause-none
 returns-in-Err-clause-none c =
     let line = c.in-Ok.line in
-    first-field c.args.bytes.now c.loop-line.rest.now c.loop-line.headers.items c.loop-line.invariant.lines (line.0.now, line.1.now, c.in-Ok.ensures.some, c.in-Err.ensures.judged)
+    first-field c.args.bytes.now c.loop-line.rest.now c.loop-line.headers.items c.loop-line.invariant.lines (line.0.now, line.1.now, c.in-Ok.ensures.some, c.in-Err.ensures.validated)
 
 pub returns-then-is_err-clause-none : goal.returns-then-is_err-clause-none
 returns-then-is_err-clause-none c =

@@ -38,8 +38,8 @@ returns-clause-some c =
       field_is = sym c.is_token.ensures ∙ c.if-not-is_token.false;
       bytes = sym c.is_header_value.ensures ∙ c.if-not-is_header_value.false;
       trims = subst (Trims is_ows padded) (sym same) (trims-is is_ows padded);
-      ascii = λ judged. elim c.else-must_be_ascii.branch [
+      ascii = λ validated. elim c.else-must_be_ascii.branch [
         | else-must_be_ascii-via-then-must_be_ascii+else-not-are_ascii w ↦ sym w.are_ascii.ensures ∙ w.if-not-are_ascii.false
-        | else-must_be_ascii-via-else-must_be_ascii w ↦ contrary c.must_be_ascii.result (c.must_be_ascii.ensures ∙ judged) w.if-must_be_ascii.false
+        | else-must_be_ascii-via-else-must_be_ascii w ↦ contrary c.must_be_ascii.result (c.must_be_ascii.ensures ∙ validated) w.if-must_be_ascii.false
       ];
     }

@@ -19,7 +19,7 @@ loop-header-init g c =
       goes_on = goes-on_same old;
       stop = search rules;
       first = λ _. (refl, refl);
-      standing = search rules;
+      input_state = search rules;
     }
 
 pub loop-header-preserved : goal.loop-header-preserved
@@ -37,7 +37,7 @@ loop-header-preserved g c =
       goes_on = goes-on_more _ _ _ c.loop-header.invariant.goes_on c.read_field.ensures.goes_on;
       stop = c.in-Ok-Some.ensures.lazy ∙ c.loop-header.invariant.stop;
       first = λ none. not-empty c.loop-header.headers.items c.in-Ok-Some.header (rw (c.push.ensures.items, ok) at none);
-      standing = c.read_field.ensures.standing ∙ c.loop-header.invariant.standing;
+      input_state = c.read_field.ensures.input_state ∙ c.loop-header.invariant.input_state;
     }
 
 pub returns-then-len-ge-MOST_HEADERS-clause-reads : goal.returns-then-len-ge-MOST_HEADERS-clause-reads

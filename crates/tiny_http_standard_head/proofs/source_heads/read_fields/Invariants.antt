@@ -12,7 +12,7 @@ invariant-loop-header g l = record {
   goes_on : GoesOn l.fn.source.feed l.source.feed;
   stop : l.source.stop ≡ l.fn.source.stop;
   first : l.headers.items ≡ [] → (l.left ≡ l.fn.left) × (l.source.feed ≡ l.fn.source.feed);
-  standing : l.source.standing ≡ l.fn.source.standing;
+  input_state : l.source.input_state ≡ l.fn.source.input_state;
 }
 
 abbrev pub decreases-loop-header : goal.decreases-loop-header

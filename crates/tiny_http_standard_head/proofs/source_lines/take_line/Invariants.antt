@@ -12,7 +12,7 @@ invariant-loop-n g l = record {
   some : 0 < length l.source.held;
   begun : l.line.items ≡ [] → HasNo line_feed (take l.limit l.source.held);
   stop : l.source.stop ≡ l.fn.source.stop;
-  standing : l.source.standing ≡ l.fn.source.standing;
+  input_state : l.source.input_state ≡ l.fn.source.input_state;
 }
 
 abbrev pub decreases-loop-n : goal.decreases-loop-n

@@ -4,7 +4,7 @@ use Rattle.std.specs.Prelude.{◌==◌}
 use Rattle.tiny_http_io.specs.declared.device.Stop.TheVariants.{End}
 use Rattle.tiny_http_body.specs.Body.{Remaining, remaining, prepended_body, BodyStops, NoneRemains, ReadsOn, ends_met}
 use Rattle.tiny_http_io.proofs.SourceGoesOn.{goes-on_more}
-use Rattle.tiny_http_body.proofs.BodyReads.{read-more, moves-more, stays-settled, bytes-none, stops-none-left, standing-more, ends-more}
+use Rattle.tiny_http_body.proofs.BodyReads.{read-more, moves-more, stays-settled, bytes-none, stops-none-left, input_state-more, ends-more}
 use Rattle.tiny_http_body.proofs.body.UnreadBody.fill.Goals as goal
 
 pub loop-at-preserved : goal.loop-at-preserved
@@ -22,10 +22,10 @@ loop-at-preserved g c =
       given = read-more _ _ _ c.loop-at.buf c.read_behind.new.buf c.loop-at.at n inv.given h.bytes c.in-Ok.ensures.front c.in-Ok.ensures.bound;
       start = λ e. absurd (c.in-Ok.n-test.1 (omega (arith, e)));
       moves = λ some. moves-more _ _ _ c.loop-at.at n false inv.start inv.moves moves;
-      told = search rules;
+      stop_count = search rules;
       settled = λ e. (b.settled (inv.settled e).1 ∙ (inv.settled e).0, stays-settled _ _ n false moves (inv.settled e).1);
       goes_on = goes-on_more _ _ _ inv.goes_on h.goes_on;
-      standing = λ e. standing-more c.loop-at.self c.read_behind.new.self n false c.args.source.now.standing c.loop-at.source c.read_behind.new.source moves b.settled b.standing (inv.standing e);
+      input_state = λ e. input_state-more c.loop-at.self c.read_behind.new.self n false c.args.source.now.input_state c.loop-at.source c.read_behind.new.source moves b.settled b.input_state (inv.input_state e);
     }
 
 pub returns-then-at-eq0-clause-goes_on : goal.returns-then-at-eq0-clause-goes_on
@@ -70,39 +70,39 @@ returns-in-Ok-eq0-clause-goes_on g c = goes-on_more _ _ _ c.loop-at.invariant.go
 pub returns-else-at-eq0-clause-goes_on : goal.returns-else-at-eq0-clause-goes_on
 returns-else-at-eq0-clause-goes_on g c = goes-on_more _ _ _ c.loop-at.invariant.goes_on c.in-Err.ensures.reads.reads.goes_on
 
-pub returns-then-at-eq0-clause-standing : goal.returns-then-at-eq0-clause-standing
-returns-then-at-eq0-clause-standing g c e =
-    standing-more c.loop-at.self c.read_behind.new.self 0 true c.args.source.now.standing c.loop-at.source c.read_behind.new.source c.in-Err.ensures.reads.broken c.in-Err.ensures.reads.settled c.in-Err.ensures.reads.standing (c.loop-at.invariant.standing e)
+pub returns-then-at-eq0-clause-input_state : goal.returns-then-at-eq0-clause-input_state
+returns-then-at-eq0-clause-input_state g c e =
+    input_state-more c.loop-at.self c.read_behind.new.self 0 true c.args.source.now.input_state c.loop-at.source c.read_behind.new.source c.in-Err.ensures.reads.broken c.in-Err.ensures.reads.settled c.in-Err.ensures.reads.input_state (c.loop-at.invariant.input_state e)
 
-pub returns-in-Ok-eq0-clause-standing : goal.returns-in-Ok-eq0-clause-standing
-returns-in-Ok-eq0-clause-standing g c e =
+pub returns-in-Ok-eq0-clause-input_state : goal.returns-in-Ok-eq0-clause-input_state
+returns-in-Ok-eq0-clause-input_state g c e =
     let h = c.in-Ok-eq0.ensures.reads in
     let some : 0 < length (drop c.loop-at.at c.read_behind.new.buf) = rw length-drop (omega (arith, c.in-Ok-eq0.ensures.room)) in
-    standing-more c.loop-at.self c.read_behind.new.self c.in-Ok-eq0.field-0 (c.in-Ok-eq0.field-0 == 0) c.args.source.now.standing c.loop-at.source c.read_behind.new.source (h.reads.moves some) h.settled h.standing (c.loop-at.invariant.standing e)
+    input_state-more c.loop-at.self c.read_behind.new.self c.in-Ok-eq0.field-0 (c.in-Ok-eq0.field-0 == 0) c.args.source.now.input_state c.loop-at.source c.read_behind.new.source (h.reads.moves some) h.settled h.input_state (c.loop-at.invariant.input_state e)
 
-pub returns-else-at-eq0-clause-standing : goal.returns-else-at-eq0-clause-standing
-returns-else-at-eq0-clause-standing g c e =
-    standing-more c.loop-at.self c.read_behind.new.self 0 true c.args.source.now.standing c.loop-at.source c.read_behind.new.source c.in-Err.ensures.reads.broken c.in-Err.ensures.reads.settled c.in-Err.ensures.reads.standing (c.loop-at.invariant.standing e)
+pub returns-else-at-eq0-clause-input_state : goal.returns-else-at-eq0-clause-input_state
+returns-else-at-eq0-clause-input_state g c e =
+    input_state-more c.loop-at.self c.read_behind.new.self 0 true c.args.source.now.input_state c.loop-at.source c.read_behind.new.source c.in-Err.ensures.reads.broken c.in-Err.ensures.reads.settled c.in-Err.ensures.reads.input_state (c.loop-at.invariant.input_state e)
 
 pub returns-in-Ok-eq0-clause-whole : goal.returns-in-Ok-eq0-clause-whole
 returns-in-Ok-eq0-clause-whole g c =
     let inv = c.loop-at.invariant in
     let n = c.in-Ok-eq0.field-0 in
-    let told = g.R.ReadDevice.told in
+    let stop_count = g.R.ReadDevice.stop_count in
     let more = ends-more c.args.self.now c.loop-at.self c.read_behind.new.self c.loop-at.at inv.start inv.moves in
-    let T : ℕ → Type 0 = λ k. told c.read_behind.new.source.reader ≤ told c.loop-at.source.reader + ends_met c.loop-at.self k c.read_behind.new.self in
+    let T : ℕ → Type 0 = λ k. stop_count c.read_behind.new.source.reader ≤ stop_count c.loop-at.source.reader + ends_met c.loop-at.self k c.read_behind.new.self in
     let here : T 0 = subst T c.in-Ok-eq0.field-0-test c.in-Ok-eq0.ensures.whole in
-    omega (arith, here, inv.told, more)
+    omega (arith, here, inv.stop_count, more)
 
 pub returns-then-at-eq0-clause-whole : goal.returns-then-at-eq0-clause-whole
 returns-then-at-eq0-clause-whole g c =
     let inv = c.loop-at.invariant in
     let more = ends-more c.args.self.now c.loop-at.self c.read_behind.new.self c.loop-at.at inv.start inv.moves in
     let M : ℕ → Type 0 = λ k. ends_met c.loop-at.self 0 c.read_behind.new.self ≤ ends_met c.args.self.now k c.read_behind.new.self in
-    omega (arith, c.in-Err.ensures.whole, inv.told, subst M c.if-at-eq0.true more)
+    omega (arith, c.in-Err.ensures.whole, inv.stop_count, subst M c.if-at-eq0.true more)
 
 pub returns-else-at-eq0-clause-whole : goal.returns-else-at-eq0-clause-whole
 returns-else-at-eq0-clause-whole g c =
     let inv = c.loop-at.invariant in
     let more = ends-more c.args.self.now c.loop-at.self c.read_behind.new.self c.loop-at.at inv.start inv.moves in
-    omega (arith, c.in-Err.ensures.whole, inv.told, more)
+    omega (arith, c.in-Err.ensures.whole, inv.stop_count, more)

@@ -1,6 +1,6 @@
 use Rattle.std.proofs.Common.{◌≡◌, ◌-◌, ◌<◌, ◌≤◌, true, false, length, take}
 use Rattle.tiny_http_io.specs.Source.{GoesOn}
-use Rattle.tiny_http_body.specs.Body.{remaining, prepended_body, is_streaming, body_standing, ReadsOn}
+use Rattle.tiny_http_body.specs.Body.{remaining, prepended_body, is_streaming, body_input_state, ReadsOn}
 use Rattle.tiny_http_body.proofs.body.UnreadBody.fill.Given as goal
 
 abbrev pub invariant-loop-at : goal.invariant-loop-at
@@ -9,10 +9,10 @@ invariant-loop-at g l = record {
   given : remaining l.initial.self l.initial.source.feed ≡ prepended_body (take l.at l.buf) (remaining l.self l.source.feed);
   start : l.at ≡ 0 → l.self ≡ l.initial.self;
   moves : 0 < l.at → ReadsOn l.initial.self l.at false l.self;
-  told : g.R.ReadDevice.told l.source.reader ≤ g.R.ReadDevice.told l.initial.source.reader;
+  stop_count : g.R.ReadDevice.stop_count l.source.reader ≤ g.R.ReadDevice.stop_count l.initial.source.reader;
   settled : is_streaming l.initial.self ≡ false → (l.source ≡ l.initial.source) × (is_streaming l.self ≡ false);
   goes_on : GoesOn l.initial.source.feed l.source.feed;
-  standing : is_streaming l.initial.self ≡ true → l.source.standing ≡ body_standing l.self l.initial.source.standing;
+  input_state : is_streaming l.initial.self ≡ true → l.source.input_state ≡ body_input_state l.self l.initial.source.input_state;
 }
 
 abbrev pub decreases-loop-at : goal.decreases-loop-at

@@ -2,7 +2,7 @@ use Rattle.std.proofs.Common.{rules, ap, sym, subst, ◌∙◌}
 use Rattle.tiny_http_io.specs.Source.{SourceState}
 use Rattle.tiny_http_body.specs.declared.body.UnreadBody.{UnreadBody}
 use Rattle.tiny_http_body.specs.declared.body.UnreadBody.TheVariants.{Counted, Chunked}
-use Rattle.tiny_http_io.specs.Standing.{after_body, after_abandoned}
+use Rattle.tiny_http_io.specs.InputState.{after_body, after_abandoned}
 use Rattle.tiny_http_body.specs.Body.{GivesUp}
 use Rattle.tiny_http_body.proofs.body.UnreadBody.give_up.Goals.{in-Counted, in-Chunked, in-Over, in-WithHead, in-Rest}
 use Rattle.tiny_http_body.proofs.body.UnreadBody.give_up.Goals as goal
@@ -20,7 +20,7 @@ returns-clause-gives_up g c =
             alone = w.skip.ensures.skips.alone;
             adds = w.skip.ensures.skips.adds;
             once = w.skip.ensures.skips.once;
-            standing = w.after_body.ensures ∙ ap after_body c.standing-standing.ensures;
+            input_state = w.after_body.ensures ∙ ap after_body c.input_state-input_state.ensures;
           }))
       | in-Chunked w ↦
           let Q : S → Type 0 = λ x. GivesUp (Chunked w.in-Chunked.field-0) old x in
@@ -28,7 +28,7 @@ returns-clause-gives_up g c =
             feed = w.end.ensures.feed;
             at_end = w.end.ensures.at_end;
             reader = w.end.ensures.reader;
-            standing = w.after_abandoned.ensures ∙ ap after_abandoned c.standing-standing.ensures;
+            input_state = w.after_abandoned.ensures ∙ ap after_abandoned c.input_state-input_state.ensures;
           }))
       | in-Over w ↦ search rules
       | in-WithHead w ↦ search rules

@@ -101,14 +101,14 @@ returns-in-Err-clause-reads g c =
     let some : 0 < c.args.left = omega (arith, c.if-left-eq0.false) in
     let stop = Fault (error_kind c.in-Err.e) in
     let standard = c.args.by_standard in
-    let told = cut-fault standard (error_kind c.in-Err.e) in
+    let stop_count = cut-fault standard (error_kind c.in-Err.e) in
     record {
       bound = search rules;
       bytes = search rules;
       end = search rules;
-      fault = subst (λ x. BodyStops x (remaining c.args.self.now o)) told (cut-stops standard c.args.self.now o c.args.left stop c.requires.counted some c.in-Err.ensures.fault);
+      fault = subst (λ x. BodyStops x (remaining c.args.self.now o)) stop_count (cut-stops standard c.args.self.now o c.args.left stop c.requires.counted some c.in-Err.ensures.fault);
       again = rw c.kind.ensures
-          (sym (body-cut-is standard c.args.self.now o c.read_front.new.reader.feed c.end-in-Err.new.self.feed c.args.left stop c.requires.counted some c.in-Err.ensures.fault c.in-Err.ensures.again c.end-in-Err.ensures.feed ∙ ap (λ x. remaining (Over x) c.end-in-Err.new.self.feed) told));
+          (sym (body-cut-is standard c.args.self.now o c.read_front.new.reader.feed c.end-in-Err.new.self.feed c.args.left stop c.requires.counted some c.in-Err.ensures.fault c.in-Err.ensures.again c.end-in-Err.ensures.feed ∙ ap (λ x. remaining (Over x) c.end-in-Err.new.self.feed) stop_count));
       moves = search rules;
       ended = search rules;
       over = search rules;

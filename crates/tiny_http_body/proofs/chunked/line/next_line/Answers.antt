@@ -23,7 +23,7 @@ loop-taken-preserved g c =
     elim c.else-scan.branch [ else-scan-via-then-scan+else-b-eq10 w ↦ (λ e. w.if-b-eq10.false) | else-scan-via-else-scan w ↦ flag_off _ _ w.if-scan.false ] in
     record {
       line = so_far-more c.args.rules _ _ _ c.loop-taken.scan c.then-scan.result c.loop-taken.taken c.in-Ok.b c.loop-taken.invariant.line c.in-Ok.ensures.byte ne (sym c.breaks_line.ensures ∙ c.if-breaks_line.false) c.then-scan.ensures.is c.then-scan.ensures.fits;
-      told = search rules;
+      stop_count = search rules;
     }
 
 pub returns-clause-none : goal.returns-clause-none

@@ -5,5 +5,5 @@ use Rattle.tiny_http_body.proofs.chunked.line.next_line.Given as goal
 abbrev pub invariant-loop-taken : goal.invariant-loop-taken
 invariant-loop-taken g l = record {
   line : LineSoFar l.fn.rules (g.R.ReadDevice.feed l.fn.reader) (g.R.ReadDevice.feed l.reader) l.scan l.taken;
-  told : g.R.ReadDevice.told l.reader ≤ g.R.ReadDevice.told l.fn.reader;
+  stop_count : g.R.ReadDevice.stop_count l.reader ≤ g.R.ReadDevice.stop_count l.fn.reader;
 }

@@ -2,7 +2,7 @@ use Rattle.std.proofs.Common.{◌≡◌, refl, sym, ap, ◌∙◌, subst, inl, i
 use Rattle.std.specs.Prelude.{is_some}
 use Rattle.std.specs.declared.alloc.AllocError.{AllocError}
 use Rattle.tiny_http_turns.specs.Turns.{AreInShape}
-use Rattle.tiny_http_io.specs.declared.source.Standing.TheVariants as at
+use Rattle.tiny_http_io.specs.declared.source.InputState.TheVariants as at
 use Rattle.tiny_http_open_request.specs.declared.exchange.EndOfRequests.TheVariants as because
 use Rattle.tiny_http_open_request.specs.declared.next_request.NextRequest.{NextRequest}
 use Rattle.tiny_http_open_request.specs.declared.next_request.NextRequest.TheVariants as next
@@ -35,8 +35,8 @@ returns-then-matches g c =
     let q = c.self.inside in
     let old = viewed q.profile q.source q.outlet q.pending q.end in
     let open_is : is_some q.end ≡ false = sym c.is_some.ensures ∙ c.if-is_some.false in
-    let here : q.source.standing ≡ at.Body = elim c.match-matches.branch [
-      | in-Body w ↦ sym c.standing.ensures ∙ w.in-Body.is
+    let here : q.source.input_state ≡ at.Body = elim c.match-matches.branch [
+      | in-Body w ↦ sym c.input_state.ensures ∙ w.in-Body.is
       | in_default w ↦ (let no : false ≡ true = sym w.matches-is ∙ c.if-matches.true in cc)
     ] in
     record {
@@ -65,9 +65,9 @@ returns-in-Ok g c =
     let e = c.in-Ok.ensures in
     let old = viewed q.profile q.source q.outlet q.pending q.end in
     let new = viewed q.profile f.source f.output c.issue.new.self q.end in
-    let outside : q.source.standing ≡ at.Body → ⊥ = elim c.match-matches.branch [
+    let outside : q.source.input_state ≡ at.Body → ⊥ = elim c.match-matches.branch [
       | in-Body w ↦ λ e. (let no : true ≡ false = sym w.matches-is ∙ c.if-matches.false in cc)
-      | in_default w ↦ λ e. w.in_default.not-Body (c.standing.ensures ∙ e)
+      | in_default w ↦ λ e. w.in_default.not-Body (c.input_state.ensures ∙ e)
     ] in
     let can : CanAsk old = (none-of q.end (sym c.is_some.ensures ∙ c.if-is_some.false), outside, sym c.last_holds_next_head.ensures ∙ c.if-last_holds_next_head.false) in
     let N : Result NextRequest AllocError → Type 0 = λ r. FindsNext RefusesHead q.profile c.args.now (at-head q.source q.pending q.outlet) r (at-head f.source f.place f.output) in
@@ -87,9 +87,9 @@ returns-in-Err-issue g c =
     let e = c.in-Err-issue.ensures.err in
     let old = viewed q.profile q.source q.outlet q.pending q.end in
     let new = viewed q.profile f.source f.output c.issue.new.self (Some because.Memory) in
-    let outside : q.source.standing ≡ at.Body → ⊥ = elim c.match-matches.branch [
+    let outside : q.source.input_state ≡ at.Body → ⊥ = elim c.match-matches.branch [
       | in-Body w ↦ λ e. (let no : true ≡ false = sym w.matches-is ∙ c.if-matches.false in cc)
-      | in_default w ↦ λ e. w.in_default.not-Body (c.standing.ensures ∙ e)
+      | in_default w ↦ λ e. w.in_default.not-Body (c.input_state.ensures ∙ e)
     ] in
     let can : CanAsk old = (none-of q.end (sym c.is_some.ensures ∙ c.if-is_some.false), outside, sym c.last_holds_next_head.ensures ∙ c.if-last_holds_next_head.false) in
     let N : Result NextRequest AllocError → Type 0 = λ r. FindsNext RefusesHead q.profile c.args.now (at-head q.source q.pending q.outlet) r (at-head f.source f.place f.output) in
@@ -106,9 +106,9 @@ returns-in-Ok-Ended g c =
     let why = c.in-Ok-Ended.why in
     let old = viewed q.profile q.source q.outlet q.pending q.end in
     let new = viewed q.profile f.source f.output f.place (Some why) in
-    let outside : q.source.standing ≡ at.Body → ⊥ = elim c.match-matches.branch [
+    let outside : q.source.input_state ≡ at.Body → ⊥ = elim c.match-matches.branch [
       | in-Body w ↦ λ e. (let no : true ≡ false = sym w.matches-is ∙ c.if-matches.false in cc)
-      | in_default w ↦ λ e. w.in_default.not-Body (c.standing.ensures ∙ e)
+      | in_default w ↦ λ e. w.in_default.not-Body (c.input_state.ensures ∙ e)
     ] in
     let can : CanAsk old = (none-of q.end (sym c.is_some.ensures ∙ c.if-is_some.false), outside, sym c.last_holds_next_head.ensures ∙ c.if-last_holds_next_head.false) in
     let N : Result NextRequest AllocError → Type 0 = λ r. FindsNext RefusesHead q.profile c.args.now (at-head q.source q.pending q.outlet) r (at-head f.source f.place f.output) in
@@ -125,9 +125,9 @@ returns-in-Err g c =
     let error = c.in-Err.field-0 in
     let old = viewed q.profile q.source q.outlet q.pending q.end in
     let new = viewed q.profile f.source f.output f.place (Some because.Memory) in
-    let outside : q.source.standing ≡ at.Body → ⊥ = elim c.match-matches.branch [
+    let outside : q.source.input_state ≡ at.Body → ⊥ = elim c.match-matches.branch [
       | in-Body w ↦ λ e. (let no : true ≡ false = sym w.matches-is ∙ c.if-matches.false in cc)
-      | in_default w ↦ λ e. w.in_default.not-Body (c.standing.ensures ∙ e)
+      | in_default w ↦ λ e. w.in_default.not-Body (c.input_state.ensures ∙ e)
     ] in
     let can : CanAsk old = (none-of q.end (sym c.is_some.ensures ∙ c.if-is_some.false), outside, sym c.last_holds_next_head.ensures ∙ c.if-last_holds_next_head.false) in
     let N : Result NextRequest AllocError → Type 0 = λ r. FindsNext RefusesHead q.profile c.args.now (at-head q.source q.pending q.outlet) r (at-head f.source f.place f.output) in

@@ -46,7 +46,7 @@ returns g c =
     record {
       step = λ date. rw (← c.self.view_is) (takes-finish old new date n Done
           (λ client before s low st.
-          finish-done client before k s date n u (output_of left.outlet) (outlet_ended left.outlet) left.self.turns.marks left.self.requests q.source source st (record { feed = refl; stop = refl; ends = refl; standing = refl }) c.close_body.ensures.gives_up low some.0 some.1 requests
+          finish-done client before k s date n u (output_of left.outlet) (outlet_ended left.outlet) left.self.turns.marks left.self.requests q.source source st (record { feed = refl; stop = refl; ends = refl; input_state = refl }) c.close_body.ensures.gives_up low some.0 some.1 requests
           (λ front rest e place can.
           let T : List Mark → Type 0 = λ m. LeavesText (n == first_unfinished m) front rest left.self.turns.marks [] k.output_ended k.sink (output_of left.outlet) (outlet_ended left.outlet) in
           let L : List ℕ → Type 0 = λ x. LeavesText (n == first_unfinished c.close.new.self.turns.marks) front rest left.self.turns.marks x k.output_ended k.sink (output_of left.outlet) (outlet_ended left.outlet) in

@@ -54,7 +54,7 @@ returns g c =
           rw (← c.self.view_is) (subst T (sym c.write_reply.ensures) (takes-flush true old new date n (write_reply c.flush.result)
           (λ client before s low st.
           let open_sink = sink-ended before k.sink k.output_ended s.reached.slots s.flushed s.failure st.output (λ z. rw z refl) in
-          flush-done client before k s date n w.0 (output_of new_outlet) (outlet_ended new_outlet) c.flush.result q.source st (record { feed = refl; stop = refl; ends = refl; standing = refl }) low w.1 w.2 (sym c.is_in_turn.ensures ∙ c.if-not-is_in_turn.false) open_sink
+          flush-done client before k s date n w.0 (output_of new_outlet) (outlet_ended new_outlet) c.flush.result q.source st (record { feed = refl; stop = refl; ends = refl; input_state = refl }) low w.1 w.2 (sym c.is_in_turn.ensures ∙ c.if-not-is_in_turn.false) open_sink
           (writes-own k.sink (output_of new_outlet) k.output_ended (outlet_ended new_outlet) c.flush.result [] open_sink done.puts done.ended done.stays) (is-flushed new_outlet.sink new_outlet.held new_outlet.ended done.held done.sent))
           (λ no. absurd (flush-not_declined n c.flush.result no)) (replied-done _ _ _ (write_reply c.flush.result) (sym c.is_writable.ensures ∙ c.if-not-is_writable.false) refl (ap not (sym c.is_in_turn.ensures ∙ c.if-not-is_in_turn.false)) (write-answered c.flush.result)) refl (refl, refl, refl) (write-done_reply c.flush.result)
           (record {

@@ -4,7 +4,7 @@ use Rattle.std.specs.Prelude.{is_some, slice_get}
 use Rattle.tiny_http_turns.specs.Turns.{Mark}
 use Rattle.tiny_http_connection.specs.declared.pending.Unfinished.{Unfinished}
 use Rattle.tiny_http_connection.specs.declared.pending.Unfinished.TheVariants as still
-use Rattle.tiny_http_connection.specs.Pending.{is_last_with_stream_at, waiting_answer_context}
+use Rattle.tiny_http_connection.specs.Pending.{is_last_with_stream_at, waiting_response_context}
 use Rattle.tiny_http_connection.proofs.RepliesLemmas.{replied-none, replied-done}
 use Rattle.tiny_http_connection.specs.Driving.{ends_behind}
 use Rattle.tiny_http_connection.specs.Steps.{IntoWriter, NoSuch, Done}
@@ -53,9 +53,9 @@ returns g c =
       step = λ date. rw (← c.self.view_is) (takes-into_writer old new date n Done
           (λ client before s low st.
           let P : Bool → List Mark → Type 0 = λ e m. StepIsAnswered client before (record (with_reader k c.take.new.self.requests source) { marks = m; asking_ended = e }) s date (IntoWriter n) Done in
-          let done = into_writer-done client before k s date n w c.take.new.self.requests q.source source st (record { feed = refl; stop = refl; ends = refl; standing = refl }) c.give_up.ensures.gives_up some.0 some.1 in
+          let done = into_writer-done client before k s date n w c.take.new.self.requests q.source source st (record { feed = refl; stop = refl; ends = refl; input_state = refl }) c.give_up.ensures.gives_up some.0 some.1 in
           subst (λ e. P e c.take.new.self.turns.marks) (sym ended) (subst (P (is_some q.end || ends)) (ap (λ t. t.marks) (sym c.take.ensures.turns)) done))
-          (λ no. elim no [ ]) (replied-done _ _ _ Done (ap (λ o. is_some (waiting_answer_context o)) some.0) refl refl tt) (end_is ∙ ap (λ b. ends_behind b q.end) (sym (ap is_last_with_stream_at some.0)))
+          (λ no. elim no [ ]) (replied-done _ _ _ Done (ap (λ o. is_some (waiting_response_context o)) some.0) refl refl tt) (end_is ∙ ap (λ b. ends_behind b q.end) (sym (ap is_last_with_stream_at some.0)))
           (refl, ap (λ t. t.marks) c.take.ensures.turns, λ done. (some.1, gives-up-of q.source source (slice_get k.requests n) (still.Waiting w) some.0 c.give_up.ensures.gives_up))
           (driving-reads-on old new refl refl (gives-up w.body q.source source c.give_up.ensures.gives_up)) (λ kind e. cc));
     }

@@ -36,7 +36,7 @@ returns-clause-drops g c = λ yes now.
     rw (← c.self.view_is) (drops-by n w old new now some.0
     (λ client before s asked reply drops low st.
     let E : Bool → Type 0 = λ e. StepIsAnswered client before (record (kept new) { asking_ended = e }) s now asked reply in
-    subst E (sym ended) (drop-done client before k s now n asked reply w (output_of left.outlet) (outlet_ended left.outlet) left.self.turns.marks left.self.requests q.source source drops st (record { feed = refl; stop = refl; ends = refl; standing = refl }) given_up low some.0 requests
+    subst E (sym ended) (drop-done client before k s now n asked reply w (output_of left.outlet) (outlet_ended left.outlet) left.self.turns.marks left.self.requests q.source source drops st (record { feed = refl; stop = refl; ends = refl; input_state = refl }) given_up low some.0 requests
     (λ front rest e place can.
     let T : List Mark → Type 0 = λ m. LeavesText (n == first_unfinished m) front rest left.self.turns.marks (drop_text w.dropped (final_context w (remainder w.body))) k.output_ended k.sink (output_of left.outlet) (outlet_ended left.outlet) in
     let L : List ℕ → Type 0 = λ x. LeavesText (n == first_unfinished c.take.new.self.turns.marks) front rest left.self.turns.marks x k.output_ended k.sink (output_of left.outlet) (outlet_ended left.outlet) in

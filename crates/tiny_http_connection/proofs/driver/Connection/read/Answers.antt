@@ -91,12 +91,12 @@ returns-clause-step g c date =
     (λ client before s st. elim c.match-fill.branch [
       | in-Ok-fill b ↦
           let fills = b.in-Ok-fill.ensures.fills w.0 w.1 w.2 w.4 in
-          let done = read-done client before k s date n c.args.count w.0 w.1 fills.0 q.source c.fill.new.source c.fill.new.self.requests (Ok b.in-Ok-fill.n) c.fill.new.buf st w.2 w.3 w.4 fills.1 (record { feed = refl; stop = refl; ends = refl; standing = refl }) b.in-Ok-fill.ensures.bound size (omega (arith, c.if-count-eq0.false)) fills.2 fills.3 fills.4 c.fill.ensures.goes_on in
+          let done = read-done client before k s date n c.args.count w.0 w.1 fills.0 q.source c.fill.new.source c.fill.new.self.requests (Ok b.in-Ok-fill.n) c.fill.new.buf st w.2 w.3 w.4 fills.1 (record { feed = refl; stop = refl; ends = refl; input_state = refl }) b.in-Ok-fill.ensures.bound size (omega (arith, c.if-count-eq0.false)) fills.2 fills.3 fills.4 c.fill.ensures.goes_on in
           let P : List Mark → List ℕ → Type 0 = λ m l. StepIsAnswered client before (record (with_reader k c.fill.new.self.requests c.fill.new.source) { marks = m }) s date (Read n c.args.count) (Given l) in
           rw b.result-is (subst (λ l. P c.fill.new.self.turns.marks l) (ap (take b.in-Ok-fill.n) (sym (whole c.fill.new.buf c.in-Ok.bytes.items c.in-Ok.bytes.len (search (rules, c.in-Ok.ensures)) size c.in-Ok.ensures)) ∙ sym b.truncate.ensures.items) (subst (λ m. P m (take b.in-Ok-fill.n c.fill.new.buf)) (ap (λ t. t.marks) (sym c.fill.ensures.turns)) done))
       | in-Err b ↦
           let fills = b.in-Err.ensures.fills w.0 w.1 w.2 w.4 in
-          let done = read-done client before k s date n c.args.count w.0 w.1 fills.0 q.source c.fill.new.source c.fill.new.self.requests (Err b.in-Err.kind) c.fill.new.buf st w.2 w.3 w.4 fills.1 (record { feed = refl; stop = refl; ends = refl; standing = refl }) tt size (omega (arith, c.if-count-eq0.false)) fills.2 fills.3 fills.4 c.fill.ensures.goes_on in
+          let done = read-done client before k s date n c.args.count w.0 w.1 fills.0 q.source c.fill.new.source c.fill.new.self.requests (Err b.in-Err.kind) c.fill.new.buf st w.2 w.3 w.4 fills.1 (record { feed = refl; stop = refl; ends = refl; input_state = refl }) tt size (omega (arith, c.if-count-eq0.false)) fills.2 fills.3 fills.4 c.fill.ensures.goes_on in
           let P : List Mark → Type 0 = λ m. StepIsAnswered client before (record (with_reader k c.fill.new.self.requests c.fill.new.source) { marks = m }) s date (Read n c.args.count) (Fault b.in-Err.kind) in
           rw b.result-is (subst P (ap (λ t. t.marks) (sym c.fill.ensures.turns)) done)
     ])
@@ -148,8 +148,8 @@ returns-clause-step g c date =
     )
     (driving-reads-on old new refl refl c.fill.ensures.goes_on))
 
-pub returns-clause-told : goal.returns-clause-told
-returns-clause-told g c = rw (← c.self.view_is) c.fill.ensures.told
+pub returns-clause-stop_count : goal.returns-clause-stop_count
+returns-clause-stop_count g c = rw (← c.self.view_is) c.fill.ensures.stop_count
 
 pub returns-clause-lazy : goal.returns-clause-lazy
 returns-clause-lazy g c =
@@ -165,7 +165,7 @@ returns-clause-lazy g c =
 pub returns-clause-whole : goal.returns-clause-whole
 returns-clause-whole g c =
     let n = c.args.number in
-    let told = g.R.ReadDevice.told in
+    let stop_count = g.R.ReadDevice.stop_count in
     let q = c.self.inside in
     let k : Kept = kept (viewed q.profile q.source q.outlet q.pending q.end) in
     let w = readable-some (slice_get k.requests n) (sym c.is_readable.ensures ∙ c.if-not-is_readable.false) in
@@ -175,9 +175,9 @@ returns-clause-whole g c =
           let fills = b.in-Ok-fill.ensures.fills w.0 w.1 w.2 w.4 in
           let items = whole c.fill.new.buf c.in-Ok.bytes.items c.in-Ok.bytes.len (search (rules, c.in-Ok.ensures)) size c.in-Ok.ensures in
           let count : given_count (seen c.match-fill.result) ≡ b.in-Ok-fill.n = ap (λ r. given_count (seen r)) b.result-is ∙ taken-count c.fill.new.buf _ b.in-Ok-fill.n (ap (take b.in-Ok-fill.n) (sym items) ∙ sym b.truncate.ensures.items) b.in-Ok-fill.ensures.bound in
-          inr (w.0, w.1, fills.0, w.2, w.4, fills.1, subst (λ m. told c.fill.new.source.reader ≤ told q.source.reader + ends_met w.1 m fills.0) (sym count) fills.5)
+          inr (w.0, w.1, fills.0, w.2, w.4, fills.1, subst (λ m. stop_count c.fill.new.source.reader ≤ stop_count q.source.reader + ends_met w.1 m fills.0) (sym count) fills.5)
       | in-Err b ↦
           let fills = b.in-Err.ensures.fills w.0 w.1 w.2 w.4 in
           let count : given_count (seen c.match-fill.result) ≡ 0 = ap (λ r. given_count (seen r)) b.result-is in
-          inr (w.0, w.1, fills.0, w.2, w.4, fills.1, subst (λ m. told c.fill.new.source.reader ≤ told q.source.reader + ends_met w.1 m fills.0) (sym count) fills.5)
+          inr (w.0, w.1, fills.0, w.2, w.4, fills.1, subst (λ m. stop_count c.fill.new.source.reader ≤ stop_count q.source.reader + ends_met w.1 m fills.0) (sym count) fills.5)
     ])

@@ -15,7 +15,7 @@ use Rattle.tiny_http_connection.specs.declared.driver.Step.TheVariants as step
 use Rattle.tiny_http_response.specs.Answer.{ResponseState}
 use Rattle.tiny_http_io.specs.Device.{Feed}
 use Rattle.tiny_http_turns.specs.Turns.{Mark, Held, Open}
-use Rattle.tiny_http_connection.specs.Pending.{waiting_answer_context, is_last_once_finished_at as kept_lacks, refuses_at, kept_body, closing_number, closing_if_asked, begins_left}
+use Rattle.tiny_http_connection.specs.Pending.{waiting_response_context, is_last_once_finished_at as kept_lacks, refuses_at, kept_body, closing_number, closing_if_asked, begins_left}
 use Rattle.tiny_http_io.specs.Outlet.{output_of, outlet_ended}
 use Rattle.tiny_http_connection.specs.Connection.{Kept, ConnectionState, kept}
 use Rattle.tiny_http_response.specs.ResponseValue.{printing_in}
@@ -38,7 +38,7 @@ use Rattle.tiny_http_connection.proofs.PendingLemmas.{around-held, left-kind}
 use Rattle.tiny_http_connection.specs.Outcomes.{fault_reply}
 use Rattle.std.specs.declared.io.ErrorKind.{ErrorKind}
 use Rattle.httpdate.specs.declared.date.HttpDate.{HttpDate}
-use Rattle.tiny_http_response.specs.declared.answer_context.AnswerContext.{AnswerContext}
+use Rattle.tiny_http_response.specs.declared.response_context.ResponseContext.{ResponseContext}
 use Rattle.tiny_http_connection.proofs.driver.Connection.respond.Goals as goal
 
 pub returns-then-not-is_waiting : goal.returns-then-not-is_waiting
@@ -116,27 +116,27 @@ answered-ends n closes old new (Given bytes) a e = elim a [ ]
 answered-ends n closes old new (Handed k m f) a e = elim a [ ]
 
 -- what doesn't see whether a number was told what an answer asks
-lacks-told : (u : Option Unfinished) → kept_lacks (Some (closing_number u)) ≡ kept_lacks (Some u)
-lacks-told None = refl
-lacks-told (Some (still.Waiting w)) = refl
-lacks-told (Some still.Raw) = refl
-lacks-told (Some (still.Upgraded b)) = refl
+lacks-stop_count : (u : Option Unfinished) → kept_lacks (Some (closing_number u)) ≡ kept_lacks (Some u)
+lacks-stop_count None = refl
+lacks-stop_count (Some (still.Waiting w)) = refl
+lacks-stop_count (Some still.Raw) = refl
+lacks-stop_count (Some (still.Upgraded b)) = refl
 
-refuses-told : (status : ℕ) (u : Option Unfinished) → refuses_at status (Some (closing_number u)) ≡ refuses_at status (Some u)
-refuses-told status None = refl
-refuses-told status (Some (still.Waiting w)) = refl
-refuses-told status (Some still.Raw) = refl
-refuses-told status (Some (still.Upgraded b)) = refl
+refuses-stop_count : (status : ℕ) (u : Option Unfinished) → refuses_at status (Some (closing_number u)) ≡ refuses_at status (Some u)
+refuses-stop_count status None = refl
+refuses-stop_count status (Some (still.Waiting w)) = refl
+refuses-stop_count status (Some still.Raw) = refl
+refuses-stop_count status (Some (still.Upgraded b)) = refl
 
 abbrev body_at : Option (Option Unfinished) → Option UnreadBody
 body_at None = None
 body_at (Some u) = kept_body u
 
-body-told : (u : Option Unfinished) → body_at (Some (closing_number u)) ≡ body_at (Some u)
-body-told None = refl
-body-told (Some (still.Waiting w)) = refl
-body-told (Some still.Raw) = refl
-body-told (Some (still.Upgraded b)) = refl
+body-stop_count : (u : Option Unfinished) → body_at (Some (closing_number u)) ≡ body_at (Some u)
+body-stop_count None = refl
+body-stop_count (Some (still.Waiting w)) = refl
+body-stop_count (Some still.Raw) = refl
+body-stop_count (Some (still.Upgraded b)) = refl
 
 ends-twice : (a b : Bool) (e : Option EndOfRequests) → ends_behind a (ends_behind b e) ≡ ends_behind (a || b) e
 ends-twice true true None = refl
@@ -162,8 +162,8 @@ answered-leaves n code old new (Given bytes) a l = λ z. l
 answered-leaves n code old new (Handed k m f) a l = λ z. l
 
 -- what it tells of a failure of the writer
-answered-tells : {R W : Type 0} (n : ℕ) (r : ResponseState (Option Feed)) (old new : ConnectionState R W) (now : HttpDate) (reply : ReplyValue) (context : AnswerContext) → IsAnswered reply
-    → waiting_answer_context (slice_get (closing_if_asked r.answer.closes old.requests) n) ≡ Some context
+answered-tells : {R W : Type 0} (n : ℕ) (r : ResponseState (Option Feed)) (old new : ConnectionState R W) (now : HttpDate) (reply : ReplyValue) (context : ResponseContext) → IsAnswered reply
+    → waiting_response_context (slice_get (closing_if_asked r.answer.closes old.requests) n) ≡ Some context
     → ((output_of new.outlet).failures ≡ (output_of old.outlet).failures)
     ⊎ ((kind : ErrorKind) × (reply ≡ fault_reply kind) × (new.outlet.ended ≡ true) × IsHonest (output_of old.outlet) (output_of new.outlet) r.answer r.data_reader (printing_in context now) kind)
     ⊎ ((begins_left (drop (n + 1) old.marks) ≡ true) × AnswerIsSentOn old new now n r)
@@ -213,10 +213,10 @@ let-go : (r : Bool) → (r ≡ false → ⊥) → IsTrue r
 let-go true f = refl
 let-go false f = absurd (f refl)
 
-waits-still : {R W : Type 0} (n : ℕ) (w : OpenRequest UnreadBody) (c d : ConnectionState R W) → c ≡ d → slice_get c.requests n ≡ Some (Some (still.Waiting w)) → waiting_answer_context (slice_get d.requests n) ≡ None → ⊥
+waits-still : {R W : Type 0} (n : ℕ) (w : OpenRequest UnreadBody) (c d : ConnectionState R W) → c ≡ d → slice_get c.requests n ≡ Some (Some (still.Waiting w)) → waiting_response_context (slice_get d.requests n) ≡ None → ⊥
 waits-still {R = R} {W = W} n w c d same e f =
-    let P : ConnectionState R W → Type 0 = λ y. waiting_answer_context (slice_get y.requests n) ≡ None in
-    let none : Some (final_context w (remainder w.body)) ≡ None = sym (ap waiting_answer_context e) ∙ subst P (sym same) f in cc
+    let P : ConnectionState R W → Type 0 = λ y. waiting_response_context (slice_get y.requests n) ≡ None in
+    let none : Some (final_context w (remainder w.body)) ≡ None = sym (ap waiting_response_context e) ∙ subst P (sym same) f in cc
 
 pub returns-then-refuses : goal.returns-then-refuses
 returns-then-refuses g c =
@@ -231,11 +231,11 @@ returns-then-refuses g c =
       step = c.let_go.ensures.drops gone c.args.now (step.Respond n (stated_response g.D.ReadDevice.feed c.args.response)) Refused (refl, subst D (ap (λ y. y.requests) c.self.view_is) refused);
     }
 
-waits-told : (u : Option Unfinished) → is_some (waiting_answer_context (Some (closing_number u))) ≡ is_some (waiting_answer_context (Some u))
-waits-told None = refl
-waits-told (Some (still.Waiting w)) = refl
-waits-told (Some still.Raw) = refl
-waits-told (Some (still.Upgraded b)) = refl
+waits-stop_count : (u : Option Unfinished) → is_some (waiting_response_context (Some (closing_number u))) ≡ is_some (waiting_response_context (Some u))
+waits-stop_count None = refl
+waits-stop_count (Some (still.Waiting w)) = refl
+waits-stop_count (Some still.Raw) = refl
+waits-stop_count (Some (still.Upgraded b)) = refl
 
 -- a number that waits is taken
 pub unreachable-requires : goal.unreachable-requires
@@ -244,9 +244,9 @@ unreachable-requires g c =
     let q = c.self.inside in
     let w = waits-some (slice_get q.pending.requests n) (sym c.is_waiting.ensures ∙ c.if-not-is_waiting.false) in
     let b = c.closes-closes.result in
-    let is_some_at : Option (Option Unfinished) → Bool = λ o. is_some (waiting_answer_context o) in
+    let is_some_at : Option (Option Unfinished) → Bool = λ o. is_some (waiting_response_context o) in
     let none : is_some_at (slice_get (closing_if_asked b q.pending.requests) n) ≡ false = ap (λ l. is_some_at (slice_get (closing_if_asked b l) n)) (sym c.hold.ensures.requests) ∙ ap (λ l. is_some_at (slice_get l n)) (sym c.close_last.ensures.requests) ∙ ap is_some c.in_default.ensures.none.0 in
-    let no : true ≡ false = sym (ap is_some_at w.1) ∙ sym (at-asked is_some_at waits-told b q.pending.requests n) ∙ none in cc
+    let no : true ≡ false = sym (ap is_some_at w.1) ∙ sym (at-asked is_some_at waits-stop_count b q.pending.requests n) ∙ none in cc
 
 pub returns : goal.returns
 returns g c =
@@ -265,25 +265,25 @@ returns g c =
     let reply = seen c.answer-reply.result in
     let w0 = c.in-Some.request in
     let some = c.in-Some.ensures.some in
-    let told : c.close_last.new.self.requests ≡ k.requests = c.close_last.ensures.requests ∙ ap (λ b. closing_if_asked b c.hold.new.self.requests) c.closes-closes.ensures ∙ ap (closing_if_asked asked) c.hold.ensures.requests in
-    let got : slice_get k.requests n ≡ Some (Some (still.Waiting w0)) = ap (λ l. slice_get l n) (sym told) ∙ some.0 in
+    let stop_count : c.close_last.new.self.requests ≡ k.requests = c.close_last.ensures.requests ∙ ap (λ b. closing_if_asked b c.hold.new.self.requests) c.closes-closes.ensures ∙ ap (closing_if_asked asked) c.hold.ensures.requests in
+    let got : slice_get k.requests n ≡ Some (Some (still.Waiting w0)) = ap (λ l. slice_get l n) (sym stop_count) ∙ some.0 in
     let lacks = kept_lacks (slice_get k.requests n) in
-    let same_lacks : lacks ≡ kept_lacks (slice_get k0.requests n) = at-asked kept_lacks lacks-told asked k0.requests n in
+    let same_lacks : lacks ≡ kept_lacks (slice_get k0.requests n) = at-asked kept_lacks lacks-stop_count asked k0.requests n in
     let now_lacks : c.is_last_once_finished.result ≡ lacks = c.is_last_once_finished.ensures ∙ ap (λ l. w0.by_standard && (w0.owes_continue || is_long l)) c.remainder-left.ensures ∙ sym (ap kept_lacks got) in
     let end_is : end ≡ ends_behind (asked || lacks) q.end = c.ends_behind-self-inside.ensures ∙ ap (λ b. ends_behind b c.ends_behind-end.result) c.closes-closes.ensures ∙ ap (λ e. ends_behind asked e) (c.ends_behind-end.ensures ∙ ap (λ b. ends_behind b q.end) now_lacks) ∙ ends-twice asked lacks q.end in
     let ended : is_some end ≡ ((is_some q.end || asked) || lacks) = ap is_some end_is ∙ ends-some (asked || lacks) q.end ∙ or-regroup (is_some q.end) asked lacks in
-    let requests : last.self.requests ≡ slice_set k.requests n None = c.pass.ensures.requests ∙ some.1 ∙ ap (λ l. slice_set l n None) told in
+    let requests : last.self.requests ≡ slice_set k.requests n None = c.pass.ensures.requests ∙ some.1 ∙ ap (λ l. slice_set l n None) stop_count in
     let context = final_context w0 (remainder w0.body) in
-    let waits : waiting_answer_context (slice_get k.requests n) ≡ Some context = ap waiting_answer_context got in
+    let waits : waiting_response_context (slice_get k.requests n) ≡ Some context = ap waiting_response_context got in
     let w1 = waits-some (slice_get k0.requests n) (sym c.is_waiting.ensures ∙ c.if-not-is_waiting.false) in
-    let same_body : Some w0.body ≡ Some w1.0.body = ap body_at (sym got) ∙ at-asked body_at body-told asked k0.requests n ∙ ap body_at w1.1 in
+    let same_body : Some w0.body ≡ Some w1.0.body = ap body_at (sym got) ∙ at-asked body_at body-stop_count asked k0.requests n ∙ ap body_at w1.1 in
     let body_is : w0.body ≡ w1.0.body = cc in
     let given_up : GivesUp w0.body q.source source = subst (λ b. GivesUp b q.source source) c.answer-reply.ensures.body c.give_up.ensures.gives_up in
     let given_up_old : GivesUp w1.0.body q.source source = subst (λ b. GivesUp b q.source source) body_is given_up in
     let feed = g.D.ReadDevice.feed c.args.response.data_reader in
     let p = printing_in context c.args.now in
     let H : Remainder → ErrorKind → Type 0 = λ l kind. IsHonest (output_of q.outlet) (output_of mid) c.args.response.answer feed (printing_in (final_context w0 l) c.args.now) kind in
-    let T : AnswerContext → Type 0 = λ x. AnswerTells k.sink (output_of mid) mid.ended reply c.args.response.answer feed (printing_in x c.args.now) in
+    let T : ResponseContext → Type 0 = λ x. AnswerTells k.sink (output_of mid) mid.ended reply c.args.response.answer feed (printing_in x c.args.now) in
     let held_is : IsTrue c.hold.result = search rules in
     let around = around-held q.pending.turns.marks n (c.hold.ensures.held.0 held_is).0 in
     let marks_are : c.take.new.self.turns.marks ≡ around.0 ++ (Held ∷ around.1) = ap (λ t. t.marks) c.take.ensures.turns ∙ ap (λ t. t.marks) c.close_last.ensures.turns ∙ c.hold.ensures.marks held_is ∙ around.2 in
@@ -293,7 +293,7 @@ returns g c =
     let own_sent : mid.ended ≡ false → AnswerIsSentOn old new c.args.now n (stated_response g.D.ReadDevice.feed c.args.response) =
     λ goes. (context, waits, λ content taken stated few can known. answer-sent_on k.sink (output_of mid) (output_of last.outlet) mid.ended reply c.args.response.answer content p taken goes (subst (λ l. A l content) c.remainder-left.ensures (c.answer-reply.ensures.sends content stated few (or-parts q.outlet.ended q.outlet.sink.has_ended can.unended).0 can)) known c.pass.ensures.keeps) in
     let accepted : refuses_at c.args.response.answer.status (slice_get k0.requests n) ≡ false = answered-code c.args.response.answer.status c.status_code.result.0 (slice_get k0.requests n) c.status_code.ensures ∙ sym c.refuses.ensures ∙ c.if-refuses.false in
-    let accepted_told : refuses_at c.args.response.answer.status (slice_get k.requests n) ≡ false = at-asked (refuses_at c.args.response.answer.status) (refuses-told c.args.response.answer.status) asked k0.requests n ∙ accepted in
+    let accepted_told : refuses_at c.args.response.answer.status (slice_get k.requests n) ≡ false = at-asked (refuses_at c.args.response.answer.status) (refuses-stop_count c.args.response.answer.status) asked k0.requests n ∙ accepted in
     record {
       step = rw (← c.self.view_is) (takes-respond g.D.ReadDevice.feed true old new c.args.now n c.args.response reply
           (λ client before s value low is st.
@@ -306,9 +306,9 @@ returns g c =
           let F : Answer → Type 0 = λ a. closes_reached a.closes now.reached ≡ now.reached in
           let first = (c.hold.ensures.held.0 held).1 in
           let stands = stands-asked asked client before k0 s st in
-          respond-asked client before k0 (kept new) s c.args.now n value (final_context w1.0 (remainder w1.0.body)) reply st (ap waiting_answer_context w1.1) (ap (λ a. refuses_at a.status (slice_get k0.requests n)) is.0 ∙ accepted) first
+          respond-asked client before k0 (kept new) s c.args.now n value (final_context w1.0 (remainder w1.0.body)) reply st (ap waiting_response_context w1.1) (ap (λ a. refuses_at a.status (slice_get k0.requests n)) is.0 ∙ accepted) first
           (subst B (sym is.0) (subst E (sym ended) (respond-done client before k now c.args.now n value context (output_of mid) (output_of last.outlet) (outlet_ended mid) (outlet_ended last.outlet) c.take.new.self.turns.marks last.self.turns.marks last.self.requests q.source source reply
-          stands (record { feed = refl; stop = refl; ends = refl; standing = refl }) (λ w e. gives-up-of q.source source (slice_get k.requests n) (still.Waiting w0) got given_up (still.Waiting w) e) low waits (ap (λ a. refuses_at a.status (slice_get k.requests n)) is.0 ∙ accepted_told)
+          stands (record { feed = refl; stop = refl; ends = refl; input_state = refl }) (λ w e. gives-up-of q.source source (slice_get k.requests n) (still.Waiting w0) got given_up (still.Waiting w) e) low waits (ap (λ a. refuses_at a.status (slice_get k.requests n)) is.0 ∙ accepted_told)
           (subst F (sym is.0) (twice-asked asked s)) first (ap (λ t. t.marks) c.take.ensures.turns ∙ ap (λ t. t.marks) c.close_last.ensures.turns ∙ c.hold.ensures.marks held) requests
           (responds-by k (output_of mid) (outlet_ended mid) reply value context c.args.now
           (λ e. let h = c.answer-reply.ensures.past e in (ap (λ o. output_of o) h.0, ap (λ o. outlet_ended o) h.0, h.1))

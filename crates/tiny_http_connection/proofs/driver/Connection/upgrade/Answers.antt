@@ -9,7 +9,7 @@ use Rattle.tiny_http_response.specs.ResponseValue.{printing_in, upgrade_text}
 use Rattle.tiny_http_response.specs.Sending.{SendsUnlessEnded}
 use Rattle.tiny_http_connection.specs.declared.driver.Step.TheVariants as step
 use Rattle.tiny_http_connection.specs.Steps.{Upgrade, NoSuch, NotYet, Done, Refused}
-use Rattle.tiny_http_connection.specs.Pending.{waiting_answer_context, refuses_upgrade_at, is_last_with_stream_at}
+use Rattle.tiny_http_connection.specs.Pending.{waiting_response_context, refuses_upgrade_at, is_last_with_stream_at}
 use Rattle.tiny_http_connection.specs.Driving.{ends_behind, stated_response}
 use Rattle.tiny_http_connection.proofs.ConnectionAsk.{StepIsAnswered}
 use Rattle.tiny_http_open_request.specs.OpenRequest.{final_context, request_check}
@@ -51,11 +51,11 @@ ascii-of w protocol code whole = by (list_all is_ascii protocol) refl
     by true e granted = e
     by false e granted = let no : true ≡ false = rw e at granted in cc
 
-view-none : {R W : Type 0} (n : ℕ) (c d : ConnectionState R W) → c ≡ d → waiting_answer_context (slice_get d.requests n) ≡ None → waiting_answer_context (slice_get c.requests n) ≡ None
-view-none {R = R} {W = W} n c d e h = let P : ConnectionState R W → Type 0 = λ y. waiting_answer_context (slice_get y.requests n) ≡ None in subst P (sym e) h
+view-none : {R W : Type 0} (n : ℕ) (c d : ConnectionState R W) → c ≡ d → waiting_response_context (slice_get d.requests n) ≡ None → waiting_response_context (slice_get c.requests n) ≡ None
+view-none {R = R} {W = W} n c d e h = let P : ConnectionState R W → Type 0 = λ y. waiting_response_context (slice_get y.requests n) ≡ None in subst P (sym e) h
 
-waits-still : (w : OpenRequest UnreadBody) (o : Option (Option Unfinished)) → o ≡ Some (Some (still.Waiting w)) → waiting_answer_context o ≡ None → ⊥
-waits-still w o e f = let none : Some (final_context w (remainder w.body)) ≡ None = sym (ap waiting_answer_context e) ∙ f in cc
+waits-still : (w : OpenRequest UnreadBody) (o : Option (Option Unfinished)) → o ≡ Some (Some (still.Waiting w)) → waiting_response_context o ≡ None → ⊥
+waits-still w o e f = let none : Some (final_context w (remainder w.body)) ≡ None = sym (ap waiting_response_context e) ∙ f in cc
 
 pub returns-then-refuses_upgrade : goal.returns-then-refuses_upgrade
 returns-then-refuses_upgrade g c =
@@ -118,9 +118,9 @@ returns g c =
           let A : Answer → Type 0 = λ a. is_err (request_check w.0 (string_bytes named) a.status (is_whole w.0.body)) ≡ false in
           rw (← c.self.view_is) (takes-upgrade g.D.ReadDevice.feed true old new c.args.now n named c.args.response Done
           (λ client before s value low answer st.
-          let T : Answer → List ℕ → Type 0 = λ a t. SendsUnlessEnded k.output_ended k.sink (output_of outlet) (outlet_ended outlet) (upgrade_text (record { answer = a; content = value.content }) t (printing_in w.0.answer_context c.args.now)) in
+          let T : Answer → List ℕ → Type 0 = λ a t. SendsUnlessEnded k.output_ended k.sink (output_of outlet) (outlet_ended outlet) (upgrade_text (record { answer = a; content = value.content }) t (printing_in w.0.response_context c.args.now)) in
           let E : Bool → Type 0 = λ e. StepIsAnswered client before (record (kept new) { asking_ended = e }) s c.args.now (Upgrade n (string_bytes named) value) Done in
-          subst E (sym ended) (upgrade-done client before k s c.args.now n (string_bytes named) value w.0 w.0.answer_context (output_of outlet) (outlet_ended outlet) left.turns.marks left.requests q.source st (record { feed = refl; stop = refl; ends = refl; standing = refl }) low w.1 refl (subst A (sym answer) kept_grants) come marks requests
+          subst E (sym ended) (upgrade-done client before k s c.args.now n (string_bytes named) value w.0 w.0.response_context (output_of outlet) (outlet_ended outlet) left.turns.marks left.requests q.source st (record { feed = refl; stop = refl; ends = refl; input_state = refl }) low w.1 refl (subst A (sym answer) kept_grants) come marks requests
           (λ can. subst (λ t. T value.answer t) (sym same) (subst (λ a. T a c.args.protocol.now) (sym answer) (said.0 value.content can))) said.1.2))
           (λ no. elim no [ ]) (replied-done _ _ _ Done (sym c.is_waiting.ensures ∙ c.if-not-is_waiting.false) granted (ap not come) tt) end_is (granted, w.0, w.1, requests, marks, refl) refl
           (record { profile = refl; goes_on = goes-on_same q.source.feed; fails_once = done.fails_once; flushed = λ was. said.1.0; sent_on = λ was. said.1.1 })

@@ -54,7 +54,7 @@ returns g c =
           rw (← c.self.view_is) (subst T (sym c.write_reply.ensures) (takes-write old new date n v c.args.bytes.now (write_reply c.write.result) same
           (λ client before s low st.
           let open_sink = sink-ended before k.sink k.output_ended s.reached.slots s.flushed s.failure st.output (λ z. rw z refl) in
-          write-done client before k s date n c.args.bytes.now w.0 (output_of new_outlet) (outlet_ended new_outlet) c.write.result q.source st (record { feed = refl; stop = refl; ends = refl; standing = refl }) low w.1 w.2 (sym c.is_in_turn.ensures ∙ c.if-not-is_in_turn.false) open_sink
+          write-done client before k s date n c.args.bytes.now w.0 (output_of new_outlet) (outlet_ended new_outlet) c.write.result q.source st (record { feed = refl; stop = refl; ends = refl; input_state = refl }) low w.1 w.2 (sym c.is_in_turn.ensures ∙ c.if-not-is_in_turn.false) open_sink
           (writes-own k.sink (output_of new_outlet) k.output_ended (outlet_ended new_outlet) c.write.result c.args.bytes.now open_sink done.puts done.ended done.stays))
           (λ no. absurd (write-not_declined n v c.write.result no)) (replied-done _ _ _ (write_reply c.write.result) (sym c.is_writable.ensures ∙ c.if-not-is_writable.false) refl (ap not (sym c.is_in_turn.ensures ∙ c.if-not-is_in_turn.false)) (write-answered c.write.result)) refl (refl, refl, refl) refl (goes-on_same q.source.feed)
           (write-once k.sink (output_of new_outlet) k.output_ended (outlet_ended new_outlet) c.write.result c.args.bytes.now (λ z. rw z refl) done.puts done.ended done.stays)

@@ -1,7 +1,7 @@
 use Rattle.std.proofs.Common.{◌≡◌, ap, ◌∙◌, sym, subst, Some, true, false, slice_set}
 use Rattle.tiny_http_body.specs.declared.body.UnreadBody.{UnreadBody}
 use Rattle.tiny_http_open_request.specs.declared.open_request.OpenRequest.{OpenRequest}
-use Rattle.tiny_http_open_request.specs.OwnAnswer.{own_text_by}
+use Rattle.tiny_http_open_request.specs.ErrorResponse.{own_text_by}
 use Rattle.tiny_http_response.specs.ResponseValue.{printing_in}
 use Rattle.tiny_http_response.specs.Sending.{SendsQuietlyOn}
 use Rattle.tiny_http_connection.specs.declared.pending.Unfinished.TheVariants as still
@@ -21,4 +21,4 @@ returns-in-Some-clause-sends g c w here owed =
     let same : c.in-Some.request ≡ w = waiting-is c.in-Some.request w (sym c.in-Some.ensures.some.0 ∙ here) in
     let owes : c.in-Some.request.owes_continue ≡ true = ap (λ (w : OpenRequest UnreadBody). w.owes_continue) same ∙ owed in
     let e = c.send_continue.ensures in
-    (subst (λ (w : OpenRequest UnreadBody). SendsQuietlyOn c.args.outlet.now c.send_continue.new.outlet (own_text_by 100 (printing_in w.answer_context c.args.now))) same (e.sends owes), e.sent owes)
+    (subst (λ (w : OpenRequest UnreadBody). SendsQuietlyOn c.args.outlet.now c.send_continue.new.outlet (own_text_by 100 (printing_in w.response_context c.args.now))) same (e.sends owes), e.sent owes)

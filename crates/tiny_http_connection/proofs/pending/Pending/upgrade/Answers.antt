@@ -22,4 +22,4 @@ pub returns-in-Some-clause-sends : goal.returns-in-Some-clause-sends
 returns-in-Some-clause-sends g c w here =
     let same : c.in-Some.request ≡ w = waiting-is c.in-Some.request w (sym c.in-Some.ensures.some.0 ∙ here) in
     let e = c.upgrade.ensures in
-    (subst (λ (w : OpenRequest UnreadBody). (content : Feed) → SendsQuietlyOn c.args.outlet.now c.upgrade.new.outlet (upgrade_text (record { answer = c.args.response.answer; content = content }) c.args.protocol.now (printing_in w.answer_context c.args.now))) same e.sends, e.sent)
+    (subst (λ (w : OpenRequest UnreadBody). (content : Feed) → SendsQuietlyOn c.args.outlet.now c.upgrade.new.outlet (upgrade_text (record { answer = c.args.response.answer; content = content }) c.args.protocol.now (printing_in w.response_context c.args.now))) same e.sends, e.sent)

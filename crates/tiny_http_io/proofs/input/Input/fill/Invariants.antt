@@ -1,7 +1,7 @@
 use Rattle.std.proofs.Common.{◌≡◌, ℕ, ◌+◌, ◌<◌, ◌≤◌, List, [], ◌∷◌, length, Option, None, Some}
 use Rattle.std.specs.Prelude.{IsSome}
 use Rattle.tiny_http_io.specs.declared.device.Stop.{Stop}
-use Rattle.tiny_http_io.specs.Input.{input_feed, input_told, SkipsHeld}
+use Rattle.tiny_http_io.specs.Input.{input_feed, input_stop_count, SkipsHeld}
 use Rattle.tiny_http_io.proofs.input.Input.fill.Given as goal
 
 abbrev empty_rank : List ℕ → ℕ
@@ -21,7 +21,7 @@ invariant-loop-self g l = record {
   none_more : l.fn.self.held ≡ [] → IsSome l.fn.self.stop → l.self.held ≡ [];
   none_skipped : l.fn.self.skip ≡ 0 → l.self.skip ≡ 0;
   lazy : 0 < length l.self.held → l.self.stop ≡ l.fn.self.stop;
-  calls : input_told g.R.ReadDevice.told l.self ≤ input_told g.R.ReadDevice.told l.fn.self;
+  calls : input_stop_count g.R.ReadDevice.stop_count l.self ≤ input_stop_count g.R.ReadDevice.stop_count l.fn.self;
   held : l.fn.self.skip < length l.fn.self.held → SkipsHeld l.fn.self l.self;
 }
 

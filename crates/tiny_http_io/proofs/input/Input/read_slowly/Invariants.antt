@@ -2,7 +2,7 @@ use Rattle.std.proofs.Common.{◌≡◌, ◌+◌, ◌-◌, ◌*◌, ◌^◌, ◌
 use Rattle.std.specs.Prelude.{IsSome}
 use Rattle.tiny_http_io.specs.Device.{prepended}
 use Rattle.tiny_http_io.specs.LineEnds.{BeginsNoLineEnd, held_return, IsRoom}
-use Rattle.tiny_http_io.specs.Input.{input_feed, input_told, input_stop, input_reader, IsInputOver}
+use Rattle.tiny_http_io.specs.Input.{input_feed, input_stop_count, input_stop, input_reader, IsInputOver}
 use Rattle.tiny_http_io.proofs.input.Input.read_slowly.Given as goal
 
 abbrev pub invariant-loop-room : goal.invariant-loop-room
@@ -14,7 +14,7 @@ invariant-loop-room g l = record {
   stays : IsInputOver l.fn.self → l.self ≡ l.fn.self;
   fresh : IsInputOver l.fn.self → l.room ≡ l.fn.left;
   lazy : input_stop l.self ≡ input_stop l.fn.self;
-  calls : input_told g.R.ReadDevice.told l.self ≤ input_told g.R.ReadDevice.told l.fn.self;
+  calls : input_stop_count g.R.ReadDevice.stop_count l.self ≤ input_stop_count g.R.ReadDevice.stop_count l.fn.self;
 }
 
 abbrev pub decreases-loop-room : goal.decreases-loop-room

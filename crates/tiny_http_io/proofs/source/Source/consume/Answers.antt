@@ -10,5 +10,5 @@ returns g c =
       rest = search rules;
       reader = search rules;
       stop = search rules;
-      standing = search rules;
+      input_state = search rules;
     }

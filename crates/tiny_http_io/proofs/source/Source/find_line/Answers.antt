@@ -15,8 +15,8 @@ returns-clause-finds g c =
       once = search rules;
       held = search rules;
       full = search rules;
-      stays = rw (← c.self.view_is) (source-stays g.R.ReadDevice.feed c.self.inside.standing c.self.inside.input c.find_line.new.self c.args.left _ c.find_line.ensures.stays);
+      stays = rw (← c.self.view_is) (source-stays g.R.ReadDevice.feed c.self.inside.input_state c.self.inside.input c.find_line.new.self c.args.left _ c.find_line.ensures.stays);
       memory = search rules;
       lazy = search rules;
-      standing = search rules;
+      input_state = search rules;
     }

@@ -13,10 +13,10 @@ returns-clause-reads g c =
       over = search rules;
       ended = search rules;
       stop = search rules;
-      stays = rw (← c.self.view_is) (source-stays g.R.ReadDevice.feed c.self.inside.standing c.self.inside.input c.read_line.new.self (Some c.args.left) _ c.read_line.ensures.stays);
+      stays = rw (← c.self.view_is) (source-stays g.R.ReadDevice.feed c.self.inside.input_state c.self.inside.input c.read_line.new.self (Some c.args.left) _ c.read_line.ensures.stays);
       lazy = search rules;
       passed = search rules;
       held = search rules;
       full = search rules;
-      standing = search rules;
+      input_state = search rules;
     }

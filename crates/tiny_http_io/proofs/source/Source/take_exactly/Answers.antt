@@ -12,5 +12,5 @@ returns-clause-takes g c =
       lazy = search rules;
       held = search rules;
       goes_on = rw (← c.self.view_is) c.take_exactly.ensures.goes_on;
-      standing = search rules;
+      input_state = search rules;
     }

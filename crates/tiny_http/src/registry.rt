@@ -1,0 +1,220 @@
+//! Who is connected to a server, under one lock, and what the server has counted.
+use crate::ending::Ending;
+use std::alloc::{AllocError, Global};
+use std::net::{Shutdown, SocketAddr};
+use std::sync::atomic::AtomicU64;
+use std::sync::{Arc, Condvar, Mutex, Wait};
+use std::time::{Clock, Duration};
+use tiny_http_limits::connection_table::{ConnectionTable, Refusal};
+use tiny_http_limits::counts::Counts;
+use tiny_http_limits::limits::Limits;
+use tiny_http_limits::times::time_left;
+use tiny_http_socket::connection::Connection;
+use tiny_http_socket::connection_timers::ConnectionTimers;
+
+/// What a server knows of a client that is connected.
+#[derive(Drop)]
+pub(crate) struct ConnectionHandle {
+    pub socket: Arc<Connection>,
+    pub timers: Arc<ConnectionTimers>,
+}
+
+// The clients, and what was counted of those that have gone.
+#[derive(Drop)]
+struct Connections {
+    table: ConnectionTable<ConnectionHandle>,
+    counts: Counts,
+}
+
+/// The clients of a server, which its threads share.
+#[derive(Drop)]
+pub(crate) struct ConnectionRegistry {
+    connections: Mutex<Connections>,
+    // A client has gone, or the server is closed.
+    changed: Condvar,
+    // How many connections are upgraded.
+    upgraded: Arc<AtomicU64>,
+}
+
+impl ConnectionRegistry {
+    /// Nobody is connected. An error where memory was refused.
+    pub fn new(
+        alloc: Global,
+        limits: Option<&Limits>,
+    ) -> Result<Arc<ConnectionRegistry>, AllocError> {
+        let (most, most_of_address) = match limits {
+            Some(limits) => (limits.connections, limits.connections_of_address),
+            None => (usize::MAX, usize::MAX),
+        };
+        let connections = Connections {
+            table: ConnectionTable::new(alloc, most, most_of_address),
+            counts: Counts::new(),
+        };
+        let registry = ConnectionRegistry {
+            connections: Mutex::new(connections),
+            changed: Condvar::new(),
+            upgraded: Arc::new(alloc, AtomicU64::new(0))?,
+        };
+        Ok(Arc::new(alloc, registry)?)
+    }
+
+    /// Where the connections are counted that are upgraded.
+    pub fn upgraded(&self) -> &Arc<AtomicU64> {
+        &self.upgraded
+    }
+
+    /// How many clients are connected.
+    pub fn count<R: Wait>(&self, rt: &R) -> usize {
+        self.connections.lock(rt).table.count()
+    }
+
+    /// What was counted, also of the clients that are connected.
+    pub fn counts<R: Wait>(&self, rt: &R) -> Counts {
+        let connections = self.connections.lock(rt);
+        let mut counts = connections.counts;
+        for entry in connections.table.entries() {
+            counts.count_end(entry.item().timers.summary());
+        }
+        counts
+    }
+
+    /// How often accepting failed, and went on.
+    pub fn accept_faults<R: Wait>(&self, rt: &R) -> u64 {
+        self.connections.lock(rt).counts.accept_faults
+    }
+
+    /// One more fault of accepting.
+    pub fn count_accept_fault<R: Wait>(&self, rt: &R) {
+        self.connections.lock(rt).counts.count_accept_fault();
+    }
+
+    /// Waits while as many clients are connected as may be, and the server isn't closed.
+    pub fn wait_for_place<R: Wait>(&self, rt: &R, ending: &Ending) {
+        let mut connections = self.connections.lock(rt);
+        for _ in rt.forever() {
+            if !connections.table.is_full() || ending.is_closed() {
+                return;
+            }
+            connections = self.changed.wait(rt, connections);
+        }
+    }
+
+    /// Wakes the accepting thread, which ends where the server is closed.
+    pub fn wake<R: Wait>(&self, rt: &R) {
+        drop(self.connections.lock(rt));
+        self.changed.notify_all();
+    }
+
+    // Admits a client: its number. None where it may not be admitted.
+    fn enter<R: Wait>(
+        &self,
+        rt: &R,
+        addr: Option<SocketAddr>,
+        handle: ConnectionHandle,
+    ) -> Option<u64> {
+        let mut connections = self.connections.lock(rt);
+        match connections.table.enter(addr.map(|addr| addr.ip()), handle) {
+            Ok(number) => {
+                connections.counts.count_connection();
+                Some(number)
+            }
+            Err(refusal) => {
+                if refusal == Refusal::AddressFull {
+                    connections.counts.count_turned_away();
+                }
+                None
+            }
+        }
+    }
+
+    // The client of this number has gone.
+    fn leave<R: Wait>(&self, rt: &R, number: u64) {
+        let mut connections = self.connections.lock(rt);
+        let left = connections.table.leave(number);
+        if let Some(handle) = &left {
+            connections.counts.count_end(handle.timers.summary());
+            handle.timers.end_stream();
+        }
+        drop(connections);
+        // Its connection ends here, before others hear of it.
+        drop(left);
+        self.changed.notify_all();
+    }
+
+    /// Has no client's next head be read, and ends the connections that wait for one.
+    pub fn stop<R: Wait>(&self, rt: &R) {
+        let connections = self.connections.lock(rt);
+        for entry in connections.table.entries() {
+            let handle = entry.item();
+            if handle.timers.stop() {
+                let _ = handle.socket.shutdown(Shutdown::Read);
+            }
+        }
+    }
+
+    /// Waits until nobody is connected, for so long at most from that time on. Whether nobody is.
+    pub fn wait_until_empty<R: Wait + Clock>(
+        &self,
+        rt: &R,
+        begun: Duration,
+        time: Duration,
+    ) -> bool {
+        let mut connections = self.connections.lock(rt);
+        for _ in rt.forever() {
+            if connections.table.count() == 0 {
+                return true;
+            }
+            let Some(left) = time_left(begun, time_of(rt), time) else {
+                return false;
+            };
+            let (woken, waited) = self.changed.wait_timeout(rt, connections, left);
+            connections = woken;
+            if waited.timed_out() {
+                return connections.table.count() == 0;
+            }
+        }
+        false
+    }
+}
+
+/// The time of the clock; 0 where it can't be read.
+pub(crate) fn time_of<R: Clock>(rt: &R) -> Duration {
+    rt.monotonic().unwrap_or(Duration::from_secs(0))
+}
+
+/// A client that counts as connected, until this is dropped.
+pub(crate) struct ConnectionGuard<R: Wait + Clock + Drop> {
+    rt: R,
+    registry: Arc<ConnectionRegistry>,
+    number: u64,
+}
+
+impl<R: Wait + Clock + Drop> ConnectionGuard<R> {
+    /// A client of this address counts as connected. None where it may not be.
+    pub fn enter(
+        rt: R,
+        registry: &Arc<ConnectionRegistry>,
+        addr: Option<SocketAddr>,
+        handle: ConnectionHandle,
+    ) -> Option<ConnectionGuard<R>> {
+        let registry = Arc::try_clone(registry).ok()?;
+        let number = registry.enter(&rt, addr, handle)?;
+        Some(ConnectionGuard {
+            rt,
+            registry,
+            number,
+        })
+    }
+}
+
+impl<R: Wait + Clock + Drop> Drop for ConnectionGuard<R> {
+    /// It counts no more.
+    fn drop(self) {
+        let ConnectionGuard {
+            rt,
+            registry,
+            number,
+        } = self;
+        registry.leave(&rt, number);
+    }
+}

@@ -1,0 +1,249 @@
+//! Answers of the server's own: the text of a refused head, and the text of a dropped request, which is printed as it
+//! is dropped.
+ghost use Rattle.std.specs.Prelude.{◌≡◌, ◌<◌, ◌≤◌, ◌^◌, true, false, [], Some, IfOk, length, vec_len, vec_capacity};
+ghost use Rattle.httpdate.specs.Date.{date_text};
+ghost use Rattle.tiny_http_response.specs.ResponseValue.{printing_in};
+ghost use Rattle.tiny_http_response.specs.Sending.{FailsOnce, SendsQuietlyOn};
+ghost use Rattle.tiny_http_open_request.specs.OpenRequest.{HasSentAll};
+ghost use Rattle.tiny_http_open_request.specs.declared.error_response.TheConstants.{OWN_ANSWER};
+ghost use Rattle.tiny_http_open_request.specs.TextState.{drop_text};
+ghost use Rattle.tiny_http_open_request.specs.ErrorResponse.{own_text, own_text_by, persistence_of, refusal_response};
+ghost use Rattle.tiny_http_open_request.specs.ErrorResponse.{refused_text};
+ghost use Rattle.tiny_http_open_request.specs.Pipeline.{VersionNotSupported, plainly};
+ghost use Rattle.tiny_http_io.specs.Device.{Feed};
+ghost use Rattle.tiny_http_head.specs.Heads.{version};
+
+use httpdate::HttpDate;
+use std::alloc::{AllocError, Global};
+use std::io::ErrorKind;
+use std::marker::Model;
+use std::{io, mem};
+use tiny_http_head::common::{HTTPVersion, StatusCode};
+use tiny_http_io::device::{Budget, ReadDevice, WriteDevice};
+use tiny_http_io::outlet::Outlet;
+use tiny_http_response::response::Response;
+use tiny_http_response::response_context::{Persistence, ResponseContext};
+use tiny_http_response::sending::send;
+
+/// How many bytes are kept for the text of an empty answer of the server's own, which has 162 at most.
+pub const OWN_ANSWER: usize = 168;
+
+// The text of an answer to a head that is refused. An error where there is no memory for it.
+fn refused_text<D: ReadDevice + Drop>(
+    alloc: Global,
+    answer: Response<D>,
+    version: HTTPVersion,
+    by_standard: bool,
+    no_body: bool,
+    now: HttpDate,
+) -> Result<Vec<u8>, AllocError>
+    ensures { (content : Feed) → D.feed answer.data_reader ≡ Some content → length content.bytes < 2 ^ 63
+        → IfOk result
+        (λ text. text.items ≡ refused_text (record { answer = answer.answer; content = content })
+        (record { version = version; by_standard = by_standard }) no_body now) }
+{
+    let bytes = Vec::with_capacity(alloc, OWN_ANSWER)?;
+    let mut writer = Budget::from_vec(bytes, usize::MAX, ErrorKind::OutOfMemory);
+    let context = ResponseContext {
+        version,
+        asked_coding: None,
+        no_body,
+        persistence: persistence_of(by_standard, true),
+    };
+    match answer.print(alloc, &mut writer, context, None, now) {
+        Ok(()) => Ok(writer.into_bytes()),
+        Err(_) => Err(AllocError),
+    }
+}
+
+/// The text of the answer to a head that is refused, in this version: this code, no headers of its own and no data.
+/// By the standard it says that the connection ends. An error where there is no memory for it.
+pub fn error_response(
+    alloc: Global,
+    status: StatusCode,
+    version: HTTPVersion,
+    by_standard: bool,
+    now: HttpDate,
+) -> Result<Vec<u8>, AllocError>
+    ensures { IfOk result
+        (λ text. text.items ≡ own_text status.0 (record { version = version; by_standard = by_standard }) false now) }
+{
+    let answer = Response::empty(alloc, status);
+    refused_text(alloc, answer, version, by_standard, false, now)
+}
+
+/// What an answer says of its connection, by the standard: that it ends behind the last request, and that it persists
+/// behind another.
+pub(crate) fn persistence_of(by_standard: bool, is_last: bool) -> Option<Persistence>
+    ensures { result ≡ persistence_of by_standard is_last }
+{
+    match (by_standard, is_last) {
+        (false, _) => None,
+        (true, true) => Some(Persistence::Close),
+        (true, false) => Some(Persistence::Persistent),
+    }
+}
+
+// What a version above 1.1 is told.
+const TOO_NEW: &str = "This server only supports HTTP versions 1.0 and 1.1";
+
+/// The text of the answer to a head whose version is above 1.1: 505 in version 1.1, and a text that says which
+/// versions are served, which is withheld for `no_body` (as tiny_http; RFC 9110, section 15.6.6). An error where
+/// there is no memory for it.
+pub fn too_new_answer(alloc: Global, no_body: bool, now: HttpDate) -> Result<Vec<u8>, AllocError>
+    ensures { IfOk result
+        (λ text. text.items ≡ refused_text (refusal_response VersionNotSupported) (plainly (version 1 1)) no_body
+        now) }
+{
+    let text = String::from_str(alloc, TOO_NEW)?;
+    let answer = Response::from_string(alloc, text)?.with_status_code(StatusCode(505));
+    refused_text(alloc, answer, HTTPVersion(1, 1), false, no_body, now)
+}
+
+// Sends an answer of the server's own to a request, and flushes it: this code, no headers of its own and no data. It
+// takes no memory. No reply reports a fault that is met there; an outlet that has ended sends nothing.
+pub(crate) fn send_own_quietly<W: WriteDevice>(
+    alloc: Global,
+    outlet: &mut Outlet<W>,
+    status: StatusCode,
+    context: ResponseContext,
+    now: HttpDate,
+)
+    ensures sends { SendsQuietlyOn outlet.old outlet.new (own_text_by status.0 (printing_in context now)) }
+    ensures fails_once { FailsOnce outlet.old outlet.new }
+    ensures sent { HasSentAll outlet.new }
+{
+    if outlet.is_ended() {
+        outlet.facts();
+        return;
+    }
+    let answer = Response::empty(alloc, status);
+    let _ = send(alloc, outlet, answer, context, now);
+}
+
+// A writer into room that was taken before: it takes `OWN_ANSWER` bytes, and then each write of a byte fails.
+#[derive(Drop)]
+struct OwnPage {
+    bytes: Vec<u8>,
+    failures: u64,
+    ghost room: { OWN_ANSWER ≤ vec_capacity bytes },
+    ghost within: { vec_len bytes ≤ OWN_ANSWER },
+    ghost full: { 0 < failures → OWN_ANSWER ≤ length bytes.items },
+}
+
+impl WriteDevice for OwnPage {
+    ghost use Rattle.tiny_http_open_request.specs.OwnPage.{page_sink};
+
+    ghost sink = { page_sink };
+
+    /// The count.
+    fn failures(&self) -> u64 {
+        self.failures
+    }
+
+    /// Takes as many bytes as there is room for.
+    fn write_out(&mut self, buf: &[u8]) -> Result<usize, io::Error> {
+        let n = buf.len().min(OWN_ANSWER - self.bytes.len());
+        if n == 0 && !buf.is_empty() {
+            self.failures = self.failures.saturating_add(1);
+            return Err(ErrorKind::OutOfMemory.into());
+        }
+        match self.bytes.extend_from_slice(&buf[..n]) {
+            Ok(()) => Ok(n),
+            Err(_) => unreachable!(),
+        }
+    }
+
+    /// Nothing is held back.
+    fn flush_out(&mut self) -> Result<(), io::Error> {
+        Ok(())
+    }
+}
+
+// The length of a date's text: 29.
+fn date_length(now: HttpDate) -> usize
+    ensures length { result ≡ length (date_text now) }
+    ensures value { result ≡ 29 }
+{
+    let date = now.to_bytes();
+    date.len()
+}
+
+// An empty 500, printed into this room. It takes no memory.
+fn print_drop(room: Vec<u8>, context: ResponseContext, now: HttpDate) -> Vec<u8>
+    requires empty { (room.items ≡ []) × (vec_len room ≡ 0) }
+    requires room { OWN_ANSWER ≤ vec_capacity room }
+    requires version { (context.version.0 < 256) × (context.version.1 < 256) }
+    ensures { result.items ≡ own_text_by 500 (printing_in context now) }
+{
+    let alloc = *room.allocator();
+    let _length = date_length(now);
+    let mut page = OwnPage {
+        bytes: room,
+        failures: 0,
+    };
+    let answer = Response::empty(alloc, StatusCode(500));
+    match answer.print(alloc, &mut page, context, None, now) {
+        Ok(()) => page.bytes,
+        Err(_) => unreachable!(),
+    }
+}
+
+/// The text that is sent if a request is dropped: an empty 500; or, once it was taken, no byte. Its room is taken as
+/// it is made, and it is printed as the request is dropped.
+#[derive(Drop)]
+pub struct DropText {
+    room: Vec<u8>,
+    is_taken: bool,
+    now: HttpDate,
+}
+
+impl Model for DropText {
+    ghost use Rattle.std.specs.Prelude.{◌≡◌, ◌≤◌, false, [], vec_len, vec_capacity};
+    ghost use Rattle.tiny_http_open_request.specs.declared.error_response.TheConstants.{OWN_ANSWER};
+    ghost use Rattle.tiny_http_open_request.specs.TextState.{TextState};
+
+    ghost Value = { TextState };
+
+    ghost view = { λ t. record { is_taken = t.is_taken; date = t.now } };
+
+    ghost invariant = { λ t. (t.room.items ≡ [])
+        × (vec_len t.room ≡ 0)
+        × (t.is_taken ≡ false → OWN_ANSWER ≤ vec_capacity t.room) };
+}
+
+impl DropText {
+    /// `now` dates it. An error where there is no memory for it.
+    pub fn new(alloc: Global, now: HttpDate) -> Result<DropText, AllocError>
+        ensures { IfOk result (λ text. text ≡ record { is_taken = false; date = now }) }
+    {
+        let room = Vec::with_capacity(alloc, OWN_ANSWER)?;
+        Ok(DropText {
+            room,
+            is_taken: false,
+            now,
+        })
+    }
+
+    /// Takes the text, printed in this context: no byte is left of it. It takes no memory.
+    pub fn take_text(&mut self, context: ResponseContext) -> Vec<u8>
+        ensures text { result.items ≡ drop_text self.old context }
+        ensures taken { self.new ≡ record self.old { is_taken = true } }
+    {
+        let none = Vec::new(*self.room.allocator());
+        if self.is_taken {
+            return none;
+        }
+        self.is_taken = true;
+        let room = mem::replace(&mut self.room, none);
+        print_drop(room, context, self.now)
+    }
+
+    /// The text itself, printed in this context. It takes no memory.
+    pub fn into_text(self, context: ResponseContext) -> Vec<u8>
+        ensures { result.items ≡ drop_text self context }
+    {
+        let mut text = self;
+        text.take_text(context)
+    }
+}

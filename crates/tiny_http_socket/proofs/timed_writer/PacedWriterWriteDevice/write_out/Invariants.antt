@@ -1,0 +1,6 @@
+use Rattle.std.proofs.Common.{◌≡◌}
+use Rattle.tiny_http_socket.specs.Timed.{timed_sink}
+use Rattle.tiny_http_socket.proofs.timed_writer.TimedWriterWriteDevice.write_out.Given as goal
+
+abbrev pub invariant-loop : goal.invariant-loop
+invariant-loop g l = timed_sink l.self ≡ timed_sink l.initial.self

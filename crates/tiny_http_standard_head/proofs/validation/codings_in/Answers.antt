@@ -1,0 +1,28 @@
+use Rattle.std.proofs.Common.{◌≡◌, sym, ap, ◌∙◌, length, lit<, arith}
+use Rattle.std.proofs.lemmas.Iterator.Consumers.{YieldsList-turn, YieldsList-end, YieldsList-at}
+use Rattle.std.proofs.lemmas.Iterator.Splits.{YieldsList-from_str_split}
+use Rattle.std.proofs.lemmas.List.{length_push}
+use Rattle.httparse.specs.Grammar.{is_ows}
+use Rattle.tiny_http_text.specs.Bytes.{trimmed, parts, comma}
+use Rattle.tiny_http_standard_head.specs.ValidationReading.{coding_after, codings_on}
+use Rattle.tiny_http_standard_head.proofs.ListsLemmas.{elements-end}
+use Rattle.tiny_http_standard_head.proofs.FoldLemmas.{codings-step}
+use Rattle.tiny_http_standard_head.proofs.validation.codings_in.Goals as goal
+
+pub loop-text-preserved : goal.loop-text-preserved
+loop-text-preserved c =
+    let road = YieldsList-at c.into_iter-text-iterator.ensures.into_iter_gives
+    (YieldsList-from_str_split 44 c.args.value.now (lit< tt) c.split-text-items.ensures.text c.split-text-items.ensures.has_more c.split-text-items.ensures.pattern)
+    in
+    let t = YieldsList-turn road c.loop-text.yielded _ c.loop-text.yielded_by _ _ c.in-Some.text c.in-Some.is c.next.ensures.steps in
+    let n = length_push c.loop-text.yielded c.in-Some.text in
+    let is : c.coding_after-codings.result ≡ coding_after c.loop-text.codings (trimmed is_ows c.in-Some.text.now) = c.coding_after-codings.ensures ∙ ap (coding_after c.loop-text.codings) c.trim.ensures in
+    rw (n, is) (codings-step c.loop-text.codings (parts comma c.args.value.now) (length c.loop-text.yielded) c.in-Some.text.now t ∙ c.loop-text.invariant)
+
+pub returns : goal.returns
+returns c =
+    let road = YieldsList-at c.into_iter-text-iterator.ensures.into_iter_gives
+    (YieldsList-from_str_split 44 c.args.value.now (lit< tt) c.split-text-items.ensures.text c.split-text-items.ensures.has_more c.split-text-items.ensures.pattern)
+    in
+    let t = YieldsList-end road c.loop-text.yielded _ c.loop-text.yielded_by _ _ c.in-None.is c.next.ensures.steps in
+    sym (elements-end (codings_on c.loop-text.codings) (parts comma c.args.value.now) (length c.loop-text.yielded) (omega (arith, t.1))) ∙ c.loop-text.invariant

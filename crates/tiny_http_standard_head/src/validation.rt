@@ -1,0 +1,413 @@
+//! What a whole head says, and why it is refused (RFC 9112, sections 3.2, 6 and 9.3; RFC 9110, sections 7.8, 10.1.1
+//! and 15), and whether it asks for chunks (RFC 9110, section 10.1.4).
+ghost use Rattle.std.specs.Prelude.{◌≡◌, ◌↔◌, ◌==◌, not, IsTrue, IsFalse, IfSome, IfNone, codes};
+ghost use Rattle.std.specs.List.{list_all, list_any};
+ghost use Rattle.httparse.specs.Grammar.{is_ows};
+ghost use Rattle.tiny_http_text.specs.Bytes.{trimmed, parts};
+ghost use Rattle.tiny_http_head.specs.ContentLength.{one_length};
+ghost use Rattle.tiny_http_head.specs.Target.{slash};
+ghost use Rattle.tiny_http_standard_head.specs.Hosts.{percent};
+ghost use Rattle.tiny_http_standard_head.specs.Lists.{values_of, between_commas, elements_of, has_element_that};
+ghost use Rattle.tiny_http_standard_head.specs.Validation.{HasValidHost, is_1_0, is_chunked, is_one_or_two_tokens};
+ghost use Rattle.tiny_http_standard_head.specs.Validation.{is_protocol, has_body, owes_continue, is_connect, is_last};
+ghost use Rattle.tiny_http_standard_head.specs.Validation.{asks_upgrade, is_protocol_named, names_protocol, Validates};
+ghost use Rattle.tiny_http_standard_head.specs.Te.{between_semicolons, is_weight, weight_value, is_zero};
+ghost use Rattle.tiny_http_standard_head.specs.Te.{has_zero_weight, element_asks_chunked, asks_chunked};
+ghost use Rattle.tiny_http_standard_head.specs.ValidationReading.{is_wanted, coding_after, codings_on, body_by};
+ghost use Rattle.tiny_http_standard_head.specs.declared.validation.Codings.TheVariants.{Absent};
+
+use crate::hosts::is_host_value;
+use httparse::is_token;
+use tiny_http_head::blanks::{Blanks, trim_space_and_tab};
+use tiny_http_head::common::{HTTPVersion, Header, Method};
+use tiny_http_head::content_length::one_length;
+use tiny_http_text::bytes::{cut, is};
+
+/// What a head says of its body, and of the connection.
+#[derive(Clone, Copy, Debug, PartialEq, Eq)]
+pub struct HeadSummary {
+    /// The length that `Content-Length` says. There is no body where it is `Some(0)`, or `None` without chunks.
+    pub body_length: Option<usize>,
+    /// Whether the body comes in chunks.
+    pub is_chunked: bool,
+    /// Whether a 100 is owed before the body.
+    pub owes_continue: bool,
+    /// Whether the head asks for another protocol.
+    pub asks_upgrade: bool,
+    /// Whether the head alone makes its request the connection's last.
+    pub is_last: bool,
+}
+
+/// Why a head of good lines is refused.
+#[derive(Clone, Copy, Debug, PartialEq, Eq)]
+pub enum HeadError {
+    /// Its major version isn't 1: 505 (RFC 9110, section 15.6.6).
+    UnsupportedVersion,
+    /// Its host is missing or invalid, or there is a second one, or what frames its body is invalid: 400 (RFC 9112,
+    /// sections 3.2 and 6).
+    InvalidHead,
+    /// Codings are named in front of a last `chunked`, in version 1.1 or later and without a length: 501 (RFC 9112,
+    /// section 6.1).
+    UnknownCoding,
+    /// It expects something else than a 100: 417 (RFC 9110, section 10.1.1).
+    UnknownExpectation,
+}
+
+// What an element of a list is looked at for.
+#[derive(Clone, Copy)]
+enum Wanted {
+    Close,
+    KeepAlive,
+    Upgrade,
+    Continue,
+    Protocol,
+    UnknownExpectation,
+    Chunks,
+}
+
+// What the elements of `Transfer-Encoding` are so far.
+#[derive(Clone, Copy, PartialEq, Eq)]
+enum Codings {
+    // None came.
+    Absent,
+    // Others than `chunked` came.
+    Others,
+    // `chunked` alone came.
+    Chunked,
+    // `chunked` came behind others.
+    Behind,
+    // An empty one came, or one behind `chunked`.
+    Bad,
+}
+
+// The text without spaces and tabs at its ends.
+pub(crate) fn trim(text: &str) -> &[u8]
+    ensures { result.now ≡ trimmed is_ows text.now }
+{
+    trim_space_and_tab(text.as_bytes())
+}
+
+// Whether this is a token, or two with a slash between.
+fn is_one_or_two_tokens(text: &[u8]) -> bool
+    ensures { result ≡ is_one_or_two_tokens (parts slash text.now) }
+{
+    let Some((name, version)) = cut(text, b'/') else {
+        return is_token(text);
+    };
+    is_token(name) && is_token(version)
+}
+
+// Whether no percent sign stands in the text.
+fn has_no_percent(text: &[u8]) -> bool
+    ensures { result ≡ list_all (λ b. not (b == percent)) text.now }
+{
+    text.iter().all(|b| *b != b'%')
+}
+
+// Whether this is a protocol's name, with or without a version.
+fn is_protocol(text: &[u8]) -> bool
+    ensures { result ≡ is_protocol text.now }
+{
+    is_one_or_two_tokens(text) && has_no_percent(text)
+}
+
+// The value of a parameter that is a weight: what stands behind `q=` or `Q=` (RFC 9110, section 12.4.2).
+fn weight_value(parameter: &[u8]) -> Option<&[u8]>
+    ensures some { IfSome result (λ value. IsTrue (is_weight parameter.now)
+        × (value.now ≡ weight_value parameter.now)) }
+    ensures none { IfNone result (IsFalse (is_weight parameter.now)) }
+{
+    if parameter.len() < 2 || !parameter[..2].eq_ignore_ascii_case(b"q=") {
+        return None;
+    }
+    Some(trim_space_and_tab(&parameter[2..]))
+}
+
+// Whether the value of a weight is a zero with at most three digits behind the point (RFC 9110, section 12.4.2).
+fn is_zero(value: &[u8]) -> bool
+    ensures { result ≡ is_zero value.now }
+{
+    is(value, "0") || is(value, "0.") || is(value, "0.0") || is(value, "0.00") || is(value, "0.000")
+}
+
+// Whether the first weight among the parameters is zero.
+fn has_zero_weight(parameters: &[u8]) -> bool
+    ensures { result ≡ has_zero_weight (between_semicolons parameters.now) }
+{
+    for text in parameters.split(|b| *b == b';') {
+        if let Some(value) = weight_value(trim_space_and_tab(text)) {
+            return is_zero(value);
+        }
+    }
+    false
+}
+
+// Whether the coding is `chunked`, without case.
+fn is_chunked(coding: &[u8]) -> bool
+    ensures { result ≡ is_chunked coding.now }
+{
+    coding.eq_ignore_ascii_case(b"chunked")
+}
+
+// Whether an element of `TE`, a coding and its parameters, asks for chunks (RFC 9110, section 10.1.4).
+fn element_asks_chunked(element: &[u8]) -> bool
+    ensures { result ≡ element_asks_chunked element.now }
+{
+    let Some((coding, parameters)) = cut(element, b';') else {
+        return is_chunked(trim_space_and_tab(element));
+    };
+    is_chunked(trim_space_and_tab(coding)) && !has_zero_weight(parameters)
+}
+
+// Whether an element is what is wanted.
+fn is_wanted(wanted: Wanted, element: &[u8]) -> bool
+    ensures { result ≡ is_wanted wanted element.now }
+{
+    match wanted {
+        Wanted::Close => element.eq_ignore_ascii_case(b"close"),
+        Wanted::KeepAlive => element.eq_ignore_ascii_case(b"keep-alive"),
+        Wanted::Upgrade => element.eq_ignore_ascii_case(b"upgrade"),
+        Wanted::Continue => element.eq_ignore_ascii_case(b"100-continue"),
+        Wanted::Protocol => is_protocol(element),
+        Wanted::UnknownExpectation => !element.is_empty()
+            && !element.eq_ignore_ascii_case(b"100-continue"),
+        Wanted::Chunks => element_asks_chunked(element),
+    }
+}
+
+// Whether an element of the value is what is wanted.
+fn has_in(value: &str, wanted: Wanted) -> bool
+    ensures { result ≡ list_any (is_wanted wanted) (between_commas value.now) }
+{
+    for text in value.split(',') {
+        if is_wanted(wanted, trim(text)) {
+            return true;
+        }
+    }
+    false
+}
+
+// Whether an element of the headers of that name is what is wanted.
+fn has(headers: &[Header], name: &str, wanted: Wanted) -> bool
+    ensures { result ≡ has_element_that name.now (is_wanted wanted) headers.now }
+{
+    for header in headers {
+        if header.field.equiv(name) && has_in(header.value.as_str(), wanted) {
+            return true;
+        }
+    }
+    false
+}
+
+// Whether the hosts are as the version asks: one, and in 1.0 one at most.
+fn has_valid_host(version: HTTPVersion, headers: &[Header]) -> bool
+    ensures { IsTrue result ↔ HasValidHost version (values_of (codes "Host") headers.now) }
+{
+    let mut has_one = false;
+    for header in headers {
+        if header.field.equiv("Host") {
+            if has_one || !is_host_value(header.value.as_str().as_bytes()) {
+                return false;
+            }
+            has_one = true;
+        }
+    }
+    has_one || is_1_0(version)
+}
+
+// What the codings are after a further one.
+fn coding_after(was: Codings, coding: &[u8]) -> Codings
+    ensures { result ≡ coding_after was coding.now }
+{
+    let is_chunked = is_chunked(coding);
+    match was {
+        Codings::Absent if is_chunked => Codings::Chunked,
+        Codings::Others if is_chunked => Codings::Behind,
+        Codings::Absent | Codings::Others if !coding.is_empty() => Codings::Others,
+        _ => Codings::Bad,
+    }
+}
+
+// What the codings are after those of a value.
+fn codings_in(value: &str, was: Codings) -> Codings
+    ensures { result ≡ codings_on was (between_commas value.now) }
+{
+    let mut codings = was;
+    for text in value.split(',') {
+        codings = coding_after(codings, trim(text));
+    }
+    codings
+}
+
+// What the elements of all `Transfer-Encoding` headers are.
+fn codings_of(headers: &[Header]) -> Codings
+    ensures { result ≡ codings_on Absent (elements_of (codes "Transfer-Encoding") headers.now) }
+{
+    let mut codings = Codings::Absent;
+    for header in headers {
+        if header.field.equiv("Transfer-Encoding") {
+            codings = codings_in(header.value.as_str(), codings);
+        }
+    }
+    codings
+}
+
+// The body by the codings and the length: its length, and whether it comes in chunks.
+fn body_of(version: HTTPVersion, headers: &[Header]) -> Result<(Option<usize>, bool), HeadError>
+    ensures { result ≡ body_by version (codings_on Absent (elements_of (codes "Transfer-Encoding") headers.now))
+        (one_length (elements_of (codes "Content-Length") headers.now)) }
+{
+    let Ok(length) = one_length(headers, Blanks::SpaceAndTab) else {
+        return Err(HeadError::InvalidHead);
+    };
+    let codings = codings_of(headers);
+    if codings == Codings::Absent {
+        return Ok((length, false));
+    }
+    if is_1_0(version) || length.is_some() {
+        return Err(HeadError::InvalidHead);
+    }
+    match codings {
+        Codings::Chunked => Ok((None, true)),
+        Codings::Behind => Err(HeadError::UnknownCoding),
+        _ => Err(HeadError::InvalidHead),
+    }
+}
+
+// Whether the version is 1.0.
+fn is_1_0(version: HTTPVersion) -> bool
+    ensures { result ≡ is_1_0 version }
+{
+    version.0 == 1 && version.1 == 0
+}
+
+// Whether a body follows.
+fn has_body(length: Option<usize>, is_chunked: bool) -> bool
+    ensures { result ≡ has_body length is_chunked }
+{
+    match length {
+        Some(n) => n > 0,
+        None => is_chunked,
+    }
+}
+
+// Whether a 100 is owed.
+fn owes_continue(
+    version: HTTPVersion,
+    headers: &[Header],
+    length: Option<usize>,
+    is_chunked: bool,
+) -> bool
+    ensures { result ≡ owes_continue version headers.now length is_chunked }
+{
+    !is_1_0(version) && has_body(length, is_chunked) && has(headers, "Expect", Wanted::Continue)
+}
+
+// Whether the head asks for another protocol.
+fn asks_upgrade(version: HTTPVersion, headers: &[Header]) -> bool
+    ensures { result ≡ asks_upgrade version headers.now }
+{
+    !is_1_0(version)
+        && has(headers, "Connection", Wanted::Upgrade)
+        && has(headers, "Upgrade", Wanted::Protocol)
+}
+
+// Whether an element is this protocol.
+fn is_protocol_named(protocol: &str, element: &[u8]) -> bool
+    ensures { result ≡ is_protocol_named protocol.now element.now }
+{
+    is_protocol(element) && element.eq_ignore_ascii_case(protocol.as_bytes())
+}
+
+// Whether an element of the value is this protocol.
+fn names_in(value: &str, protocol: &str) -> bool
+    ensures { result ≡ list_any (is_protocol_named protocol.now) (between_commas value.now) }
+{
+    for text in value.split(',') {
+        if is_protocol_named(protocol, trim(text)) {
+            return true;
+        }
+    }
+    false
+}
+
+/// Whether the `Upgrade` headers name this protocol, without case: an element of theirs is wholly it (RFC 9110,
+/// section 7.8). An element is passed over that isn't a token, or two with a slash between, or that has a percent
+/// sign.
+pub fn names_protocol(headers: &[Header], protocol: &str) -> bool
+    ensures { result ≡ names_protocol headers.now protocol.now }
+{
+    for header in headers {
+        if header.field.equiv("Upgrade") && names_in(header.value.as_str(), protocol) {
+            return true;
+        }
+    }
+    false
+}
+
+/// Whether the `TE` headers of a request ask for chunks (RFC 9110, section 10.1.4). The headers of that name are one
+/// list, whose empty elements are passed over (RFC 9110, sections 5.3 and 5.6.1.2). An element asks for chunks if its
+/// coding is `chunked`, without case, and its weight isn't zero. The weight is the first parameter that begins with
+/// `q=` or `Q=` (RFC 9110, section 12.4.2). Its value is zero as `0`, `0.`, `0.0`, `0.00` or `0.000`. Any other value
+/// asks for chunks, also one that isn't a number. Other parameters are passed over, and so are those behind the
+/// weight. A comma or a semicolon in a quoted text divides as well.
+pub fn asks_chunked(headers: &[Header]) -> bool
+    ensures { result ≡ asks_chunked headers.now }
+{
+    has(headers, "TE", Wanted::Chunks)
+}
+
+// Whether the connection ends after the request, by its head.
+fn is_last(version: HTTPVersion, method: &Method, headers: &[Header]) -> bool
+    ensures { result ≡ is_last version method.now headers.now }
+{
+    if has(headers, "Connection", Wanted::Close) {
+        return true;
+    }
+    if is_1_0(version) && !has(headers, "Connection", Wanted::KeepAlive) {
+        return true;
+    }
+    method.as_str() == "CONNECT"
+}
+
+/// Judges a head whose lines are good, in this order. Each minor version after 1.0 counts as 1.1.
+///
+/// - Another major version than 1 is `UnsupportedVersion`.
+/// - `InvalidHead`: no `Host` in 1.1, two of them, or one whose value is neither empty nor a host; elements of
+///   `Content-Length` that aren't one number, the empty one too; a `Transfer-Encoding` in 1.0, or beside a
+///   `Content-Length`, or whose last element isn't `chunked`, or with another one that is empty or `chunked`.
+/// - Codings in front of `chunked` are `UnknownCoding`.
+/// - An element of `Expect` that isn't empty or `100-continue` is `UnknownExpectation`. A 100 is owed in 1.1, where a
+///   body follows and `Expect` has `100-continue`.
+///
+/// A head asks for an upgrade in 1.1, if `Connection` has `upgrade`, and `Upgrade` has a protocol: a token, or two
+/// with a slash between, without `%`, which may stand for a byte from 128 on. The head makes its request the last by
+/// `close`, in 1.0 without `keep-alive`, and by the method `CONNECT`.
+pub fn validate(
+    version: HTTPVersion,
+    method: &Method,
+    headers: &[Header],
+) -> Result<HeadSummary, HeadError>
+    ensures { Validates version method.now headers.now result }
+{
+    if version.0 != 1 {
+        return Err(HeadError::UnsupportedVersion);
+    }
+    if !has_valid_host(version, headers) {
+        return Err(HeadError::InvalidHead);
+    }
+    let (body_length, is_chunked) = match body_of(version, headers) {
+        Ok(body) => body,
+        Err(refusal) => return Err(refusal),
+    };
+    if has(headers, "Expect", Wanted::UnknownExpectation) {
+        return Err(HeadError::UnknownExpectation);
+    }
+    Ok(HeadSummary {
+        body_length,
+        is_chunked,
+        owes_continue: owes_continue(version, headers, body_length, is_chunked),
+        asks_upgrade: asks_upgrade(version, headers),
+        is_last: is_last(version, method, headers),
+    })
+}

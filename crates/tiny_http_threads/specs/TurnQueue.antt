@@ -1,0 +1,72 @@
+-- A LINE: an item that numbers have in turn, and the numbers whose threads wait, as they stand under the lock.
+use Rattle.std.specs.BTreeMap.{is_at}
+use Rattle.std.specs.Global.{Box, Global}
+use Rattle.std.specs.Map.{lookup}
+use Rattle.std.specs.Ordering.{nat_cmp}
+use Rattle.std.specs.Prelude.{◌≡◌, ◌≢◌, ℕ, ◌<◌, Bool, false, List, [], length, Option, Some, None, IsSome, option_map}
+use Rattle.std.specs.Prelude.{box_value, slice_get}
+use Rattle.std.specs.declared.sync.Arc.{Arc}
+use Rattle.tiny_http_turns.specs.Turns.{TurnsState, Mark, Open, first_unfinished}
+use Rattle.tiny_http_turns.specs.declared.turns.Finishing.{Finishing}
+use Rattle.tiny_http_turns.specs.declared.turns.Finishing.TheVariants.{Passed, Go, Strange}
+use Rattle.std.specs.declared.sync.Condvar.{Condvar}
+use Rattle.tiny_http_threads.specs.declared.turn_queue.Taking.{Taking}
+use Rattle.tiny_http_threads.specs.declared.turn_queue.Taking.TheVariants.{Held, Waits as IsWaiting, Refused}
+
+-- The turns, with a mark for each number that was issued; the numbers whose threads wait, and what wakes each; the last
+-- number that was issued unless the line was closed; where those are counted that aren't finished; whether a thread
+-- waits for room.
+pub record QueueView (T W C : Type 0) : Type 0 where
+  pub turns : TurnsState T
+  pub waiting : List (ℕ × W)
+  pub last : Option ℕ
+  pub counter : Option C
+  pub wants_room : Bool
+
+-- the number may have the item now
+abbrev pub IsItsTurn : List Mark → ℕ → Type 0
+IsItsTurn marks n = (slice_get marks n ≡ Some Open) × (n ≡ first_unfinished marks)
+
+-- what wakes this number, if it waits
+abbrev pub waker : {W : Type 0} → List (ℕ × W) → ℕ → Option W
+waker waiting n = lookup (is_at (nat_cmp n)) waiting
+
+-- a number that waits was issued, and its turn hasn't come
+pub record IsSoundQueue {T W C : Type 0} (queue : QueueView T W C) : Type 0 where
+  pub issued : (n : ℕ) → IsSome (waker queue.waiting n) → n < length queue.turns.marks
+  pub waits : (n : ℕ) → IsSome (waker queue.waiting n) → IsItsTurn queue.turns.marks n → ⊥
+
+-- the item rests, no number is issued, and nothing else is there
+pub record IsNewQueue {T W C : Type 0} (item : T) (queue : QueueView (Box T) W C) : Type 0 where
+  pub rests : option_map box_value queue.turns.resting ≡ Some item
+  pub marks : queue.turns.marks ≡ []
+  pub waiting : queue.waiting ≡ []
+  pub last : queue.last ≡ None
+  pub counter : queue.counter ≡ None
+  pub wants_room : queue.wants_room ≡ false
+
+module _ {W : Type 0} where
+  -- each other number waits as before, or doesn't
+  abbrev pub OthersStay : ℕ → List (ℕ × W) → List (ℕ × W) → Type 0
+  OthersStay number old new = (n : ℕ) → n ≢ number → waker new n ≡ waker old n
+
+  -- where the item rests the next number is to be woken, if it waited, and waits no more
+  abbrev pub WakesNext : {U : Type 0} → Finishing U → ℕ → List (ℕ × W) → Option W → List (ℕ × W) → Type 0
+  WakesNext Passed next old woken new = (woken ≡ waker old next) × (waker new next ≡ None) × OthersStay next old new
+  WakesNext (Go item text) next old woken new = (woken ≡ None) × (new ≡ old)
+  WakesNext (Strange item) next old woken new = (woken ≡ None) × (new ≡ old)
+
+-- the item, if it was taken
+abbrev pub taken_item : {T : Type 0} → Taking T → Option (Box T)
+taken_item (Held item) = Some item
+taken_item (IsWaiting woken) = None
+taken_item Refused = None
+
+-- A number that is to wait is listed, if it isn't yet. That its thread waits on the condition that is listed no clause
+-- says: to contracts all conditions are equal.
+abbrev pub ListsWaiter : {T : Type 0} → Taking T → ℕ → List (ℕ × Arc Condvar Global) → List (ℕ × Arc Condvar Global)
+    → Type 0
+ListsWaiter (Held item) number old new = new ≡ old
+ListsWaiter (IsWaiting woken) number old new =
+    IsSome (waker new number) × (IsSome (waker old number) → new ≡ old) × OthersStay number old new
+ListsWaiter Refused number old new = new ≡ old
