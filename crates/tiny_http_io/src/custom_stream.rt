@@ -41,7 +41,8 @@ impl<R: ReadDevice, W> ReadDevice for CustomStream<R, W> {
         ensures reads { Reads (R.feed (custom_reader self.old)) (R.feed (custom_reader self.new)) result buf.new }
         ensures empty { length buf.new ≡ 0 → (result ≡ Ok 0) × (self.new ≡ self.old) }
         ensures writer { custom_writer self.new ≡ custom_writer self.old }
-        ensures stop_count { Tells (R.stop_count (custom_reader self.old)) (R.stop_count (custom_reader self.new)) result }
+        ensures stop_count { Tells (R.stop_count (custom_reader self.old))
+            (R.stop_count (custom_reader self.new)) result }
     {
         self.reader.read_in(buf)
     }
@@ -96,7 +97,8 @@ impl<R: ReadDevice, W> Read for CustomStream<R, W> {
         ensures reads { Reads (R.feed (custom_reader self.old)) (R.feed (custom_reader self.new)) result buf.new }
         ensures empty { length buf.new ≡ 0 → (result ≡ Ok 0) × (self.new ≡ self.old) }
         ensures writer { custom_writer self.new ≡ custom_writer self.old }
-        ensures stop_count { Tells (R.stop_count (custom_reader self.old)) (R.stop_count (custom_reader self.new)) result }
+        ensures stop_count { Tells (R.stop_count (custom_reader self.old))
+            (R.stop_count (custom_reader self.new)) result }
     {
         self.read_in(buf)
     }

@@ -469,7 +469,8 @@ impl<R: ReadDevice> ReadDevice for ByPieces<R> {
         ensures empty { length buf.new ≡ 0 → (result ≡ Ok 0) × (self.new ≡ self.old) }
         ensures most { IfOk result (λ n. n ≤ pieces_most self.old) }
         ensures stays { pieces_most self.new ≡ pieces_most self.old }
-        ensures stop_count { Tells (R.stop_count (pieces_inner self.old)) (R.stop_count (pieces_inner self.new)) result }
+        ensures stop_count { Tells (R.stop_count (pieces_inner self.old))
+            (R.stop_count (pieces_inner self.new)) result }
     {
         read_front(&mut self.inner, self.most.max(1), buf)
     }
@@ -548,7 +549,8 @@ impl<S: ReadDevice> ReadDevice for FailsAt<S> {
         // What came is the reader's, if it states what it still gives.
         ensures stream { calls_left self.old ≢ 1
             → ReadsFrom (S.feed (fails_at_inner self.old)) (S.feed (fails_at_inner self.new)) result buf.new }
-        ensures stop_count { Tells (S.stop_count (fails_at_inner self.old)) (S.stop_count (fails_at_inner self.new)) result }
+        ensures stop_count { Tells (S.stop_count (fails_at_inner self.old))
+            (S.stop_count (fails_at_inner self.new)) result }
     {
         if buf.is_empty() {
             return Ok(0);

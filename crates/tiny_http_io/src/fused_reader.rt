@@ -49,7 +49,8 @@ impl<R: ReadDevice> ReadDevice for FusedReader<R> {
     /// Reads some bytes. A read into an empty buffer is no end.
     fn read_in(&mut self, buf: &mut [u8]) -> Result<usize, io::Error>
         ensures reads { ReadsFused R.feed self.old self.new result buf.new }
-        ensures stop_count { Tells (fused_stop_count R.stop_count self.old) (fused_stop_count R.stop_count self.new) result }
+        ensures stop_count { Tells (fused_stop_count R.stop_count self.old)
+            (fused_stop_count R.stop_count self.new) result }
     {
         if self.over || buf.is_empty() {
             return Ok(0);
@@ -80,7 +81,8 @@ impl<R: ReadDevice> Read for FusedReader<R> {
         ensures bytes { ReadConsumes (bytes_of (fused_feed R.feed self.old)) (bytes_of (fused_feed R.feed self.new))
             result buf.new }
         ensures reads { ReadsFused R.feed self.old self.new result buf.new }
-        ensures stop_count { Tells (fused_stop_count R.stop_count self.old) (fused_stop_count R.stop_count self.new) result }
+        ensures stop_count { Tells (fused_stop_count R.stop_count self.old)
+            (fused_stop_count R.stop_count self.new) result }
     {
         self.read_in(buf)
     }

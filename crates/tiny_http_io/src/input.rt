@@ -486,7 +486,8 @@ impl<R: ReadDevice> Input<R> {
         ensures lazy { IfOk result (λ n. 0 < n → input_stop self.new ≡ input_stop self.old) }
         ensures held { input_skip self.old < length (input_held self.old)
             → input_reader self.new ≡ input_reader self.old }
-        ensures stop_count { Tells (R.stop_count (input_reader self.old)) (R.stop_count (input_reader self.new)) result }
+        ensures stop_count { Tells (R.stop_count (input_reader self.old))
+            (R.stop_count (input_reader self.new)) result }
         ensures calls { input_stop_count R.stop_count self.new ≤ input_stop_count R.stop_count self.old }
     {
         if buf.is_empty() {
