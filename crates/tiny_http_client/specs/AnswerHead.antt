@@ -1,4 +1,4 @@
--- The head of an answer, by the grammar of `httparse`.
+-- The head of a response, by the grammar of `httparse`.
 use Rattle.std.specs.Prelude.{◌≡◌, ℕ, ◌<◌, ◌≤◌, List, ◌++◌, length, map, IsAscii}
 use Rattle.std.specs.List.{All}
 use Rattle.httparse.specs.Grammar.{Field, field_value, ResponseHead, status_code, ReadsResponse}
@@ -12,7 +12,7 @@ header_pair h = (h.field, h.value)
 abbrev pub field_pair : Field → List ℕ × List ℕ
 field_pair f = (f.name, field_value f)
 
--- the version, the status and the headers are those of the head, each value without white space round it
+-- the version, the status and the headers are those of the head, each value without white space around it
 pub record IsHeadOf (h : ResponseHead) (a : AnswerHead) : Type 0 where
   pub version : a.version ≡ record { 0 = 1; 1 = h.minor }
   pub status : a.status.0 ≡ status_code h
@@ -22,7 +22,7 @@ pub record IsHeadOf (h : ResponseHead) (a : AnswerHead) : Type 0 where
 abbrev pub IsAsciiPair : List ℕ × List ℕ → Type 0
 IsAsciiPair p = IsAscii p.0 × IsAscii p.1
 
--- NO BYTES CAN FOLLOW that make it begin with a head of at most `most` headers, each of them ASCII.
+-- NO FURTHER BYTES make it begin with a head of at most `most` headers, each of them ASCII.
 abbrev pub NeverHasHead : ℕ → List ℕ → Type 0
 NeverHasHead most bytes =
     (more : List ℕ) (h : ResponseHead) (rest : List ℕ) → ReadsResponse (bytes ++ more) h rest → length h.fields ≤ most

@@ -1,4 +1,4 @@
--- What the calls that read the parts of an answer give.
+-- Results of the calls that read the parts of a response.
 use Rattle.std.specs.Prelude.{◌≡◌, ℕ, ◌<◌, ◌≤◌, ◌⊎◌, List, [], length, Option, Some, None, Result, Ok, Err, false, ⊤}
 use Rattle.std.specs.declared.io.ErrorKind.{ErrorKind}
 use Rattle.std.specs.declared.io.ErrorKind.TheVariants.{InvalidData}
@@ -21,7 +21,7 @@ use Rattle.tiny_http_client.specs.ClientAnswer.{Invalid, LacksLine, IsFieldLineO
 use Rattle.tiny_http_client.specs.ClientAnswer.{Extent, NoBody, OfChunks, OfLength, OfUnknownLength, extent}
 use Rattle.tiny_http_client.specs.ClientAnswer.{BeginsWithStatusLine}
 
--- a head, and an answer, as the grammar sees them
+-- a head, and a response, as the grammar sees them
 abbrev pub head_of : HeadParts → AnswerHead
 head_of h = record { version = h.version; status = h.status.0; headers = h.headers.items }
 
@@ -30,11 +30,11 @@ answer_of a =
     record
     { head = record { version = a.version; status = a.status.0; headers = a.headers.items }; body = a.body.items }
 
--- the version and the status that a line says
+-- the version and the status of a status line
 abbrev pub status_line_of : HTTPVersion × StatusCode → HTTPVersion × ℕ
 status_line_of r = (r.0, r.1.0)
 
--- why a part isn't read; nothing is said where there is no memory
+-- why a part isn't read; always true if memory is refused
 abbrev pub LacksBy : (Lack → Type 0) → Fault → Type 0
 LacksBy lacks IsCut = lacks Unfinished
 LacksBy lacks IsBad = lacks Invalid
@@ -46,38 +46,38 @@ HasChunkData bytes =
     (body : List ℕ) × (0 < length body)
     × (((rest : List ℕ) × WholeChunks bytes body rest) ⊎ ((kind : ErrorKind) × CutChunks bytes End body kind))
 
--- where memory is wanted for a body: for the data of chunks, if there are some, and for so many bytes as the length
--- says, once they are there
+-- when memory for a body is requested: for the data of chunks, if there are any, and for as many bytes as the length
+-- states, once they are there
 abbrev pub WantsMemory : Extent → List ℕ → Type 0
 WantsMemory NoBody bytes = ⊥
 WantsMemory OfChunks bytes = HasChunkData bytes
 WantsMemory (OfLength n) bytes = n ≤ length bytes
 WantsMemory OfUnknownLength bytes = ⊥
 
--- what a fault of this kind says of a chunked body whose bytes end
+-- whether an error of this kind in a chunked body whose bytes end means malformed or unfinished
 abbrev pub chunk_fault : ErrorKind → Fault
 chunk_fault InvalidData = IsBad
 chunk_fault _ = IsCut
 
--- the bytes begin with a field-line, which memory is wanted for
+-- the bytes begin with a field line, for which memory is requested
 abbrev pub HasFieldLine : List ℕ → Type 0
 HasFieldLine bytes =
     (text : List ℕ) × (rest : List ℕ) × Line bytes text rest × AreAscii text
     × ((header : Header) × FieldLine text header)
 
--- a call takes the next field-line, or the empty line
+-- a call reads the next field line, or the empty line
 abbrev pub ReadsFieldLine : List ℕ → List ℕ → Result (Option Header) Fault → Type 0
 ReadsFieldLine old new (Ok None) = Line old [] new
 ReadsFieldLine old new (Ok (Some h)) = (text : List ℕ) × Line old text new × AreAscii text × FieldLine text h
 ReadsFieldLine old new (Err IsMemory) = HasFieldLine old
 ReadsFieldLine old new (Err fault) = LacksBy (LacksLine IsFieldLineOrEmpty old) fault
 
--- the bytes begin with field-lines and an empty line, and the rest follows
+-- the bytes begin with field lines and an empty line, and the rest follows
 abbrev pub BeginsWithAllFieldLines : List ℕ → List Header → List ℕ → Type 0
 BeginsWithAllFieldLines bytes headers rest =
     (empty : List ℕ) × BeginsWithFieldLines bytes headers empty × Line empty [] rest
 
--- after some field-lines the next line is no good
+-- after some field lines the next line is bad
 abbrev pub LacksFieldLines : List ℕ → Lack → Type 0
 LacksFieldLines bytes lack =
     (headers : List Header)
@@ -85,7 +85,7 @@ LacksFieldLines bytes lack =
     × BeginsWithFieldLines bytes headers rest
     × LacksLine IsFieldLineOrEmpty rest lack
 
--- the bytes begin with heads that are passed over and one that isn't, and the rest follows
+-- the bytes begin with interim heads and one that isn't interim, and the rest follows
 abbrev pub BeginsWithFinalHead : List ℕ → AnswerHead → List ℕ → Type 0
 BeginsWithFinalHead bytes head rest =
     (interim : List AnswerHead)
@@ -94,24 +94,24 @@ BeginsWithFinalHead bytes head rest =
     × BeginsWithAnswerHead start head rest
     × (is_interim head.status ≡ false)
 
--- after heads that are passed over no head stands
+-- after interim heads no head follows
 abbrev pub LacksFinalHead : List ℕ → Lack → Type 0
 LacksFinalHead bytes lack =
     (interim : List AnswerHead) × (start : List ℕ) × PassesOver bytes interim start × LacksHead start lack
 
--- the bytes begin with a status-line and a field-line
+-- the bytes begin with a status line and a field line
 abbrev pub HasStartAndField : List ℕ → Type 0
 HasStartAndField bytes =
     (version : HTTPVersion) × (status : ℕ) × (fields : List ℕ)
     × BeginsWithStatusLine bytes version status fields
     × HasFieldLine fields
 
--- after heads that are passed over a head begins, and has a field-line
+-- after interim heads a head begins, and has a field line
 abbrev pub HasSomeField : List ℕ → Type 0
 HasSomeField bytes =
     (interim : List AnswerHead) × (start : List ℕ) × PassesOver bytes interim start × HasStartAndField start
 
--- MEMORY IS WANTED FOR AN ANSWER: for a field-line, of a head that is passed over too, or for the body.
+-- MEMORY IS REQUESTED FOR A RESPONSE: for a field line, of an interim head too, or for the body.
 abbrev pub HasSomeToKeep : Method → List ℕ → Type 0
 HasSomeToKeep method bytes =
     HasSomeField bytes

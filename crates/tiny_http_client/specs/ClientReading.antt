@@ -1,4 +1,4 @@
--- The same answers of a client, computed: one plain reading.
+-- The responses that a client reads, computed: one plain reading.
 use Rattle.std.specs.Prelude.{ℕ, zero, suc, ◌+◌, Bool, true, false, not, ◌&&◌, ◌==◌, nat_lt, nat_le, List, [], ◌∷◌}
 use Rattle.std.specs.Prelude.{length, take, drop, Option, Some, None, Result, Ok, Err, if◌then◌else◌, codes, decimal}
 use Rattle.std.specs.List.{list_all}
@@ -18,7 +18,7 @@ use Rattle.tiny_http_client.specs.ClientAnswer.{is_space, AnswerHead, ClientAnsw
 use Rattle.tiny_http_client.specs.ClientAnswer.{OfChunks, OfLength, OfUnknownLength, extent, Lack, Unfinished}
 use Rattle.tiny_http_client.specs.ClientAnswer.{Invalid}
 
--- a number up to the greatest, in decimal without leading zeros
+-- a number up to the maximum, in decimal without leading zeros
 unfoldable pub decimal_read : ℕ → List ℕ → Option ℕ
 decimal_read most text =
     if bytes_eq text (decimal (digits_value 10 text))
@@ -32,7 +32,7 @@ abbrev pub decimal_of : ℕ → Option (List ℕ × List ℕ) → Option (ℕ ×
 decimal_of most None = None
 decimal_of most (Some l) = with_rest l.1 (decimal_read most l.0)
 
--- a number in front of the first c, and what stands after that
+-- a number before the first c, and the text after that c
 abbrev pub decimal_until : ℕ → ℕ → List ℕ → Option (ℕ × List ℕ)
 decimal_until most c text = decimal_of most (cut c text)
 
@@ -52,7 +52,7 @@ abbrev pub protocol_read : Option (List ℕ × List ℕ) → Option (HTTPVersion
 protocol_read None = None
 protocol_read (Some w) = if bytes_eq w.0 (codes "HTTP") then major_read (decimal_until 255 point w.1) else None
 
--- the version and the status: in front of the slash (47) stands HTTP
+-- the version and the status: HTTP comes before the slash (47)
 abbrev pub status_line_read : List ℕ → Option (HTTPVersion × ℕ)
 status_line_read text = protocol_read (cut 47 text)
 
@@ -137,7 +137,7 @@ answer_body_read OfChunks bytes = let d = decoded (length bytes + 1) End bytes i
 answer_body_read (OfLength n) bytes = front_read n bytes (nat_lt (length bytes) n)
 answer_body_read OfUnknownLength bytes = Err Invalid
 
--- the answer and what follows it
+-- the response and what follows it
 abbrev pub AnswerRead : Type 0
 AnswerRead = Result (ClientAnswer × List ℕ) Lack
 

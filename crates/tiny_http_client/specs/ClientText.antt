@@ -1,4 +1,4 @@
--- What a client is to read of an answer's text: its printed headers and its sent body.
+-- What a client should read from a response's text: its printed headers and its sent body.
 use Rattle.std.specs.Prelude.{◌≡◌, ℕ, ◌<◌, ◌≤◌, ◌^◌, Bool, false, List, [], ◌∷◌, ◌++◌, length, take, Option, Some}
 use Rattle.std.specs.Prelude.{None, codes, decimal, if◌then◌else◌}
 use Rattle.std.specs.List.{AllByRecursion}
@@ -16,7 +16,7 @@ use Rattle.tiny_http_response.specs.ByStandard.{status_version, listed_headers, 
 use Rattle.tiny_http_response.specs.Readable.{IsReadable}
 use Rattle.tiny_http_client.specs.ClientAnswer.{ClientAnswer, is_head}
 
--- the headers of an answer without upgrade, in their printed order: `listed` are those behind the date
+-- the headers of a response that isn't an upgrade, in their printed order: `listed` are those after the date
 abbrev pub server_header : List Header → List Header
 server_header headers =
     if has_header headers (codes "Server") then []
@@ -35,7 +35,7 @@ unfoldable pub printed_headers : List Header → List Header → HttpDate → Fr
 printed_headers headers listed date framing =
     server_header headers ++ (date_header headers date ++ (listed ++ framing_header framing))
 
--- the length that the head of an answer without upgrade states, where it states one
+-- the length that the head of a response that isn't an upgrade states, if it states one
 abbrev pub stated_length : Option ℕ → Feed → ℕ
 stated_length None feed = length feed.bytes
 stated_length (Some n) feed = n
@@ -44,12 +44,12 @@ abbrev pub framing_of : Coding → Option ℕ → Feed → FramingHeader
 framing_of Chunked length feed = TransferEncoding
 framing_of Identity length feed = ContentLength (stated_length length feed)
 
--- the same where the answer may be a head alone by its code
+-- the same for a response that may be only a head because of its code
 abbrev pub framing_said : Option FramingHeader → Coding → Option ℕ → Feed → FramingHeader
 framing_said (Some framing) coding length feed = framing
 framing_said None coding length feed = framing_of coding length feed
 
--- the data that is sent, where a body is sent
+-- the data that are sent, if a body is sent
 abbrev pub sent_data : Coding → Option ℕ → Feed → List ℕ
 sent_data Chunked length feed = feed.bytes
 sent_data Identity None feed = feed.bytes
@@ -58,7 +58,7 @@ sent_data Identity (Some n) feed = take n feed.bytes
 abbrev pub sent_body : Coding → Option ℕ → Feed → Bool → List ℕ
 sent_body coding length feed withheld = if withheld then [] else sent_data coding length feed
 
--- the same where the answer may be a head alone by its code
+-- the same for a response that may be only a head because of its code
 abbrev pub body_said : Option FramingHeader → Coding → Option ℕ → Feed → Bool → List ℕ
 body_said (Some framing) coding length feed withheld = []
 body_said None coding length feed withheld = sent_body coding length feed withheld
@@ -69,7 +69,7 @@ listed_of a p = listed_headers p.persistence p.version a.status a.offered a.head
 abbrev pub alone_by_code : Answer → Printing → Option FramingHeader
 alone_by_code a p = contentless_framing p.persistence a.contentless a.status a.data_length
 
--- version, status, printed headers and sent body of an answer
+-- version, status, printed headers and sent body of a response
 abbrev pub received_answer : Answer → Feed → Printing → ClientAnswer
 received_answer a feed p =
     record {
@@ -82,7 +82,7 @@ received_answer a feed p =
       body = body_said (alone_by_code a p) (answer_coding a p) a.data_length feed (is_withheld p.no_body a.status);
     }
 
--- An answer without upgrade to a request of this method, that a client reads back.
+-- A response to a request with this method, not an upgrade, that a client reads back.
 pub record IsReadableAnswer (method : Method) (a : Answer) (feed : Feed) (p : Printing) : Type 0 where
   pub no_upgrade : p.upgrade ≡ None
   pub same_method : p.no_body ≡ is_head method

@@ -1,17 +1,17 @@
--- What a connection sends, answer by answer.
+-- What a connection sends, response by response.
 use Rattle.std.specs.Prelude.{◌≡◌, ℕ, ◌<◌, ◌⊎◌, List, [], ◌∷◌, ◌++◌, length, map, Option, Some, None, MatchOption}
 use Rattle.tiny_http_head.specs.declared.common.Method.{Method}
 use Rattle.tiny_http_io.specs.Device.{IsFront}
 use Rattle.tiny_http_client.specs.ClientAnswer.{ClientAnswer, ReadsAnswer, UnfinishedAnswer}
 
--- the text under one number: for which method it counts, and the answer that it is, or None where it breaks off or
--- isn't answered yet
+-- the text under one number: the method of its request, and the response that it is, or None if it breaks off or there
+-- is no response yet
 pub record SentText : Type 0 where
   pub method : Method
   pub text : List ℕ
   pub answer : Option ClientAnswer
 
--- a text that breaks off is a proper front of an answer
+-- a text that breaks off is a proper prefix of a response
 abbrev pub BreaksOff : Method → List ℕ → Type 0
 BreaksOff m text = (more : List ℕ) × (a : ClientAnswer) × (0 < length more) × ReadsAnswer m (text ++ more) a []
 
@@ -30,7 +30,7 @@ joined_texts (x ∷ xs) = x.text ++ joined_behind x.answer (joined_texts xs)
 abbrev pub methods : List SentText → List Method
 methods xs = map (λ x. x.method) xs
 
--- the answers in front of the first that breaks off, and what stands of that
+-- the responses before the first that breaks off, and what there is of that one
 abbrev pub whole_by : Option ClientAnswer → List ClientAnswer → List ClientAnswer
 whole_by None behind = []
 whole_by (Some a) behind = a ∷ behind
@@ -47,8 +47,8 @@ abbrev pub remains : List SentText → List ℕ
 remains [] = []
 remains (x ∷ xs) = remains_by x.answer x.text (remains xs)
 
--- Of a front of what was sent: the answers that stand in it to their end, and what remains is nothing, or an
--- unfinished front of the next text.
+-- Of a prefix of what was sent: the responses that are complete in it; what remains is nothing, or an unfinished prefix
+-- of the next text.
 abbrev pub StandIn : List SentText → List ℕ → List ClientAnswer → List ℕ → Type 0
 StandIn [] out answers rest = (out ≡ []) × (answers ≡ []) × (rest ≡ [])
 StandIn (x ∷ xs) out answers rest =

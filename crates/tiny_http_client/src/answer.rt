@@ -1,4 +1,4 @@
-//! An answer, read as a client reads it.
+//! A response, read as a client reads it.
 ghost use Rattle.std.specs.Prelude.{◌≡◌, ◌≤◌, length, drop, IfOk, IfErr, IfSome, Ok, Err, None};
 ghost use Rattle.tiny_http_client.specs.ClientAnswer.{is_interim, ReadsAnswer, LacksAnswer, UnfinishedAnswer};
 ghost use Rattle.tiny_http_client.specs.ClientAnswer.{MalformedAnswer};
@@ -12,38 +12,38 @@ use std::alloc::Global;
 use thiserror::Error;
 use tiny_http_head::common::{HTTPVersion, Header, Method, StatusCode};
 
-/// An answer as a client gets it.
+/// A response as a client receives it.
 #[derive(Debug, Drop)]
 pub struct Answer {
-    /// The version that its status-line names.
+    /// The version in its status line.
     pub version: HTTPVersion,
-    /// The status, which is none from 100 to 199.
+    /// The status, never from 100 to 199.
     pub status: StatusCode,
-    /// The headers in their order, each value as it stands.
+    /// The headers in order, each value unchanged.
     pub headers: Vec<Header>,
     /// The data of the body.
     pub body: Vec<u8>,
 }
 
-/// Why no answer is read.
+/// Why a response can't be read.
 #[derive(Clone, Copy, Debug, PartialEq, Eq, Error)]
 pub enum AnswerFault {
     /// The bytes break a rule of the grammar.
     #[error("malformed")]
     Malformed,
-    /// There is no memory for the answer.
+    /// Memory for the response was refused.
     #[error("out of memory")]
     Memory,
 }
 
-// Whether a head of this status is passed over.
+// Returns whether a response with this status is interim, and so is skipped.
 fn is_interim(status: StatusCode) -> bool
     ensures { result ≡ is_interim status.0 }
 {
     status.0 >= 100 && status.0 < 200
 }
 
-// Takes heads up to the first that isn't passed over.
+// Reads heads up to the first that isn't interim.
 fn read_final_head(alloc: Global, rest: &mut Rest<'_>) -> Result<HeadParts, Fault>
     ensures read { IfOk result (λ head. BeginsWithFinalHead rest.old (head_of head) rest.new) }
     ensures lacks { IfErr result (LacksBy (LacksFinalHead rest.old)) }
@@ -57,7 +57,7 @@ fn read_final_head(alloc: Global, rest: &mut Rest<'_>) -> Result<HeadParts, Faul
     }
 }
 
-// Takes an answer.
+// Reads a response.
 fn read_whole(alloc: Global, method: &Method, rest: &mut Rest<'_>) -> Result<Answer, Fault>
     ensures read { IfOk result (λ answer. ReadsAnswer method.now rest.old (answer_of answer) rest.new) }
     ensures lacks { IfErr result (LacksBy (LacksAnswer method.now rest.old)) }
@@ -78,24 +78,24 @@ fn read_whole(alloc: Global, method: &Method, rest: &mut Rest<'_>) -> Result<Ans
     })
 }
 
-/// Reads the answer to a request of this method from the front of the bytes, and says how many bytes it took. Heads
-/// of the status 100 to 199 before it are passed over, and counted.
+/// Reads the response to a request with this method from the front of `bytes`, and returns it with the number of bytes
+/// read, which includes skipped interim responses (1xx). Returns `None` if the bytes end before the response does and
+/// break no rule so far; an unfinished line breaks none. (RFC 9112, sections 2.2, 4, 5, 6.3 and 7.1; not in the
+/// original crate.)
 ///
-/// A line ends at the first CR LF, and is ASCII. The status-line is `HTTP/`, a number up to 255, a point, a number up
-/// to 255, a space, a number up to 65535, a space, and any text; the numbers are decimal without leading zeros.
-/// Field-lines follow, up to an empty line. Each has a name without white space (bytes 9 to 13 and 32), its first
-/// colon, exactly one space, and the value as it stands. No body follows an answer to a `HEAD`, a 204 and a 304.
-/// Else, where some `Transfer-Encoding` is `chunked`, the body is chunked, as `chunked::Decoding` reads it. Else it
-/// has as many bytes as the first `Content-Length` says: one decimal digit or more, at most 18446744073709551615.
-/// Case doesn't matter in these two names and in `chunked`.
+/// A line ends at the first CR LF, and is ASCII. The status line is `HTTP/`, a number up to 255, `.`, a number up to
+/// 255, a space, a number up to 65535, a space, and any text; numbers are decimal without leading zeros. Field lines
+/// follow, up to an empty line. Each has a name without white space (bytes 9 to 13 and 32), its first colon, exactly
+/// one space, and the value, which is kept as it is.
 ///
-/// `None` where the bytes end before the answer does, and no rule is broken so far. An unfinished line breaks none.
+/// No body follows a response to a `HEAD`, a 204 or a 304. Otherwise, if some `Transfer-Encoding` is `chunked`, the
+/// body is chunked, as `chunked::Decoding` reads it. Otherwise the first `Content-Length` is its length in bytes: one
+/// or more decimal digits, at most 18446744073709551615. Letter case is ignored in these two names and in `chunked`.
 ///
 /// # Errors
-/// `Malformed` where a finished line of a head breaks a rule, where a body has to follow and its head says neither
-/// `chunked` nor a length that is one, and where the chunked body is `InvalidData`. `Memory` where there is no memory
-/// for the headers of a head, one that is passed over included, or for the body. (RFC 9112, sections 2.2, 4, 5, 6.3
-/// and 7.1; it is no part of the original crate.)
+/// - `Malformed` if a finished line of a head breaks a rule, if a body must follow whose head has neither `chunked` nor
+///   a valid length, or if the chunked body is `InvalidData`.
+/// - `Memory` if memory for the headers of a head, interim ones included, or for the body is refused.
 pub fn read_answer(
     alloc: Global,
     method: &Method,

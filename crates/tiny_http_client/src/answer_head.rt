@@ -1,4 +1,4 @@
-//! One head, read from the front of some bytes.
+//! The head of a response, read from the front of some bytes.
 ghost use Rattle.std.specs.Prelude.{◌≡◌, ◌<◌, ◌≤◌, map, length, drop, Ok, Err, None, IfOk, IfSome};
 ghost use Rattle.std.specs.List.{All};
 ghost use Rattle.httparse.specs.Grammar.{HasNoResponse, MayBecomeResponse, ResponseHead, ReadsResponse};
@@ -11,27 +11,27 @@ use std::alloc::{AllocError, Global};
 use thiserror::Error;
 use tiny_http_head::common::{HTTPVersion, Header, StatusCode};
 
-/// The most headers that a head may have.
+/// The maximum number of headers in a head.
 pub const MOST_HEADERS: usize = 64;
 
-/// The head of an answer.
+/// The head of a response.
 #[derive(Debug, Drop)]
 pub struct AnswerHead {
-    /// The version that its status-line names: 1.0 or 1.1.
+    /// The version in its status line: 1.0 or 1.1.
     pub version: HTTPVersion,
-    /// The status, of three digits. One below 200, except 101, is followed by a further head.
+    /// The status, of three digits. If it is below 200, except 101, another head follows.
     pub status: StatusCode,
-    /// The headers in their order, each value without spaces and tabs round it.
+    /// The headers in order, each value without spaces and tabs around it.
     pub headers: Vec<Header>,
 }
 
-/// Why no head is read.
+/// Why a head can't be read.
 #[derive(Clone, Copy, Debug, PartialEq, Eq, Error)]
 pub enum AnswerHeadFault {
     /// The bytes break a rule of the grammar, a value has a byte that isn't ASCII, or there are more than 64 headers.
     #[error("malformed")]
     Malformed,
-    /// There is no memory for the headers.
+    /// Memory for the headers was refused.
     #[error("out of memory")]
     Memory,
 }
@@ -41,7 +41,7 @@ impl From<AllocError> for AnswerHeadFault {
 
     ghost from_gives = { λ _ fault. fault ≡ Memory };
 
-    /// There is no memory.
+    /// Returns `Memory`.
     fn from(_error: AllocError) -> AnswerHeadFault {
         AnswerHeadFault::Memory
     }
@@ -72,16 +72,16 @@ fn headers_at(
     Ok(headers)
 }
 
-/// Reads the head of an answer from the front of the bytes, and says how many bytes it took (RFC 9112, sections 2.2,
-/// 4 and 5): a status-line in version 1.0 or 1.1 with a status of three digits, and field-lines up to an empty line.
-/// White space is optional round a value, a line may end by LF alone, and empty lines may stand in front. What
-/// follows the head is the body, as its headers and the request's method say (section 6.3).
-///
-/// `None` where the bytes end before the head does, and the grammar can still complete it.
+/// Reads the head of a response from the front of `bytes`, and returns it with the number of bytes read (RFC 9112,
+/// sections 2.2, 4 and 5): a status line in version 1.0 or 1.1 with a status of three digits, and field lines up to an
+/// empty line. White space around a value is optional, a line may end in LF alone, and empty lines may come first. The
+/// body follows the head, as its headers and the request's method determine (section 6.3). Returns `None` if the bytes
+/// end before the head does, and the grammar can still complete it.
 ///
 /// # Errors
-/// `Malformed` where no bytes that follow make it a head, and where there are more than 64 headers; once the head is
-/// whole, also where a value has a byte that isn't ASCII. `Memory` where there is no memory for the headers.
+/// - `Malformed` if no further bytes can make it a head, or if there are more than 64 headers; once the head is whole,
+///   also if a value has a byte that isn't ASCII.
+/// - `Memory` if memory for the headers is refused.
 pub fn read_answer_head(
     alloc: Global,
     bytes: &[u8],
@@ -89,7 +89,7 @@ pub fn read_answer_head(
     ensures head { IfOk result (λ found. IfSome found (λ a. (a.1 ≤ length bytes.now)
         × ((h : ResponseHead) × ReadsResponse bytes.now h (drop a.1 bytes.now) × IsHeadOf h a.0))) }
     ensures unfinished { result ≡ Ok None → HasNoResponse bytes.now × MayBecomeResponse bytes.now }
-    // `Malformed`: nothing that follows makes it a good head. `Memory`: only for a whole head with headers.
+    // `Malformed`: no further bytes make it a valid head. `Memory`: only for a whole head with headers.
     ensures malformed { result ≡ Err AnswerHeadFault.Malformed → NeverHasHead MOST_HEADERS bytes.now }
     ensures memory { result ≡ Err AnswerHeadFault.Memory → HasHeaders bytes.now }
 {

@@ -1,4 +1,4 @@
-//! The body of an answer, as a client reads it.
+//! The body of a response, as a client reads it.
 ghost use Rattle.std.specs.Prelude.{◌≡◌, ◌&&◌, codes, Err, IfOk, IfErr};
 ghost use Rattle.std.specs.Option.{option_copied};
 ghost use Rattle.tiny_http_head.specs.Common.{same_name};
@@ -15,10 +15,10 @@ use tiny_http_head::common::{Header, Method, StatusCode};
 use tiny_http_head::content_length::number_in;
 use tiny_http_text::ascii::AsciiString;
 
-// How many bytes of a chunked body are decoded at a time, at most.
+// The number of bytes of a chunked body that are decoded at a time, at most.
 const PIECE: usize = 1024;
 
-// Whether no body follows the head: to a HEAD, and under 204 and 304.
+// Returns whether no body follows the head: in a response to a HEAD, a 204 and a 304.
 fn has_no_body(method: &Method, status: StatusCode) -> bool
     ensures { result ≡ has_no_body method.now status.0 }
 {
@@ -28,7 +28,7 @@ fn has_no_body(method: &Method, status: StatusCode) -> bool
     }
 }
 
-// Whether the header says that the body is chunked.
+// Returns whether the header states that the body is chunked.
 fn is_chunked(header: &Header) -> bool
     ensures { result
         ≡ (same_name header.now.field (codes "Transfer-Encoding") && same_name header.now.value (codes "chunked")) }
@@ -36,7 +36,7 @@ fn is_chunked(header: &Header) -> bool
     header.field.equiv("Transfer-Encoding") && header.value.eq_ignore_ascii_case("chunked")
 }
 
-// Whether some header says so.
+// Returns whether some header states that the body is chunked.
 #[tactic(auto, unfolding(crate::specs::ClientAnswer::says_chunked))]
 fn says_chunked(headers: &[Header]) -> bool
     ensures { result ≡ says_chunked headers.now }
@@ -44,7 +44,7 @@ fn says_chunked(headers: &[Header]) -> bool
     headers.iter().any(|header| is_chunked(header))
 }
 
-// The value of the first header of that name.
+// Returns the value of the first header with this name.
 fn first_value<'a>(headers: &'a [Header], name: &str) -> Option<&'a AsciiString>
     ensures { option_copied result ≡ first_value name.now headers.now }
 {
@@ -56,14 +56,14 @@ fn first_value<'a>(headers: &'a [Header], name: &str) -> Option<&'a AsciiString>
     None
 }
 
-// What the first Content-Length says, by digits alone.
+// Returns the length in the first Content-Length, if it has digits alone.
 fn content_length(headers: &[Header]) -> Option<usize>
     ensures { result ≡ content_length headers.now }
 {
     number_in(first_value(headers, "Content-Length")?.as_str().as_bytes())
 }
 
-// What a fault of this kind says of a chunked body whose bytes end.
+// Converts the kind of a decoding error: `InvalidData` is malformed, any other means that the bytes end too early.
 fn chunk_fault(kind: ErrorKind) -> Fault
     ensures { result ≡ chunk_fault kind }
 {
@@ -73,7 +73,7 @@ fn chunk_fault(kind: ErrorKind) -> Fault
     }
 }
 
-// Takes a chunked body, and gives its data.
+// Reads a chunked body, and returns its data.
 fn read_chunks(alloc: Global, rest: &mut Rest<'_>) -> Result<Vec<u8>, Fault>
     ensures read { IfOk result (λ body. BeginsWithBody OfChunks rest.old body.items rest.new) }
     ensures lacks { IfErr result (LacksBy (LacksBody OfChunks rest.old)) }
@@ -91,7 +91,7 @@ fn read_chunks(alloc: Global, rest: &mut Rest<'_>) -> Result<Vec<u8>, Fault>
     }
 }
 
-// Takes a body of so many bytes.
+// Reads a body of `length` bytes.
 fn read_counted(alloc: Global, length: usize, rest: &mut Rest<'_>) -> Result<Vec<u8>, Fault>
     ensures read { IfOk result (λ body. BeginsWithBody (OfLength length) rest.old body.items rest.new) }
     ensures lacks { IfErr result (LacksBy (LacksBody (OfLength length) rest.old)) }
@@ -103,7 +103,7 @@ fn read_counted(alloc: Global, length: usize, rest: &mut Rest<'_>) -> Result<Vec
     }
 }
 
-/// Takes the body that follows a head.
+/// Reads the body that follows a head.
 pub(crate) fn read_body(
     alloc: Global,
     method: &Method,
@@ -113,7 +113,7 @@ pub(crate) fn read_body(
     ensures read { IfOk result
         (λ body. BeginsWithBody (extent method.now (head_of head.now)) rest.old body.items rest.new) }
     ensures lacks { IfErr result (LacksBy (LacksBody (extent method.now (head_of head.now)) rest.old)) }
-    // Reports `Memory` only once the bytes of the length are there, or the first of the data of chunks.
+    // Reports `Memory` only once all bytes of the length, or the first data of a chunk, are there.
     ensures memory { result ≡ Err Fault.Memory → WantsMemory (extent method.now (head_of head.now)) rest.old }
 {
     if has_no_body(method, head.status) {

@@ -1,4 +1,4 @@
-//! The head of an answer: its lines, as a client reads them.
+//! The head of a response: its lines, as a client reads them.
 ghost use Rattle.std.specs.Prelude.{◌≡◌, ◌≤◌, IfOk, IfErr, IfSome, IfNone, IsSome, OnErr, Err, None, Some, option_map};
 ghost use Rattle.tiny_http_text.specs.Bytes.{AreAscii};
 ghost use Rattle.tiny_http_client.specs.ClientReading.{decimal_until, status_line_read, field_line_read, value_read};
@@ -15,14 +15,14 @@ use tiny_http_head::common::{HTTPVersion, Header, HeaderField, StatusCode};
 use tiny_http_text::bytes::{are_ascii, cut, has_no_blank, is};
 use tiny_http_text::copies::owned;
 
-/// Why a part of an answer isn't read.
+/// Why a part of a response can't be read.
 #[derive(Clone, Copy, Drop)]
 pub(crate) enum Fault {
-    /// The bytes end before it does.
+    /// The bytes end before the part does.
     Unfinished,
     /// The bytes break a rule.
     Malformed,
-    /// There is no memory for it.
+    /// Memory for the part was refused.
     Memory,
 }
 
@@ -36,7 +36,7 @@ impl From<AllocError> for Fault {
     }
 }
 
-/// The version, status and headers of an answer.
+/// The version, status and headers of a response.
 #[derive(Drop)]
 pub(crate) struct HeadParts {
     pub(crate) version: HTTPVersion,
@@ -44,7 +44,7 @@ pub(crate) struct HeadParts {
     pub(crate) headers: Vec<Header>,
 }
 
-// The decimal number in front of the first c, up to `most`, and what stands after that.
+// Parses the decimal number before the first `c`, at most `most`, and returns it with the text after that `c`.
 fn decimal_until(text: &[u8], c: u8, most: usize) -> Option<(usize, &[u8])>
     requires { AreAscii text.now }
     ensures some { IfSome result (λ r. (decimal_until most c text.now ≡ Some (r.0, r.1.now)) × AreAscii r.1.now) }
@@ -58,7 +58,7 @@ fn decimal_until(text: &[u8], c: u8, most: usize) -> Option<(usize, &[u8])>
     Some((number, after))
 }
 
-// The version and the status that a status-line says (RFC 9112, section 4).
+// Parses the version and the status of a status line (RFC 9112, section 4).
 fn parse_status_line(text: &[u8]) -> Option<(HTTPVersion, StatusCode)>
     requires { AreAscii text.now }
     ensures { option_map status_line_of result ≡ status_line_read text.now }
@@ -76,7 +76,7 @@ fn parse_status_line(text: &[u8]) -> Option<(HTTPVersion, StatusCode)>
     Some((version, StatusCode(status as u16)))
 }
 
-// What stands after exactly one space.
+// Returns the text after exactly one space.
 fn after_one_space(text: &[u8]) -> Option<&[u8]>
     ensures some { IfSome result (λ value. value_read text.now ≡ Some value.now) }
     ensures none { IfNone result (value_read text.now ≡ None) }
@@ -91,8 +91,8 @@ fn after_one_space(text: &[u8]) -> Option<&[u8]>
     Some(value)
 }
 
-// The header that a field-line says: exactly one space stands after the first colon (RFC 9112, section 5). An error
-// where the text is a field-line and there is no memory for the answer.
+// Parses a field line, with exactly one space after the first colon (RFC 9112, section 5). Fails only if the text is a
+// field line and memory for its header is refused.
 fn parse_field_line(alloc: Global, text: &[u8]) -> Result<Option<Header>, AllocError>
     requires { AreAscii text.now }
     ensures value { IfOk result (λ found. found ≡ field_line_read text.now) }
@@ -112,7 +112,7 @@ fn parse_field_line(alloc: Global, text: &[u8]) -> Result<Option<Header>, AllocE
     Ok(Some(Header { field, value }))
 }
 
-// Takes the status-line.
+// Reads the status line.
 fn read_status_line(rest: &mut Rest<'_>) -> Result<(HTTPVersion, StatusCode), Fault>
     ensures read { IfOk result (λ r. BeginsWithStatusLine rest.old r.0 r.1.0 rest.new) }
     ensures lacks { IfErr result (LacksBy (LacksLine IsStatusLine rest.old)) }
@@ -130,7 +130,7 @@ fn read_status_line(rest: &mut Rest<'_>) -> Result<(HTTPVersion, StatusCode), Fa
     }
 }
 
-// Takes the next field-line, or the empty line.
+// Reads the next field line, or the empty line.
 fn read_field_line(alloc: Global, rest: &mut Rest<'_>) -> Result<Option<Header>, Fault>
     ensures { ReadsFieldLine rest.old rest.new result }
 {
@@ -149,7 +149,7 @@ fn read_field_line(alloc: Global, rest: &mut Rest<'_>) -> Result<Option<Header>,
     }
 }
 
-// Takes the field-lines and the empty line.
+// Reads the field lines and the empty line.
 fn read_field_lines(alloc: Global, rest: &mut Rest<'_>) -> Result<Vec<Header>, Fault>
     ensures read { IfOk result (λ headers. BeginsWithAllFieldLines rest.old headers.items rest.new) }
     ensures lacks { IfErr result (LacksBy (LacksFieldLines rest.old)) }
@@ -168,11 +168,11 @@ fn read_field_lines(alloc: Global, rest: &mut Rest<'_>) -> Result<Vec<Header>, F
     }
 }
 
-/// Takes a head: a status-line, field-lines and an empty line.
+/// Reads a head: a status line, field lines and an empty line.
 pub(crate) fn read_head(alloc: Global, rest: &mut Rest<'_>) -> Result<HeadParts, Fault>
     ensures read { IfOk result (λ head. BeginsWithAnswerHead rest.old (head_of head) rest.new) }
     ensures lacks { IfErr result (LacksBy (LacksHead rest.old)) }
-    // Reports `Memory` only after a good field-line.
+    // Reports `Memory` only after a valid field line.
     ensures memory { result ≡ Err Fault.Memory → HasStartAndField rest.old }
 {
     let (version, status) = read_status_line(rest)?;

@@ -7,7 +7,7 @@ use std::io;
 use std::marker::Model;
 use tiny_http_io::device::ReadDevice;
 
-// Where the first CR LF begins.
+// Returns the position of the first CR LF.
 fn line_end(bytes: &[u8]) -> Option<usize>
     ensures within { IfSome result (λ n. n + 2 ≤ length bytes.now) }
     ensures line { IfSome result (λ n. Line bytes.now (take n bytes.now) (drop (n + 2) bytes.now)) }
@@ -21,7 +21,7 @@ fn line_end(bytes: &[u8]) -> Option<usize>
     None
 }
 
-// The first line, and what stands after its CR LF.
+// Returns the first line, and the bytes after its CR LF.
 fn split_line(bytes: &[u8]) -> Option<(&[u8], &[u8])>
     ensures some { IfSome result (λ r. Line bytes.now r.0.now r.1.now) }
     ensures none { IfNone result (IsUnfinished bytes.now) }
@@ -30,7 +30,7 @@ fn split_line(bytes: &[u8]) -> Option<(&[u8], &[u8])>
     Some((&bytes[..n], &bytes[n + 2..]))
 }
 
-/// Bytes that are still to be read. A contract sees it as the list of them.
+/// The bytes still to be read. A contract sees it as the list of them.
 #[derive(Drop)]
 pub(crate) struct Rest<'a> {
     bytes: &'a [u8],
@@ -45,21 +45,21 @@ impl<'a> Model for Rest<'a> {
 }
 
 impl<'a> Rest<'a> {
-    /// All of these bytes.
+    /// Wraps all of these bytes.
     pub(crate) fn new(bytes: &'a [u8]) -> Rest<'a>
         ensures { result ≡ bytes.now }
     {
         Rest { bytes }
     }
 
-    /// How many bytes are left.
+    /// Returns the number of bytes left.
     pub(crate) fn len(&self) -> usize
         ensures { result ≡ length self.now }
     {
         self.bytes.len()
     }
 
-    /// Takes the first line and its CR LF, if one is finished.
+    /// Takes the first line and its CR LF, if the line is finished.
     pub(crate) fn take_line(&mut self) -> Option<&'a [u8]>
         ensures some { IfSome result (λ text. Line self.old text.now self.new) }
         ensures none { IfNone result (IsUnfinished self.old) }
@@ -69,7 +69,7 @@ impl<'a> Rest<'a> {
         Some(text)
     }
 
-    /// Takes n bytes, if there are so many.
+    /// Takes n bytes, or none if there are fewer.
     pub(crate) fn take(&mut self, n: usize) -> Option<&'a [u8]>
         ensures some { IfSome result (λ front. (self.old ≡ front.now ++ self.new) × (length front.now ≡ n)) }
         ensures none { IfNone result (length self.old < n) }

@@ -1,5 +1,5 @@
--- How the driver's connection stands to a state of the definitions.
--- Nobody needs this file to believe the laws of `InShort`.
+-- How the driver's connection represents a state of the definitions. The laws of `InShort` can be read without this
+-- file.
 use Rattle.std.specs.Prelude.{◌≡◌, ℕ, ◌+◌, Bool, true, false, not, ◌&&◌, List, [], ◌∷◌, Option, Some, None, is_some}
 use Rattle.std.specs.Prelude.{MatchBool, ⊤}
 use Rattle.std.specs.Option.{option_map}
@@ -39,10 +39,9 @@ use Rattle.tiny_http_response.specs.ResponseValue.{ResponseValue}
 use Rattle.tiny_http_turns.specs.Turns.{Mark, Open, Left, Finished, AreInShape}
 use Rattle.tiny_http_connection.specs.Conversation.{State, Failure, PlaceAt, BeginsBehind}
 
--- What the program keeps of a connection: its profile, the turns of its numbers, what is kept of those that aren't
--- finished, where the input stands among heads and bodies, whether the asking has ended, what is still to come of the
--- input, how it stopped and whether it is over, what the writer states with what is held, and whether the output has
--- ended.
+-- What the program keeps of a connection: its profile, the turns of its numbers, and what is kept of those that aren't
+-- finished; the input state, whether the requests have ended, what is still to come of the input, how it stopped and
+-- whether it is over; what the writer states, with what is held, and whether the output has ended.
 pub record Kept : Type 0 where
   pub profile : Profile
   pub marks : List Mark
@@ -55,8 +54,8 @@ pub record Kept : Type 0 where
   pub sink : Sink
   pub output_ended : Bool
 
--- What a clause sees of a `Connection`: its profile, the turns of its numbers, what is kept of those that aren't
--- finished, why the asking has ended, if it has, its input and its output.
+-- The view of a `Connection` in clauses: its profile, the turns of its numbers, what is kept of those that aren't
+-- finished, why the requests have ended, if they have, its input and its output.
 pub record ConnectionState (R W : Type 0) : Type 0 where
   pub profile : Profile
   pub marks : List Mark
@@ -80,7 +79,7 @@ kept c =
       output_ended = c.outlet.ended;
     }
 
--- how a request is answered
+-- the response context of a request
 abbrev pub response_context_of : Bool → Request → ResponseContext
 response_context_of closes r =
     record {
@@ -90,26 +89,27 @@ response_context_of closes r =
       persistence = persistence_of r.framing.by_standard closes;
     }
 
--- when a request was handed out, when its 100 was sent, if it was, whether a 100 is still owed, and whether an answer
--- asked that the connection ends behind it
+-- when a request was handed out, when its 100 was sent, if it was, whether a 100 is still owed, and whether a response
+-- asked to close the connection
 pub record HandedOut : Type 0 where
   pub date : HttpDate
   pub continued : Option HttpDate
   pub owed : Bool
   pub closes : Bool
 
--- a request that was handed out so and waits, while so many bytes of its body were given, and its end reported or not
+-- a request that was handed out so and awaits its response, with the count of its body's bytes that were given, and
+-- whether its end was reported
 abbrev pub open_slot : HandedOut → Request → ℕ → Bool → Slot
 open_slot h r given end_reported =
     record (new_slot h.date (Asks r))
     { continued = h.continued; owed = h.owed; closes = h.closes; given = given; end_reported = end_reported }
 
--- what becomes of it if it is dropped
+-- its slot if it is dropped
 abbrev pub dropped : HandedOut → Request → ℕ → Bool → Slot
 dropped h r given end_reported =
     finished_as (closes_now r h.closes h.owed given end_reported) (open_slot h r given end_reported) ByServer
 
--- a request that was handed out and waits
+-- a request that was handed out and awaits its response
 pub record IsWaiting (s : Slot) (w : OpenRequest UnreadBody) : Type 0 where
   pub request : Request
   pub handed : HandedOut
@@ -129,11 +129,11 @@ pub record IsWaiting (s : Slot) (w : OpenRequest UnreadBody) : Type 0 where
   pub dropped : w.dropped ≡ record { is_taken = false; date = handed.date }
   pub fits : Fits request.framing.by_standard w.body request.framing.form (body_length_or_0 request.framing) given
       end_reported
-  -- where the body isn't read from the input, this is left of it
+  -- if the body isn't read from the input, this is left of it
   pub settled : is_streaming w.body ≡ false → (f : Feed)
       → remaining w.body (Some f) ≡ Some (taken_remaining (rest_of request given) f)
 
--- a number whose body can be read so far: it waits for its answer, or it was upgraded
+-- a number whose body was read up to here: it awaits its response, or was upgraded
 pub record IsOpen (s : Slot) (body : UnreadBody) : Type 0 where
   pub request : Request
   pub handed : HandedOut
@@ -181,7 +181,7 @@ pub record IsLeft (s : Slot) (text : List ℕ) : Type 0 where
   pub whole : is_slot_broken s ≡ false
   pub same : segment s ≡ text
 
--- what became of a number, by its turn and by what is kept of it
+-- the state of a number, by its turn and by what is kept of it
 abbrev pub IsKept : Slot → Mark → Option Unfinished → Type 0
 IsKept s Open (Some u) = KeepsUnfinished s u
 IsKept s (Left text) None = IsLeft s text
@@ -193,12 +193,12 @@ AreKept [] [] [] = Unit {0}
 AreKept (s ∷ slots) (m ∷ marks) (w ∷ requests) = IsKept s m w × AreKept slots marks requests
 AreKept _ _ _ = ⊥
 
--- nothing was sent under this number, or all that was is left for its turn
+-- nothing was sent under this number, or all of it is left for its turn
 abbrev pub HasSentNothing : Slot → Type 0
 HasSentNothing s =
     (s.continued ≡ None) × (is_finished s ≡ false → (stage_text s.closes s.item s.date s.stage).bytes ≡ [])
 
--- what is sent is sent in its turn: nothing was sent behind the first number that isn't finished
+-- texts are sent in their turn: nothing was sent for a number after the first that isn't finished
 abbrev pub AreSentInTurn : List Slot → Type 0
 AreSentInTurn [] = Unit {0}
 AreSentInTurn (s ∷ slots) = MatchBool (is_finished s) (AreSentInTurn slots) (AllByRecursion HasSentNothing slots)
@@ -212,7 +212,7 @@ AreSettled [] = ⊤
 AreSettled (u ∷ []) = ⊤
 AreSettled (u ∷ v ∷ us) = IsSettled u × AreSettled (v ∷ us)
 
--- where the input will stand after this body
+-- the input after this body
 abbrev pub behind_body : Option UnreadBody → Option Feed → Option Feed
 behind_body None feed = feed
 behind_body (Some b) feed = option_map (λ (r : Remaining). r.behind) (remaining b feed)
@@ -236,7 +236,7 @@ abbrev pub behind_item : Item → Feed
 behind_item (Asks r) = r.behind
 behind_item (Refuses refusal manner no_body last) = whole_feed []
 
--- behind the body that is kept of the last number the input gives what follows its request's
+-- after the body that is kept of the last number the input gives what follows its request's body
 abbrev pub FollowsLast : Option UnreadBody → Option Slot → Option Feed → Type 0
 FollowsLast None s feed = ⊤
 FollowsLast (Some b) None feed = ⊤
@@ -262,26 +262,27 @@ is_in_body at.Last = false
 is_in_body at.Abandoned = false
 is_in_body (at.Broken kind) = false
 
--- behind the client's whole pipeline a byte of a further head comes; or, but by the standard, the reader times out
+-- after the client's whole pipeline a byte of a further head comes, or, except under Standard, the reader times out
 abbrev pub BeginsMore : Profile → Feed → Type 0
 BeginsMore p client =
     (items : List Item)
     × Pipeline p (Some client.bytes) client.stop items
     × BeginsBehind p (Some client.bytes) client.stop items
 
--- the same behind these heads, the first of which stands here
+-- the same after these heads, the first of which is next
 abbrev pub BeginsBehindAt : Profile → Option Feed → List Item → Type 0
 BeginsBehindAt p None rest = ⊥
 BeginsBehindAt p (Some f) rest = BeginsBehind p (Some f.bytes) f.stop rest
 
--- The bytes still ask this of the client's pipeline; while a head may follow, what begins behind it begins behind the
--- whole.
+-- The bytes to come hold this rest of the client's pipeline. While a head may follow, what begins after the rest begins
+-- after the whole pipeline.
 abbrev pub PlaceIn : Feed → Profile → Bool → Option Feed → List Item → Type 0
 PlaceIn client p past feed rest =
     PlaceAt p past feed rest × (past ≡ false → BeginsBehindAt p feed rest → BeginsMore p client)
 
--- Where the next head is read, while the asking hasn't ended: after the last body; and nowhere after the last head, or
--- after a chunked body that was given up before its end. The input knows whether it stands within that body.
+-- Where the next head is read, while the requests haven't ended: after the last body. None is read after the last head,
+-- or after a chunked body that was given up before its end. The input state says whether the position is within that
+-- body.
 pub record NextHead (client : Feed) (k : Kept) (last : Option Slot) (rest : List Item) : Type 0 where
   pub is_last : is_past_last k.input_state ≡ is_last_slot last
   pub within : is_in_body k.input_state ≡ (not (is_last_slot last) && is_streaming_body (last_body k.requests))
@@ -289,7 +290,7 @@ pub record NextHead (client : Feed) (k : Kept) (last : Option Slot) (rest : List
   pub place : last_was_abandoned last ≡ false
       → PlaceIn client k.profile (is_past_last k.input_state) (behind_body (last_body k.requests) k.feed) rest
 
--- how the input stands to the bodies and to the rest of the pipeline, after this much of the client's feed
+-- how the input relates to the bodies and to the rest of the pipeline, after this much of the client's feed
 pub record InputStands (client : Feed) (k : Kept) (slots : List Slot) (rest : List Item) : Type 0 where
   pub settled : AreSettled k.requests
   pub gives : GivesRest (last_body k.requests) (last_slot slots) k.feed
@@ -297,8 +298,8 @@ pub record InputStands (client : Feed) (k : Kept) (slots : List Slot) (rest : Li
   pub follows : last_holds_next_head k.requests ≡ true → FollowsLast (last_body k.requests) (last_slot slots) k.feed
   pub source : GoesOn (Some client) k.feed
 
--- the output so far: the joined segments, of which no failure takes back what was flushed; or what the writer took
--- when it failed
+-- the output so far: the joined segments, and no failure takes back what was flushed; or what the writer took when it
+-- failed
 abbrev pub OutputAt : Sink → Sink → Bool → List Slot → List ℕ → Option Failure → Type 0
 OutputAt before sink ended slots flushed None =
     (sink.taken ≡ Some (joined slots))
@@ -312,7 +313,7 @@ OutputAt before sink ended slots flushed (Some f) =
     × StatesKind sink.last_kind f.kind
     × (ended ≡ true)
 
--- the connection stands so, after this much of the client's feed and over a writer that stated this before
+-- the connection represents this state, after this much of the client's feed and over a writer that stated this before
 pub record Stands (client : Feed) (before : Sink) (k : Kept) (s : State) : Type 0 where
   pub numbers : AreKept s.reached.slots k.marks k.requests
   pub shape : AreInShape k.marks

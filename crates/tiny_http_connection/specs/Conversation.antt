@@ -1,6 +1,6 @@
--- Whole conversations: which replies and which output a list of steps may have.
--- The laws of `InShort` are on the fields `items`, `pipeline` and `end` of `IsConversation`, which is what `run`
--- promises. Nobody needs to read more of this file to believe them.
+-- Whole conversations: which replies and which output a list of steps may have. The laws of `InShort` use the fields
+-- `items`, `pipeline` and `end` of `IsConversation`, which `run` guarantees; they can be read without the rest of this
+-- file.
 use Rattle.std.specs.Prelude.{◌≡◌, ℕ, ◌+◌, ◌-◌, ◌^◌, ◌<◌, ◌⊎◌, Bool, true, false, not, ◌&&◌, ◌||◌, List, [], ◌∷◌}
 use Rattle.std.specs.Prelude.{◌++◌, map, length, Option, Some, None, is_some, unwrap_or, option_map, MatchBool}
 use Rattle.std.specs.Prelude.{slice_get, if◌then◌else◌}
@@ -31,7 +31,7 @@ pub record Failure : Type 0 where
   pub kind : ErrorKind
   pub output : List ℕ
 
--- Where a conversation stands: what is reached; the output as of the last step that flushed it, while the writer has
+-- The state of a conversation: what is reached; the output as of the last step that flushed it, while the writer has
 -- not failed; and how the writer failed, if it did.
 pub record State : Type 0 where
   pub reached : Reached
@@ -42,19 +42,19 @@ pub record State : Type 0 where
 abbrev pub has_output_ended : State → Bool
 has_output_ended old = is_some old.failure || is_output_broken old.reached.slots
 
--- how many numbers are finished in front
+-- the count of finished numbers at the front
 abbrev pub finished_front : List Slot → ℕ
 finished_front [] = 0
 finished_front (s ∷ slots) = if is_finished s then finished_front slots + 1 else 0
 
--- HOW THE WRITER FARES in a step: without a fault; or it fails in the step's own text; or after that, in a text that
--- was left or, where the data broke off, in what was held.
+-- HOW THE WRITER FARES in a step: it doesn't fail; or it fails in the step's own text; or it fails later, in a text
+-- that was left or, if the data broke off, in what was held.
 pub data Fares : Type 0 where
   Well : Fares
   FailsWithin : (failure : Failure) → Fares
   FailsAfter : (failure : Failure) → Fares
 
--- the writer took all of one text, and a front of the other
+-- the writer took all of one text, and a prefix of the other
 abbrev pub FallsBetween : List ℕ → List ℕ → Failure → Type 0
 FallsBetween from to f = IsFront from f.output × IsFront f.output to
 
@@ -78,7 +78,7 @@ MayFare (Reported own None flushes report) old slots (FailsAfter f) =
 MayFare (Reported own (Some kind) flushes report) old slots (FailsAfter f) =
     FallsBetween old.flushed (joined old.reached.slots ++ own) f
 
--- the reply: the fault in the step's own text, or that of its data; else what was planned
+-- the reply: the fault in the step's own text, or that of its data; else the planned reply
 abbrev pub reply_in : WriterUse → ReplyValue → Fares → ReplyValue
 reply_in (Reported own broken flushes report) planned (FailsWithin f) = report f.kind
 reply_in (Reported own broken flushes report) planned _ = unwrap_or (option_map report broken) planned
@@ -94,7 +94,7 @@ abbrev pub writes_nothing : WriterUse → State → Bool
 writes_nothing Unused old = true
 writes_nothing writer old = has_output_ended old
 
--- THE WRITER'S PART of a step: its reply, and the writer's failure after it
+-- THE WRITER'S PART in a step: the reply, and the writer's failure afterwards
 abbrev pub WriterPart : WriterUse → State → ReplyValue → List Slot → ReplyValue → Option Failure → Type 0
 WriterPart writer old planned slots reply failure =
     MatchBool (writes_nothing writer old)
@@ -124,7 +124,7 @@ HasOutcome o old reply new =
     × (new.flushed ≡ flushed_after o.writer old o.slots)
     × WriterPart o.writer old o.reply o.slots reply new.failure
 
--- the response's data are read whole before its head
+-- the response's data are read whole before its head is sent
 abbrev pub GathersFor : HttpDate → ResponseValue → Slot → Item → Type 0
 GathersFor date response s (Asks r) = IsGathered response.answer (to_request r.framing.is_last r date)
 GathersFor date response s (Refuses refusal manner no_body last) = ⊥
@@ -133,23 +133,23 @@ abbrev pub GathersAt : HttpDate → ResponseValue → Option Slot → Type 0
 GathersAt date response None = ⊥
 GathersAt date response (Some s) = GathersFor date response s s.item
 
--- where no memory was found, the step had to gather
+-- if memory was refused, the step had to read the data whole
 abbrev pub MayLack : Bool → HttpDate → Reached → StepValue → Type 0
 MayLack true date old step = Unit {0}
 MayLack false date old (Respond k response) = GathersAt date response (slice_get old.slots k)
 MayLack false date old _ = ⊥
 
--- the item is a head that is refused, and after which the asking goes on
+-- the item is a head that is refused, and requests go on after it
 abbrev pub IsPassedOver : Item → Type 0
 IsPassedOver (Asks r) = ⊥
 IsPassedOver (Refuses refusal manner no_body last) = last ≡ false
 
--- the heads that were refused on the way are answered, if the turn of the first has come
+-- the error responses to the heads refused by this step are sent, if the turn of the first has come
 abbrev pub answers_to : List Slot → List Item → WriterUse
 answers_to slots [] = Unused
 answers_to slots (item ∷ refused) = use_in_turn (turn_has_come (length slots) slots)
 
--- no memory is found for a head, after these that are refused: the asking has ended
+-- memory for a head is refused, after these refused heads: the requests have ended
 abbrev pub lacks_head : HttpDate → Reached → List Item → List Item → Outcome
 lacks_head date old refused rest =
     record {
@@ -176,7 +176,7 @@ FindsNoMemory date old Ask reply new =
     × HasOutcome (lacks_head date old.reached refused rest) old reply new
 FindsNoMemory date old _ reply new = ⊥
 
--- One step on a date may be answered so and leave this.
+-- One step on a date may have this reply and lead to this state.
 abbrev pub StepsTo : State → HttpDate → StepValue → ReplyValue → State → Type 0
 StepsTo old date step reply new =
     ((found : Bool)
@@ -196,9 +196,9 @@ abbrev pub start_state : List Item → State
 start_state items =
     record { reached = record { slots = []; rest = items; asking_ended = false }; flushed = []; failure = None }
 
--- The output: what the writer took and what is held are the joined segments, it took all that was flushed, it did not
--- fail, and the output has ended exactly if one of them broke off. Or the writer failed once: it states that kind and
--- those bytes, nothing is held, and the output has ended.
+-- The output. Either what the writer took and what is held are the joined segments, it took all that was flushed, it
+-- did not fail, and the output has ended exactly if one of the segments broke off. Or the writer failed once: it states
+-- that kind and those bytes, nothing is held, and the output has ended.
 abbrev pub IsOutput : List Slot → List ℕ → Option Failure → Sink → Sink → List ℕ → Bool → Type 0
 IsOutput slots flushed None before after held ended =
     (after.failures ≡ before.failures)
@@ -214,14 +214,14 @@ IsOutput slots flushed (Some f) before after held ended =
     × (held ≡ [])
     × (ended ≡ true)
 
--- what the bytes still ask: nothing after the last head, else the pipeline from where the input stands
+-- the items still to be read: none after the last head, else the pipeline from the input's position
 abbrev pub PlaceAt : Profile → Bool → Option Feed → List Item → Type 0
 PlaceAt p true feed rest = rest ≡ []
 PlaceAt p false None rest = ⊥
 PlaceAt p false (Some f) rest = Pipeline p (Some f.bytes) f.stop rest
 
--- The input stands within this number's body: what is left of the body comes next, and after it, unless the asking has
--- ended, what the pipeline still has.
+-- The position is within this number's body: what is left of the body comes next, and after it, unless the requests
+-- have ended, the rest of the pipeline.
 abbrev pub WithinBody : Profile → Bool → Slot → Item → Feed → List Item → Type 0
 WithinBody p ended s (Asks r) feed rest =
     (next : Place)
@@ -234,9 +234,9 @@ abbrev pub WithinLast : Profile → Bool → Option Slot → Option Feed → Lis
 WithinLast p ended (Some s) (Some feed) rest = WithinBody p ended s s.item feed rest
 WithinLast p ended _ _ rest = ⊥
 
--- How the input stands: within the last body, while that is open, also once the asking has ended. Else, while it goes
--- on: the input has ended after a chunked body that was given up before its end; or what the bytes still ask is the
--- rest of the pipeline.
+-- THE INPUT. While the last body is open, the position is within it, even once the requests have ended. Else, until the
+-- requests end: the input has ended after a chunked body that was given up before its end, or the bytes to come hold
+-- the rest of the pipeline.
 abbrev pub InputAt : Profile → Reached → Option Feed → Type 0
 InputAt p old feed =
     MatchBool (last_is_open (last_slot old.slots))
@@ -245,27 +245,27 @@ InputAt p old feed =
     (MatchBool (last_was_abandoned (last_slot old.slots)) (feed ≡ Some (stopped End))
     (PlaceAt p (is_last_slot (last_slot old.slots)) feed old.rest)))
 
--- behind all these heads a byte of a further one comes; or, but by the standard, the reader times out there
+-- after all these heads a byte of a further one comes, or, except under Standard, the reader times out there
 abbrev pub BeginsBehind : Profile → Place → Stop → List Item → Type 0
 BeginsBehind p None stop items = ⊥
 BeginsBehind p (Some bytes) stop [] = HasByteOrTimedOut p (Some (record { bytes = bytes; stop = stop }))
 BeginsBehind p (Some bytes) stop (item ∷ items) =
     (next : Place) × OneHead p bytes stop (Some item) next × BeginsBehind p next stop items
 
--- this is an Ask for which no memory was found
+-- an Ask for which memory was refused
 abbrev pub IsAskOutOfMemory : StepValue → ReplyValue → Type 0
 IsAskOutOfMemory Ask Memory = Unit {0}
 IsAskOutOfMemory _ _ = ⊥
 
--- one of the steps is
+-- one of the steps is such an Ask
 abbrev pub HasAskOutOfMemory : List TimedValue → List ReplyValue → Type 0
 HasAskOutOfMemory (s ∷ steps) (r ∷ replies) = IsAskOutOfMemory s.1 r ⊎ HasAskOutOfMemory steps replies
 HasAskOutOfMemory _ _ = ⊥
 
--- THE CONNECTION THEOREM: replies and output are those of a run over the pipeline that stands in the feed under this
--- profile; and this of the feed is left. No memory is asked for where no head comes: if an Ask found none, an item of
--- the pipeline is left, or behind them all a byte of a further head comes; or, but by the standard, the reader times
--- out there.
+-- THE CONNECTION THEOREM: replies and output are those of a run over the pipeline of the feed under this profile, and
+-- this is left of the feed. No memory is requested if no head comes: if an Ask was out of memory, an item of the
+-- pipeline is left, or a byte of a further head comes after them all, or, except under Standard, the reader times out
+-- there.
 pub record IsConversation (p : Profile) (feed : Feed) (before : Sink) (steps : List TimedValue)
     (replies : List ReplyValue) (after : Sink) (held : List ℕ) (ended : Bool) (unread : Option Feed) : Type 0 where
   pub items : List Item
@@ -277,7 +277,7 @@ pub record IsConversation (p : Profile) (feed : Feed) (before : Sink) (steps : L
   pub memory : HasAskOutOfMemory steps replies → end.reached.rest ≡ []
       → BeginsBehind p (Some feed.bytes) feed.stop items
 
--- the writer as a run takes it: it states that it took no bytes, it has not ended, and its count can rise
+-- the writer at the start of a run: it states that it took no bytes, it has not ended, and it can count a failure
 pub record IsFresh (sink : Sink) : Type 0 where
   pub no_bytes : sink.taken ≡ Some []
   pub unended : sink.has_ended ≡ false

@@ -1,6 +1,5 @@
--- A run over a feed by the rules of tiny_http, computed for a writer that takes all: one plain reading, by which the
--- definitions are tried out.
--- Nobody needs this file to believe the laws of `InShort`.
+-- A run over a feed by the rules of tiny_http, computed for a writer that takes everything: a plain reading that tests
+-- the definitions. The laws of `InShort` can be read without this file.
 use Rattle.std.specs.Prelude.{ℕ, Bool, true, List, [], ◌∷◌, if◌then◌else◌}
 use Rattle.std.specs.Prelude.{false}
 use Rattle.tiny_http_io.specs.Device.{Feed}
@@ -11,11 +10,11 @@ use Rattle.tiny_http_connection.specs.Steps.{ReplyValue, TimedValue}
 use Rattle.tiny_http_connection.specs.Outcomes.{WriterUse, Reached, outcome}
 use Rattle.tiny_http_connection.specs.Conversation.{Well, reply_in, reached_by}
 
--- the reply, where the writer takes all, or the output has ended
+-- the reply if the writer takes everything or the output has ended
 abbrev pub reply_of : WriterUse → Bool → ReplyValue → ReplyValue
 reply_of writer over planned = if over then planned else reply_in writer planned Well
 
--- the replies, and what is reached in the end
+-- the replies, and what was reached at the end
 pub record Reading : Type 0 where
   pub replies : List ReplyValue
   pub end : Reached

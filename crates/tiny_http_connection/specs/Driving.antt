@@ -1,5 +1,4 @@
--- What the calls of a `Connection` come to.
--- Nobody needs this file to believe the laws of `InShort`.
+-- The effects of the calls of a `Connection`. The laws of `InShort` can be read without this file.
 use Rattle.std.specs.Prelude.{◌≡◌, ◌⊎◌, ◌||◌, ℕ, ◌+◌, Bool, true, false, List, [], ◌∷◌, ◌++◌, length, replicate}
 use Rattle.std.specs.Prelude.{Option, Some, None, IsSome, MatchBool, drop, slice_get, slice_set, if◌then◌else◌}
 use Rattle.std.specs.Prelude.{string_bytes, ◌<◌, ◌≤◌, ◌^◌, ⊤, nat_lt}
@@ -52,8 +51,8 @@ use Rattle.tiny_http_connection.specs.Giving.{TakesNext}
 use Rattle.tiny_http_connection.specs.Replies.{StepReplies, can_take, is_in_turn}
 use Rattle.tiny_http_connection.specs.Connection.{ConnectionState, kept, Stands}
 
--- By a connection of this profile, over this client's feed and a fresh writer, these steps were done, with these
--- replies: they are a run over the pipeline that stands in the feed, and the connection stands where it leads.
+-- A connection of this profile, over this client's feed and a fresh writer, took these steps with these replies: they
+-- are a run over the pipeline of the feed, and the connection represents the state that the run reaches.
 pub record HasDone {R W : Type 0} (p : Profile) (client : Feed) (before : Sink) (c : ConnectionState R W)
     (steps : List TimedValue) (replies : List ReplyValue) : Type 0 where
   pub profile : c.profile ≡ p
@@ -67,7 +66,7 @@ pub record HasDone {R W : Type 0} (p : Profile) (client : Feed) (before : Sink) 
       → (at.reached.asking_ended ≡ true)
       × (at.reached.rest ≡ [] → BeginsBehind p (Some client.bytes) client.stop items)
 
--- a response with what its data state, in their place
+-- a response with its data replaced by what they state
 abbrev pub stated_response : {D : Type 0} → (D → Option Feed) → ResponseState D → ResponseState (Option Feed)
 stated_response feed r = record { answer = r.answer; data_reader = feed r.data_reader }
 
@@ -83,7 +82,7 @@ stated_step feed (step.Upgrade k p r) = step.Upgrade k p (stated_response feed r
 stated_step feed (step.Finish k) = step.Finish k
 stated_step feed (step.Drop k) = step.Drop k
 
--- the head that stands there is refused, with this status
+-- the head at this position is refused, with this status
 abbrev pub IsRefusal : Profile → Feed → EndOfRequests → Type 0
 IsRefusal p f why =
     (status : StatusCode)
@@ -93,12 +92,12 @@ IsRefusal p f why =
     × OneHead p f.bytes f.stop (Some (Refuses refusal manner no_body true)) None
     × (status.0 ≡ refusal_status refusal) × (why ≡ because.Refused status)
 
--- no request stands in these bytes: a head is refused, and ends the requests; or none stands there, for this reason
+-- no request follows in these bytes: a head is refused and ends the requests, or none follows, for this reason
 abbrev pub EndsThere : Profile → InputState → Feed → EndOfRequests → Type 0
 EndsThere p input_state f why =
     IsRefusal p f why ⊎ (OneHead p f.bytes f.stop None None × EndsAt p input_state f.bytes f.stop why)
 
--- These heads are refused one after another, and the asking goes on behind each; then this comes.
+-- These heads are refused one after another, and requests go on after each; then this feed follows.
 abbrev pub ArePassedOver : Profile → Feed → List Item → Feed → Type 0
 ArePassedOver p f [] behind = behind ≡ f
 ArePassedOver p f (item ∷ items) behind =
@@ -107,19 +106,19 @@ ArePassedOver p f (item ∷ items) behind =
     × OneHead p f.bytes f.stop (Some item) next
     × ArePassedOver p (place_feed f.stop next) items behind
 
--- behind such heads a byte of a further one comes; or, but by the standard, the reader times out there
+-- after such heads a byte of a further one comes, or, except under Standard, the reader times out there
 abbrev pub HasByteBehind : Profile → Option Feed → Type 0
 HasByteBehind p None = ⊤
 HasByteBehind p (Some f) =
     (passed : List Item) × (behind : Feed) × ArePassedOver p f passed behind × HasByteOrTimedOut p (Some behind)
 
--- where the source stands behind such heads
+-- the source's input state after such heads
 abbrev pub input_state_past : InputState → List Item → InputState
 input_state_past input_state [] = input_state
 input_state_past input_state (item ∷ items) = at.Head
 
--- WHY THE REQUESTS END where the source stands: the last one was read; or no request stands in the bytes that come,
--- behind the heads that are passed.
+-- WHY THE REQUESTS END at the source's position: the last one was read, or no request follows in the bytes to come,
+-- after the heads that are passed over.
 abbrev pub EndsRequestsAt : Profile → InputState → Option Feed → EndOfRequests → Type 0
 EndsRequestsAt p at.Last feed why = why ≡ because.LastRequest
 EndsRequestsAt p input_state feed why =
@@ -130,14 +129,13 @@ EndsRequestsAt p input_state feed why =
     × ArePassedOver p f passed behind
     × EndsThere p (input_state_past input_state passed) behind why
 
--- the next head needn't wait for the answer of the last request, and no body holds the reader
+-- the next head needn't wait for the response to the last request, and no body holds the reader
 abbrev pub IsFree : {R W : Type 0} → ConnectionState R W → Type 0
 IsFree c = (c.source.input_state ≡ at.Body → ⊥) × (last_holds_next_head c.requests ≡ false)
 
--- What an Ask says of the end of the requests, by its reply: it ends them for a reason that stands in the client's
--- bytes, or where memory for a head was refused; after the end it changes nothing, and after the last request the
--- source is left alone. No head is read where the source has ended, nor while the last request holds the reader, and
--- that alone has it wait.
+-- How an Ask ends the requests, by its reply: for a reason in the client's bytes, or if memory for a head was refused.
+-- After the end it changes nothing, and after the last request it leaves the source unchanged. It reads no head if the
+-- source has ended, nor while the last request holds the reader, and only the latter makes it wait.
 abbrev pub AskEnds : {R W : Type 0} → ConnectionState R W → ConnectionState R W → ReplyValue → Type 0
 AskEnds old new (Handed k message framing) =
     (old.end ≡ None)
@@ -163,31 +161,31 @@ AskEnds old new Memory =
     × (IsAtEnd old.source → ⊥)
 AskEnds old new _ = ⊥
 
--- why the requests end, where no head is read behind a request that is finished or gets the connection's stream
+-- why the requests end if no head is read after a request that is finished or gets the connection's stream
 abbrev pub ends_behind : Bool → Option EndOfRequests → Option EndOfRequests
 ends_behind false end = end
 ends_behind true None = Some because.LastRequest
 ends_behind true (Some why) = Some why
 
--- Where the step was done or refused, the requests end behind its number, if this holds; else they go on as before.
+-- If the step was done or refused and this holds, the requests end after its number; else they go on as before.
 abbrev pub EndsBehind : {R W : Type 0} → Bool → ConnectionState R W → ConnectionState R W → ReplyValue → Type 0
 EndsBehind ends old new NotYet = new.end ≡ old.end
 EndsBehind ends old new NoSuch = new.end ≡ old.end
 EndsBehind ends old new _ = new.end ≡ ends_behind ends old.end
 
--- the same of an Upgrade: it gives the number the connection's stream, or drops it
+-- the same for an Upgrade: it gives the number the connection's stream, or drops it
 abbrev pub UpgradeEnds : {R W : Type 0} → ℕ → ConnectionState R W → ConnectionState R W → ReplyValue → Type 0
 UpgradeEnds k old new Refused = new.end ≡ ends_behind (is_last_once_finished_at (slice_get old.requests k)) old.end
 UpgradeEnds k old new reply = EndsBehind (is_last_with_stream_at (slice_get old.requests k)) old new reply
 
--- the same of a Respond, whose answer may ask that the connection ends; one that is refused asks for nothing
+-- the same for a Respond, whose response may ask to close the connection; a refused response asks for nothing
 abbrev pub RespondEnds : {R W : Type 0} → ℕ → Bool → ConnectionState R W → ConnectionState R W → ReplyValue → Type 0
 RespondEnds k closes old new Refused =
     new.end ≡ ends_behind (is_last_once_finished_at (slice_get old.requests k)) old.end
 RespondEnds k closes old new reply =
     EndsBehind (closes || is_last_once_finished_at (slice_get old.requests k)) old new reply
 
--- what a step says of the end of the requests
+-- how a step ends the requests
 abbrev pub StepEnds : {R W : Type 0} → Step (Option Feed) → ConnectionState R W → ConnectionState R W → ReplyValue
     → Type 0
 StepEnds step.Ask old new reply = AskEnds old new reply
@@ -209,42 +207,41 @@ GivesUpKept k old new =
     → slice_get old.requests k ≡ Some (Some u)
     → GivesUpIfKept (kept_body (Some u)) old.source new.source
 
--- What ends a number is sent in its turn: then nothing is held back, and all was sent on. Before its turn the output is
--- left alone.
+-- The final text of a number is sent in its turn: then nothing is held, and all was sent on. Before its turn the output
+-- is unchanged.
 abbrev pub SendsInTurn : {R W : Type 0} → ℕ → ConnectionState R W → ConnectionState R W → Type 0
 SendsInTurn k old new =
     (can_take old k ≡ true → (new.outlet.held ≡ []) × SentOn new.outlet)
     × (is_in_turn old k ≡ false → new.outlet ≡ old.outlet)
 
--- nothing is kept of this number any more, and its body was given up; what ends it was sent, if its turn has come
+-- nothing is kept of this number any more, and its body was given up; its final text was sent, if its turn has come
 abbrev pub LetsGo : {R W : Type 0} → ℕ → ConnectionState R W → ConnectionState R W → Type 0
 LetsGo k old new =
     (new.requests ≡ slice_set old.requests k None) × GivesUpKept k old new × SendsInTurn k old new
 
--- this open number is finished, and so are those behind it that were left
+-- this open number is finished, and so are the left ones directly after it
 abbrev pub FinishesNumber : ℕ → List Mark → List Mark → Type 0
 FinishesNumber k old new =
     (front rest : List Mark) → old ≡ front ++ (Open ∷ rest) → length front ≡ k → FinishesFront front rest new
 
--- nothing is kept of this number any more, which is finished if it was open, and its body was given up; the last number
--- was told that the connection ends, if it waits and the answer asked for that
+-- Nothing is kept of this number any more; it is finished if it was open, and its body was given up. The last number
+-- closes the connection, if it awaits its response and this response asks for that.
 abbrev pub LetsGoAnswered : {R W : Type 0} → ℕ → Bool → ConnectionState R W → ConnectionState R W → Type 0
 LetsGoAnswered k closes old new =
     (new.requests ≡ slice_set (closing_if_asked closes old.requests) k None)
     × GivesUpKept k old new
     × FinishesNumber k old.marks new.marks
 
--- where a source stands after the head of a request that is framed so, and its body read so far
+-- the input state after the head of a request with this framing, with its body read so far
 abbrev pub after_head : Framing → UnreadBody → InputState
 after_head f body = if f.is_last then at.Last else if is_streaming body then at.Body else at.Head
 
--- So many heads were refused, and have their numbers. Where none was the output is left alone.
+-- n heads were refused, and have their numbers. If n is 0 the output is unchanged.
 abbrev pub RefusesHeads : {R W : Type 0} → ℕ → ConnectionState R W → ConnectionState R W → Type 0
 RefusesHeads n old new =
     (new.requests ≡ old.requests ++ replicate n None) × (n ≡ 0 → (new.marks ≡ old.marks) × (new.outlet ≡ old.outlet))
 
--- So many heads are refused, and behind them this request's head stands: this is to come of its body and of what
--- follows that.
+-- n heads are refused, and this request's head follows them: this remains of its body and of what comes after it.
 abbrev pub HandsOutHead : ℕ → Profile → Option Feed → Message → Framing → Option Remaining → Type 0
 HandsOutHead n p None message framing left = ⊤
 HandsOutHead n p (Some f) message framing left =
@@ -265,10 +262,10 @@ abbrev pub KeepsRequestOf : OpenRequest UnreadBody → Message → Framing → H
 KeepsRequestOf w message framing date =
     (h : Head) × (head_message h ≡ message) × (head_framing h ≡ framing) × KeepsHead w h date
 
--- What an Ask leaves of requests, source and output, by its reply: a request was added behind the refused heads, as it
--- stands in the client's bytes and is framed by its head, and the source stands after its head; where none was refused
--- nothing is sent, and no end or fault of the reader was met. Or none was added. After the last request, or the end of
--- the source, no head is refused.
+-- What an Ask leaves of requests, source and output, by its reply. Handed: a request was added after the refused heads,
+-- as its head in the client's bytes frames it, and the source is after its head. If no head was refused, nothing is
+-- sent, and the reader reported no end or fault. Other replies: no request was added. After the last request or the end
+-- of the source no head is refused.
 abbrev pub AskLeaves : {R W : Type 0} → HttpDate → ConnectionState R W → ConnectionState R W → ReplyValue → Type 0
 AskLeaves now old new (Handed k message framing) =
     (n : ℕ)
@@ -288,8 +285,8 @@ AskLeaves now old new Ended =
 AskLeaves now old new NotYet = Unit {0}
 AskLeaves now old new _ = ⊥
 
--- A read from the body of a request that leaves this of it: where it is read from the source, that stands by what is
--- left; else the source is left alone.
+-- A read from the body of a request that leaves this of it. If the body is read from the source, the source's input
+-- state follows what is left of it; else the source is unchanged.
 abbrev pub StandsAfter : {R : Type 0} → UnreadBody → UnreadBody → SourceState R → SourceState R → Type 0
 StandsAfter was body old new =
     MatchBool (is_streaming was) (new.input_state ≡ body_input_state body old.input_state) (new ≡ old)
@@ -302,8 +299,8 @@ ContinueIsSent k now w old new =
     × SendsQuietlyOn old.outlet new.outlet (own_text_by 100 (printing_in w.response_context now))
     × HasSentAll new.outlet
 
--- What becomes of the 100 of a number, by the reply: it was sent, or if none was owed nothing has changed; or one is
--- owed, and waits for its turn; or no such request waits for an answer.
+-- What happens to the 100 of a number, by the reply: it was sent, or none was owed and nothing changed; or it is owed
+-- and waits for its turn; or no request of this number awaits its response.
 abbrev pub SendsContinue : {R W : Type 0} → ℕ → HttpDate → ConnectionState R W → ConnectionState R W → ReplyValue
     → Type 0
 SendsContinue k now old new Done =
@@ -317,14 +314,14 @@ SendsContinue k now old new _ = ⊥
 abbrev pub LeavesAllButOutlet : {R W : Type 0} → ConnectionState R W → ConnectionState R W → Type 0
 LeavesAllButOutlet old new = (new.requests ≡ old.requests) × (new.marks ≡ old.marks) × (new.source ≡ old.source)
 
--- what this answer leaves, by the reply: the request was answered; or the answer was refused, and the request dropped
+-- what a Respond leaves, by the reply: the request was answered, or the response was refused and the request dropped
 abbrev pub AnswerLeaves : {R W : Type 0} → ℕ → Answer → ConnectionState R W → ConnectionState R W → ReplyValue → Type 0
 AnswerLeaves k a old new Refused = LetsGo k old new × (refuses_at a.status (slice_get old.requests k) ≡ true)
 AnswerLeaves k a old new reply =
     IsAnswered reply → LetsGoAnswered k a.closes old new × (refuses_at a.status (slice_get old.requests k) ≡ false)
 
--- What an Upgrade to this protocol with this code leaves, by the reply: the request was upgraded, and its body is
--- kept, or by the standard all that comes is read; or the upgrade was refused, and the request dropped.
+-- What an Upgrade to this protocol with this status code leaves, by the reply: the request was upgraded, and its stream
+-- reads its body or, under Standard, all that follows; or the upgrade was refused and the request dropped.
 abbrev pub UpgradeLeaves : {R W : Type 0} → ℕ → List ℕ → ℕ → ConnectionState R W → ConnectionState R W → ReplyValue
     → Type 0
 UpgradeLeaves k protocol code old new Done =
@@ -339,19 +336,19 @@ UpgradeLeaves k protocol code old new NotYet = Unit {0}
 UpgradeLeaves k protocol code old new NoSuch = Unit {0}
 UpgradeLeaves k protocol code old new _ = ⊥
 
--- how many bytes a reply gives
+-- the number of bytes that a reply gives
 abbrev pub given_count : ReplyValue → ℕ
 given_count (Given bytes) = length bytes
 given_count _ = 0
 
--- a read that gave no byte where one was asked for met the body's end, and a fault stays
+-- a read of at least one byte that gave none met the body's end, and a fault is final
 abbrev pub ClosesBody : ℕ → ReplyValue → UnreadBody → Type 0
 ClosesBody n (Given []) body = 0 < n → is_whole body ≡ true
 ClosesBody n (Fault kind) body = body ≡ Over (Faults kind)
 ClosesBody n _ body = ⊤
 
--- A read of n bytes gave the next of the body that is kept of this number, as far as the reader states them; and the
--- source stands by what is left of the body.
+-- A read of n bytes gave the next bytes of the body that is kept of this number, as far as the reader states them. The
+-- source's input state follows what is left of the body.
 abbrev pub ReadsKept : {R W : Type 0} → ℕ → ℕ → ConnectionState R W → ConnectionState R W → ReplyValue → Type 0
 ReadsKept k n old new reply =
     (u : Unfinished)
@@ -365,7 +362,8 @@ ReadsKept k n old new reply =
     × (0 < n → ReadsOn was (given_count reply) (nat_lt (given_count reply) n) body)
     × ClosesBody n reply body
 
--- What a read leaves of requests and source, by its reply. A fault is met, and memory refused, for a byte at least.
+-- What a read leaves of requests and source, by its reply. A fault or a refusal of memory comes only if n is at least
+-- 1.
 abbrev pub ReadLeaves : {R W : Type 0} → ℕ → ℕ → ConnectionState R W → ConnectionState R W → ReplyValue → Type 0
 ReadLeaves k n old new (Given bytes) =
     (is_readable (slice_get old.requests k) ≡ true) × (length bytes ≤ n) × ReadsKept k n old new (Given bytes)
@@ -375,9 +373,9 @@ ReadLeaves k n old new NoSuch = is_readable (slice_get old.requests k) ≡ false
 ReadLeaves k n old new Memory = (is_readable (slice_get old.requests k) ≡ true) × (0 < n)
 ReadLeaves k n old new _ = ⊥
 
--- What a step leaves of requests, source and output. An AsReader sends what its request owes. A read changes no more
--- than the body of its request, and the source if it is read from that. An answer, a drop and a Finish let their
--- request go. An IntoWriter gives the body up.
+-- What a step leaves of requests, source and output. An AsReader sends the 100 that its request is owed. A read changes
+-- at most the body of its request, and the source if the body is read from it. A response, a drop and a Finish remove
+-- their request. An IntoWriter gives up the body.
 abbrev pub StepLeaves : {R W : Type 0} → Step (Option Feed) → HttpDate → ConnectionState R W → ConnectionState R W
     → ReplyValue → Type 0
 StepLeaves step.Ask now old new reply = AskLeaves now old new reply
@@ -396,16 +394,17 @@ StepLeaves (step.Upgrade k p r) now old new reply = UpgradeLeaves k (string_byte
 StepLeaves (step.Finish k) now old new reply = IsAnswered reply → LetsGo k old new
 StepLeaves (step.Drop k) now old new reply = IsAnswered reply → LetsGo k old new
 
--- the step was not done: it came too early, or no request takes it, or memory for a read was refused
+-- the step was not done: it came too early, no request takes it, or memory for a read was refused
 abbrev pub IsDeclined : Step (Option Feed) → ReplyValue → Type 0
 IsDeclined _ NotYet = Unit {0}
 IsDeclined _ NoSuch = Unit {0}
 IsDeclined (step.Read k n) Memory = Unit {0}
 IsDeclined _ _ = ⊥
 
--- A fault that a step reports, whatever reader, writer and data state: that of a Write or a Flush is the writer's,
--- whose count rose; that of an answer is so too, or that of its own data, printed for its request. Then the output has
--- ended. That of a read is the body's, as `ReadLeaves` says. The other steps report none.
+-- A fault that a step reports, for whatever reader, writer and data state. The fault of a Write or a Flush is the
+-- writer's, whose failure count rose. The fault of a Respond is the writer's or that of its own data, printed for its
+-- request. In both cases the output has ended. The fault of a read is the body's, by `ReadLeaves`. The other steps
+-- report none.
 abbrev pub ReportsFault : {R W : Type 0} → ConnectionState R W → ConnectionState R W → HttpDate → Step (Option Feed)
     → ErrorKind → Type 0
 ReportsFault old new now step.Ask kind = ⊥
@@ -425,8 +424,8 @@ ReportsFault old new now (step.Respond k r) kind =
     × (new.outlet.ended ≡ true)
     × IsHonest (output_of old.outlet) (output_of new.outlet) r.answer r.data_reader (printing_in context now) kind
 
--- The answer's own text was sent on whole, behind all that the writer had taken. This is said where the data state
--- fewer than 2^63 bytes, the writer can still send, and it states what it took.
+-- The response's own text was sent on whole, after all that the writer had taken. This holds if the data state fewer
+-- than 2^63 bytes, the writer can still send, and it states what it took.
 abbrev pub AnswerIsSentOn : {R W : Type 0} → ConnectionState R W → ConnectionState R W → HttpDate → ℕ
     → ResponseState (Option Feed) → Type 0
 AnswerIsSentOn old new now k r =
@@ -439,9 +438,9 @@ AnswerIsSentOn old new now k r =
     → (output_of old.outlet).taken ≡ Some taken
     → IsFront (taken ++ (text_of r.answer content (printing_in context now)).bytes) (output_of new.outlet).sent)
 
--- An answer reports a failure of the writer by its kind. A kind which says that the client has gone is reported as
--- `Done`. A failure isn't reported that was met behind the answer: the next number was left, and the answer's own text
--- had been sent on. Nor is one that a refused answer met: its request is dropped.
+-- A Respond reports a failure of the writer by its kind, except that a kind that means that the client has disconnected
+-- is reported as `Done`. It doesn't report a failure after the response, in the text of the next number that was left,
+-- if the response's own text had been sent on. Nor does a refused response report one: its request is dropped.
 abbrev pub RespondReports : {R W : Type 0} → ConnectionState R W → ConnectionState R W → HttpDate → ℕ
     → ResponseState (Option Feed) → ReplyValue → Type 0
 RespondReports old new now k r Refused = Unit {0}
@@ -450,8 +449,8 @@ RespondReports old new now k r reply =
     ⊎ ((kind : ErrorKind) × (reply ≡ fault_reply kind) × ReportsFault old new now (step.Respond k r) kind)
     ⊎ ((begins_left (drop (k + 1) old.marks) ≡ true) × AnswerIsSentOn old new now k r)
 
--- HOW MANY ENDS AND FAULTS OF THE CLIENT A READ MEETS on this number: none, or no more than what it gave of the body
--- and left of it allow.
+-- HOW MANY ENDS AND FAULTS OF THE CLIENT A READ MEETS on this number: none, or at most as many as what it gave of the
+-- body and left of it allow.
 abbrev pub ReadMeets : {R W : Type 0} → (R → ℕ) → ConnectionState R W → ConnectionState R W → ℕ → ReplyValue → Type 0
 ReadMeets stop_count old new k reply =
     (stop_count new.source.reader ≤ stop_count old.source.reader)
@@ -463,14 +462,14 @@ ReadMeets stop_count old new k reply =
     × (new.requests ≡ slice_set old.requests k (Some (number_with_body body u)))
     × (stop_count new.source.reader ≤ stop_count old.source.reader + ends_met was (given_count reply) body))
 
--- the same of a step; nothing is said of the others
+-- the same for a step; steps other than a Read are unrestricted
 abbrev pub StepMeets : {R W : Type 0} → (R → ℕ) → Step (Option Feed) → ConnectionState R W → ConnectionState R W
     → ReplyValue → Type 0
 StepMeets stop_count (step.Read k n) old new reply = ReadMeets stop_count old new k reply
 StepMeets stop_count _ old new reply = ⊤
 
--- WHERE THE WRITER FAILED in a step its count rose. A Write and a Flush report that, and so does an answer, as above.
--- The other steps don't report it.
+-- IF THE WRITER FAILED in a step, its failure count rose. A Write and a Flush report that, and so does a Respond, by
+-- `RespondReports`. The other steps don't report it.
 abbrev pub StepReports : {R W : Type 0} → ConnectionState R W → ConnectionState R W → HttpDate → Step (Option Feed)
     → ReplyValue → Type 0
 StepReports old new now (step.Write k bytes) reply = ReportsOfWriter (output_of old.outlet) (output_of new.outlet) reply
@@ -478,10 +477,10 @@ StepReports old new now (step.Flush k) reply = ReportsOfWriter (output_of old.ou
 StepReports old new now (step.Respond k r) reply = RespondReports old new now k r reply
 StepReports old new now _ reply = Unit {0}
 
--- WHAT ONE STEP DOES on a date, with its reply, whatever reader, writer and data state.
+-- WHAT ONE STEP DOES on a date, with its reply, for whatever reader, writer and data state.
 pub record MakesStep {R W : Type 0} (old new : ConnectionState R W) (now : HttpDate) (step : Step (Option Feed))
     (reply : ReplyValue) : Type 0 where
-  -- The profile is kept, and a step that was not done changes nothing.
+  -- the profile is unchanged, and a step that was not done changes nothing
   pub profile : new.profile ≡ old.profile
   pub declined : IsDeclined step reply → new ≡ old
   -- whether it is done
@@ -490,17 +489,17 @@ pub record MakesStep {R W : Type 0} (old new : ConnectionState R W) (now : HttpD
   pub ends : StepEnds step old new reply
   pub leaves : StepLeaves step now old new reply
   pub goes_on : GoesOn old.source.feed new.source.feed
-  -- the writer fails once at most; and what is held and what was sent on, by step and reply
+  -- the writer fails at most once; and what is held and what was sent on, by step and reply
   pub fails_once : FailsOnce old.outlet new.outlet
   pub flushed : (sent : Bool) → (sent ≡ true → old.outlet.held ≡ []) → all_sent_after step reply sent ≡ true
       → new.outlet.held ≡ []
   pub sent_on : (sent : Bool) → (sent ≡ true → SentOn old.outlet) → all_sent_after step reply sent ≡ true
       → SentOn new.outlet
-  -- a fault that is reported is one, and a failure of the writer is reported
+  -- a reported fault occurred, and a failure of the writer is reported
   pub honest : (kind : ErrorKind) → reply ≡ Fault kind → ReportsFault old new now step kind
   pub reports : StepReports old new now step reply
 
--- ONE STEP: it does this, and what was done before is done, and this step and its reply after it.
+-- ONE STEP: it has these effects, and extends each run that the connection represents by this step and its reply.
 pub record TakesStep {R W : Type 0} (old new : ConnectionState R W) (now : HttpDate) (step : Step (Option Feed))
     (reply : ReplyValue) : Type 0 where
   pub makes : MakesStep old new now step reply
@@ -509,7 +508,7 @@ pub record TakesStep {R W : Type 0} (old new : ConnectionState R W) (now : HttpD
       → HasDone p client before old steps replies
       → HasDone p client before new (steps ++ (now, asked) ∷ []) (replies ++ reply ∷ [])
 
--- a step that drops the request of this number, and its reply: a Drop, an answer that is refused, or an Upgrade that is
+-- a step that drops the request of this number, with its reply: a Drop, or a Respond or an Upgrade that is refused
 abbrev pub IsDropping : List (Option Unfinished) → ℕ → Step (Option Feed) → ReplyValue → Type 0
 IsDropping requests n (step.Drop k) Done = k ≡ n
 IsDropping requests n (step.Respond k r) Refused = (k ≡ n) × (refuses_at r.answer.status (slice_get requests n) ≡ true)

@@ -1,5 +1,5 @@
--- What each step answers and leaves. Nobody needs this file to believe the laws of `InShort`: they say what is handed
--- out, read and sent whatever is judged here.
+-- The reply and the effects of each step. The laws of `InShort` can be read without this file: whatever it defines,
+-- they state what is handed out, read and sent.
 use Rattle.std.specs.Prelude.{ℕ, ◌+◌, Bool, true, false, not, ◌&&◌, ◌||◌, ◌==◌, nat_lt, List, [], ◌∷◌, ◌++◌, length}
 use Rattle.std.specs.Prelude.{take, Option, Some, None, if◌then◌else◌, slice_get, slice_set}
 use Rattle.std.specs.declared.io.ErrorKind.{ErrorKind}
@@ -20,19 +20,19 @@ use Rattle.tiny_http_connection.specs.Steps.{AsReader, Ask, Done, Drop, Ended, F
 use Rattle.tiny_http_connection.specs.Steps.{IntoWriter, NoSuch, NotYet, Read, Refused, ReplyValue, Respond}
 use Rattle.tiny_http_connection.specs.Steps.{StepValue, Upgrade, Write, number_of}
 
--- how a fault of an answer is replied: a client that has closed the connection is none
+-- the reply for a fault while a response is sent: a client that has closed the connection is not a fault
 abbrev pub fault_reply : ErrorKind → ReplyValue
 fault_reply kind = if is_closed_client kind then Done else Fault kind
 
--- How a step uses the writer: not at all; or its texts are written and flushed, and no reply reports a fault; or its
--- own text is written, and flushed or not, and a fault of the writer in it is reported, or else that of its
--- response's data, if any. Where both fail, either may be reported.
+-- How a step uses the writer: not at all; or it writes and flushes its texts, and no reply reports a fault; or it
+-- writes its own text, flushes it or not, and reports a fault of the writer in it, else that of its response's data, if
+-- any. If both fail, either may be reported.
 pub data WriterUse : Type 0 where
   Unused : WriterUse
   Unreported : WriterUse
   Reported : (own : List ℕ) (broken : Option ErrorKind) (flushes : Bool) (report : ErrorKind → ReplyValue) → WriterUse
 
--- What a step answers and leaves, so far as the writer has no say in it.
+-- The reply and the effects of a step, apart from the writer's faults.
 pub record Outcome : Type 0 where
   pub reply : ReplyValue
   pub slots : List Slot
@@ -40,7 +40,7 @@ pub record Outcome : Type 0 where
   pub asking_ended : Bool
   pub writer : WriterUse
 
--- What is reached of a pipeline, what isn't yet, and whether the asking has ended.
+-- What is reached of a pipeline, what isn't yet, and whether the requests have ended.
 pub record Reached : Type 0 where
   pub slots : List Slot
   pub rest : List Item
@@ -77,8 +77,9 @@ asks_from date writer slots (Refuses refusal manner no_body last ∷ items) =
     asks_from date (if turn_has_come (length slots) slots then Unreported else writer)
     (slots ++ new_slot date (Refuses refusal manner no_body last) ∷ []) items
 
--- The answer to an Ask: Ended once it was; NotYet while the last request handed out holds the reader; Ended after a
--- chunked body that was given up before its end; else the next request of the pipeline, or its end.
+-- The reply to an Ask: Ended after an earlier Ended; NotYet while the last request that was handed out holds the
+-- reader; Ended after a chunked body that was given up before its end; else the next request of the pipeline, or its
+-- end.
 abbrev pub ask : HttpDate → Reached → Outcome
 ask date old =
     if old.asking_ended then unchanged old Ended else
@@ -87,7 +88,7 @@ ask date old =
     then record { reply = Ended; slots = old.slots; rest = old.rest; asking_ended = true; writer = Unused } else
     asks_from date Unused old.slots old.rest
 
--- the bytes that a read gives, or how the body closes
+-- the reply of a read at the stop of the body
 abbrev pub close_reply : Stop → ReplyValue
 close_reply End = Given []
 close_reply (Faults kind) = Fault kind
@@ -96,11 +97,11 @@ abbrev pub read_reply : ℕ → List ℕ → Stop → ReplyValue
 read_reply n [] close = close_reply close
 read_reply n (b ∷ left) close = Given (take n (b ∷ left))
 
--- the number ends so, and its body is given up
+-- the number ends in this stage, and its body is given up
 abbrev pub finished_as : Bool → Slot → Stage → Slot
 finished_as closes s stage = record s { stage = stage; given_up = true; owed = false; closes = closes }
 
--- more bytes were written, or the stream ends
+-- more bytes were written
 abbrev pub written_to : List ℕ → Stage → Stage
 written_to bytes (Raw written ends) = Raw (written ++ bytes) ends
 written_to bytes (Upgraded protocol response date written ends) =
@@ -146,27 +147,27 @@ needs_turn r s (Flush k) = true
 needs_turn r s (Upgrade k protocol response) = not (refuses_upgrade r s protocol response)
 needs_turn r s _ = false
 
--- a text of the server's own is written in its turn alone
+-- a text of the server's own is written only in its turn
 abbrev pub use_in_turn : Bool → WriterUse
 use_in_turn true = Unreported
 use_in_turn false = Unused
 
--- no head is read behind the number, if this holds
+-- no head is read after the number, if this holds
 abbrev pub ends_asking : Bool → Outcome → Outcome
 ends_asking ends o = record o { asking_ended = o.asking_ended || ends }
 
--- No head is read behind a request that gets the connection's stream now, if it holds the next head or would be the
+-- No head is read after a request that gets the connection's stream now, if it holds the next head or would be the
 -- last.
 abbrev pub ends_with_stream : Request → Bool → ℕ → Bool → Bool
 ends_with_stream r owed given end_reported = holds_next_head r || ends_when_finished r owed given end_reported
 
--- An answer asks that the connection ends: no further head is read, and the last number that was reached says so in
--- its answer, if that isn't made yet.
+-- A response asks to close the connection: no further head is read, and the last number that was reached closes the
+-- connection by its response, if that isn't made yet.
 abbrev pub asked_to_close : Bool → Reached → Reached
 asked_to_close closes old =
     if closes then record old { slots = with_last closing_slot old.slots; asking_ended = true } else old
 
--- this slot of a request is answered by the response
+-- the request of this slot is answered by the response
 abbrev pub answers_slot : Bool → HttpDate → Reached → Request → ℕ → ResponseValue → Option Slot → Outcome
 answers_slot found date old r k response None = unchanged old NoSuch
 answers_slot found date old r k response (Some s) =
@@ -176,7 +177,7 @@ answers_slot found date old r k response (Some s) =
     (changes old k (finished_as closes s (Answered response date found)) Done
     (Reported text.bytes (fault_in text.ending) true fault_reply))
 
--- the number of a request is answered by the response
+-- the request of this number is answered by the response
 abbrev pub answers : Bool → HttpDate → Reached → Request → ℕ → ResponseValue → Outcome
 answers found date old r k response = answers_slot found date old r k response (slice_get old.slots k)
 
@@ -187,7 +188,7 @@ drops old r s turn k reply =
     (changes old k (finished_as (closes_now r s.closes s.owed s.given s.end_reported) s ByServer) reply
     (use_in_turn turn))
 
--- n bytes of its body are asked for
+-- a read of n bytes of its body
 abbrev pub reads : Reached → Request → Slot → ℕ → ℕ → Outcome
 reads old r s k n =
     if n == 0 then unchanged old (Given [])
@@ -203,7 +204,7 @@ abbrev pub streams : Reached → Request → Slot → ℕ → Slot → WriterUse
 streams old r s k new writer =
     ends_asking (ends_with_stream r s.owed s.given s.end_reported) (changes old k new Done writer)
 
--- a step that the number of a request takes, in its time
+-- the effect of a step that the number of a request takes, once it needn't wait
 abbrev pub effect : Bool → HttpDate → Reached → Request → Slot → Bool → StepValue → Outcome
 effect found date old r s turn (AsReader k) =
     if s.owed then changes old k (record s { owed = false; continued = Some date }) Done Unreported
@@ -236,11 +237,11 @@ abbrev pub at_slot : Bool → HttpDate → Reached → ℕ → StepValue → Opt
 at_slot found date old k step None = unchanged old NoSuch
 at_slot found date old k step (Some s) = at_item found date old k step s s.item
 
--- a step of a number
+-- a step on a number
 abbrev pub at_number : Bool → HttpDate → Reached → ℕ → StepValue → Outcome
 at_number found date old k step = at_slot found date old k step (slice_get old.slots k)
 
--- what a step answers and leaves
+-- the reply and the effects of a step
 abbrev pub outcome : Bool → HttpDate → Reached → StepValue → Outcome
 outcome found date old Ask = ask date old
 outcome found date old step = at_number found date old (number_of step) step

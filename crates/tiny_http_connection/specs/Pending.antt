@@ -1,5 +1,4 @@
--- Numbers whose turn comes, and what is sent as it does.
--- Nobody needs this file to believe the laws of `InShort`.
+-- Numbers whose turn comes, and what is sent then. The laws of `InShort` can be read without this file.
 use Rattle.std.specs.Prelude.{◌≡◌, ◌==◌, ◌<◌, ◌^◌, ◌+◌, ℕ, Bool, true, false, not, ◌||◌, List, [], ◌∷◌, ◌++◌, length}
 use Rattle.std.specs.Prelude.{Option, Some, None, MatchBool, is_err, slice_get, if◌then◌else◌}
 use Rattle.tiny_http_io.specs.Device.{Sink}
@@ -24,7 +23,7 @@ use Rattle.tiny_http_turns.specs.TurnsCalls.{Finishes}
 use Rattle.tiny_http_turns.specs.declared.turns.Finishing.{Finishing}
 use Rattle.tiny_http_turns.specs.declared.turns.Finishing.TheVariants.{Go}
 
--- the texts that were left at the front of these numbers
+-- the texts of the left numbers at the front
 abbrev pub left_text : List Mark → List ℕ
 left_text [] = []
 left_text (Open ∷ marks) = []
@@ -32,7 +31,7 @@ left_text (Held ∷ marks) = []
 left_text (Left text ∷ marks) = text ++ left_text marks
 left_text (Finished ∷ marks) = []
 
--- these numbers are finished
+-- the left numbers at the front are finished
 abbrev pub with_left_finished : List Mark → List Mark
 with_left_finished [] = []
 with_left_finished (Open ∷ marks) = Open ∷ marks
@@ -48,25 +47,27 @@ begins_left (Held ∷ marks) = false
 begins_left (Left text ∷ marks) = true
 begins_left (Finished ∷ marks) = false
 
--- as a turn passes to these numbers the texts that were left at their front are sent; if there is none, nothing is done
+-- when the turn passes to these numbers, the texts of the left ones at their front are sent; without any, nothing is
+-- done
 abbrev pub SendsLeft : List Mark → Bool → Sink → Sink → Bool → Type 0
 SendsLeft rest was old new ended =
     MatchBool (begins_left rest) (SendsUnlessEnded was old new ended (left_text rest)
     × IsFlushed new) ((new ≡ old)
     × (ended ≡ was))
 
--- the number at the place of the held one is finished, and so are those after it that were left
+-- the held number is finished, and so are the left ones directly after it
 abbrev pub FinishesFront : List Mark → List Mark → List Mark → Type 0
 FinishesFront front rest new = new ≡ front ++ (Finished ∷ with_left_finished rest)
 
--- An open number is left with a text: in its turn the text is sent, with those after it; else it waits.
+-- An open number is left with a text. In its turn the text is sent, with those of the left numbers after it; else it
+-- waits.
 abbrev pub LeavesText : Bool → List Mark → List Mark → List Mark → List ℕ → Bool → Sink → Sink → Bool → Type 0
 LeavesText in_turn front rest marks text was old new ended =
     MatchBool in_turn
     (FinishesFront front rest marks × SendsUnlessEnded was old new ended (text ++ left_text rest) × IsFlushed new)
     ((marks ≡ front ++ (Left text ∷ rest)) × AreInShape marks × (new ≡ old) × (ended ≡ was))
 
--- how the request of a number is answered now, if it waits for its answer
+-- the context of the response to this number if it is sent now, if the number awaits one
 abbrev pub waiting_response_context : Option (Option Unfinished) → Option ResponseContext
 waiting_response_context (Some (Some (still.Waiting w))) = Some (final_context w (remainder w.body))
 waiting_response_context (Some (Some still.Raw)) = None
@@ -74,11 +75,11 @@ waiting_response_context (Some (Some (still.Upgraded b))) = None
 waiting_response_context (Some None) = None
 waiting_response_context None = None
 
--- this number waits for its answer, and this is kept of it
+-- this number awaits its response, and this is kept of it
 abbrev pub WaitsAt : List (Option Unfinished) → ℕ → OpenRequest UnreadBody → Type 0
 WaitsAt requests number w = slice_get requests number ≡ Some (Some (still.Waiting w))
 
--- its body can be read: it waits for its answer, and no 100 is owed; or it was upgraded
+-- its body can be read: it awaits its response and no 100 is owed, or it was upgraded
 abbrev pub is_readable : Option (Option Unfinished) → Bool
 is_readable (Some (Some (still.Waiting w))) = not w.owes_continue
 is_readable (Some (Some still.Raw)) = false
@@ -94,7 +95,7 @@ is_writable (Some (Some (still.Upgraded b))) = true
 is_writable (Some None) = false
 is_writable None = false
 
--- it waits for its answer, and a 100 is owed
+-- it awaits its response, and a 100 is owed
 abbrev pub owes_continue : Option (Option Unfinished) → Bool
 owes_continue (Some (Some (still.Waiting w))) = w.owes_continue
 owes_continue (Some (Some still.Raw)) = false
@@ -110,7 +111,7 @@ holds_next_head_at (Some (Some (still.Upgraded b))) = false
 holds_next_head_at (Some None) = false
 holds_next_head_at None = false
 
--- it waits for its answer, and no head is read behind it if it is finished now
+-- it awaits its response, and no head is read after it if it is finished now
 abbrev pub is_last_once_finished_at : Option (Option Unfinished) → Bool
 is_last_once_finished_at (Some (Some (still.Waiting w))) = is_last_once_finished w (remainder w.body)
 is_last_once_finished_at (Some (Some still.Raw)) = false
@@ -118,7 +119,7 @@ is_last_once_finished_at (Some (Some (still.Upgraded b))) = false
 is_last_once_finished_at (Some None) = false
 is_last_once_finished_at None = false
 
--- it waits for its answer, and one with this code is refused
+-- it awaits its response, and one with this status code is refused
 abbrev pub refuses_at : ℕ → Option (Option Unfinished) → Bool
 refuses_at code (Some (Some (still.Waiting w))) = refuses_code w.by_standard w.is_connect code
 refuses_at code (Some (Some still.Raw)) = false
@@ -126,7 +127,7 @@ refuses_at code (Some (Some (still.Upgraded b))) = false
 refuses_at code (Some None) = false
 refuses_at code None = false
 
--- it waits for its answer, and an upgrade to this protocol with this code is refused
+-- it awaits its response, and an upgrade to this protocol with this status code is refused
 abbrev pub refuses_upgrade_at : List ℕ → ℕ → Option (Option Unfinished) → Bool
 refuses_upgrade_at protocol code (Some (Some (still.Waiting w))) =
     is_err (request_check w protocol code (is_whole w.body))
@@ -135,18 +136,18 @@ refuses_upgrade_at protocol code (Some (Some (still.Upgraded b))) = false
 refuses_upgrade_at protocol code (Some None) = false
 refuses_upgrade_at protocol code None = false
 
--- no head is read behind it once it gets the connection's stream
+-- no head is read after it once it gets the connection's stream
 abbrev pub is_last_with_stream_at : Option (Option Unfinished) → Bool
 is_last_with_stream_at o = holds_next_head_at o || is_last_once_finished_at o
 
--- the answer of this number says that the connection ends, if it waits for it
+-- the number with a response that closes the connection, if it awaits one
 abbrev pub closing_number : Option Unfinished → Option Unfinished
 closing_number (Some (still.Waiting w)) = Some (still.Waiting (closing w))
 closing_number (Some still.Raw) = Some still.Raw
 closing_number (Some (still.Upgraded b)) = Some (still.Upgraded b)
 closing_number None = None
 
--- the same of the last of these, if an answer asks for it
+-- the same for the last of these, if a response asks for it
 abbrev pub closing_if_asked : Bool → List (Option Unfinished) → List (Option Unfinished)
 closing_if_asked closes requests = if closes then with_last closing_number requests else requests
 
@@ -163,12 +164,12 @@ kept_body (Some (still.Waiting w)) = Some w.body
 kept_body (Some still.Raw) = None
 kept_body (Some (still.Upgraded b)) = Some b
 
--- this body was given up; where none is, the source is left alone
+-- this body was given up; without one the source is unchanged
 abbrev pub GivesUpIfKept : {R : Type 0} → Option UnreadBody → SourceState R → SourceState R → Type 0
 GivesUpIfKept None old new = new ≡ old
 GivesUpIfKept (Some b) old new = GivesUp b old new
 
--- the same number, with this in place of its body
+-- the number with this body in place of its own
 abbrev pub number_with_body : UnreadBody → Unfinished → Unfinished
 number_with_body b (still.Waiting w) = still.Waiting (record w { body = b })
 number_with_body b still.Raw = still.Raw
@@ -185,8 +186,8 @@ abbrev pub is_streaming_body : Option UnreadBody → Bool
 is_streaming_body None = false
 is_streaming_body (Some b) = is_streaming b
 
--- A REFUSED HEAD takes the next number, and its answer is left there; or memory is refused for that, and nothing
--- changes. The answer isn't held back while the next head is waited for.
+-- A REFUSED HEAD takes the next number, and its error response is left there; or memory for that is refused, and
+-- nothing changes. The response isn't held back while the connection waits for the next head.
 pub record RefusesHead {W : Type 0} (p : Pending) (o : OutletState W) (text : List ℕ) (kept : Bool) (q : Pending)
     (u : OutletState W) : Type 0 where
   pub leaves : kept ≡ true → (outlet_ended o ≡ false → CanSend (output_of o))
@@ -204,7 +205,7 @@ pub record RefusesHead {W : Type 0} (p : Pending) (o : OutletState W) (text : Li
 abbrev pub WritesHeld : {W : Type 0} → HeldNumber → OutletState W → List ℕ → HeldNumber → OutletState W → Type 0
 WritesHeld k o text l u = (l ≡ k) × SendsQuietlyOn o u text × FailsOnce o u × KeepsSent o u
 
--- what finishing says of the next number: it had been left with this text, and is held; or it hadn't
+-- the next number after finishing a held one: it had been left with this text, and is held; or it hadn't
 abbrev pub NextHeld : HeldNumber → Finishing (Unit {0}) → Option (Vec ℕ) → HeldNumber → Type 0
 NextHeld k r None l = ((u : Unit {0}) (next : Vec ℕ) → r ≡ Go u next → ⊥)
 NextHeld k r (Some text) l = ((u : Unit {0}) × (r ≡ Go u text)) × (l.0 ≡ k.0 + 1) × (l.0 < 2 ^ 64)

@@ -1,5 +1,4 @@
--- Whether each step is done, by what is kept of its number.
--- Nobody needs this file to believe the laws of `InShort`.
+-- Whether each step is done, by what is kept of its number. The laws of `InShort` can be read without this file.
 use Rattle.std.specs.Prelude.{◌≡◌, ⊤, ℕ, ◌==◌, Bool, true, false, not, ◌&&◌, Option, Some, is_some, slice_get}
 use Rattle.std.specs.Prelude.{string_bytes}
 use Rattle.tiny_http_io.specs.Device.{Feed}
@@ -12,8 +11,8 @@ use Rattle.tiny_http_connection.specs.Pending.{waiting_response_context, owes_co
 use Rattle.tiny_http_connection.specs.Pending.{refuses_upgrade_at}
 use Rattle.tiny_http_connection.specs.Connection.{ConnectionState}
 
--- HOW A STEP IS REPLIED that a request has to take: `NoSuch` if none does; `Refused` if it is refused, in its turn or
--- before it; `NotYet` if it has to wait; else it was done, or its fault is reported.
+-- THE REPLY of a step on a number: `NoSuch` if no request takes it; `Refused` if it is refused, in its turn or before
+-- it; `NotYet` if it has to wait; else it was done, or its fault is reported.
 abbrev pub IsReplied : Bool → Bool → Bool → ReplyValue → Type 0
 IsReplied false refused waits reply = reply ≡ NoSuch
 IsReplied true true waits reply = reply ≡ Refused
@@ -24,7 +23,7 @@ abbrev pub is_open_mark : Option Mark → Bool
 is_open_mark (Some Open) = true
 is_open_mark _ = false
 
--- whether this number waits for its answer
+-- whether this number awaits its response
 abbrev pub is_waiting : {R W : Type 0} → ConnectionState R W → ℕ → Bool
 is_waiting c k = is_some (waiting_response_context (slice_get c.requests k))
 
@@ -36,7 +35,7 @@ is_in_turn c k = k == first_unfinished c.marks
 abbrev pub can_take : {R W : Type 0} → ConnectionState R W → ℕ → Bool
 can_take c k = is_open_mark (slice_get c.marks k) && is_in_turn c k
 
--- How each step is replied; an Ask and a Read as `AskEnds` and `ReadLeaves` say.
+-- The reply of each step. `AskEnds` and `ReadLeaves` define those of an Ask and a Read.
 abbrev pub StepReplies : {R W : Type 0} → ConnectionState R W → Step (Option Feed) → ReplyValue → Type 0
 StepReplies c step.Ask reply = ⊤
 StepReplies c (step.Read k n) reply = ⊤

@@ -1,5 +1,4 @@
--- What a run of a list of steps comes to.
--- Nobody needs this file to believe the laws of `InShort`.
+-- The result of a run of a list of steps. The laws of `InShort` can be read without this file.
 use Rattle.std.specs.Prelude.{◌≡◌, ℕ, List, map, true, false, [], ◌∷◌, length, Option, Some, None}
 use Rattle.std.specs.List.{AllZip}
 use Rattle.tiny_http_io.specs.Device.{Feed, Sink, HoldsNothing}
@@ -17,10 +16,9 @@ use Rattle.tiny_http_connection.specs.Driving.{MakesStep, StepMeets, stated_step
 use Rattle.tiny_http_connection.specs.Conversation.{IsConversation, IsFresh}
 use Rattle.tiny_http_connection.specs.Steps.{TimedValue}
 
--- THE CONNECTION THEOREM, of what a run leaves: where the reader states its feed, the writer states that it took
--- nothing, has not ended, and its count can rise, and the data of the responses state feeds of fewer than 2^63 bytes,
--- the steps and their replies are a conversation over that feed, with the output that the writer took and what is
--- held of it.
+-- THE CONNECTION THEOREM of a run. Let the reader state its feed, let the writer state that it took nothing, has not
+-- ended and can count a failure, and let the data of the responses state feeds of fewer than 2^63 bytes. Then the steps
+-- and their replies are a conversation over that feed, with the output that the writer took and what is held of it.
 abbrev pub IsConversationOf : {R W D : Type 0} → (R → Option Feed) → (W → Sink) → (D → Option Feed)
     → Profile → R → W → List (Timed D) → Record R W → Type 0
 IsConversationOf client sink stated p reader writer steps done =
@@ -31,8 +29,8 @@ IsConversationOf client sink stated p reader writer steps done =
     → IsConversation p feed (sink writer) dated (map seen done.replies.items)
     (sink done.outlet.writer) done.outlet.held done.outlet.ended done.source.feed
 
--- a connection under this profile, on which nothing was asked yet: over this reader, which states this of its bytes,
--- and this writer, which states this
+-- a connection under this profile before its first step, over a reader that states this feed and a writer that states
+-- this
 pub record IsNew {R W : Type 0} (p : Profile) (reader : R) (client : Option Feed) (writer : W) (before : Sink)
     (c : ConnectionState R W) : Type 0 where
   pub profile : c.profile ≡ p
@@ -41,8 +39,8 @@ pub record IsNew {R W : Type 0} (p : Profile) (reader : R) (client : Option Feed
   pub unread : (c.source.stop ≡ None) × (c.source.held ≡ []) × (c.source.skip ≡ 0)
   pub outlet : c.outlet ≡ record { held = []; ended = false; writer = writer; sink = before }
 
--- the steps were taken one after another, each with its reply, from one state of a connection to another; the reader
--- states how often it met an end or a fault
+-- The steps were taken one after another, each with its reply, from one state of a connection to another. The reader
+-- states how many ends and faults it has reported.
 abbrev pub TakesSteps : {R W D : Type 0} → (R → ℕ) → (D → Option Feed) → ConnectionState R W → List (Timed D)
     → List Reply → ConnectionState R W → Type 0
 TakesSteps stop_count stated old [] [] new = new ≡ old
@@ -54,17 +52,16 @@ TakesSteps {R = R} {W = W} stop_count stated old (t ∷ steps) (r ∷ replies) n
 TakesSteps stop_count stated old [] (r ∷ replies) new = ⊥
 TakesSteps stop_count stated old (t ∷ steps) [] new = ⊥
 
--- WHAT A RUN LEAVES, whatever reader, writer and data state.
+-- WHAT A RUN LEAVES, for whatever reader, writer and data state.
 pub record RunsSteps {R W D : Type 0} (client : R → Option Feed) (stop_count : R → ℕ) (sink : W → Sink)
     (stated : D → Option Feed) (p : Profile) (reader : R) (writer : W) (steps : List (Timed D))
     (done : Record R W) : Type 0 where
-  -- one reply a step, as `takes` says too
+  -- one reply per step, as `takes` also says
   pub replies : length done.replies.items ≡ length steps
-  -- what the source still gives is the client's bytes from some place on, if the reader states them
+  -- the source still gives the client's bytes from some position on, if the reader states them
   pub source : GoesOn (client reader) done.source.feed
-  -- The steps were taken one after another by a connection that was new. So what `MakesStep` and `StepMeets` say holds
-  -- of each step and its reply. Source and outlet are as the last step left them, and the outlet states what its
-  -- writer states.
+  -- A new connection took the steps one after another, so `MakesStep` and `StepMeets` hold for each step and its reply.
+  -- Source and outlet are as the last step left them, and the outlet states what its writer states.
   pub first : ConnectionState R W
   pub last : ConnectionState R W
   pub begins : IsNew p reader (client reader) writer (sink writer) first
@@ -73,7 +70,7 @@ pub record RunsSteps {R W D : Type 0} (client : R → Option Feed) (stop_count :
   pub states : done.outlet.sink ≡ sink done.outlet.writer
   -- the writer failed at most once
   pub fails_once : FailsAtMostOnce (sink writer) (sink done.outlet.writer)
-  -- Nothing is held, unless a Write stands behind the last Flush, the last answer and the last upgrade. If the writer
-  -- held nothing back before the run, it then sent on all that it took.
+  -- Nothing is held, unless a Write follows the last Flush, the last response and the last upgrade. If the writer held
+  -- nothing back before the run, it then sent on all that it took.
   pub flushed : all_sent steps done.replies.items true ≡ true → done.outlet.held ≡ []
   pub sent_on : HoldsNothing (sink writer) → all_sent steps done.replies.items true ≡ true → SentOn done.outlet

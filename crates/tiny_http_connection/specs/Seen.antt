@@ -1,5 +1,4 @@
--- The program's steps and replies as the definitions see them.
--- Nobody needs this file to believe the laws of `InShort`.
+-- The program's steps and replies as values of the definitions. The laws of `InShort` can be read without this file.
 use Rattle.std.specs.Prelude.{◌≡◌, ◌⊎◌, ◌<◌, ◌^◌, List, [], ◌∷◌, length, Option, Some, Bool, true, false, not, ◌&&◌}
 use Rattle.std.specs.Prelude.{◌||◌, Result, Ok, Err, string_bytes}
 use Rattle.std.specs.IoError.{error_kind}
@@ -25,7 +24,7 @@ abbrev pub IsResponse : {D : Type 0} → (D → Option Feed) → ResponseState D
 IsResponse feed r value =
     (value.answer ≡ r.answer) × (feed r.data_reader ≡ Some value.content) × (length value.content.bytes < 2 ^ 63)
 
--- the step is this one
+-- the value of a step
 abbrev pub IsStep : {D : Type 0} → (D → Option Feed) → Step D → StepValue → Type 0
 IsStep feed step.Ask Ask = Unit {0}
 IsStep feed (step.AsReader k) (AsReader n) = n ≡ k
@@ -40,11 +39,11 @@ IsStep feed (step.Finish k) (Finish n) = n ≡ k
 IsStep feed (step.Drop k) (Drop n) = n ≡ k
 IsStep feed _ _ = ⊥
 
--- the step on its date is this one
+-- the value of a step on its date
 abbrev pub IsTimedStep : {D : Type 0} → (D → Option Feed) → Timed D → TimedValue → Type 0
 IsTimedStep feed t d = (d.0 ≡ t.now) × IsStep feed t.step d.1
 
--- the reply as it is seen
+-- the value of a reply
 abbrev pub seen : Reply → ReplyValue
 seen (reply.Handed k h) = Handed k (head_message h) (head_framing h)
 seen reply.Ended = Ended
@@ -56,17 +55,17 @@ seen reply.Refused = Refused
 seen reply.NoSuch = NoSuch
 seen reply.Memory = Memory
 
--- the fault is the writer's: its count rose, and it states this kind
+-- the fault is the writer's: its failure count rose, and it states this kind
 abbrev pub IsOfWriter : Sink → Sink → ErrorKind → Type 0
 IsOfWriter old new kind = (new.failures ≡ next_count old.failures) × StatesKind new.last_kind kind
 
--- the writer's count stays, or the reply is its fault
+-- the writer's failure count is unchanged, or the reply is its fault
 abbrev pub ReportsOfWriter : Sink → Sink → ReplyValue → Type 0
 ReportsOfWriter old new reply =
     (new.failures ≡ old.failures) ⊎ ((kind : ErrorKind) × (reply ≡ Fault kind) × IsOfWriter old new kind)
 
--- WHETHER ALL WAS SENT ON after a step, by whether all was before it: a Write that is done may hold its bytes back, a
--- Flush, an answer and an upgrade that are done hold none; the other steps leave it as it is.
+-- WHETHER ALL WAS SENT ON after a step, given whether it was before. A Write that is done may hold its bytes back; a
+-- Flush, a response and an upgrade that are done hold none. The other steps leave it unchanged.
 abbrev pub all_sent_after : {D : Type 0} → Step D → ReplyValue → Bool → Bool
 all_sent_after step.Ask reply sent = sent
 all_sent_after (step.AsReader k) reply sent = sent
@@ -85,23 +84,23 @@ all_sent [] [] sent = sent
 all_sent (t ∷ steps) (r ∷ replies) sent = all_sent steps replies (all_sent_after t.step (seen r) sent)
 all_sent _ _ sent = false
 
--- what a call that sends an answer is reported as
+-- the reply of a call that sends a response
 abbrev pub reply_to : {T : Type 0} → Result T Error → ReplyValue
 reply_to (Ok x) = Done
 reply_to (Err e) = fault_reply (error_kind e)
 
--- what a call of a raw writer is reported as
+-- the reply of a call of a raw writer
 abbrev pub write_reply : {T : Type 0} → Result T Error → ReplyValue
 write_reply (Ok x) = Done
 write_reply (Err e) = Fault (error_kind e)
 
--- what an answer that was made is replied
+-- the replies of a call that sent a response
 abbrev pub IsAnswered : ReplyValue → Type 0
 IsAnswered Done = Unit {0}
 IsAnswered (Fault kind) = Unit {0}
 IsAnswered _ = ⊥
 
--- an answer with this data was sent and flushed, and the reply reports how that went
+-- a response with this data was sent and flushed, and the reply reports the result
 abbrev pub Answers : Sink → Sink → Bool → ReplyValue → Answer → Feed → Printing → Type 0
 Answers old new ended reply answer content p =
     (r : Result (Unit {0}) Error) × (reply ≡ reply_to r) × Sends old new ended r answer content p × IsFlushed new

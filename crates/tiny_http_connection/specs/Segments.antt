@@ -11,23 +11,23 @@ use Rattle.tiny_http_response.specs.ResponseValue.{ResponseValue, response_of, r
 use Rattle.tiny_http_response.specs.ResponseValue.{printing_to}
 use Rattle.tiny_http_open_request.specs.ErrorResponse.{own_printing, persistence_of, refusal_response}
 
--- what became of a number
+-- the state of a number
 pub data Stage : Type 0 where
-  -- it waits for its answer
+  -- it awaits its response
   Unanswered : Stage
-  -- it was answered by this response on this date; `found`: the memory for data that are read whole first was found
+  -- it was answered by this response on this date; `found`: memory for data that are read whole first was found
   Answered : (response : ResponseValue) (date : HttpDate) (found : Bool) → Stage
-  -- the server answered itself: a refused head, a request that was dropped, or one whose upgrade was refused
+  -- the server answered: a refused head, a request that was dropped, or one whose upgrade was refused
   ByServer : Stage
   -- its raw writer wrote these bytes, and has ended or not
   Raw : (written : List ℕ) (closed : Bool) → Stage
   -- it was upgraded by this response on this date; then these bytes were written, and the stream has ended or not
   Upgraded : (protocol : List ℕ) (response : ResponseValue) (date : HttpDate) (written : List ℕ) (closed : Bool) → Stage
 
--- A number that was reached: its item, the date of its Ask, the date of its 100 if that was sent, whether a 100 is
--- still owed, how many bytes of its body were given out, whether the body's end or fault was reported, whether the
--- body was given up, whether, by the standard, its answer says that the connection ends (where an answer asked for
--- that; and then as was decided as it was finished), and what became of it.
+-- A number that was reached: its item, the date of its Ask, and that of its 100, if one was sent; whether a 100 is
+-- still owed; how many bytes of its body were given out, whether the body's end or fault was reported, and whether the
+-- body was given up; whether under Standard its response closes the connection (while it waits: a response asked for
+-- that; then: as decided when it finished); and its stage.
 pub record Slot : Type 0 where
   pub item : Item
   pub date : HttpDate
@@ -39,7 +39,7 @@ pub record Slot : Type 0 where
   pub closes : Bool
   pub stage : Stage
 
--- what a dropped request is answered
+-- the response to a dropped request
 abbrev pub drop_response : ResponseValue
 drop_response = response_of 500 [] []
 
@@ -47,14 +47,14 @@ drop_response = response_of 500 [] []
 abbrev pub continue_response : ResponseValue
 continue_response = response_of 100 [] []
 
--- an answer to a request: in its version, by its headers, without a body for HEAD; by the standard it says whether
--- the connection ends
+-- The printing of a response to a request: in its version, by its headers, without a body for HEAD. Under Standard it
+-- says whether the connection closes.
 abbrev pub to_request : Bool → Request → HttpDate → Printing
 to_request closes r date =
     printing_to (coding_for r.framing.by_standard r.message.headers) r.message.version
     (is_head_method r.message.method) (persistence_of r.framing.by_standard closes) date
 
--- how an answer under an item is printed
+-- the printing of a response to an item
 abbrev pub printing_for : Bool → Item → HttpDate → Printing
 printing_for closes (Asks r) date = to_request closes r date
 printing_for closes (Refuses refusal manner no_body last) date = own_printing manner no_body date
@@ -63,12 +63,12 @@ abbrev pub server_response : Item → ResponseValue
 server_response (Asks r) = drop_response
 server_response (Refuses refusal manner no_body last) = refusal_response refusal
 
--- the text of a response; no byte where its data had to be read whole first and no memory was found
+-- the text of a response; no byte if its data had to be read whole first and memory was refused
 abbrev pub text_if : Bool → ResponseValue → Printing → Text
 text_if true r p = response_text r p
 text_if false r p = nothing_sent OutOfMemory
 
--- the number has the last head
+-- the item has the last head
 abbrev pub is_last_item : Item → Bool
 is_last_item (Asks r) = r.framing.is_last
 is_last_item (Refuses refusal manner no_body last) = last
@@ -82,7 +82,7 @@ stage_text closes item date (Raw written closed) = whole written
 stage_text closes item date (Upgraded protocol response at written closed) =
     whole (upgrade_text response protocol (printing_for (is_last_item item) item at) ++ written)
 
--- the 100 in front, if it was sent
+-- the 100 before it, if one was sent
 abbrev pub opening : Item → Option HttpDate → List ℕ
 opening item None = []
 opening item (Some date) = (response_text continue_response (printing_for (is_last_item item) item date)).bytes

@@ -1,6 +1,6 @@
--- What a step asks of the numbers: which is the last, what is left of a body, and how a request ends the connection.
--- Nobody needs this file to believe the laws of `InShort`: it says when a step is refused, has to wait, or ends the
--- asking.
+-- What a step depends on in the numbers: which is the last, what is left of a body, and how a request ends the
+-- connection. The laws of `InShort` can be read without this file: it defines when a step is refused, has to wait, or
+-- ends the requests.
 use Rattle.std.specs.Prelude.{ℕ, ◌-◌, nat_lt, Bool, true, false, not, ◌&&◌, ◌||◌, List, [], ◌∷◌, ◌++◌, take, drop}
 use Rattle.std.specs.Prelude.{Option, Some, None, is_err, if◌then◌else◌}
 use Rattle.std.specs.List.{last_or, list_all}
@@ -23,12 +23,12 @@ use Rattle.tiny_http_body.specs.Body.{body_finished}
 use Rattle.tiny_http_connection.specs.Segments.{ByServer, Slot, Stage, Unanswered, is_last_item, is_finished}
 use Rattle.tiny_http_connection.specs.Segments.{is_slot_broken, segment}
 
--- the number's turn has come when all before it are finished
+-- the number's turn comes when all before it are finished
 abbrev pub turn_has_come : ℕ → List Slot → Bool
 turn_has_come k slots = list_all is_finished (take k slots)
 
--- THE JOINED OUTPUT: the segments in the order of their numbers, as far as turns have come, ending after the first
--- broken one
+-- THE JOINED OUTPUT: the segments in the order of their numbers, up to and including the first whose number isn't
+-- finished or which is broken
 abbrev pub joined : List Slot → List ℕ
 joined [] = []
 joined (s ∷ slots) = segment s ++ (if (is_finished s && not (is_slot_broken s)) then joined slots else [])
@@ -38,7 +38,7 @@ abbrev pub is_output_broken : List Slot → Bool
 is_output_broken [] = false
 is_output_broken (s ∷ slots) = is_slot_broken s || (is_finished s && is_output_broken slots)
 
--- a number that waits, of whose body nothing was given, and whether a 100 is owed
+-- the slot of a number of whose body nothing was given, and whether a 100 is owed
 abbrev pub waiting_slot : HttpDate → Item → Bool → Slot
 waiting_slot date item owed =
     record {
@@ -71,7 +71,7 @@ is_end (Fault kind) = false
 abbrev pub is_body_finished : Request → Slot → Bool
 is_body_finished r s = body_finished r.framing.form (body_length_or_0 r.framing) s.given s.end_reported
 
--- forms whose body is read from the stream, up to where the next head begins, or to its end
+-- forms whose body is read from the stream, up to the next head or to the end of input
 abbrev pub is_form_streamed : Form → Bool
 is_form_streamed Counted = true
 is_form_streamed Chunked = true
@@ -96,12 +96,12 @@ abbrev pub is_unanswered : Stage → Bool
 is_unanswered Unanswered = true
 is_unanswered _ = false
 
--- it asks for an upgrade, and isn't the last: what follows it may be bytes of the other protocol
+-- it asks for an upgrade, and isn't the last: what follows may be bytes of the other protocol
 abbrev pub holds_next_head : Request → Bool
 holds_next_head r = r.framing.asks_upgrade && not r.framing.is_last
 
--- What is left of the body of a request, if it is finished now. Its end isn't known where chunks were not read to
--- their end, or a read met its cut or its break.
+-- What is left of the body of a request that is finished now. Its end isn't known if chunks were not read to their end,
+-- or if a read met a cut or broken body.
 abbrev pub remainder_of : Request → ℕ → Bool → Remainder
 remainder_of r given end_reported =
     if (is_chunked_form r.framing.form && not end_reported)
@@ -111,30 +111,29 @@ remainder_of r given end_reported =
     && (not end_reported && nat_lt MOST_SKIPPED (body_length_or_0 r.framing - given)) then left.Long
     else left.Skipped
 
--- No head is read behind a request that is finished now: by the standard its 100 wasn't sent, so that the client may
--- leave the body out, or send it; or more is left of its body than is skipped.
+-- No head is read after a request that is finished now: under Standard, its 100 wasn't sent, so that the client may or
+-- may not send the body; or more of its body is left than is skipped.
 abbrev pub ends_when_finished : Request → Bool → ℕ → Bool → Bool
 ends_when_finished r owed given end_reported =
     ends_once_finished r.framing.by_standard owed (remainder_of r given end_reported)
 
--- By the standard the answer of a request that is finished now says that the connection ends: its head ended it, an
--- answer asked for that, its 100 is owed, or what is left of its body isn't skipped: it is long, or its end isn't
--- known.
+-- Under Standard the response to a request that is finished now closes the connection: its head ended it, a response
+-- asked for that, its 100 is owed, or the rest of its body isn't skipped, since it is long or its end isn't known.
 abbrev pub closes_now : Request → Bool → Bool → ℕ → Bool → Bool
 closes_now r closes owed given end_reported =
     r.framing.is_last || closes_once_answered closes owed (remainder_of r given end_reported)
 
--- the number's answer says that the connection ends, if it isn't made yet
+-- the number's response closes the connection, if it isn't made yet
 abbrev pub closing_slot : Slot → Slot
 closing_slot s = if is_unanswered s.stage then record s { closes = true } else s
 
--- the same list, with this done to its last
+-- the list with its last element changed
 abbrev pub with_last : {A : Type 0} → (A → A) → List A → List A
 with_last change [] = []
 with_last change (x ∷ []) = change x ∷ []
 with_last change (x ∷ y ∷ xs) = x ∷ with_last change (y ∷ xs)
 
--- the request isn't answered by this response
+-- the request refuses this response
 abbrev pub refuses_response : Request → ResponseValue → Bool
 refuses_response r response =
     refuses_code r.framing.by_standard (is_connect_method r.message.method) response.answer.status
@@ -147,7 +146,7 @@ asks_protocol r protocol = holds_next_head r && names_protocol r.message.headers
 abbrev pub is_body_whole : Request → Slot → Bool
 is_body_whole r s = is_body_finished r s && is_end r.body.stop
 
--- the request isn't upgraded to this protocol by this response
+-- the request refuses the upgrade to this protocol by this response
 abbrev pub refuses_upgrade : Request → Slot → List ℕ → ResponseValue → Bool
 refuses_upgrade r s protocol response =
     is_err
@@ -159,7 +158,7 @@ abbrev pub as_stream : Request → Request
 as_stream r =
     record r { framing = record r.framing { form = Rest; is_last = true }; body = r.behind; behind = whole_feed [] }
 
--- The number is upgraded. By the standard its stream reads all that follows the request, else the request's own body.
+-- The number is upgraded. Under Standard its stream reads all that follows the request, else the request's own body.
 abbrev pub upgraded_slot : Request → Slot → Stage → Slot
 upgraded_slot r s stage =
     if r.framing.by_standard then record s
@@ -171,7 +170,7 @@ abbrev pub is_holding : Slot → Item → Bool
 is_holding s (Asks r) = holds_next_head r && is_unanswered s.stage
 is_holding s (Refuses refusal manner no_body last) = false
 
--- a chunked body was given up before its end was reported: where the next head begins isn't known
+-- a chunked body was given up before its end was reported: the position of the next head isn't known
 abbrev pub body_was_abandoned : Slot → Item → Bool
 body_was_abandoned s (Asks r) = is_chunked_form r.framing.form && (s.given_up && not s.end_reported)
 body_was_abandoned s (Refuses refusal manner no_body last) = false

@@ -1,4 +1,4 @@
--- The steps of a connection, and what each can be answered.
+-- The steps of a connection, and the possible replies.
 use Rattle.std.specs.Prelude.{ℕ, List, Bool, true, false}
 use Rattle.std.specs.declared.io.ErrorKind.{ErrorKind}
 use Rattle.httpdate.specs.declared.date.HttpDate.{HttpDate}
@@ -19,7 +19,7 @@ pub data StepValue : Type 0 where
   Finish : (k : ℕ) → StepValue
   Drop : (k : ℕ) → StepValue
 
--- what a step is answered
+-- the reply to a step
 pub data ReplyValue : Type 0 where
   Handed : (k : ℕ) (message : Message) (framing : Framing) → ReplyValue
   Ended : ReplyValue
@@ -55,6 +55,6 @@ number_of (Upgrade k protocol response) = k
 number_of (Finish k) = k
 number_of (Drop k) = k
 
--- a step on a date
+-- a step on its date
 abbrev pub TimedValue : Type 0
 TimedValue = HttpDate × StepValue

@@ -37,77 +37,79 @@ use tiny_http_open_request::open_request::OpenRequest;
 use tiny_http_response::response::Response;
 use tiny_http_response::sending::reported;
 
-/// What is done next on a connection.
+/// One call on a connection, as a value.
 #[derive(Drop)]
 pub enum Step<D> {
-    /// Reads the next head and hands it out. It is `NotYet` while the body of the last request that was handed out
-    /// holds the reader: one that is counted or chunked, neither read to its end nor given up, of a request that
-    /// isn't the connection's last. Under `Standard` it is `NotYet`, too, while a request that asks for an upgrade
-    /// waits for its answer. After a chunked body that was given up before its end was reported no head follows.
+    /// Reads the next request head and hands it out. It is `NotYet` while the body of the last request holds the
+    /// reader: a counted or chunked body that was neither read to its end nor given up, of a request that isn't the
+    /// connection's last. Under `Standard` it is also `NotYet` while a request that asks for an upgrade awaits its
+    /// response. No head follows a chunked body that was given up before its end was reported.
     Ask,
-    /// Sends the 100 that is owed to the request of this number. Before its turn it is `NotYet`.
+    /// Sends the 100 that is owed to the request of this number. It is `NotYet` before its turn.
     AsReader(u64),
-    /// Reads the body of the request of this number, until there are so many bytes, 0 to 65535, or no more follow.
+    /// Reads the body of the request of this number, until it has this many bytes, 0 to 65535, or no more follow.
     Read(u64, u16),
-    /// Answers the request of this number in its turn, and gives its body up.
+    /// Responds to the request of this number in its turn, and gives up its body.
     Respond(u64, Response<D>),
-    /// Takes the raw writer of the request of this number in place of an answer, and gives its body up.
+    /// Takes the raw writer of the request of this number in place of a response, and gives up its body.
     IntoWriter(u64),
     /// Writes these bytes by the raw writer of this number, or to the stream of its upgrade, in its turn. They may be
     /// held until its `Flush` or `Finish`.
     Write(u64, Vec<u8>),
     /// Sends what was written under this number, in its turn.
     Flush(u64),
-    /// Answers the request of this number in its turn by a response that upgrades the connection to this protocol.
-    /// Then its stream is read by `Read`, and written by `Write`, until its `Finish`. It reads what is left of the
-    /// request's body, or under `Standard` all that follows the body.
+    /// Responds to the request of this number in its turn, and upgrades the connection to this protocol. `Read` then
+    /// reads the stream, and `Write` writes it, until `Finish`. The stream reads what is left of the request's body, or
+    /// under `Standard` all bytes after the body.
     Upgrade(u64, String, Response<D>),
-    /// Ends the raw writer of this number, or the stream of an upgrade. In its turn what was written is sent.
+    /// Ends the raw writer of this number, or the stream of an upgrade. What was written is sent in its turn.
     Finish(u64),
-    /// Drops the request of this number, and gives its body up: it is answered by an empty 500, on the date on which
-    /// it was handed out.
+    /// Drops the request of this number, and gives up its body. The response is an empty 500, dated when the request
+    /// was handed out.
     Drop(u64),
 }
 
-/// A step on its date.
+/// A step and its date.
 #[derive(Drop)]
 pub struct Timed<D> {
-    /// The `Date` of what the step sends; a dropped request's 500 has that of its `Ask`.
+    /// The `Date` of what the step sends. The 500 for a dropped request has the date of its `Ask`.
     pub now: HttpDate,
-    /// What is done.
+    /// The step.
     pub step: Step<D>,
 }
 
-/// What a step is answered.
+/// The result of a step.
 #[derive(Drop)]
 pub enum Reply {
-    /// The request of this number. Refused heads have taken numbers too.
+    /// The request of this number. Refused heads take numbers too.
     Handed(u64, Head),
     /// The connection has no further request.
     Ended,
-    /// These bytes of the body. Where they are fewer than were asked for no byte follows: the next read reports the
-    /// end by none, or the fault.
+    /// These bytes of the body. If they are fewer than were asked for, no byte follows: the next read reports the end
+    /// by an empty `Given`, or the fault.
     Given(Vec<u8>),
-    /// The body ends by this fault; or the writer or the response's data failed so.
+    /// The body ends with this fault, or the writer or the response's data failed with it.
     Fault(ErrorKind),
-    /// The step has to wait: an `Ask` for the last body to be read or given up, or for the answer to a request that
-    /// asks for an upgrade; a `Respond` or an `Upgrade` that isn't refused, a `Write`, a `Flush`, or an `AsReader`
-    /// that has a 100 to send, for its turn. Nothing has changed.
+    /// The step has to wait, and nothing has changed. An `Ask` waits for the last body to be read or given up, or for
+    /// the response to a request that asks for an upgrade. A `Respond` or an `Upgrade` that isn't refused, a `Write`, a
+    /// `Flush`, and an `AsReader` that has a 100 to send wait for their turn.
     NotYet,
     /// The step was done, and met no fault that is reported.
     Done,
-    /// An upgrade was refused; or under `Standard` an answer, by its code. The request was dropped.
+    /// An upgrade was refused, or under `Standard` a response, by its status code. The request was dropped.
     Refused,
-    /// No request of this number takes the step; nothing has changed.
+    /// No request of this number takes the step. Nothing has changed.
     NoSuch,
-    /// No memory was found. A `Read` has changed nothing; after an `Ask` every later one is answered `Ended`.
+    /// Out of memory. A `Read` has changed nothing. After an `Ask`, every later one is `Ended`.
     Memory,
 }
 
-/// A connection over a reader and a writer, without threads. It hands out the client's requests one after another,
-/// reads their bodies when they are asked for, and sends the answers in the order of the requests (RFC 9112, section
-/// 9.3.2): an answer that is made before its turn is refused by `NotYet`, and a drop waits for its turn. A program
-/// drives it call by call; each call is a step of the connection theorem.
+/// A connection over a reader and a writer, without threads.
+///
+/// It hands out the client's requests one after another, reads their bodies on demand, and sends the responses in the
+/// order of the requests (RFC 9112, section 9.3.2). A response that is made before its turn is refused by `NotYet`; a
+/// drop waits for its turn. A program drives the connection call by call, and each call is a step of the connection
+/// theorem.
 #[derive(Drop)]
 pub struct Connection<R: ReadDevice, W: WriteDevice> {
     profile: Profile,
@@ -133,7 +135,7 @@ impl<R: ReadDevice, W: WriteDevice> Model for Connection<R, W> {
 }
 
 impl Reply {
-    // The reply for a reported result: `Done`, or the kind of the fault.
+    // Converts a reported result to a reply: `Done`, or `Fault` with the kind of the fault.
     fn write_reply(written: Result<(), io::Error>) -> Reply
         ensures { seen result ≡ write_reply written }
     {
@@ -144,8 +146,8 @@ impl Reply {
     }
 }
 
-// Answers a request whose turn has come, of whose body this is left, and says how that is replied. An output that has
-// ended sends nothing, and the data are left unread.
+// Responds to a request whose turn has come and of whose body `left` remains, and returns the reply. After the output
+// has ended nothing is sent, and the data are left unread.
 fn answer<W: WriteDevice, D: ReadDevice + Drop>(
     alloc: Global,
     request: &mut OpenRequest<UnreadBody>,
@@ -175,7 +177,7 @@ fn answer<W: WriteDevice, D: ReadDevice + Drop>(
     Reply::write_reply(reported(request.respond(alloc, outlet, response, left, now)))
 }
 
-// Why the requests end, where no head is read behind a request, if this holds.
+// Returns why the requests end: `end` if it is set, else `LastRequest` if `ends` holds.
 fn ends_behind(ends: bool, end: Option<EndOfRequests>) -> Option<EndOfRequests>
     ensures { result ≡ ends_behind ends end }
 {
@@ -185,7 +187,7 @@ fn ends_behind(ends: bool, end: Option<EndOfRequests>) -> Option<EndOfRequests>
     }
 }
 
-// So many bytes 0.
+// Returns `count` zero bytes.
 fn zeros(alloc: Global, count: u16) -> Result<Vec<u8>, AllocError>
     ensures { IfOk result (λ v. length v.items ≡ count) }
 {
@@ -195,8 +197,8 @@ fn zeros(alloc: Global, count: u16) -> Result<Vec<u8>, AllocError>
 }
 
 impl<R: ReadDevice, W: WriteDevice> Connection<R, W> {
-    /// A connection on which nothing was asked yet, under `Lenient`. Its theorem is for a reader that states its bytes,
-    /// and a writer that has taken nothing, has not ended and can count a failure.
+    /// Returns a connection under `Lenient`. Its theorem requires a reader that states its bytes, and a writer that has
+    /// taken nothing, has not ended and can count a failure.
     pub fn new(alloc: Global, reader: R, writer: W) -> Connection<R, W>
         ensures profile { result.profile ≡ Profile.Lenient }
         ensures begins { (client : Feed)
@@ -212,7 +214,7 @@ impl<R: ReadDevice, W: WriteDevice> Connection<R, W> {
         Connection::new_with(alloc, Profile::Lenient, reader, writer)
     }
 
-    /// The same under this profile, by which its heads are read.
+    /// Returns a connection whose heads are read by this profile. Its theorem has the premises of `new`.
     pub fn new_with(alloc: Global, profile: Profile, reader: R, writer: W) -> Connection<R, W>
         ensures profile { result.profile ≡ profile }
         ensures begins { (client : Feed)
@@ -234,42 +236,48 @@ impl<R: ReadDevice, W: WriteDevice> Connection<R, W> {
         }
     }
 
-    /// Why no further request is handed out, once an `ask` was answered `Ended` or `Memory`, or a request was finished,
-    /// upgraded or its raw writer taken, behind which none is read.
+    /// Returns why no further request is handed out. It is set once an `ask` was `Ended` or `Memory`, and once a
+    /// request was finished, was upgraded or gave its raw writer and no head is read after it.
     pub fn end_of_requests(&self) -> Option<EndOfRequests>
         ensures { result ≡ self.now.end }
     {
         self.end
     }
 
-    /// The number that the next request or refused head takes. They are numbered from 0.
+    /// Returns the number that the next request or refused head takes. Numbers begin at 0.
     pub fn next_number(&self) -> u64
         ensures { result ≡ length self.now.requests }
     {
         self.pending.requests.len()
     }
 
-    /// Whether the request of this number waits for its answer.
+    /// Returns whether the request of this number awaits its response.
     pub fn is_open(&self, number: u64) -> bool
         ensures { result ≡ is_some (waiting_response_context (slice_get self.now.requests number)) }
     {
         self.pending.is_waiting(number)
     }
 
-    /// Goes to the next request, and hands it out with its number: `Handed`. It is `NotYet` while the body of the
-    /// last request holds the reader: until that was read to its end or given up. It is so, too, while the last
-    /// request waits for its answer and its head says `asks_upgrade`, unless it is the connection's last: what
-    /// follows it may be bytes of the other protocol (RFC 9110, section 7.8). The reply is `Ended` once the
-    /// connection has no further request, from then on, and `end_of_requests` says why. A refused head is answered
-    /// under a number of its own, in its turn, and ends the asking; but a 505 does so only where its head names an
-    /// upgrade or its body is chunked. After any other 505 the same call reads the next head. `Memory` ends the
-    /// asking too, and so does a chunked body that was given up before its end. Under `Standard` each 505 ends it; so
-    /// does a request that asked for an upgrade, once its raw writer is taken or it is upgraded, and one that is
-    /// answered, dropped or gives its raw writer while its 100 is owed, or while more than 65,536 bytes of its body
-    /// are unread. The call waits for the client only until the head and a body of up to 1024 bytes have come, or the
-    /// head alone where it expects a 100, and before them the rest of a counted body that was given up or passed
-    /// over. After the last request the reader isn't called. `now` dates the answers to refused heads, and the 500 of
-    /// this request if it is dropped.
+    /// Reads the next request head, and hands out the request with its number: `Handed`. `now` dates the responses to
+    /// refused heads, and the 500 of this request if it is dropped.
+    ///
+    /// It is `NotYet` until the body of the last request is read to its end or given up. It is also `NotYet` while the
+    /// last request awaits its response and its head says `asks_upgrade`, unless that request is the connection's last:
+    /// what follows may be bytes of the other protocol (RFC 9110, section 7.8).
+    ///
+    /// It is `Ended`, for good, once the connection has no further request; `end_of_requests` returns why. A refused
+    /// head gets an error response under its own number, in its turn, and ends the requests. A 505 does so only if its
+    /// head names an upgrade, its body is chunked or the profile is `Standard`; after any other 505 the same call reads
+    /// the next head.
+    ///
+    /// `Memory` ends the requests too, as does a chunked body that was given up before its end. Under `Standard` they
+    /// also end after a request that asked for an upgrade, once it is upgraded or gives its raw writer, and after one
+    /// that is answered, dropped or gives its raw writer while its 100 is owed or more than 65,536 bytes of its body
+    /// are unread.
+    ///
+    /// The call waits for the client only until the head and a body of up to 1024 bytes have come, or the head alone if
+    /// it expects a 100. Before that it waits for the rest of a counted body that was given up or passed over. After
+    /// the last request it doesn't call the reader.
     #[inline(never)]
     pub fn ask(&mut self, alloc: Global, now: HttpDate) -> Reply
         ensures step { TakesStep self.old self.new now Step.Ask (seen result) }
@@ -305,11 +313,13 @@ impl<R: ReadDevice, W: WriteDevice> Connection<R, W> {
         }
     }
 
-    /// Sends the 100 that is owed to the request of this number, and flushes (RFC 9110, section 10.1.1): `Done`. Its
-    /// body can be read then. It is `Done` too where no 100 is owed, and changes nothing. After the output has ended
-    /// nothing is sent, and none is owed any more. It is `NotYet` where a 100 is owed and a number before it isn't
-    /// finished, and `NoSuch` for a number that doesn't wait for an answer; then nothing has changed. No reply
-    /// reports a fault of the writer. The call takes no memory. `now` is the `Date` of the 100.
+    /// Sends the 100 that is owed to the request of this number, and flushes (RFC 9110, section 10.1.1): `Done`. `now`
+    /// is its `Date`. The body can be read afterwards.
+    ///
+    /// It is `Done` and changes nothing if no 100 is owed. After the output has ended nothing is sent, and the 100 is
+    /// owed no longer. It is `NotYet` if a 100 is owed and a number before this one isn't finished, and `NoSuch` for a
+    /// number that doesn't await its response; then nothing has changed. No reply reports a fault of the writer. The
+    /// call takes no memory.
     #[inline(never)]
     pub fn send_continue(&mut self, alloc: Global, now: HttpDate, number: u64) -> Reply
         ensures step { TakesStep self.old self.new now (Step.AsReader number) (seen result) }
@@ -328,19 +338,20 @@ impl<R: ReadDevice, W: WriteDevice> Connection<R, W> {
         Reply::Done
     }
 
-    /// Reads the body of the request of this number, until there are `count` bytes or no more follow: `Given`,
-    /// without a byte once the body has ended. It is `Fault` where the body is cut or broken, at each later read too.
-    /// It is `NoSuch` for a number that neither waits for an answer nor was upgraded, and while a 100 is owed to its
-    /// request. It is `Memory` where there is none for so many bytes, which changes nothing. It takes no date, as it
-    /// sends nothing.
+    /// Reads the body of the request of this number, until it has `count` bytes or no more follow: `Given`, which is
+    /// empty once the body has ended. It sends nothing, and so takes no date.
+    ///
+    /// It is `Fault` if the body is cut or broken, and so is each later read. It is `NoSuch` for a number that neither
+    /// awaits its response nor was upgraded, and while its 100 is owed. It is `Memory` if memory for `count` bytes is
+    /// refused, which changes nothing.
     #[inline(never)]
     pub fn read(&mut self, alloc: Global, number: u64, count: u16) -> Reply
         ensures step { (date : Date) → TakesStep self.old self.new date (Step.Read number count) (seen result) }
-        // The client's reader is asked for no second end or fault, and for none once there are `count` bytes.
+        // The client's reader reports at most one more end or fault, and none if `count` bytes were read.
         ensures stop_count { R.stop_count self.new.source.reader ≤ R.stop_count self.old.source.reader + 1 }
         ensures lazy { (bytes : List ℕ) → seen result ≡ Given bytes → length bytes ≡ count
             → R.stop_count self.new.source.reader ≤ R.stop_count self.old.source.reader }
-        // It is asked for none where the body has its own end.
+        // It reports none if the body's own framing ends it.
         ensures whole { ReadMeets R.stop_count self.old self.new number (seen result) }
     {
         if !self.pending.is_readable(number) {
@@ -364,11 +375,13 @@ impl<R: ReadDevice, W: WriteDevice> Connection<R, W> {
         }
     }
 
-    /// Drops the request of this number, and gives its body up: an empty 500 is its answer, on the date of its `ask`.
-    /// It is sent now, or by the call that finishes the last number before it; it is never `NotYet`. `Done`, or
-    /// `NoSuch` for a number that doesn't wait for an answer. It takes no memory, and no reply reports a fault of the
-    /// writer. Under `Standard` no request follows one that is dropped or answered while its 100 is owed, or while
-    /// more than 65,536 bytes of its body are unread. The 500 says `close` as an answer by `respond` does.
+    /// Drops the request of this number, and gives up its body: `Done`, or `NoSuch` for a number that doesn't await its
+    /// response. The response is an empty 500, dated when the request was handed out. It says `close` as a response by
+    /// `respond` does.
+    ///
+    /// The 500 is sent now, or by the call that finishes the last number before it; the reply is never `NotYet`, and
+    /// never reports a fault of the writer. The call takes no memory. Under `Standard` no request follows one that is
+    /// dropped or answered while its 100 is owed, or while more than 65,536 bytes of its body are unread.
     #[inline(never)]
     pub fn drop_request(&mut self, number: u64) -> Reply
         ensures step { (date : Date) → TakesStep self.old self.new date (Step.Drop number) (seen result) }
@@ -379,7 +392,7 @@ impl<R: ReadDevice, W: WriteDevice> Connection<R, W> {
         Reply::Done
     }
 
-    // Drops the request of this number, and gives its body up. Whether it waited for its answer.
+    // Drops the request of this number, and gives up its body. Returns whether it awaited its response.
     #[inline(never)]
     fn let_go(&mut self, number: u64) -> bool
         ensures drops { IsTrue result → Drops number self.old self.new }
@@ -397,20 +410,22 @@ impl<R: ReadDevice, W: WriteDevice> Connection<R, W> {
         true
     }
 
-    /// Answers the request of this number, and gives its body up: `Done`, or `Fault` where the writer failed within
-    /// the answer or the response's data broke off, after which nothing more is sent on the connection: later answers
-    /// are `Done` and unsent. A fault by which the client has gone is `Done` too, and data of unknown length for
-    /// which there is no memory are a fault of kind `OutOfMemory`. `now` is the answer's `Date`. `NotYet` while a
-    /// number before it isn't finished, and `NoSuch` for a number that doesn't wait for an answer: then the response
-    /// is let go, and nothing has changed. Under `Standard` it is `Refused`, in its turn or before it, where the code
-    /// is below 200 or above 999, or a 2xx to `CONNECT`: then the request is dropped. The answer says there
-    /// `Connection: close` where the request is the last by its head, its 100 is owed, more than 65,536 bytes of its
-    /// counted body weren't given out, or the end of its body isn't known. What a later `ask` meets doesn't change
-    /// it.
+    /// Responds to the request of this number, and gives up its body. `now` is the response's `Date`. It is `Done`, or
+    /// `Fault` if the writer failed within the response or the response's data broke off; then nothing more is sent on
+    /// the connection, and later responses are `Done` and unsent. A fault that means that the client has disconnected
+    /// is `Done` too. Out of memory for data of unknown length is a fault of kind `OutOfMemory`.
     ///
-    /// Where the response was made by `with_close`, no further head is read: a later `ask` is `Ended`. Under
-    /// `Standard` the answer to the last number says `Connection: close`: this answer, or that of a later request or
-    /// refused head. A later request says nothing of it that was dropped before, is upgraded or gives its raw writer.
+    /// It is `NotYet` while a number before it isn't finished, and `NoSuch` for a number that doesn't await its
+    /// response; then the response is dropped, and nothing has changed. Under `Standard` it is `Refused`, in its turn
+    /// or before it, if the status code is below 200 or above 999, or 2xx to `CONNECT`; then the request is dropped.
+    ///
+    /// Under `Standard` the response says `Connection: close` if the request is the last by its head, its 100 is owed,
+    /// more than 65,536 bytes of its counted body weren't given out, or the end of its body isn't known. What a later
+    /// `ask` meets doesn't change it.
+    ///
+    /// After a response that was made by `with_close` no further head is read: a later `ask` is `Ended`. Under
+    /// `Standard` the response to the last number says `Connection: close`: this response, or that of a later request
+    /// or refused head. A later request that was dropped before, is upgraded or gives its raw writer doesn't say it.
     #[inline(never)]
     pub fn respond<D: ReadDevice + Drop>(
         &mut self,
@@ -446,11 +461,12 @@ impl<R: ReadDevice, W: WriteDevice> Connection<R, W> {
         reply
     }
 
-    /// Takes the raw writer of the request of this number in place of an answer, and gives its body up: `Done`, in
-    /// its turn or before it, or `NoSuch` for a number that doesn't wait for an answer. Nothing is sent: after a 100
-    /// that was sent before, the bytes that `write` writes are all that the client gets for the request. A 100 that
-    /// is owed isn't sent any more. Under `Standard` no request follows one whose head says `asks_upgrade`, whose 100
-    /// is owed, or of whose body more than 65,536 bytes are unread.
+    /// Takes the raw writer of the request of this number in place of a response, and gives up its body: `Done`, in its
+    /// turn or before it, or `NoSuch` for a number that doesn't await its response.
+    ///
+    /// It sends nothing: after a 100 that was sent before, the client gets only the bytes that `write` writes. A 100
+    /// that is owed isn't sent any more. Under `Standard` no request follows one whose head says `asks_upgrade`, whose
+    /// 100 is owed, or of whose body more than 65,536 bytes are unread.
     #[inline(never)]
     pub fn into_writer(&mut self, number: u64) -> Reply
         ensures step { (date : Date) → TakesStep self.old self.new date (Step.IntoWriter number) (seen result) }
@@ -464,10 +480,11 @@ impl<R: ReadDevice, W: WriteDevice> Connection<R, W> {
         Reply::Done
     }
 
-    /// Writes bytes by the raw writer of this number, or to the stream of its upgrade: `Done`, or `Fault` where the
-    /// writer failed in them or in what was held before them. A fault of any kind is reported. After it nothing more
-    /// is sent on the connection, and later writes are `Done` and unsent. Up to 1024 bytes may be held until `flush`
-    /// or `finish`. It is `NotYet` while a number before it isn't finished, and `NoSuch` for a number without a raw
+    /// Writes bytes by the raw writer of this number, or to the stream of its upgrade: `Done`, or `Fault` if the writer
+    /// failed in them or in what was held before them. Up to 1024 bytes may be held until `flush` or `finish`.
+    ///
+    /// A fault of any kind is reported. After it nothing more is sent on the connection, and later writes are `Done`
+    /// and unsent. It is `NotYet` while a number before it isn't finished, and `NoSuch` for a number without a raw
     /// writer or stream; then nothing has changed.
     #[inline(never)]
     pub fn write(&mut self, number: u64, bytes: &[u8]) -> Reply
@@ -484,8 +501,8 @@ impl<R: ReadDevice, W: WriteDevice> Connection<R, W> {
         Reply::write_reply(self.outlet.write(bytes))
     }
 
-    /// Sends what was written under this number, and has the writer send it on: `Done`, or `Fault` where the writer
-    /// failed. `NotYet` and `NoSuch` are as for `write`.
+    /// Sends what was written under this number, and flushes the writer: `Done`, or `Fault` if the writer failed.
+    /// `NotYet` and `NoSuch` are as for `write`.
     #[inline(never)]
     pub fn flush(&mut self, number: u64) -> Reply
         ensures step { (date : Date) → TakesStep self.old self.new date (Step.Flush number) (seen result) }
@@ -499,17 +516,19 @@ impl<R: ReadDevice, W: WriteDevice> Connection<R, W> {
         Reply::write_reply(self.outlet.flush())
     }
 
-    /// Answers the request of this number by a response that upgrades the connection to this protocol (RFC 9110,
-    /// section 7.8): `Done`. The response's head is sent and flushed, with `Connection: upgrade` and `Upgrade:
-    /// PROTOCOL`, and its data are let go unread. From then on `read` gives what is left of the request's body, which
-    /// is all that follows where its head names an upgrade. Under `Standard` it gives all that follows the body.
-    /// Bytes are written by `write`, `flush` and `finish`, as by a raw writer. It is `Refused` where the protocol
-    /// isn't ASCII, in its turn or before it: then the request is dropped. Under `Standard` it is so, too, where the
-    /// request doesn't ask for this protocol or is its connection's last, where the code isn't 101, and where the
-    /// body wasn't read until its end was reported, or was cut or is broken. (A body without bytes or of up to 1024
-    /// bytes that came with its head needn't be read, and a counted one only to its last byte.) `NotYet` and `NoSuch`
-    /// are as for `respond`. It takes no memory, and no reply reports a fault of the writer. `now` is the answer's
-    /// `Date`.
+    /// Upgrades the connection of this number's request to this protocol, by this response (RFC 9110, section 7.8):
+    /// `Done`. It sends and flushes the response's head with `Connection: upgrade` and `Upgrade: PROTOCOL`, and drops
+    /// its data unread. `now` is the response's `Date`. It takes no memory, and no reply reports a fault of the writer.
+    ///
+    /// From then on `read` gives what is left of the request's body, which is all that follows if its head names an
+    /// upgrade; under `Standard` it gives all that follows the body. `write`, `flush` and `finish` write bytes as for a
+    /// raw writer.
+    ///
+    /// It is `Refused` if the protocol isn't ASCII, in its turn or before it; then the request is dropped. Under
+    /// `Standard` it is also `Refused` if the request doesn't ask for this protocol or is its connection's last, if the
+    /// status code isn't 101, and if the body wasn't read until its end was reported, or was cut or is broken. An empty
+    /// body, or one of up to 1024 bytes that came with its head, needn't be read, and a counted one only to its last
+    /// byte. `NotYet` and `NoSuch` are as for `respond`.
     #[inline(never)]
     pub fn upgrade<D: ReadDevice + Drop>(
         &mut self,
@@ -541,10 +560,9 @@ impl<R: ReadDevice, W: WriteDevice> Connection<R, W> {
         Reply::Done
     }
 
-    /// Ends the raw writer of this number, or the stream of its upgrade, and gives the body up: `Done`, in its turn
-    /// or before it, or `NoSuch` for a number without a raw writer or stream. In its turn what was written is sent,
-    /// and so are the texts that wait directly after it. It takes no memory, and no reply reports a fault of the
-    /// writer.
+    /// Ends the raw writer of this number, or the stream of its upgrade, and gives up the body: `Done`, in its turn or
+    /// before it, or `NoSuch` for a number without a raw writer or stream. In its turn it sends what was written, and
+    /// the texts that wait directly after it. It takes no memory, and no reply reports a fault of the writer.
     #[inline(never)]
     pub fn finish(&mut self, alloc: Global, number: u64) -> Reply
         ensures step { (date : Date) → TakesStep self.old self.new date (Step.Finish number) (seen result) }
@@ -558,11 +576,11 @@ impl<R: ReadDevice, W: WriteDevice> Connection<R, W> {
         Reply::Done
     }
 
-    /// Does a step on its date: the call that it names.
-    // The calls aren't inlined here: the rooms of what all of them may hold would be set to zero at each step.
+    /// Makes the call that a step names, on its date.
+    // The calls aren't inlined here: each step would zero the stack space of all of them.
     pub fn step<D: ReadDevice + Drop>(&mut self, alloc: Global, timed: Timed<D>) -> Reply
         ensures step { TakesStep self.old self.new timed.now (stated_step D.feed timed.step) (seen result) }
-        // How many ends and faults of the client's reader a Read meets. Of the other steps nothing is said.
+        // How many ends and faults of the client's reader a Read meets. The other steps are left open.
         ensures meets { StepMeets R.stop_count (stated_step D.feed timed.step) self.old self.new (seen result) }
     {
         let Timed { now, step } = timed;
@@ -582,8 +600,8 @@ impl<R: ReadDevice, W: WriteDevice> Connection<R, W> {
         }
     }
 
-    /// Reader and writer within their buffers, and the end of the connection: requests that wait for their answers
-    /// are let go without one.
+    /// Returns the reader and the writer with their buffers, and ends the connection. Requests that await their
+    /// responses are dropped without one.
     pub fn into_parts(self) -> (Source<R>, Outlet<W>)
         ensures conversation { (p : Profile) (client : Feed) (before : Sink) (steps : List TimedValue)
             (replies : List ReplyValue)

@@ -41,7 +41,7 @@ use tiny_http_turns::turns::{Finishing, Leaving, Turns, TurnsError};
 /// What is kept of a request that isn't finished.
 #[derive(Drop)]
 pub enum Unfinished {
-    /// It waits for its answer.
+    /// It awaits its response.
     Waiting(OpenRequest<UnreadBody>),
     /// Its raw writer is in use. Its body was given up.
     Raw,
@@ -57,7 +57,7 @@ pub(crate) struct Pending {
 }
 
 impl Pending {
-    /// No number was given out.
+    /// Returns an empty table: no number was issued.
     pub fn new(alloc: Global) -> Pending
         ensures marks { result.turns.marks ≡ [] }
         ensures requests { result.requests ≡ [] }
@@ -68,7 +68,7 @@ impl Pending {
         }
     }
 
-    /// Gives out the next number, and keeps this under it. An error changes nothing.
+    /// Issues the next number, and keeps `request` under it. An error changes nothing.
     #[inline(always)]
     pub fn issue(&mut self, request: Option<Unfinished>) -> Result<u64, TurnsError>
         ensures number { IfOk result (λ n. n ≡ length self.old.turns.marks) }
@@ -88,7 +88,7 @@ impl Pending {
         }
     }
 
-    /// Whether this number waits for its answer.
+    /// Returns whether this number awaits its response.
     #[inline(always)]
     pub fn is_waiting(&self, number: u64) -> bool
         ensures { result ≡ is_some (waiting_response_context (slice_get self.now.requests number)) }
@@ -96,7 +96,8 @@ impl Pending {
         matches!(self.requests.get(number), Some(Unfinished::Waiting(_)))
     }
 
-    /// Whether the body of this number can be read: it waits for its answer, and no 100 is owed; or it was upgraded.
+    /// Returns whether the body of this number can be read: it awaits its response and no 100 is owed, or it was
+    /// upgraded.
     pub fn is_readable(&self, number: u64) -> bool
         ensures { result ≡ is_readable (slice_get self.now.requests number) }
     {
@@ -107,7 +108,7 @@ impl Pending {
         }
     }
 
-    /// Whether bytes can be written under this number: its raw writer is in use, or it was upgraded.
+    /// Returns whether bytes can be written under this number: its raw writer is in use, or it was upgraded.
     pub fn is_writable(&self, number: u64) -> bool
         ensures { result ≡ is_writable (slice_get self.now.requests number) }
     {
@@ -117,7 +118,7 @@ impl Pending {
         )
     }
 
-    /// Whether this number waits for its answer and a 100 is owed.
+    /// Returns whether this number awaits its response and a 100 is owed.
     pub fn owes_continue(&self, number: u64) -> bool
         ensures { result ≡ owes_continue (slice_get self.now.requests number) }
     {
@@ -127,7 +128,7 @@ impl Pending {
         }
     }
 
-    /// Whether this number waits for its answer, and the next head isn't read before it.
+    /// Returns whether this number awaits its response, and the next head isn't read before it.
     pub fn holds_next_head(&self, number: u64) -> bool
         ensures { result ≡ holds_next_head_at (slice_get self.now.requests number) }
     {
@@ -137,7 +138,7 @@ impl Pending {
         }
     }
 
-    /// Whether this number waits for its answer, and one with this code is refused.
+    /// Returns whether this number awaits its response, and one with this status code is refused.
     pub fn refuses(&self, number: u64, status: StatusCode) -> bool
         ensures { result ≡ refuses_at status.0 (slice_get self.now.requests number) }
     {
@@ -147,8 +148,8 @@ impl Pending {
         }
     }
 
-    /// Whether this number waits for its answer, and an upgrade to this protocol by an answer with this code is
-    /// refused.
+    /// Returns whether this number awaits its response, and an upgrade to this protocol by a response with this status
+    /// code is refused.
     pub fn refuses_upgrade(&self, number: u64, protocol: &str, status: StatusCode) -> bool
         ensures { result ≡ refuses_upgrade_at protocol.now status.0 (slice_get self.now.requests number) }
     {
@@ -160,8 +161,8 @@ impl Pending {
         }
     }
 
-    /// Whether this number waits for its answer, and no head is read behind it once it gets the connection's stream:
-    /// it holds the next head, or would be the last if it were answered.
+    /// Returns whether this number awaits its response, and no head is read after it once it gets the connection's
+    /// stream: it holds the next head, or would be the last if it were answered now.
     pub fn is_last_with_stream(&self, number: u64) -> bool
         ensures { result ≡ is_last_with_stream_at (slice_get self.now.requests number) }
     {
@@ -173,7 +174,7 @@ impl Pending {
         }
     }
 
-    /// Whether the last number waits for its answer, and the next head isn't read before it.
+    /// Returns whether the last number awaits its response, and the next head isn't read before it.
     pub fn last_holds_next_head(&self) -> bool
         ensures { result ≡ last_holds_next_head self.now.requests }
     {
@@ -183,8 +184,8 @@ impl Pending {
         }
     }
 
-    /// Has the answer to the last number say, by the standard, that the connection ends behind it, if the number
-    /// waits for it and an answer asks for that.
+    /// Has the response to the last number say, under `Standard`, that the connection closes after it. Does nothing
+    /// unless `closes` holds and the number awaits its response.
     pub fn close_last(&mut self, closes: bool)
         ensures turns { self.new.turns ≡ self.old.turns }
         ensures requests { self.new.requests ≡ closing_if_asked closes self.old.requests }
@@ -204,14 +205,14 @@ impl Pending {
         }
     }
 
-    /// Whether this is the first number that isn't finished, or, where all are, the next to be issued.
+    /// Returns whether this is the first number that isn't finished, or, if all are, the next to be issued.
     pub fn is_in_turn(&self, number: u64) -> bool
         ensures { result ≡ (number == first_unfinished self.now.turns.marks) }
     {
         number == self.turns.first_unfinished()
     }
 
-    /// Sends the 100 that is owed to this number, if it waits for its answer. None is owed to it any more.
+    /// Sends the 100 that is owed to this number, if it awaits its response. Then none is owed.
     pub fn send_continue<W: WriteDevice>(
         &mut self,
         alloc: Global,
@@ -237,8 +238,8 @@ impl Pending {
         }
     }
 
-    /// Upgrades the connection to this protocol, if this number waits for its answer. Its body is kept, or by the
-    /// standard all that comes is read.
+    /// Upgrades the connection to this protocol, if this number awaits its response. Its stream reads its body, or
+    /// under `Standard` all bytes that follow.
     pub fn upgrade<W: WriteDevice, D: Drop>(
         &mut self,
         alloc: Global,
@@ -252,7 +253,7 @@ impl Pending {
         ensures requests { (w : OpenRequest UnreadBody) → WaitsAt self.old.requests number w
             → self.new.requests ≡ slice_set self.old.requests number
             (Some (Unfinished.Upgraded (stream_body w.by_standard w.body))) }
-        // Whatever the data are.
+        // For whatever the data are.
         ensures sends { (w : OpenRequest UnreadBody) → WaitsAt self.old.requests number w
             → ((content : Feed) → SendsQuietlyOn outlet.old outlet.new
             (upgrade_text (record { answer = response.answer; content = content }) protocol.now
@@ -292,7 +293,7 @@ impl Pending {
             ≤ R.stop_count source.old.reader + ends_met was (bytes_given result) body) }
         ensures turns { self.new.turns ≡ self.old.turns }
         ensures goes_on { GoesOn source.old.feed source.new.feed }
-        // The source's reader is asked for no second end or fault, and for none once the buffer is full.
+        // The source's reader reports at most one more end or fault, and none if the buffer was filled.
         ensures stop_count { R.stop_count source.new.reader ≤ R.stop_count source.old.reader + 1 }
         ensures lazy { IfOk result
             (λ n. n ≡ length buf.new → R.stop_count source.new.reader ≤ R.stop_count source.old.reader) }
@@ -305,7 +306,7 @@ impl Pending {
         filled
     }
 
-    /// Takes out the request of this number, if it waits for its answer, and keeps `then` in its place.
+    /// Takes the request of this number, if it awaits its response, and keeps `then` in its place.
     #[inline(always)]
     pub fn take(&mut self, number: u64, then: Option<Unfinished>) -> Option<OpenRequest<UnreadBody>>
         ensures some { IfSome result (λ w. (WaitsAt self.old.requests number w)
@@ -323,7 +324,7 @@ impl Pending {
         }
     }
 
-    /// What is kept of this number, if bytes can be written under it. Nothing is kept of it any more.
+    /// Takes what is kept of this number, if bytes can be written under it.
     pub fn close(&mut self, number: u64) -> Option<Unfinished>
         ensures some { IfSome result (λ u. (slice_get self.old.requests number ≡ Some (Some u))
             × (is_writable (Some (Some u)) ≡ true)
@@ -350,7 +351,7 @@ impl Pending {
         self.turns.take(number).is_some()
     }
 
-    /// Finishes a number that is held, and so each after it that was left, whose text is sent. No reply reports a
+    /// Finishes a number that is held, and each left number directly after it, whose text it sends. No reply reports a
     /// fault that is met there.
     pub fn pass<W: WriteDevice>(&mut self, outlet: &mut Outlet<W>, number: u64)
         ensures passes { (front rest : List Mark)
@@ -361,7 +362,7 @@ impl Pending {
             → (outlet_ended outlet.old ≡ false → CanSend (output_of outlet.old))
             → SendsLeft rest (outlet_ended outlet.old) (output_of outlet.old) (output_of outlet.new)
             (outlet_ended outlet.new) }
-        // Where none was left the outlet isn't used, whatever its writer states.
+        // If none was left, the outlet isn't used, whatever its writer states.
         ensures idle { (front rest : List Mark) → self.old.turns.marks ≡ front ++ (Held ∷ rest)
             → length front ≡ number → begins_left rest ≡ false → outlet.new ≡ outlet.old }
         ensures requests { self.new.requests ≡ self.old.requests }
@@ -375,7 +376,7 @@ impl Pending {
         }
     }
 
-    /// Leaves an open number with a text. In its turn the text is sent, and the number is finished, as by `pass`.
+    /// Leaves an open number with a text. In its turn the text is sent and the number finished, as by `pass`.
     pub fn leave<W: WriteDevice>(&mut self, outlet: &mut Outlet<W>, number: u64, text: Vec<u8>)
         ensures leaves { (front rest : List Mark)
             → self.old.turns.marks ≡ front ++ (Open ∷ rest)
@@ -385,7 +386,7 @@ impl Pending {
             (outlet_ended outlet.old) (output_of outlet.old) (output_of outlet.new) (outlet_ended outlet.new) }
         ensures counts { length self.new.turns.marks ≡ length self.old.turns.marks }
         ensures requests { self.new.requests ≡ self.old.requests }
-        // Whatever the writer states.
+        // For whatever the writer states.
         ensures sends { slice_get self.old.turns.marks number ≡ Some Open
             → (number == first_unfinished self.old.turns.marks) ≡ true
             → (outlet_held outlet.new ≡ []) × SentOn outlet.new }
@@ -405,7 +406,7 @@ impl<W: WriteDevice> RefusalPlace<Outlet<W>> for Pending {
 
     ghost refuses = { RefusesHead };
 
-    /// Gives the head the next number, and leaves its answer under it. An error changes nothing.
+    /// Gives the refused head the next number, and leaves its error response under it. An error changes nothing.
     fn refuse(&mut self, outlet: &mut Outlet<W>, text: Vec<u8>) -> Result<(), AllocError> {
         let Ok(number) = self.issue(None) else {
             return Err(AllocError);
@@ -477,7 +478,7 @@ impl<W: WriteDevice> HeldTurn<Turns<()>, Outlet<W>> for HeldNumber {
     }
 }
 
-// Writes the text of a number that is held and finishes it, and so each after it that was left.
+// Writes the text of a number that is held and finishes it, and likewise each left number directly after it.
 fn write_texts<W: WriteDevice>(
     turns: &mut Turns<()>,
     outlet: &mut Outlet<W>,
@@ -494,7 +495,7 @@ fn write_texts<W: WriteDevice>(
     pass_on(&mut HeldNumber(number), turns, outlet, text);
 }
 
-// The same, and flushes.
+// Writes these texts as `write_texts` does, and flushes.
 fn write_left<W: WriteDevice>(
     turns: &mut Turns<()>,
     outlet: &mut Outlet<W>,

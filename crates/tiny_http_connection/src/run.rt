@@ -1,4 +1,4 @@
-//! A connection driven by a list of steps.
+//! Drives a connection by a list of steps.
 ghost use Rattle.std.specs.Prelude.{◌≡◌, ◌<◌, ◌≤◌, [], length, IfOk, IfErr, OnErr, vec_len, vec_capacity};
 ghost use Rattle.tiny_http_connection.specs.Runs.{IsConversationOf, RunsSteps};
 
@@ -9,28 +9,28 @@ use tiny_http_io::device::{ReadDevice, WriteDevice};
 use tiny_http_io::outlet::Outlet;
 use tiny_http_io::source::Source;
 
-/// What a run leaves: one reply a step, and reader and writer within their buffers.
+/// The result of a run: one reply per step, and the reader and writer with their buffers.
 #[derive(Drop)]
 pub struct Record<R: ReadDevice, W: WriteDevice> {
-    /// What each step was answered.
+    /// The reply of each step.
     pub replies: Vec<Reply>,
-    /// The reader, with the bytes that are held. While requests may follow it stands after the last head that was
-    /// read, and after what was read of that request's body.
+    /// The reader, with the bytes that are held. While requests may follow, its position is after the last head that
+    /// was read, and after what was read of that request's body.
     pub source: Source<R>,
-    /// The writer, with what is held back. Its bytes and then those held are the output.
+    /// The writer, with what is held. The output is what it took, then what is held.
     pub outlet: Outlet<W>,
 }
 
-/// Room for the replies was refused: nothing was read or written. Where there is no step there is no such error.
+/// Memory for the replies was refused: nothing was read or written. Without a step this error doesn't occur.
 #[derive(Drop)]
 pub struct RunError<R, W> {
-    /// The reader, as it was.
+    /// The reader, unchanged.
     pub reader: R,
-    /// The writer, as it was.
+    /// The writer, unchanged.
     pub writer: W,
 }
 
-// An empty vector with room for `count` replies. For none no memory is asked for.
+// Returns an empty vector with room for `count` replies. It requests no memory if `count` is 0.
 fn room_for(alloc: Global, count: usize) -> Result<Vec<Reply>, AllocError>
     ensures items { IfOk result (λ v. v.items ≡ []) }
     ensures len { IfOk result (λ v. vec_len v ≡ 0) }
@@ -43,10 +43,10 @@ fn room_for(alloc: Global, count: usize) -> Result<Vec<Reply>, AllocError>
     Vec::with_capacity(alloc, count)
 }
 
-/// Runs the steps over a connection under `Lenient`, one reply a step. Where reader, writer and data state their
-/// bytes, it hands out exactly the requests that the grammar finds in the client's bytes, each body gives its own
-/// bytes and reports its end only there, and the output is one segment a request or refused head, in order, whole up
-/// to the first fault.
+/// Runs the steps over a connection under `Lenient`, with one reply per step. If reader, writer and data state their
+/// bytes, it hands out exactly the requests that the grammar finds in the client's bytes. Each body gives its own
+/// bytes, and reports its end only after them. The output is one segment for each request or refused head, in order,
+/// whole up to the first fault.
 pub fn run<R: ReadDevice + Drop, W: WriteDevice + Drop, D: ReadDevice + Drop>(
     alloc: Global,
     reader: R,
@@ -56,7 +56,7 @@ pub fn run<R: ReadDevice + Drop, W: WriteDevice + Drop, D: ReadDevice + Drop>(
     // The connection theorem.
     ensures conversation { IfOk result
         (IsConversationOf R.feed W.sink D.feed Profile.Lenient reader writer steps.items) }
-    // Whatever reader, writer and data state.
+    // For whatever reader, writer and data state.
     ensures run { IfOk result (RunsSteps R.feed R.stop_count W.sink D.feed Profile.Lenient reader writer steps.items) }
     ensures err { IfErr result (λ e. (e.reader ≡ reader) × (e.writer ≡ writer)) }
     ensures asked { OnErr result (0 < length steps.items) }
@@ -64,10 +64,10 @@ pub fn run<R: ReadDevice + Drop, W: WriteDevice + Drop, D: ReadDevice + Drop>(
     run_with(alloc, Profile::Lenient, reader, writer, steps)
 }
 
-/// Runs the steps over a connection under this profile, one reply a step. Where reader, writer and data state their
-/// bytes, it hands out exactly the requests that the grammar finds in the client's bytes, each body gives its own
-/// bytes and reports its end only there, and the output is one segment a request or refused head, in order, whole up
-/// to the first fault.
+/// Runs the steps over a connection under this profile, with one reply per step. If reader, writer and data state their
+/// bytes, it hands out exactly the requests that the grammar finds in the client's bytes. Each body gives its own
+/// bytes, and reports its end only after them. The output is one segment for each request or refused head, in order,
+/// whole up to the first fault.
 pub fn run_with<R: ReadDevice + Drop, W: WriteDevice + Drop, D: ReadDevice + Drop>(
     alloc: Global,
     profile: Profile,
@@ -77,7 +77,7 @@ pub fn run_with<R: ReadDevice + Drop, W: WriteDevice + Drop, D: ReadDevice + Dro
 ) -> Result<Record<R, W>, RunError<R, W>>
     // The connection theorem.
     ensures conversation { IfOk result (IsConversationOf R.feed W.sink D.feed profile reader writer steps.items) }
-    // Whatever reader, writer and data state.
+    // For whatever reader, writer and data state.
     ensures run { IfOk result (RunsSteps R.feed R.stop_count W.sink D.feed profile reader writer steps.items) }
     ensures err { IfErr result (λ e. (e.reader ≡ reader) × (e.writer ≡ writer)) }
     ensures asked { OnErr result (0 < length steps.items) }

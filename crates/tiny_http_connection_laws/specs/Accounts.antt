@@ -1,4 +1,4 @@
--- What was done for each number, told by the steps and their replies, and why the requests end.
+-- What was done for each number, by the steps and their replies, and why the requests end.
 use Rattle.std.specs.Prelude.{◌≡◌, ℕ, ◌⊎◌, ⊤, ◌==◌, Bool, true, false, not, ◌&&◌, ◌||◌, List, [], ◌∷◌, ◌++◌, Option}
 use Rattle.std.specs.Prelude.{Some, None, is_some, slice_get, if◌then◌else◌}
 use Rattle.httpdate.specs.declared.date.HttpDate.{HttpDate}
@@ -15,13 +15,13 @@ use Rattle.tiny_http_connection_laws.specs.InShort.{maker}
 
 -- ---- what was done for a number
 
--- it waits for its answer; or bytes are written under it, by its raw writer or to its stream; or it is finished
+-- it awaits its response; or bytes are written under it, by its raw writer or to its stream; or it is finished
 pub data Condition : Type 0 where
   Waits : Condition
   Writes : Condition
   Finished : Condition
 
--- what became of a number; the step that answered it by a response, if one did; the bytes that were written under it;
+-- the condition of a number; the step that answered it by a response, if one did; the bytes that were written under it;
 -- and when its 100 was first asked for
 pub record Account : Type 0 where
   pub condition : Condition
@@ -33,11 +33,11 @@ pub record Account : Type 0 where
 abbrev pub untouched : Account
 untouched = record { condition = Waits; by = None; written = []; asked = None }
 
--- this becomes of it, if that holds
+-- the account with this condition, if that holds
 abbrev pub becomes : Condition → Bool → Account → Account
 becomes condition holds a = if holds then record a { condition = condition } else a
 
--- this step answers it, if that holds
+-- the account answered by this step, if that holds
 abbrev pub answered_by : TimedValue → Bool → Account → Account
 answered_by step holds a = if holds then record a { by = Some step } else a
 
@@ -45,7 +45,7 @@ abbrev pub first_date : Option HttpDate → HttpDate → Option HttpDate
 first_date None date = Some date
 first_date (Some first) date = Some first
 
--- The account of a number after a step for it, by the reply. One that was neither done nor refused changes nothing.
+-- The account of a number after a step for it, by the reply. A step that was neither done nor refused changes nothing.
 abbrev pub account_after : HttpDate → StepValue → ReplyValue → Account → Account
 account_after date Ask reply a = a
 account_after date (AsReader k) reply a = if is_done reply then record a { asked = first_date a.asked date } else a
@@ -87,9 +87,9 @@ written_in (Raw written closed) = written
 written_in (Upgraded protocol response date written closed) = written
 written_in _ = []
 
--- NUMBER k IS AS ITS ACCOUNT SAYS. Its answer is that of the step which answered it, and else the server's or none.
--- Its 100 has the date on which it was first asked for, if its head expects one. Nothing is done for a refused head,
--- which the server answers.
+-- NUMBER k IS AS ITS ACCOUNT SAYS. Its response is that of the step which answered it, else the server's or none. Its
+-- 100 has the date on which it was first asked for, if its head expects one. Nothing is done for a refused head, which
+-- the server answers.
 abbrev pub IsAsTold : ℕ → Slot → Item → Account → Type 0
 IsAsTold k s (Asks r) a =
     (condition_of s.stage ≡ a.condition)
@@ -124,14 +124,14 @@ takes Writes (Flush k) = true
 takes Writes (Finish k) = true
 takes _ _ = false
 
--- the step is done before the turn of its number, too
+-- the step may be done before the turn of its number
 abbrev pub is_done_early : StepValue → Bool
 is_done_early (IntoWriter k) = true
 is_done_early (Drop k) = true
 is_done_early (Finish k) = true
 is_done_early _ = false
 
--- the step is done in the turn of its number alone
+-- the step is done only in the turn of its number
 abbrev pub waits_its_turn : StepValue → Bool
 waits_its_turn (Respond k response) = true
 waits_its_turn (Write k bytes) = true
@@ -139,7 +139,7 @@ waits_its_turn (Flush k) = true
 waits_its_turn (Upgrade k protocol response) = true
 waits_its_turn _ = false
 
--- a step that was taken is done or refused; of a read nothing is said, which waits for its 100, and may find no memory
+-- a step that was taken is done or refused; a read is unrestricted, since it waits for its 100 and may be out of memory
 abbrev pub IsTaken : StepValue → ReplyValue → Type 0
 IsTaken (Read k n) reply = ⊤
 IsTaken step reply = (is_done reply || is_refused reply) ≡ true
@@ -154,7 +154,7 @@ is_read _ = false
 
 -- ---- why the requests end
 
--- an Ask is answered that no further request comes
+-- an Ask reports that no further request comes
 abbrev pub IsEnd : StepValue → ReplyValue → Type 0
 IsEnd Ask Ended = ⊤
 IsEnd _ _ = ⊥
@@ -163,7 +163,7 @@ abbrev pub HasEnd : List TimedValue → List ReplyValue → Type 0
 HasEnd (s ∷ steps) (reply ∷ replies) = IsEnd s.1 reply ⊎ HasEnd steps replies
 HasEnd _ _ = ⊥
 
--- the step ends the requests: it is an Ask for which no memory was found, or an answer was made that asks for that
+-- the step ends the requests: an Ask that is out of memory, or a Respond that is done and asks to close the connection
 abbrev pub EndsRequests : StepValue → ReplyValue → Type 0
 EndsRequests Ask reply = reply ≡ Memory
 EndsRequests (Respond k response) reply = (is_done reply ≡ true) × (response.answer.closes ≡ true)
@@ -173,15 +173,15 @@ abbrev pub OneEndsRequests : List TimedValue → List ReplyValue → Type 0
 OneEndsRequests (s ∷ steps) (reply ∷ replies) = EndsRequests s.1 reply ⊎ OneEndsRequests steps replies
 OneEndsRequests _ _ = ⊥
 
--- By the standard the request was finished, or gave its raw writer, while its 100 wasn't sent, or more was left of its
--- body than is skipped. Or its chunked body was given up before its end was reported.
+-- Under Standard the request was finished, or gave its raw writer, while its 100 wasn't sent, or more of its body was
+-- left than is skipped. Or its chunked body was given up before its end was reported.
 abbrev pub was_cut_short : Slot → Request → Bool
 was_cut_short s r =
     body_was_abandoned s (Asks r)
     || (r.framing.by_standard
     && ((r.framing.owes_continue && not (is_some s.continued)) || is_long (remainder_of r s.given s.end_reported)))
 
--- no head is read behind this number, whatever its own head says: it was cut short; or it asks for an upgrade, and got
+-- no head is read after this number, whatever its own head says: it was cut short; or it asks for an upgrade, and got
 -- the connection's stream
 abbrev pub stops_by : Slot → Request → Stage → Bool
 stops_by s r Unanswered = false

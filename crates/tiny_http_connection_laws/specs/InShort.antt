@@ -1,8 +1,8 @@
--- What the connection theorem says in short words. The laws of this crate that carry these definitions are on three
--- fields of an `IsConversation`: `items`, which are the pipeline of the bytes by its field `pipeline`;
--- `end.reached.slots`, the numbers that were reached; and its replies and output. To believe them one needs to know
--- what stands in the bytes (`Pipeline`) and what a number sends (`segment`), but not how a step is judged, and not
--- what the driver keeps.
+-- The connection theorem in short. The laws of this crate that use these definitions are on three fields of an
+-- `IsConversation`: `items`, which are the pipeline of the bytes by its field `pipeline`; `end.reached.slots`, the
+-- numbers that were reached; and its replies and output. They can be read with the definitions of what the bytes hold
+-- (`Pipeline`) and what a number sends (`segment`) alone, without those of a step's outcome and of what the driver
+-- keeps.
 use Rattle.std.specs.Prelude.{◌≡◌, ℕ, ◌+◌, ◌⊎◌, ⊤, ◌==◌, Bool, not, ◌&&◌, List, [], ◌∷◌, ◌++◌, MatchBool}
 use Rattle.std.specs.Prelude.{Option, Some, None, if◌then◌else◌}
 use Rattle.tiny_http_io.specs.Device.{Feed}
@@ -22,7 +22,7 @@ handed [] = []
 handed (Handed k message framing ∷ replies) = (k, message, framing) ∷ handed replies
 handed (_ ∷ replies) = handed replies
 
--- the requests of a pipeline, each with its place, if its first item has this one; a refused head has a place, too
+-- the requests of a pipeline, each with its place, counted from k; a refused head has a place, too
 abbrev pub requests_from : ℕ → List Item → List (ℕ × Message × Framing)
 requests_from k [] = []
 requests_from k (Asks r ∷ items) = (k, r.message, r.framing) ∷ requests_from (k + 1) items
@@ -30,8 +30,8 @@ requests_from k (Refuses refusal manner no_body last ∷ items) = requests_from 
 
 -- ---- what a body gives
 
--- What is left of the body of request k, after a step with this reply. An upgrade by the standard goes on to the bytes
--- behind the request.
+-- What is left of the body of request k, after a step with this reply. An upgrade under Standard continues with the
+-- bytes after the request.
 abbrev pub LeavesBody : ℕ → Request → Feed → StepValue → ReplyValue → Feed → Type 0
 LeavesBody k r left (Read j n) reply next = MatchBool (j == k) (ReadsNext n left reply next) (next ≡ left)
 LeavesBody k r left (Upgrade j protocol response) Done next =
@@ -60,7 +60,7 @@ sent (s ∷ segments) = s.bytes ++ (if s.is_whole then sent segments else [])
 abbrev pub segment_of : Slot → Segment
 segment_of s = record { bytes = segment s; is_whole = is_finished s && not (is_slot_broken s) }
 
--- items with one head, read by the same rules: an upgrade changes only how what follows the head is read
+-- items with one head, read by the same rules: an upgrade changes only how the bytes after the head are read
 abbrev pub AreOfOneHead : Item → Item → Type 0
 AreOfOneHead (Asks q) (Asks r) =
     (q.message ≡ r.message)
@@ -69,7 +69,7 @@ AreOfOneHead (Asks q) (Asks r) =
     × (q.framing.asks_upgrade ≡ r.framing.asks_upgrade)
 AreOfOneHead item other = item ≡ other
 
--- the step that made the answer of number k, with its date, where a step of the program made it by a response
+-- the step that made the response of number k, with its date, if a step of the program made it
 abbrev pub maker : ℕ → Stage → Option TimedValue
 maker k (Answered response date found) = Some (date, Respond k response)
 maker k (Upgraded protocol response date written closed) = Some (date, Upgrade k protocol response)

@@ -1,4 +1,4 @@
-//! What follows from the connection theorem: what it says in short words, and what a client reads.
+//! Consequences of the connection theorem: the theorem in short, and what a client reads.
 ghost use Rattle.std.specs.Prelude.{◌≡◌, ◌<◌, ◌≤◌, ◌^◌, ◌+◌, ◌++◌, ◌∷◌, ◌⊎◌, ◌≢◌, length, map, slice_get, ℕ, Bool};
 ghost use Rattle.std.specs.Prelude.{true, false, List, []};
 ghost use Rattle.std.specs.Prelude.{Option, Some, None, IsTrue};
@@ -29,9 +29,9 @@ ghost use Rattle.tiny_http_connection_laws.specs.ClientReads.{IsOutputOf, HaveAn
 use tiny_http_body::body::MOST_SKIPPED;
 use tiny_http_response::response::Response;
 
-/// THE REQUESTS ARE THE PIPELINE'S: those that were handed out are the first of the pipeline that stands in the
-/// client's bytes (there is one: `one_pipeline`), in its order, each under its place there. None is passed over,
-/// added or changed.
+/// THE REQUESTS ARE THE PIPELINE'S: those that were handed out are the first of the pipeline in the client's bytes
+/// (which is unique: `one_pipeline`), in its order, each numbered by its place there. None is skipped, added or
+/// changed.
 pub fn requests_begin_the_pipeline()
     ensures first { (p : Profile) (feed : Feed) (before after : Sink) (steps : List TimedValue)
         (replies : List ReplyValue) (held : List ℕ) (ended : Bool) (unread : Option Feed)
@@ -40,10 +40,10 @@ pub fn requests_begin_the_pipeline()
         × (requests_from 0 c.items ≡ handed replies ++ later) }
 {}
 
-/// THE READS ARE THE BODY'S: the reads of each request give the next bytes of its own body, one after another. An end
-/// or a fault is reported only behind the last byte, and it is the one that the body has. (A counted body that the
-/// client's end cuts has an end by `Lenient` and `Strict`, a fault by `Standard`.) After an upgrade by the standard
-/// they give what follows the request.
+/// THE READS ARE THE BODY'S: the reads of each request give the next bytes of its own body, one after another. They
+/// report an end or a fault only after the last byte, and it is the one that the body has. (A counted body that the
+/// client's end cuts has an end under `Lenient` and `Strict`, a fault under `Standard`.) After an upgrade under
+/// `Standard` they give what follows the request.
 pub fn reads_give_the_body()
     ensures next { (p : Profile) (feed : Feed) (before after : Sink) (steps : List TimedValue)
         (replies : List ReplyValue) (held : List ℕ) (ended : Bool) (unread : Option Feed)
@@ -53,8 +53,8 @@ pub fn reads_give_the_body()
         → ReadsInOrder k r r.body steps replies }
 {}
 
-/// THE OUTPUT IS THE SEGMENTS: what was taken and is held begins the segments in the order of their numbers, each
-/// whole up to the first that isn't, after which nothing follows. It is all of that where the writer did not fail.
+/// THE OUTPUT IS THE SEGMENTS: what was taken and is held is a prefix of the segments in the order of their numbers,
+/// each whole up to the first that isn't, after which nothing follows. It is all of that if the writer did not fail.
 /// Each number that was reached has one segment.
 pub fn output_joins_the_segments()
     ensures front { (p : Profile) (feed : Feed) (before after : Sink) (steps : List TimedValue)
@@ -68,7 +68,7 @@ pub fn output_joins_the_segments()
         → IsOutputOf after held out
         → after.failures ≡ before.failures
         → out ≡ sent (map segment_of c.end.reached.slots) }
-    // The segment of number k is of item k of the pipeline: a request, or a refused head.
+    // The segment of number k belongs to item k of the pipeline: a request, or a refused head.
     ensures each { (p : Profile) (feed : Feed) (before after : Sink) (steps : List TimedValue)
         (replies : List ReplyValue) (held : List ℕ) (ended : Bool) (unread : Option Feed)
         → (c : IsConversation p feed before steps replies after held ended unread)
@@ -77,7 +77,7 @@ pub fn output_joins_the_segments()
         → (item : Item)
         × (slice_get c.items k ≡ Some item)
         × AreOfOneHead s.item item }
-    // The answer that a response made is that of a step for this number, on its date.
+    // A response that answers a number is that of a step for this number, on its date.
     ensures made { (p : Profile) (feed : Feed) (before after : Sink) (steps : List TimedValue)
         (replies : List ReplyValue) (held : List ℕ) (ended : Bool) (unread : Option Feed)
         → (c : IsConversation p feed before steps replies after held ended unread)
@@ -87,9 +87,9 @@ pub fn output_joins_the_segments()
         → IsAmong t steps }
 {}
 
-/// EACH NUMBER IS AS ITS STEPS SAY, by their replies: each request that was handed out has a number. It is finished
-/// where a step finished it, and has the answer of the step that was done, or else the server's. Its raw writer or
-/// stream has the bytes of its writes, joined, and its 100 the date on which it was first asked for.
+/// EACH NUMBER IS AS ITS STEPS SAY, by their replies. Each request that was handed out has a number. It is finished if
+/// a step finished it, and has the response of the step that was done, or else the server's. Its raw writer or stream
+/// has the bytes of its writes, joined, and its 100 the date on which it was first asked for.
 pub fn numbers_are_as_told()
     ensures reached { (p : Profile) (feed : Feed) (before after : Sink) (steps : List TimedValue)
         (replies : List ReplyValue) (held : List ℕ) (ended : Bool) (unread : Option Feed)
@@ -105,9 +105,9 @@ pub fn numbers_are_as_told()
         → IsAsTold k s s.item (account k steps replies) }
 {}
 
-/// STEPS ARE TAKEN IN TURN. A step but a read for a request that was handed out is done or refused where the request
-/// takes it, once the numbers before it are finished; it is not put off. An answer, a write, a flush and an upgrade are
-/// done only then. `NoSuch` is answered where no request that was handed out takes the step, and nowhere else but to a
+/// STEPS ARE TAKEN IN TURN. A step other than a read, for a request that was handed out and takes it, is done or
+/// refused once the numbers before it are finished; it is not put off. A response, a write, a flush and an upgrade are
+/// done only then. The reply is `NoSuch` if no request that was handed out takes the step, and otherwise only to a
 /// read. An `Ask` is put off only while the last request that was handed out isn't finished.
 pub fn steps_are_taken_in_turn()
     ensures done { (p : Profile) (feed : Feed) (before after : Sink) (steps later : List TimedValue)
@@ -164,9 +164,9 @@ pub fn steps_are_taken_in_turn()
         × ((account k steps replies).condition ≢ Finished) }
 {}
 
-/// THE END HAS A REASON. Where an `Ask` is answered by the end, every request of the pipeline was handed out, and each
-/// refused head has a number; or a number stops the requests, as one whose chunked body was given up in the middle; or
-/// a step ended them: memory was refused, or an answer asked for the connection's end.
+/// THE END HAS A REASON. If an `Ask` reports the end, every request of the pipeline was handed out, and each refused
+/// head has a number; or a number stops the requests, such as one whose chunked body was given up before its end; or a
+/// step ended them: memory was refused, or a response asked to close the connection.
 pub fn the_end_has_a_reason()
     ensures reason { (p : Profile) (feed : Feed) (before after : Sink) (steps : List TimedValue)
         (replies : List ReplyValue) (held : List ℕ) (ended : Bool) (unread : Option Feed)
@@ -176,34 +176,34 @@ pub fn the_end_has_a_reason()
         ⊎ (OneStops c.end.reached.slots ⊎ OneEndsRequests steps replies) }
 {}
 
-/// THE CLIENT THEOREM, of the contract of `tiny_http_connection::driver::run` alone: a client that knows only the
-/// methods reads the output as one answer after another, in the order of the numbers.
+/// THE CLIENT THEOREM, from the contract of `tiny_http_connection::driver::run` alone: a client that knows only the
+/// methods it sent reads the output as one response after another, in the order of the numbers.
 ///
-/// The premise is on the steps. Each `Respond` has a status of 200 or more and readable headers. Each `Upgrade` names
-/// a protocol that isn't ASCII, and so is refused. There is no `IntoWriter`. So each number that was reached is a
-/// refused head, or is finished by such a `Respond`, by a `Drop` or by a refused `Upgrade`, or isn't answered yet.
-/// Raw writers and upgrades that were done are excluded: their bytes may be anything.
+/// The premise is on the steps. Each `Respond` has a status of 200 or more and readable headers, each `Upgrade` names a
+/// protocol that isn't ASCII and so is refused, and there is no `IntoWriter`. So each number that was reached is a
+/// refused head, or is finished by such a `Respond`, by a `Drop` or by a refused `Upgrade`, or isn't answered yet. Raw
+/// writers and upgrades that were done are excluded: their bytes are arbitrary.
 ///
-/// A header is readable if its name and its value are ASCII, its name has no white space and no colon, and its value
-/// is trimmed and has no CR LF. By the standard that is asked of headers as they are printed, and of the protocols
-/// that are offered: without those whose name isn't a token, and with a space in place of each byte that may not
-/// stand in a value. So a value whose first or last byte is replaced isn't trimmed.
+/// A header is readable if its name and its value are ASCII, its name has no white space and no colon, and its value is
+/// trimmed and has no CR LF. Under `Standard` this applies to headers as they are printed, and to the protocols that
+/// are offered: those whose name isn't a token are left out, and a space replaces each byte that is invalid in a value.
+/// So a value whose first or last byte is replaced isn't trimmed.
 ///
-/// The answer to a refused head is read as one to a GET, but the 505 of a HEAD as one to a HEAD. What is read of an
-/// answer is its version, which by the standard is 1.1, its status, its headers as they are printed (with `Server`,
-/// `Date`, by the standard `Connection` and `Upgrade`, and the one that frames the body), and the body that is sent.
-/// A 100 in front of it is passed over. What remains behind the last answer is nothing, or an unfinished front of the
-/// next number's text.
+/// The client reads the response to a refused head as one to a GET, but the 505 to a HEAD as one to a HEAD. It reads
+/// the version, which under `Standard` is 1.1, the status, the headers as they are printed (with `Server`, `Date`,
+/// under `Standard` `Connection` and `Upgrade`, and the one that frames the body), and the body that is sent. It skips
+/// a 100 before the response. After the last response nothing remains, or an unfinished prefix of the next number's
+/// text.
 pub fn conversation_is_read()
-    // All that was sent and is held, however the writer failed: the answers of the first numbers, and what remains.
+    // All that was sent and is held, however the writer failed: the responses of the first numbers, and what remains.
     ensures output { (p : Profile) (feed : Feed) (before after : Sink) (steps : List TimedValue)
         (replies : List ReplyValue) (held out : List ℕ) (ended : Bool) (unread : Option Feed)
         → (c : IsConversation p feed before steps replies after held ended unread)
         → AreReadable p steps
         → IsOutputOf after held out
         → ReadsNumbers c.end.reached.slots out }
-    // Where the writer's count did not rise, these are the answers of all the numbers up to the first whose text
-    // breaks off, or that isn't answered yet.
+    // If the writer's failure count did not rise, these are the responses of all numbers up to the first whose text
+    // breaks off or that isn't answered yet.
     ensures whole { (p : Profile) (feed : Feed) (before after : Sink) (steps : List TimedValue)
         (replies : List ReplyValue) (held out : List ℕ) (ended : Bool) (unread : Option Feed)
         → (c : IsConversation p feed before steps replies after held ended unread)
@@ -212,7 +212,7 @@ pub fn conversation_is_read()
         → after.failures ≡ before.failures
         → (let texts = sent_texts c.end.reached.slots in
         ReadsAnswers (methods texts) out (whole_answers texts) (remains texts)) }
-    // Where the output has not ended, and each number is finished, each has its answer, and nothing remains.
+    // If the output has not ended and each number is finished, each has its response, and nothing remains.
     ensures complete { (p : Profile) (feed : Feed) (before after : Sink) (steps : List TimedValue)
         (replies : List ReplyValue) (held out : List ℕ) (unread : Option Feed)
         → (c : IsConversation p feed before steps replies after held false unread)
@@ -224,18 +224,19 @@ pub fn conversation_is_read()
         × ReadsAnswers (methods (sent_texts c.end.reached.slots)) out answers [] }
 {}
 
-/// The size that the definitions of a request's end take from the code: how many bytes of a counted body are passed
-/// over.
+/// The constant that the definitions of a request's end take from the code: how many bytes of a counted body are
+/// skipped.
 pub fn size_of_what_is_skipped()
     ensures { MOST_SKIPPED ≡ 65536 }
 {}
 
-/// CLOSE IS THE LAST: by the standard, no number follows one whose answer says `Connection: close`, in each
-/// conversation, whatever its steps (RFC 9112, section 9.6). An answer says it if it is a refusal, or if it was
-/// decided as it was made: by the request's head, by an answer that asked for it, by a 100 that is owed, or by what
-/// is left of the body. Of an answer that can be read, a client reads it exactly if it is said: as an element of
-/// `Connection`, which no response has of its own. So the client knows from the answer that none follows, and sends
-/// nothing more.
+/// CLOSE IS THE LAST: under `Standard`, no number follows one whose response says `Connection: close`, in each
+/// conversation, whatever its steps (RFC 9112, section 9.6).
+///
+/// A response says it if it is an error response to a refused head, or if that was decided when it was made: by the
+/// request's head, by a response that asked for it, by a 100 that is owed, or by what is left of the body. If the
+/// response can be read, a client reads it exactly if it is said: as an element of `Connection`, which no response has
+/// of its own. So the client knows from the response that none follows, and sends nothing more.
 pub fn close_is_the_last()
     ensures none { (feed : Feed) (before after : Sink) (steps : List TimedValue) (replies : List ReplyValue)
         (held : List ℕ) (ended : Bool) (unread : Option Feed)
@@ -247,7 +248,7 @@ pub fn close_is_the_last()
         → AllByRecursion IsReadAsSaid c.end.reached.slots }
 {}
 
-/// The premise of `conversation_is_read` gives that of `slots_are_read`.
+/// The premise of `conversation_is_read` implies that of `slots_are_read`.
 pub fn steps_can_be_read()
     // No number that was reached has a raw writer or was upgraded, and each response that answers one can be read.
     ensures slots { (p : Profile) (feed : Feed) (before after : Sink) (steps : List TimedValue)
@@ -255,7 +256,7 @@ pub fn steps_can_be_read()
         → (c : IsConversation p feed before steps replies after held ended unread)
         → AreReadable p steps
         → AllByRecursion (CanBeReadAt p) c.end.reached.slots }
-    // Where the writer's count did not rise, the writer did not fail.
+    // If the writer's failure count did not rise, the writer did not fail.
     ensures unfailed { (p : Profile) (feed : Feed) (before after : Sink) (steps : List TimedValue)
         (replies : List ReplyValue) (held : List ℕ) (ended : Bool) (unread : Option Feed)
         → (c : IsConversation p feed before steps replies after held ended unread)
@@ -263,18 +264,18 @@ pub fn steps_can_be_read()
         → c.end.failure ≡ None }
 {}
 
-/// The client theorem with its premise on the numbers that were reached. It says more than `conversation_is_read`: a
-/// step that was answered `NotYet` or `NoSuch` may be any.
+/// The client theorem with its premise on the numbers that were reached. It is stronger than `conversation_is_read`: a
+/// step with the reply `NotYet` or `NoSuch` is unrestricted.
 pub fn slots_are_read()
-    // All that was sent and is held, however the writer failed: the answers of the first numbers, and what remains.
+    // All that was sent and is held, however the writer failed: the responses of the first numbers, and what remains.
     ensures output { (p : Profile) (feed : Feed) (before after : Sink) (steps : List TimedValue)
         (replies : List ReplyValue) (held out : List ℕ) (ended : Bool) (unread : Option Feed)
         → (c : IsConversation p feed before steps replies after held ended unread)
         → AllByRecursion (CanBeReadAt p) c.end.reached.slots
         → IsOutputOf after held out
         → ReadsNumbers c.end.reached.slots out }
-    // Where the writer did not fail, these are the answers of all the numbers up to the first whose text breaks off,
-    // or that isn't answered yet.
+    // If the writer did not fail, these are the responses of all numbers up to the first whose text breaks off or that
+    // isn't answered yet.
     ensures whole { (p : Profile) (feed : Feed) (before after : Sink) (steps : List TimedValue)
         (replies : List ReplyValue) (held out : List ℕ) (ended : Bool) (unread : Option Feed)
         → (c : IsConversation p feed before steps replies after held ended unread)
@@ -283,7 +284,7 @@ pub fn slots_are_read()
         → c.end.failure ≡ None
         → (let texts = sent_texts c.end.reached.slots in
         ReadsAnswers (methods texts) out (whole_answers texts) (remains texts)) }
-    // Where the output has not ended, and each number is finished, each has its answer, and nothing remains.
+    // If the output has not ended and each number is finished, each has its response, and nothing remains.
     ensures complete { (p : Profile) (feed : Feed) (before after : Sink) (steps : List TimedValue)
         (replies : List ReplyValue) (held out : List ℕ) (unread : Option Feed)
         → (c : IsConversation p feed before steps replies after held false unread)
@@ -295,9 +296,9 @@ pub fn slots_are_read()
         × ReadsAnswers (methods (sent_texts c.end.reached.slots)) out answers [] }
 {}
 
-/// What the client theorem asks of responses, by the standard or not, holds of each `Response` of a status of 200 or
-/// more whose headers are readable as they are printed, and whose data are fewer than 2^63 bytes: its status and its
-/// length fit their types, and its list holds no `Transfer-Encoding` and no `Content-Length`.
+/// The client theorem's requirements on responses hold, under `Standard` or not, for each `Response` with a status of
+/// 200 or more, headers that are readable as they are printed, and data of fewer than 2^63 bytes. Its status and its
+/// length fit their types, and its list has no `Transfer-Encoding` and no `Content-Length`.
 pub fn response_can_be_read<D>(response: &Response<D>)
     ensures { (by_standard : Bool) (content : Feed)
         → length content.bytes < 2 ^ 63

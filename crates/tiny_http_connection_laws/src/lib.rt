@@ -1,5 +1,5 @@
-//! What follows from the connection theorem, as laws of the definitions: what it says in short words, and what a client
-//! reads. It stands on `tiny_http_connection` and `tiny_http_client`.
+//! Consequences of the connection theorem, as laws of the definitions: the theorem in short, and what a client reads.
+//! The crate is built on `tiny_http_connection` and `tiny_http_client`.
 #![tactic(auto)]
 
 pub mod laws;

@@ -1,4 +1,4 @@
-//! Laws of the definitions, each the contract of a function that does nothing.
+//! Laws of the definitions. Each is the contract of a function that does nothing.
 pub use tiny_http_body::laws::one_framing;
 pub use tiny_http_client::laws::{
     fronts_are_unfinished, one_client_answer, one_list_of_client_answers, sent_texts_are_read,

@@ -1,4 +1,4 @@
--- Codes, versions, names, methods and headers, and their texts.
+-- Status codes, versions, names, methods and header fields, and their texts.
 use Rattle.std.specs.Prelude.{◌≡◌, ◌⊎◌, ⊤, ℕ, ◌+◌, ◌<◌, ◌≤◌, Bool, false, ◌&&◌, List, [], ◌∷◌, ◌++◌, map, codes}
 use Rattle.std.specs.Prelude.{decimal, ◌==◌, bytes_eq, if◌then◌else◌}
 use Rattle.std.specs.List.{list_any}
@@ -12,33 +12,33 @@ use Rattle.tiny_http_head.specs.declared.common.Method.{Method}
 use Rattle.tiny_http_head.specs.declared.common.Method.TheVariants.{Get, Head, Post, Put, Delete, Connect, Options}
 use Rattle.tiny_http_head.specs.declared.common.Method.TheVariants.{Trace, Patch, NonStandard}
 
--- a text with its ASCII letters in lower case
+-- the text with its ASCII letters in lower case
 abbrev pub lowercase : List ℕ → List ℕ
 lowercase text = map to_ascii_lowercase text
 
--- two texts differ at most in the case of ASCII letters
+-- the texts differ at most in the case of ASCII letters
 abbrev pub same_name : List ℕ → List ℕ → Bool
 same_name a b = bytes_eq (lowercase a) (lowercase b)
 
--- two bytes are equal, or one ASCII letter in its two cases
+-- the bytes are equal, or one ASCII letter in both cases
 abbrev pub IsSameLetter : ℕ → ℕ → Type 0
 IsSameLetter a b = (a ≡ b) ⊎ ((65 ≤ a) × (a ≤ 90) × (b ≡ a + 32)) ⊎ ((65 ≤ b) × (b ≤ 90) × (a ≡ b + 32))
 
--- two texts are as long, and so at each place
+-- the texts are equally long, and each pair of bytes is equal except for case
 abbrev pub IsSameButForCase : List ℕ → List ℕ → Type 0
 IsSameButForCase [] [] = ⊤
 IsSameButForCase [] (b ∷ more) = ⊥
 IsSameButForCase (a ∷ rest) [] = ⊥
 IsSameButForCase (a ∷ rest) (b ∷ more) = IsSameLetter a b × IsSameButForCase rest more
 
--- whether a code is this number, and how it stands to it
+-- whether a code is this number, and how the two compare
 abbrev pub is_code : StatusCode → ℕ → Bool
 is_code code number = code.0 == number
 
 abbrev pub code_order : StatusCode → ℕ → Ordering
 code_order code number = nat_cmp code.0 number
 
--- whether a version has these numbers, and how it stands to the one that has
+-- whether a version has these numbers, and how it compares with them
 abbrev pub is_version : HTTPVersion → ℕ × ℕ → Bool
 is_version v numbers = (v.0 == numbers.0) && (v.1 == numbers.1)
 
@@ -76,7 +76,7 @@ nine_names =
     codes "GET" ∷ codes "HEAD" ∷ codes "POST" ∷ codes "PUT" ∷ codes "DELETE" ∷ codes "CONNECT" ∷ codes "OPTIONS" ∷
     codes "TRACE" ∷ codes "PATCH" ∷ []
 
--- not one of the nine names, kept as `NonStandard`
+-- the method isn't one of the nine names kept as `NonStandard`
 abbrev pub HasItsOwnName : Method → Type 0
 HasItsOwnName Get = ⊤
 HasItsOwnName Head = ⊤
@@ -89,7 +89,7 @@ HasItsOwnName Trace = ⊤
 HasItsOwnName Patch = ⊤
 HasItsOwnName (NonStandard name) = list_any (bytes_eq name) nine_names ≡ false
 
--- the phrase of each code that has one, as in tiny_http 0.12 (most by RFC 9110, section 15)
+-- the reason phrases, as in the original (most by RFC 9110, section 15)
 abbrev pub reason_phrases : List (ℕ × List ℕ)
 reason_phrases =
     (100, codes "Continue") ∷ (101, codes "Switching Protocols") ∷ (102, codes "Processing") ∷
@@ -117,7 +117,7 @@ reason_phrases =
     (507, codes "Insufficient Storage") ∷ (508, codes "Loop Detected") ∷ (510, codes "Not Extended") ∷
     (511, codes "Network Authentication Required") ∷ []
 
--- the phrase that a table has for a code, or Unknown
+-- the phrase of a code in a table, or Unknown
 abbrev pub phrase_in : List (ℕ × List ℕ) → ℕ → List ℕ
 phrase_in [] code = codes "Unknown"
 phrase_in (row ∷ rows) code = if code == row.0 then row.1 else phrase_in rows code

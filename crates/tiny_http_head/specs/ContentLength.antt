@@ -1,25 +1,25 @@
--- The one length that the elements of Content-Length are (RFC 9110, section 8.6; RFC 9112, section 6.3).
+-- The one length that all elements of Content-Length give (RFC 9110, section 8.6; RFC 9112, section 6.3).
 use Rattle.std.specs.Prelude.{◌≡◌, ℕ, Bool, false, ◌==◌, List, [], ◌∷◌, Option, Some, None, Result, Ok, Err, IsTrue}
 use Rattle.std.specs.Prelude.{if◌then◌else◌}
 use Rattle.std.specs.List.{list_all}
 use Rattle.tiny_http_head.specs.declared.content_length.InvalidLength.{InvalidLength}
 use Rattle.tiny_http_head.specs.Heads.{length_of}
 
--- the number that was read is this one
+-- the parsed number is this one
 abbrev pub is_number : ℕ → Option ℕ → Bool
 is_number n None = false
 is_number n (Some m) = m == n
 
--- the text is this length: digits alone, one or more, below 2^64
+-- the text is this length: one or more digits and nothing else, below 2^64
 abbrev pub is_length : ℕ → List ℕ → Bool
 is_length n text = is_number n (length_of text)
 
--- THE ONE LENGTH, by the elements of Content-Length: there are none; or all of them are the same number
+-- THE ONE LENGTH of the elements of Content-Length: there are none, or all are the same number
 abbrev pub IsOneLength : List (List ℕ) → Option ℕ → Type 0
 IsOneLength [] n = n ≡ None
 IsOneLength (length ∷ lengths) n = (m : ℕ) × (n ≡ Some m) × IsTrue (list_all (is_length m) (length ∷ lengths))
 
--- the number that was read, if all of these are it
+-- the number that was parsed, if all of these are equal to it
 abbrev pub all_are : Option ℕ → List (List ℕ) → Result (Option ℕ) InvalidLength
 all_are None lengths = Err (record {})
 all_are (Some n) lengths = if list_all (is_length n) lengths then Ok (Some n) else Err (record {})
@@ -29,7 +29,7 @@ abbrev pub one_length : List (List ℕ) → Result (Option ℕ) InvalidLength
 one_length [] = Ok None
 one_length (length ∷ lengths) = all_are (length_of length) lengths
 
--- the one length of these, where this one was found before them
+-- the one length of these elements, if this one was found before them
 abbrev pub lengths_after : Option ℕ → List (List ℕ) → Result (Option ℕ) InvalidLength
 lengths_after None lengths = one_length lengths
 lengths_after (Some n) lengths = all_are (Some n) lengths

@@ -1,4 +1,4 @@
--- The head of a request (RFC 9112, sections 2.1, 3 and 5): each text is a joining of named parts.
+-- The head of a request (RFC 9112, sections 2.1, 3 and 5). Each text is given as a concatenation of named parts.
 use Rattle.std.specs.Prelude.{◌≡◌, ℕ, Bool, ◌&&◌, ◌||◌, ◌==◌, ◌⊎◌, List, [], ◌∷◌, ◌++◌, length, ◌^◌, Option, Some}
 use Rattle.std.specs.Prelude.{None, if◌then◌else◌, codes, nat_lt}
 use Rattle.std.specs.Str.{bytes_eq, all_ascii_digits}
@@ -15,7 +15,7 @@ use Rattle.tiny_http_text.specs.Lines.{Line, IsUnfinished}
 abbrev pub line_feed : ℕ
 line_feed = 10
 
--- the method that a text names: one of the nine names, exactly, or one of its own
+-- the method that a text names: exactly one of the nine names, or a name of its own
 abbrev pub method_of : List ℕ → Method
 method_of text =
     if bytes_eq text (codes "GET") then Get else
@@ -32,7 +32,7 @@ method_of text =
 abbrev pub version : ℕ → ℕ → HTTPVersion
 version major minor = record { 0 = major; 1 = minor }
 
--- HTTP-version: the five that are read
+-- HTTP-version: the five that are accepted
 abbrev pub version_of : List ℕ → Option HTTPVersion
 version_of text =
     if bytes_eq text (codes "HTTP/0.9") then Some (version 0 9) else
@@ -46,7 +46,7 @@ version_of text =
 abbrev pub is_too_new : HTTPVersion → Bool
 is_too_new v = nat_lt 1 v.0 || (v.0 == 1 && nat_lt 1 v.1)
 
--- request-line: trimmed, it is method SP path SP version, and parts that follow after a further SP
+-- request-line: trimmed, it is method SP path SP version, and further parts after another SP
 pub record RequestLine (text : List ℕ) (method : Method) (path : List ℕ) (version : HTTPVersion) : Type 0 where
   pub core : List ℕ
   pub method_text : List ℕ
@@ -61,7 +61,7 @@ pub record RequestLine (text : List ℕ) (method : Method) (path : List ℕ) (ve
   pub names_method : method ≡ method_of method_text
   pub names_version : version_of version_text ≡ Some version
 
--- field-line: the name without white space or colon, the first colon, and the value between white space
+-- field-line: the name without white space or colon, a colon, and the value between white space
 pub record HeaderLine (text field value : List ℕ) : Type 0 where
   pub padded : List ℕ
   pub joins : text ≡ field ++ colon ∷ padded
@@ -69,11 +69,11 @@ pub record HeaderLine (text field value : List ℕ) : Type 0 where
   pub no_colon : HasNo colon field
   pub trims : Trims is_blank padded value
 
--- the text is a header, as a text of its own
+-- the text is this header field, on its own
 abbrev pub IsHeader : List ℕ → Header → Type 0
 IsHeader text h = AreAscii text × HeaderLine text h.field h.value
 
--- the bytes begin with these field-lines, and the rest follows
+-- the bytes begin with these field lines, and the rest follows
 abbrev pub BeginsWithHeaderLines : List ℕ → List Header → List ℕ → Type 0
 BeginsWithHeaderLines bytes [] rest = rest ≡ bytes
 BeginsWithHeaderLines bytes (h ∷ hs) rest =
@@ -84,7 +84,7 @@ BeginsWithHeaderLines bytes (h ∷ hs) rest =
     × HeaderLine text h.field h.value
     × BeginsWithHeaderLines next hs rest
 
--- what a head says
+-- the content of a request head
 pub record Message : Type 0 where
   pub method : Method
   pub path : List ℕ
@@ -96,7 +96,7 @@ abbrev pub BeginsWithRequestLine : List ℕ → Method → List ℕ → HTTPVers
 BeginsWithRequestLine bytes method path version rest =
     (text : List ℕ) × Line bytes text rest × AreAscii text × RequestLine text method path version
 
--- the bytes begin with a head: a request line, field-lines and an empty line; what follows it is after
+-- the bytes begin with a head: a request line, field lines and an empty line; `after` follows it
 abbrev pub BeginsWithRequestHead : List ℕ → Message → List ℕ → Type 0
 BeginsWithRequestHead bytes m after =
     (fields : List ℕ)
@@ -105,7 +105,7 @@ BeginsWithRequestHead bytes m after =
     × BeginsWithHeaderLines fields m.headers empty
     × Line empty [] after
 
--- how the next line is no good: it isn't finished, or isn't ASCII, or it isn't what has to stand there
+-- why the next line is refused: it isn't finished, isn't ASCII, or doesn't match the grammar there
 pub data GrammarFault : Type 0 where
   Cut : GrammarFault
   NotAscii : GrammarFault
@@ -124,7 +124,7 @@ IsRequestLine text =
 abbrev pub IsFieldOrEnd : List ℕ → Type 0
 IsFieldOrEnd text = (text ≡ []) ⊎ ((field : List ℕ) × (value : List ℕ) × HeaderLine text field value)
 
--- the first faulty line of a head: the request line, or, under a version, a line after it
+-- the first faulty line of a head: the request line, or, if a version is given, a later line
 abbrev pub FaultyHead : List ℕ → Option HTTPVersion → GrammarFault → Type 0
 FaultyHead bytes None fault = FaultyLine IsRequestLine bytes fault
 FaultyHead bytes (Some v) fault =
@@ -134,7 +134,7 @@ FaultyHead bytes (Some v) fault =
     × BeginsWithHeaderLines fields headers rest
     × FaultyLine IsFieldOrEnd rest fault
 
--- the length that a Content-Length value says (RFC 9110, section 8.6): an optional plus, one digit or more, below 2^64
+-- a content length (RFC 9110, section 8.6): one or more digits, below 2^64; `length_in` accepts a plus before them
 abbrev pub length_of : List ℕ → Option ℕ
 length_of ds =
     if nat_lt 0 (length ds) && (all_ascii_digits ds && nat_lt (digits_value 10 ds) (2 ^ 64)) then Some

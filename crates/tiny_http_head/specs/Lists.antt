@@ -1,4 +1,4 @@
--- The lists that headers are (RFC 9110, sections 5.3 and 5.6.1).
+-- Field values as lists (RFC 9110, sections 5.3 and 5.6.1).
 use Rattle.std.specs.Prelude.{ℕ, Bool, List, [], ◌∷◌, ◌++◌, map, if◌then◌else◌}
 use Rattle.httparse.specs.Grammar.{is_ows}
 use Rattle.tiny_http_text.specs.Bytes.{is_blank, trimmed, parts, comma}
@@ -7,17 +7,16 @@ use Rattle.tiny_http_head.specs.declared.blanks.Blanks.{Blanks}
 use Rattle.tiny_http_head.specs.declared.blanks.Blanks.TheVariants.{SpaceAndTab, WhiteSpace}
 use Rattle.tiny_http_head.specs.Common.{same_name}
 
--- the bytes that are left out around an element
+-- the bytes that are stripped from around an element
 abbrev pub is_left_out : Blanks → ℕ → Bool
 is_left_out SpaceAndTab = is_ows
 is_left_out WhiteSpace = is_blank
 
--- the elements of a value: what is between its commas, without such bytes around it. An empty value is one empty
--- element.
+-- the elements of a value: the texts between its commas, stripped; an empty value is one empty element
 abbrev pub elements_in : (ℕ → Bool) → List ℕ → List (List ℕ)
 elements_in is_out value = map (trimmed is_out) (parts comma value)
 
--- the elements of all headers of that name, in their order, the empty ones too
+-- the elements of all fields with that name, in order, including empty ones
 abbrev pub elements_by_name : (ℕ → Bool) → List ℕ → List Header → List (List ℕ)
 elements_by_name is_out name [] = []
 elements_by_name is_out name (h ∷ hs) =

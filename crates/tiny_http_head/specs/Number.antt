@@ -1,4 +1,4 @@
--- Numbers of any sign, as 16 bits hold them.
+-- Signed numbers as 16 bits.
 use Rattle.std.specs.Prelude.{ℕ, ◌-◌, ◌%◌, ℤ, pos, negsuc}
 
 -- the number modulo 65536: -1 is 65535

@@ -1,4 +1,4 @@
--- The parts of a request's target (RFC 9112, section 3.2; RFC 3986, section 3).
+-- The parts of a request target (RFC 9112, section 3.2; RFC 3986, section 3).
 use Rattle.std.specs.Prelude.{◌≡◌, ℕ, Bool, false, ◌&&◌, ◌||◌, ◌==◌, ◌⊎◌, List, [], ◌∷◌, ◌++◌, Option, Some, None}
 use Rattle.std.specs.Prelude.{IsTrue, codes}
 use Rattle.std.specs.List.{list_all, list_any}
@@ -11,7 +11,7 @@ slash = 47
 abbrev pub question_mark : ℕ
 question_mark = 63
 
--- a byte of a scheme behind its first
+-- a byte of a scheme after its first
 abbrev pub is_scheme_byte : ℕ → Bool
 is_scheme_byte b = is_ascii_alphanumeric b || list_any (λ c. c == b) (codes "+-.")
 
@@ -20,7 +20,7 @@ abbrev pub is_scheme : List ℕ → Bool
 is_scheme [] = false
 is_scheme (b ∷ bs) = is_ascii_alphabetic b && list_all is_scheme_byte bs
 
--- the target is a scheme, "://" and this
+-- the target is a scheme, "://" and the rest
 pub record HasScheme (target behind : List ℕ) : Type 0 where
   pub scheme : List ℕ
   pub joins : target ≡ scheme ++ codes "://" ++ behind
@@ -30,12 +30,12 @@ pub record HasScheme (target behind : List ℕ) : Type 0 where
 abbrev pub HasNoScheme : List ℕ → Type 0
 HasNoScheme target = (behind : List ℕ) → HasScheme target behind → ⊥
 
--- the text is a front without a question mark, and behind the first one a query
+-- the text is a front without a question mark, then optionally a question mark and a query
 abbrev pub FrontAndQuery : List ℕ → List ℕ → Option (List ℕ) → Type 0
 FrontAndQuery text front None = (text ≡ front) × HasNo question_mark front
 FrontAndQuery text front (Some query) = (text ≡ front ++ question_mark ∷ query) × HasNo question_mark front
 
--- the text is an authority and this path, which begins with the first slash
+-- the text is an authority and this path, which begins at the first slash
 pub record PathBehindAuthority (text path : List ℕ) : Type 0 where
   pub authority : List ℕ
   pub more : List ℕ
@@ -43,12 +43,12 @@ pub record PathBehindAuthority (text path : List ℕ) : Type 0 where
   pub no_slash : HasNo slash authority
   pub begins : path ≡ slash ∷ more
 
--- an authority and its path; behind an authority alone the path is a slash (RFC 9110, section 4.2.3)
+-- an authority and its path; after an authority alone the path is a slash (RFC 9110, section 4.2.3)
 abbrev pub AuthorityAndPath : List ℕ → List ℕ → Type 0
 AuthorityAndPath text path = PathBehindAuthority text path ⊎ (HasNo slash text × (path ≡ codes "/"))
 
--- THE PARTS OF A TARGET. Without a scheme it is its path, up to the first question mark; in absolute form the path
--- stands behind the authority.
+-- THE PARTS OF A TARGET. Without a scheme the path is everything before the first question mark; in absolute form it
+-- follows the authority.
 abbrev pub TargetParts : List ℕ → List ℕ → Option (List ℕ) → Type 0
 TargetParts target path query =
     (HasNoScheme target × FrontAndQuery target path query)

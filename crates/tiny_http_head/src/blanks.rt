@@ -1,4 +1,4 @@
-//! White space around a value and around the elements of a list (RFC 9110, sections 5.5 and 5.6.1).
+//! White space around a field value and around list elements (RFC 9110, sections 5.5 and 5.6.1).
 ghost use Rattle.std.specs.Prelude.{◌≡◌};
 ghost use Rattle.httparse.specs.Grammar.{is_ows};
 ghost use Rattle.tiny_http_text.specs.Bytes.{skip_while, skip_end_while, trimmed};
@@ -6,19 +6,20 @@ ghost use Rattle.tiny_http_text.specs.Bytes.{skip_while, skip_end_while, trimmed
 use httparse::is_space_or_tab;
 use tiny_http_text::bytes;
 
-/// Which bytes are left out around an element of a list.
+/// The bytes that are stripped from around a list element.
 #[derive(Clone, Copy, Debug, PartialEq, Eq)]
 pub enum Blanks {
     /// Space and tab (RFC 9110, section 5.6.3).
     SpaceAndTab,
-    /// Bytes 9 to 13 and 32, as tiny_http leaves them out.
+    /// Bytes 9 to 13 and 32, which the original crate strips.
     WhiteSpace,
 }
 
 impl Blanks {
     ghost use Rattle.tiny_http_head.specs.Lists.{is_left_out};
 
-    /// Returns the text without such bytes at its ends. It is inlined, so that a constant chooses the loops once.
+    /// Strips these bytes from both ends of the text. It is inlined, so that a constant variant selects the loops at
+    /// compile time.
     #[inline(always)]
     pub fn trim(self, text: &[u8]) -> &[u8]
         ensures { result.now ≡ trimmed (is_left_out self) text.now }
@@ -30,7 +31,7 @@ impl Blanks {
     }
 }
 
-// The text without spaces and tabs at its end.
+// Strips trailing spaces and tabs.
 fn trim_end(text: &[u8]) -> &[u8]
     ensures { result.now ≡ skip_end_while is_ows text.now }
 {
@@ -41,7 +42,7 @@ fn trim_end(text: &[u8]) -> &[u8]
     &text[..end]
 }
 
-// The text without spaces and tabs at its front.
+// Strips leading spaces and tabs.
 fn trim_front(text: &[u8]) -> &[u8]
     ensures { result.now ≡ skip_while is_ows text.now }
 {
@@ -52,7 +53,7 @@ fn trim_front(text: &[u8]) -> &[u8]
     &text[start..]
 }
 
-/// Returns the text without spaces and tabs at its ends (RFC 9110, section 5.6.3).
+/// Strips spaces and tabs from both ends of the text (RFC 9110, section 5.6.3).
 pub fn trim_space_and_tab(text: &[u8]) -> &[u8]
     ensures { result.now ≡ trimmed is_ows text.now }
 {

@@ -1,4 +1,4 @@
-//! Status codes, versions, methods and headers.
+//! Status codes, versions, methods and header fields.
 ghost use Rattle.std.specs.Prelude.{◌≡◌, ◌%◌, ◌↔◌, IfOk, IfErr, IsOk, IsErrOf, IsSome, IsTrue, OnErr, IsAscii, Some};
 ghost use Rattle.std.specs.Prelude.{nat_eq, List, ℕ};
 ghost use Rattle.std.specs.Ordering.{on};
@@ -23,13 +23,13 @@ use tiny_http_text::bytes::{are_ascii, cut, has_no_blank, is, is_trimmed, trim};
 use tiny_http_text::copies::owned;
 use tiny_http_text::number::Numeral;
 
-/// Why a text isn't read, or no header is made of texts.
+/// The error of parsing a text, or of making a header from texts.
 #[derive(Clone, Copy, Debug, PartialEq, Eq, Error)]
 pub enum ParseError {
-    /// The text isn't of the grammar.
+    /// The text doesn't match the grammar.
     #[error("not of the grammar")]
     Refused,
-    /// There is no memory for the answer.
+    /// Memory for the result was refused.
     #[error("out of memory")]
     Memory,
 }
@@ -50,8 +50,8 @@ impl From<ParseError> for io::Error {
 
     ghost from_gives = { λ error fault. error_kind fault ≡ kind_of error };
 
-    /// `InvalidInput` of `Refused`, and `OutOfMemory` of `Memory`: `?` gives these in a function that answers an
-    /// `io::Result`.
+    /// Converts `Refused` to `InvalidInput` and `Memory` to `OutOfMemory`, so that `?` works in a function that returns
+    /// an `io::Result`.
     fn from(error: ParseError) -> io::Error {
         match error {
             ParseError::Refused => ErrorKind::InvalidInput.into(),
@@ -60,14 +60,14 @@ impl From<ParseError> for io::Error {
     }
 }
 
-/// The status code of an answer (RFC 9110, section 15). Any number of 16 bits is let through.
+/// The status code of a response (RFC 9110, section 15). Any 16-bit number is accepted.
 #[derive(Clone, Copy, Debug, PartialEq, Eq, PartialOrd, Ord)]
 pub struct StatusCode(pub u16);
 
 impl StatusCode {
     ghost use Rattle.tiny_http_head.specs.Common.{reason_phrase, is_code, code_order};
 
-    /// The reason phrase of the code, and `Unknown` for a code that has none. The table is tiny_http's;
+    /// Returns the reason phrase of the code, or `Unknown` for a code without one. The table is the original crate's;
     /// most of it is RFC 9110, section 15.
     #[tactic(auto, unfolding(crate::specs::Common::reason_phrase))]
     pub fn default_reason_phrase(&self) -> &'static str
@@ -138,21 +138,21 @@ impl StatusCode {
         }
     }
 
-    /// The code as a number.
+    /// Returns the code as a number.
     pub fn as_u16(&self) -> u16
         ensures { result ≡ self.now.0 }
     {
         self.0
     }
 
-    /// Whether the code is this number.
+    /// Returns whether the code is this number.
     pub fn is(&self, number: u16) -> bool
         ensures { result ≡ is_code self.now number }
     {
         *self == StatusCode(number)
     }
 
-    /// How the code stands to this number.
+    /// Compares the code with this number.
     pub fn cmp_u16(&self, number: u16) -> Ordering
         ensures { result ≡ code_order self.now number }
     {
@@ -163,7 +163,7 @@ impl StatusCode {
 impl From<i8> for StatusCode {
     ghost from_gives = { λ number code. code.0 ≡ code_of number };
 
-    /// The number modulo 65536.
+    /// Makes a code of the number modulo 65536.
     fn from(number: i8) -> StatusCode {
         StatusCode((number as i16).cast_unsigned())
     }
@@ -172,7 +172,7 @@ impl From<i8> for StatusCode {
 impl From<u8> for StatusCode {
     ghost from_gives = { λ number code. code.0 ≡ number };
 
-    /// The code with this number.
+    /// Makes a code of the number.
     fn from(number: u8) -> StatusCode {
         StatusCode(number as u16)
     }
@@ -181,7 +181,7 @@ impl From<u8> for StatusCode {
 impl From<i16> for StatusCode {
     ghost from_gives = { λ number code. code.0 ≡ code_of number };
 
-    /// The number modulo 65536.
+    /// Makes a code of the number modulo 65536.
     fn from(number: i16) -> StatusCode {
         StatusCode(number.cast_unsigned())
     }
@@ -190,7 +190,7 @@ impl From<i16> for StatusCode {
 impl From<u16> for StatusCode {
     ghost from_gives = { λ number code. code.0 ≡ number };
 
-    /// The code with this number.
+    /// Makes a code of the number.
     fn from(number: u16) -> StatusCode {
         StatusCode(number)
     }
@@ -199,7 +199,7 @@ impl From<u16> for StatusCode {
 impl From<i32> for StatusCode {
     ghost from_gives = { λ number code. code.0 ≡ code_of number };
 
-    /// The number modulo 65536.
+    /// Makes a code of the number modulo 65536.
     fn from(number: i32) -> StatusCode {
         StatusCode((number.cast_unsigned() % 65536) as u16)
     }
@@ -208,28 +208,27 @@ impl From<i32> for StatusCode {
 impl From<u32> for StatusCode {
     ghost from_gives = { λ number code. code.0 ≡ number % 65536 };
 
-    /// The number modulo 65536.
+    /// Makes a code of the number modulo 65536.
     fn from(number: u32) -> StatusCode {
         StatusCode((number % 65536) as u16)
     }
 }
 
-/// A version of HTTP: its major and its minor number. The order goes by the major number first (RFC
-/// 9110, section 2.5).
+/// An HTTP version: its major and minor numbers, ordered by the major number first (RFC 9110, section 2.5).
 #[derive(Clone, Copy, Debug, PartialEq, Eq, PartialOrd, Ord)]
 pub struct HTTPVersion(pub u8, pub u8);
 
 impl HTTPVersion {
     ghost use Rattle.tiny_http_head.specs.Common.{is_version, version_order};
 
-    /// Whether the version has these numbers, major first.
+    /// Returns whether the version has these numbers, major first.
     pub fn is(&self, numbers: (u8, u8)) -> bool
         ensures { result ≡ is_version self.now numbers }
     {
         *self == HTTPVersion::from(numbers)
     }
 
-    /// How the version stands to the one with these numbers, major first.
+    /// Compares the version with the one that has these numbers, major first.
     pub fn cmp_pair(&self, numbers: (u8, u8)) -> Ordering
         ensures { result ≡ version_order self.now numbers }
     {
@@ -240,7 +239,7 @@ impl HTTPVersion {
 impl From<(u8, u8)> for HTTPVersion {
     ghost from_gives = { λ numbers version. (version.0 ≡ numbers.0) × (version.1 ≡ numbers.1) };
 
-    /// The version with these numbers, major first.
+    /// Makes the version with these numbers, major first.
     fn from(numbers: (u8, u8)) -> HTTPVersion {
         HTTPVersion(numbers.0, numbers.1)
     }
@@ -253,7 +252,7 @@ impl fmt::Display for HTTPVersion {
 
     ghost styled_output = { λ v _. Some (version_text v) };
 
-    /// Writes `major.minor`, in decimal. Width and the like change nothing.
+    /// Writes `major.minor` in decimal. Formatting parameters such as width are ignored.
     fn fmt<W: fmt::Write>(&self, f: &mut fmt::Formatter<W>) -> fmt::Result {
         f.write_str(Numeral::decimal(self.0.into()).as_str())?;
         f.write_str(".")?;
@@ -261,8 +260,8 @@ impl fmt::Display for HTTPVersion {
     }
 }
 
-/// The name of a header: ASCII bytes, compared without regard to letter case (RFC 9110, section
-/// 5.1). A contract sees it as the list of its bytes.
+/// A field name: ASCII bytes, compared case-insensitively (RFC 9110, section 5.1). A contract sees it as the list of
+/// its bytes.
 #[derive(Debug, Drop)]
 pub struct HeaderField {
     text: AsciiString,
@@ -284,7 +283,7 @@ impl HeaderField {
     ghost use Rattle.tiny_http_text.specs.Ascii.{IsFirstNotAscii};
     ghost use Rattle.tiny_http_text.specs.FromAsciiError.{refused_bytes, bad_place};
 
-    /// Takes any ASCII bytes, and no others: a refusal hands them back.
+    /// Makes a name of any ASCII bytes. The error hands other bytes back.
     pub fn from_bytes(bytes: Vec<u8>) -> Result<HeaderField, FromAsciiError>
         ensures ok { IfOk result (λ f. f ≡ bytes.items) }
         ensures succeeds { IsOk result ↔ IsAscii bytes.items }
@@ -296,8 +295,8 @@ impl HeaderField {
         })
     }
 
-    /// Reads a name: ASCII without white space (bytes 9 to 13 and 32). `Refused` for any other text,
-    /// and for no other reason; `Memory` where there is no memory for a copy.
+    /// Parses a name: ASCII without white space (bytes 9 to 13 and 32). `Refused` for any other text, and only then;
+    /// `Memory` if memory for a copy is refused.
     pub fn from_str(alloc: Global, text: &str) -> Result<HeaderField, ParseError>
         ensures ok { IfOk result (λ f. (f ≡ text.now) × IsWord text.now) }
         ensures refused { IsErrOf result ParseError.Refused ↔ ¬ (IsWord text.now) }
@@ -310,21 +309,21 @@ impl HeaderField {
         Ok(HeaderField { text })
     }
 
-    /// The name of this text, whatever ASCII bytes it has; for the crates above.
+    /// Makes a name of any ASCII text. It is for the crates above.
     pub fn from_text(text: AsciiString) -> HeaderField
         ensures { result ≡ text }
     {
         HeaderField { text }
     }
 
-    /// The name as it was given.
+    /// Returns the name as it was given.
     pub fn as_str(&self) -> AsciiStr<'_>
         ensures { result ≡ self.now }
     {
         self.text.as_ascii()
     }
 
-    /// A copy of the name, or an error where there is no memory for it.
+    /// Copies the name. Fails if memory is refused.
     pub fn try_clone(&self) -> Result<HeaderField, AllocError>
         ensures { IfOk result (λ f. f ≡ self.now) }
     {
@@ -333,7 +332,7 @@ impl HeaderField {
         })
     }
 
-    /// Whether this is that name: the two differ at most in the case of ASCII letters.
+    /// Compares two names, ignoring the case of ASCII letters.
     pub fn equiv(&self, other: &str) -> bool
         ensures { result ≡ same_name self.now other.now }
     {
@@ -348,7 +347,7 @@ impl PartialEq for HeaderField {
 
     ghost laws = { Prim.search (comparing, rules) };
 
-    /// Whether the two names differ at most in the case of ASCII letters.
+    /// Compares two names, ignoring the case of ASCII letters.
     fn eq(&self, other: &HeaderField) -> bool {
         self.equiv(other.as_str().as_str())
     }
@@ -363,14 +362,13 @@ impl fmt::Display for HeaderField {
 
     ghost styled_output = { λ f _. Some f };
 
-    /// Writes the name as it was given. Width and the like change nothing.
+    /// Writes the name as it was given. Formatting parameters such as width are ignored.
     fn fmt<W: fmt::Write>(&self, f: &mut fmt::Formatter<W>) -> fmt::Result {
         f.write_str(self.as_str().as_str())
     }
 }
 
-/// What a request asks for (RFC 9110, section 9; `PATCH` by RFC 5789). Names are told apart by
-/// letter case.
+/// A request method (RFC 9110, section 9; `PATCH` by RFC 5789). Names are case-sensitive.
 #[derive(Debug, Drop, PartialEq, Eq, Hash)]
 pub enum Method {
     /// `GET`
@@ -391,16 +389,15 @@ pub enum Method {
     Trace,
     /// `PATCH`
     Patch,
-    /// Any ASCII text. `from_str` makes one only of a text that isn't among the nine names.
+    /// Any other ASCII text. `from_str` uses it only for a text that isn't one of the nine names.
     NonStandard(AsciiString),
 }
 
 impl Method {
     ghost use Rattle.tiny_http_head.specs.Common.{method_text};
 
-    /// Reads a method: one of the nine names, exactly, or any other ASCII text, the empty one too.
-    /// `Refused` for a text that isn't ASCII, and for no other reason; `Memory` where there is no
-    /// memory for a copy.
+    /// Parses a method: exactly one of the nine names, or any other ASCII text, even an empty one. `Refused` for a text
+    /// that isn't ASCII, and only then; `Memory` if memory for a copy is refused.
     pub fn from_str(alloc: Global, text: &str) -> Result<Method, ParseError>
         ensures ok { IfOk result (λ m. (m ≡ method_of text.now) × AreAscii text.now) }
         ensures refused { IsErrOf result ParseError.Refused ↔ ¬ (AreAscii text.now) }
@@ -413,7 +410,7 @@ impl Method {
         Ok(method)
     }
 
-    /// A copy of the method, or an error where there is no memory for it.
+    /// Copies the method. Fails if memory is refused.
     pub fn try_clone(&self) -> Result<Method, AllocError>
         ensures { IfOk result (λ m. m ≡ self.now) }
     {
@@ -431,7 +428,7 @@ impl Method {
         }
     }
 
-    /// The method's name, as it stands in a request line.
+    /// Returns the method's name, as in a request line.
     pub fn as_str(&self) -> &str
         ensures name { result.now ≡ method_text self.now }
         ensures ascii { IsAscii result.now }
@@ -458,18 +455,18 @@ impl fmt::Display for Method {
 
     ghost styled_output = { λ m _. Some (method_text m) };
 
-    /// Writes the method's name. Width and the like change nothing.
+    /// Writes the method's name. Formatting parameters such as width are ignored.
     fn fmt<W: fmt::Write>(&self, f: &mut fmt::Formatter<W>) -> fmt::Result {
         f.write_str(self.as_str())
     }
 }
 
-/// A header: its name and its value (RFC 9110, section 5).
+/// A header field: a name and a value (RFC 9110, section 5).
 #[derive(Debug, Drop)]
 pub struct Header {
-    /// The name.
+    /// The field name.
     pub field: HeaderField,
-    /// The value, without the white space around it where it was read from a line.
+    /// The field value, without surrounding white space if it was parsed from a field line.
     pub value: AsciiString,
 }
 
@@ -477,12 +474,11 @@ impl Header {
     ghost use Rattle.tiny_http_head.specs.Heads.{IsHeader};
     ghost use Rattle.tiny_http_head.specs.HeaderTexts.{AreHeaderTexts, header_of};
 
-    /// Makes a header of a name and a value, both as they are given. The name is a token: one byte or more, each a
-    /// letter, a digit or one of ``!#$%&'*+-.^_`|~`` (RFC 9110, section 5.6.2). The value is of visible ASCII bytes,
-    /// spaces and tabs, and neither a space nor a tab stands at its ends; it may be empty (RFC 9110, section 5.5).
-    /// `Refused` for any other text, as one with CR, LF or NUL, and for no other reason; `Memory` where there is no
-    /// memory for the copies. A client reads such a header as it was meant, also where a client's text stands in the
-    /// value.
+    /// Makes a header of a name and a value, unchanged. A client reads it as it is meant, even if a client's text is in
+    /// it. The name is a token (RFC 9110, section 5.6.2): letters, digits and ``!#$%&'*+-.^_`|~``, at least one. The
+    /// value is of visible ASCII bytes, spaces and tabs, without a space or tab at its ends; it may be empty (RFC 9110,
+    /// section 5.5). `Refused` for any other text, such as one with CR, LF or NUL, and only then; `Memory` if memory is
+    /// refused.
     #[tactic(auto, using(crate::proofs::HeaderTextsLemmas::token_ascii))]
     pub fn new(alloc: Global, name: &str, value: &str) -> Result<Header, ParseError>
         ensures ok { IfOk result (λ h. (h ≡ header_of name.now value.now) × AreHeaderTexts name.now value.now) }
@@ -498,7 +494,7 @@ impl Header {
         Ok(Header { field, value })
     }
 
-    /// Makes a header of any ASCII bytes. An error where either text isn't ASCII.
+    /// Makes a header of any ASCII bytes. Fails if either text isn't ASCII.
     pub fn from_bytes(field: Vec<u8>, value: Vec<u8>) -> Result<Header, ()>
         ensures ok { IfOk result (λ h. (h.field ≡ field.items) × (h.value ≡ value.items)) }
         ensures succeeds { IsOk result ↔ (IsAscii field.items × IsAscii value.items) }
@@ -512,10 +508,9 @@ impl Header {
         Ok(Header { field, value })
     }
 
-    /// Reads a header line, without its end: the name stands before the first colon, the value,
-    /// trimmed, after it (RFC 9112, section 5). `Refused` where there is no colon, white space
-    /// (bytes 9 to 13 and 32) in the name, or a byte that isn't ASCII, and for no other reason;
-    /// `Memory` where there is no memory for the copies.
+    /// Parses a field line without its CR LF: the name before the first colon, the value, trimmed, after it (RFC 9112,
+    /// section 5). `Refused` if there is no colon, white space (bytes 9 to 13 and 32) in the name, or a byte that isn't
+    /// ASCII, and only then; `Memory` if memory is refused.
     pub fn from_str(alloc: Global, text: &str) -> Result<Header, ParseError>
         ensures ok { IfOk result (λ h. IsHeader text.now h) }
         ensures refused { IsErrOf result ParseError.Refused ↔ ((h : Header) → IsHeader text.now h → ⊥) }
@@ -530,7 +525,7 @@ impl Header {
         }
     }
 
-    /// A copy of the header, or an error where there is no memory for it.
+    /// Copies the header. Fails if memory is refused.
     pub fn try_clone(&self) -> Result<Header, AllocError>
         ensures { IfOk result (λ h. h ≡ self.now) }
     {
@@ -547,7 +542,8 @@ impl From<Header> for io::Error {
 
     ghost from_gives = { λ _ fault. error_kind fault ≡ OutOfMemory };
 
-    /// `OutOfMemory`: a header comes back from a call that found no memory to keep it. The header is let go.
+    /// Returns `OutOfMemory`, since a header is handed back only by a call that was refused memory to keep it. The
+    /// header is dropped.
     fn from(_header: Header) -> io::Error {
         ErrorKind::OutOfMemory.into()
     }
@@ -560,7 +556,7 @@ impl fmt::Display for Header {
 
     ghost styled_output = { λ h _. Some (header_text h) };
 
-    /// Writes `field: value`. Width and the like change nothing.
+    /// Writes `field: value`. Formatting parameters such as width are ignored.
     fn fmt<W: fmt::Write>(&self, f: &mut fmt::Formatter<W>) -> fmt::Result {
         f.write_str(self.field.as_str().as_str())?;
         f.write_str(": ")?;
@@ -568,15 +564,15 @@ impl fmt::Display for Header {
     }
 }
 
-// Whether the text is a value as it is sent: ASCII, with no control byte but the tab, and no white space at its ends.
+// Returns whether the text is a field value to send: ASCII, no control byte except tab, and no white space at its ends.
 fn is_field_value(text: &[u8]) -> bool
     ensures { IsTrue result ↔ IsFieldValue text.now }
 {
     are_ascii(text) && is_header_value(text) && is_trimmed(text)
 }
 
-/// The method that an ASCII text names: one of the nine names, exactly, or any other text. An error where there is no
-/// memory for a copy.
+/// Returns the method that an ASCII text names: exactly one of the nine names, or any other text. Fails if memory for a
+/// copy is refused.
 pub fn method_of(alloc: Global, text: &[u8]) -> Result<Method, AllocError>
     requires { AreAscii text.now }
     ensures { IfOk result (λ m. m ≡ method_of text.now) }
@@ -611,9 +607,8 @@ pub fn method_of(alloc: Global, text: &[u8]) -> Result<Method, AllocError>
     Ok(Method::NonStandard(owned(alloc, text)?))
 }
 
-/// Reads a header line: the name stands before the first colon, the value, trimmed, after it (RFC
-/// 9112, section 5). `None` where there is no colon, or white space in the name. An error where the
-/// text is a header line and there is no memory for the answer.
+/// Parses a field line: the name before the first colon, the value, trimmed, after it (RFC 9112, section 5). Returns
+/// `None` if there is no colon, or white space in the name. Fails if the text is a field line and memory is refused.
 pub fn parse_header_line(alloc: Global, text: &[u8]) -> Result<Option<Header>, AllocError>
     requires { AreAscii text.now }
     ensures value { IfOk result (λ found. found ≡ header_line text.now) }

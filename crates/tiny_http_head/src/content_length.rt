@@ -1,4 +1,4 @@
-//! The length that `Content-Length` gives (RFC 9110, section 8.6; RFC 9112, section 6.3).
+//! The content length (RFC 9110, section 8.6; RFC 9112, section 6.3).
 ghost use Rattle.std.specs.Prelude.{◌≡◌, ◌≤◌, ◌<◌, ◌+◌, ◌-◌, ◌*◌, ◌^◌, ◌∷◌, [], IfSome, IfNone, codes};
 ghost use Rattle.tiny_http_head.specs.Heads.{length_of};
 ghost use Rattle.tiny_http_head.specs.Lists.{is_left_out, elements_in, elements_by_name};
@@ -11,7 +11,7 @@ use crate::common::Header;
 #[derive(Clone, Copy, Debug, PartialEq, Eq)]
 pub struct InvalidLength;
 
-// The number that a further digit makes, if it is below 2^64.
+// Appends a digit to the number, unless the result is 2^64 or more.
 fn with_digit(number: usize, digit: u8) -> Option<usize>
     requires { (48 ≤ digit) × (digit < 58) }
     ensures some { IfSome result (λ n. (n ≡ number * 10 + (digit - 48)) × (n < 2 ^ 64)) }
@@ -20,8 +20,8 @@ fn with_digit(number: usize, digit: u8) -> Option<usize>
     number.checked_mul(10)?.checked_add((digit - b'0') as usize)
 }
 
-/// Reads a number of one decimal digit or more, at most 18446744073709551615, as `Content-Length` has it (RFC 9110,
-/// section 8.6). `None` for any other text, and so for one with a sign.
+/// Parses a number of one or more decimal digits, at most 18446744073709551615, as in `Content-Length` (RFC 9110,
+/// section 8.6). Returns `None` for any other text, for example one with a sign.
 pub fn number_in(text: &[u8]) -> Option<usize>
     ensures { result ≡ length_of text.now }
 {
@@ -38,7 +38,7 @@ pub fn number_in(text: &[u8]) -> Option<usize>
     Some(number)
 }
 
-// The length after one element more: its number, if it is the length that was found before.
+// Returns the length after one more element, which must be the same number as those before it.
 #[inline(always)]
 fn length_after(found: Option<usize>, element: &[u8]) -> Result<Option<usize>, InvalidLength>
     ensures { result ≡ lengths_after found (element.now ∷ []) }
@@ -54,7 +54,7 @@ fn length_after(found: Option<usize>, element: &[u8]) -> Result<Option<usize>, I
     Ok(Some(length))
 }
 
-// The length after the elements of a value more.
+// Returns the length after the elements of one more value.
 #[inline(always)]
 fn lengths_in(
     blanks: Blanks,
@@ -73,10 +73,11 @@ fn lengths_in(
     Ok(found)
 }
 
-/// Reads the one length that the `Content-Length` headers give, or `None` if there is no such header (RFC 9110,
-/// section 8.6; RFC 9112, section 6.3). Each value is a list, whose elements are numbers as in `number_in`, with
-/// `blanks` left out around them. `InvalidLength` if an element is no such number, as the empty one, or if two
-/// differ.
+/// Returns the one length that all `Content-Length` fields give, or `None` if there are none (RFC 9110, section 8.6;
+/// RFC 9112, section 6.3).
+///
+/// Each value is a list of numbers as in `number_in`, with `blanks` stripped around them. Fails if an element, for
+/// example an empty one, is no such number, or if two differ.
 #[inline(always)]
 pub fn one_length(headers: &[Header], blanks: Blanks) -> Result<Option<usize>, InvalidLength>
     ensures { result ≡ one_length (elements_by_name (is_left_out blanks) (codes "Content-Length") headers.now) }

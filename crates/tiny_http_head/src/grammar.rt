@@ -1,4 +1,4 @@
-//! The lines of a request's head, parsed (RFC 9112, sections 3 and 5).
+//! Parsing of the lines of a request head (RFC 9112, sections 3 and 5).
 ghost use Rattle.std.specs.Prelude.{◌≡◌, IfOk, OnErr, IfSome, IfNone, IsSome, None};
 ghost use Rattle.tiny_http_text.specs.Bytes.{AreAscii};
 ghost use Rattle.tiny_http_head.specs.Heads.{length_in, version_of};
@@ -11,7 +11,7 @@ use tiny_http_text::ascii::AsciiString;
 use tiny_http_text::bytes::{cut, first_part, is, trim};
 use tiny_http_text::copies::owned;
 
-// The version that a text names.
+// Returns the version that a text names.
 fn version_of(text: &[u8]) -> Option<HTTPVersion>
     ensures { result ≡ version_of text.now }
 {
@@ -33,7 +33,7 @@ fn version_of(text: &[u8]) -> Option<HTTPVersion>
     None
 }
 
-// The three parts of a request line, the last up to a further space.
+// Splits a request line into its three parts; the third ends at a further space.
 fn split_request_line(text: &[u8]) -> Option<(&[u8], &[u8], &[u8])>
     ensures some { IfSome result (λ r. HasParts text.now r.0.now r.1.now r.2.now) }
     ensures none { IfNone result (request_line text.now ≡ None) }
@@ -48,10 +48,10 @@ fn split_request_line(text: &[u8]) -> Option<(&[u8], &[u8], &[u8])>
     Some((method, path, first_part(tail, b' ')))
 }
 
-/// Reads a request line: trimmed at both ends and split at each single space it is the method, the
-/// path, which may be empty, and the version; later parts are ignored (RFC 9112, section 3). `None`
-/// for fewer parts, or a version that is none of `HTTP/0.9`, `HTTP/1.0`, `HTTP/1.1`, `HTTP/2.0` and
-/// `HTTP/3.0`. An error where the text is a request line and there is no memory for the answer.
+/// Parses a request line (RFC 9112, section 3). Trimmed and split at each single space, it is the method, the request
+/// target, which may be empty, and the version; further parts are ignored. Returns `None` for fewer parts, or a version
+/// other than `HTTP/0.9`, `HTTP/1.0`, `HTTP/1.1`, `HTTP/2.0` and `HTTP/3.0`. Fails if the text is a request line and
+/// memory is refused.
 pub fn parse_request_line(
     alloc: Global,
     text: &[u8],
@@ -71,9 +71,8 @@ pub fn parse_request_line(
     Ok(Some((method, path, version)))
 }
 
-/// The length that a `Content-Length` value says: an optional `+`, then one decimal digit or more,
-/// at most 18446744073709551615. Any other value says none (RFC 9110, section 8.6; the `+` as
-/// tiny_http).
+/// Parses a `Content-Length` value: an optional `+`, then one or more decimal digits, at most 18446744073709551615.
+/// Returns `None` for any other value (RFC 9110, section 8.6; the `+` as in the original).
 pub fn parse_content_length(value: &str) -> Option<usize>
     ensures { result ≡ length_in value.now }
 {

@@ -1,4 +1,4 @@
-//! Laws of the definitions, each the contract of a function that does nothing.
+//! Laws of the definitions, each stated as the contract of a function that does nothing.
 ghost use Rattle.std.specs.Prelude.{◌≡◌, ◌↔◌, ℕ, List, Option, IsTrue, Some};
 ghost use Rattle.std.specs.Ordering.{nat_cmp};
 ghost use Rattle.std.specs.declared.cmp.Ordering.TheVariants.{Less, Equal, Greater};
@@ -16,8 +16,8 @@ ghost use Rattle.tiny_http_head.specs.Target.{TargetParts};
 use crate::common::{HTTPVersion, HeaderField, Method, StatusCode};
 use std::hash::Hash;
 
-/// Names of headers are equal where they are the same but for the case of ASCII letters, and nowhere
-/// else (RFC 9110, section 5.1). That is an equivalence, and `equiv` agrees with it.
+/// Field names are equal if, and only if, they differ at most in the case of ASCII letters (RFC 9110, section 5.1).
+/// This is an equivalence, and `equiv` agrees with it.
 pub fn header_field_equality()
     ensures ignores_case { (a b : List ℕ) → IsTrue (⟦<HeaderField as PartialEq>⟧.eq a b) ↔ IsSameButForCase a b }
     ensures equiv { (a b : List ℕ) → same_name a b ≡ ⟦<HeaderField as PartialEq>⟧.eq a b }
@@ -31,7 +31,7 @@ pub fn header_field_equality()
         → IsTrue (⟦<HeaderField as PartialEq>⟧.eq a c) }
 {}
 
-/// Methods are equal where they are the same, and equal ones feed a hasher alike.
+/// Methods are equal if, and only if, they are the same, and equal methods have the same hash input.
 pub fn method_hash()
     ensures equality { (a b : AnyMethod) → IsTrue (⟦<Method as PartialEq>⟧.eq a b) ↔ (a ≡ b) }
     ensures hash { (a b : AnyMethod)
@@ -39,7 +39,7 @@ pub fn method_hash()
         → ⟦<Method as Hash>⟧.hash_input a ≡ ⟦<Method as Hash>⟧.hash_input b }
 {}
 
-/// Status codes are ordered by their numbers, and `is` and `cmp_u16` agree with equality and order.
+/// Status codes are ordered by number; `is` and `cmp_u16` agree with equality and order.
 pub fn status_code_order()
     ensures by_number { (a b : Code) → ⟦<StatusCode as Ord>⟧.cmp a b ≡ nat_cmp a.0 b.0 }
     ensures partial { (a b : Code) → ⟦<StatusCode as PartialOrd>⟧.partial_cmp a b ≡ Some (nat_cmp a.0 b.0) }
@@ -49,8 +49,8 @@ pub fn status_code_order()
         → code_order code number ≡ ⟦<StatusCode as Ord>⟧.cmp code (record { 0 = number }) }
 {}
 
-/// The order of versions is lexicographic, the major number first, and agrees with equality; `is`
-/// and `cmp_pair` agree with both.
+/// Versions are ordered lexicographically, the major number first, in agreement with equality; `is` and `cmp_pair`
+/// agree with both.
 pub fn http_version_order()
     ensures less { (a b : Version) → (⟦<HTTPVersion as Ord>⟧.cmp a b ≡ Less) ↔ IsBefore a b }
     ensures greater { (a b : Version) → (⟦<HTTPVersion as Ord>⟧.cmp a b ≡ Greater) ↔ IsBefore b a }
@@ -64,13 +64,13 @@ pub fn http_version_order()
         → version_order v numbers ≡ ⟦<HTTPVersion as Ord>⟧.cmp v (record { 0 = numbers.0; 1 = numbers.1 }) }
 {}
 
-/// A method is read back from its name, unless it is one of the nine names kept as `NonStandard`.
+/// Parsing a method's name gives the method back, unless it is one of the nine names kept as `NonStandard`.
 pub fn method_from_its_name()
     ensures { (m : AnyMethod) → HasItsOwnName m → method_of (method_text m) ≡ m }
 {}
 
-/// A header is read back from its display, where its name has no white space or colon and its value
-/// is trimmed; and no text is two headers.
+/// Parsing a header's text gives the header back, if its name has no white space or colon and its value is trimmed. No
+/// text is two headers.
 pub fn header_from_its_text()
     ensures back { (h : Header)
         → IsWord h.field
@@ -81,15 +81,15 @@ pub fn header_from_its_text()
     ensures one { (text : List ℕ) (h k : Header) → IsHeader text h → IsHeader text k → h ≡ k }
 {}
 
-/// The plain readings of a request line and of a header line, which the parsers equal, are the
-/// grammar's (RFC 9112, sections 3 and 5).
+/// The functions that read a request line and a field line, which the parsers equal, match the grammar (RFC 9112,
+/// sections 3 and 5).
 pub fn lines_by_the_grammar()
     ensures request { (text path : List ℕ) (method : AnyMethod) (version : Version)
         → (request_line text ≡ Some (method, path, version)) ↔ RequestLine text method path version }
     ensures header { (text : List ℕ) (h : Header) → (header_line text ≡ Some h) ↔ HeaderLine text h.field h.value }
 {}
 
-/// A target has one path at most, and one query or none (RFC 9112, section 3.2).
+/// A request target has at most one path, with one query or none (RFC 9112, section 3.2).
 pub fn one_path_and_query()
     ensures { (target path other : List ℕ) (query another : Option (List ℕ))
         → TargetParts target path query

@@ -1,6 +1,5 @@
-//! The texts of a head (RFC 9110 and RFC 9112): status codes, versions, methods and headers, the grammar of their
-//! lines, and the length that `Content-Length` gives. It stands on `tiny_http_text`; `tiny_http_wire` names its modules
-//! again.
+//! The parts of a head (RFC 9110 and RFC 9112): status codes, versions, methods and header fields, the grammar of their
+//! lines, and the content length. The crate depends on `tiny_http_text`. `tiny_http_wire` re-exports its modules.
 #![tactic(auto)]
 
 pub mod blanks;

@@ -1,4 +1,4 @@
-//! The path and the query of a request's target (RFC 9112, section 3.2).
+//! The path and the query of a request target (RFC 9112, section 3.2).
 ghost use Rattle.std.specs.Prelude.{◌≡◌, IfSome, IfNone};
 ghost use Rattle.std.specs.Option.{option_copied};
 ghost use Rattle.std.specs.List.{list_all};
@@ -7,7 +7,7 @@ ghost use Rattle.tiny_http_head.specs.Target.{AuthorityAndPath, TargetParts, IsP
 
 use tiny_http_text::text::cut;
 
-// Whether these are bytes of a scheme.
+// Returns whether all bytes may be in a scheme after its first byte.
 fn are_scheme_bytes(text: &[u8]) -> bool
     ensures { result ≡ list_all is_scheme_byte text.now }
 {
@@ -15,7 +15,7 @@ fn are_scheme_bytes(text: &[u8]) -> bool
         .all(|b| b.is_ascii_alphanumeric() || b"+-.".contains(b))
 }
 
-// Whether the text is a scheme (RFC 3986, section 3.1).
+// Returns whether the text is a scheme (RFC 3986, section 3.1).
 fn is_scheme(text: &[u8]) -> bool
     ensures { result ≡ is_scheme text.now }
 {
@@ -25,7 +25,7 @@ fn is_scheme(text: &[u8]) -> bool
     }
 }
 
-// What stands behind the scheme and its `://`, if the target is in absolute form.
+// Returns the text after the scheme and `://`, if the target is in absolute form.
 fn behind_scheme(target: &str) -> Option<&str>
     ensures some { IfSome result (λ behind. HasScheme target.now behind.now) }
     ensures none { IfNone result (HasNoScheme target.now) }
@@ -37,7 +37,7 @@ fn behind_scheme(target: &str) -> Option<&str>
     rest.strip_prefix("//")
 }
 
-// What stands before the first question mark, and behind it.
+// Splits the text at the first question mark.
 fn front_and_query(text: &str) -> (&str, Option<&str>)
     ensures { FrontAndQuery text.now result.0.now (option_copied result.1) }
 {
@@ -47,7 +47,7 @@ fn front_and_query(text: &str) -> (&str, Option<&str>)
     }
 }
 
-// The path of an authority and its path.
+// Returns the path of an authority with its path.
 fn behind_authority(text: &str) -> &str
     ensures { AuthorityAndPath text.now result.now }
 {
@@ -57,7 +57,7 @@ fn behind_authority(text: &str) -> &str
     }
 }
 
-// The path and the query of a target.
+// Splits a request target into its path and its query.
 fn parts_of(target: &str) -> (&str, Option<&str>)
     ensures { TargetParts target.now result.0.now (option_copied result.1) }
 {
@@ -68,23 +68,20 @@ fn parts_of(target: &str) -> (&str, Option<&str>)
     (behind_authority(front), query)
 }
 
-/// The path of a request's target, without its query (RFC 9112, section 3.2). It is a part of the target, as it was
-/// sent: percent-encoded, with its fragment if there is one, and with `.` and `..` among its segments.
-///
-/// - The path of `/a?b` is `/a`.
-/// - In absolute form it stands behind the scheme and the authority: the path of `http://host/a?b` is `/a`. Where it
-///   is empty there, it is `/` (RFC 9110, section 4.2.3).
-/// - `*`, a host with a port, and any other text that begins neither with a slash nor with a scheme and `://`, are
-///   wholly path, up to the first question mark.
+/// Returns the path of a request target, without its query (RFC 9112, section 3.2). It is a part of the target as sent:
+/// percent-encoded, with its fragment if there is one, and with `.` and `..` segments. The path of `/a?b` is `/a`. In
+/// absolute form it follows the scheme and the authority: the path of `http://host/a?b` is `/a`, and an empty one is
+/// `/` (RFC 9110, section 4.2.3). Of `*`, a host with a port, and any other text that begins neither with a slash nor
+/// with a scheme and `://`, it is everything before the first question mark.
 pub fn path_of(target: &str) -> &str
     ensures { IsPath target.now result.now }
 {
     parts_of(target).0
 }
 
-/// The query of a request's target: what stands behind its first question mark, also where that is nothing (RFC 9112,
-/// section 3.2; RFC 3986, section 3.4). It is as it was sent, with its fragment if there is one. `None` where there
-/// is no question mark.
+/// Returns the query of a request target: the text after its first question mark, which may be empty (RFC 9112, section
+/// 3.2; RFC 3986, section 3.4). It is as sent, with its fragment if there is one. Returns `None` if there is no
+/// question mark.
 pub fn query_of(target: &str) -> Option<&str>
     ensures { IsQuery target.now (option_copied result) }
 {

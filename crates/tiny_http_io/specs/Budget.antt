@@ -1,4 +1,4 @@
--- What a clause reads of a `Budget`.
+-- What clauses see of a `Budget`.
 use Rattle.std.specs.Prelude.{ℕ, List, Some, false}
 use Rattle.std.specs.declared.io.ErrorKind.{ErrorKind}
 use Rattle.tiny_http_io.specs.Device.{Sink}
@@ -8,11 +8,11 @@ use Rattle.tiny_http_io.specs.declared.device.Budget.{Budget}
 abbrev pub budget_bytes : Budget → List ℕ
 budget_bytes b = b.bytes.items
 
--- how many more it takes
+-- how many more bytes it takes
 abbrev pub budget_room : Budget → ℕ
 budget_room b = b.room
 
--- the kind of its faults after them
+-- the kind of the faults after them
 abbrev pub budget_kind : Budget → ErrorKind
 budget_kind b = b.kind
 

@@ -1,4 +1,4 @@
--- What clauses read of a `CustomStream`.
+-- What clauses see of a `CustomStream`.
 use Rattle.tiny_http_io.specs.declared.custom_stream.CustomStream.{CustomStream}
 
 -- the reader inside

@@ -1,4 +1,4 @@
--- What a device gives when it is read, and what it reports when it is written.
+-- What a device gives when it is read, and what it states when it is written.
 use Rattle.std.specs.Prelude.{◌≡◌, ℕ, ◌+◌, ◌-◌, ◌*◌, ◌^◌, ◌<◌, ◌≤◌, min, Bool, true, false, List, [], ◌++◌, length}
 use Rattle.std.specs.Prelude.{take, drop, Option, Some, None, Result, Ok, Err, IfOk, IfErr, OnErr, ⊤, ◌⊎◌}
 use Rattle.std.specs.Option.{option_map}
@@ -41,26 +41,26 @@ abbrev pub StopsBy : Stop → Option Feed → Type 0
 StopsBy stop None = ⊤
 StopsBy stop (Some feed) = (feed.bytes ≡ []) × (feed.stop ≡ stop)
 
--- the answer of a read is this end or fault
+-- the result of a read is this end or fault
 abbrev pub AnswersStop : Stop → Result ℕ Error → Type 0
 AnswersStop End (Ok n) = n ≡ 0
 AnswersStop End (Err e) = ⊥
 AnswersStop (Fault kind) (Ok n) = ⊥
 AnswersStop (Fault kind) (Err e) = error_kind e ≡ kind
 
--- an end, or the fault of this kind
+-- an end, or a fault of this kind
 abbrev pub stop_of : Option ErrorKind → Stop
 stop_of None = End
 stop_of (Some kind) = Fault kind
 
--- what a stop in front of the last byte wanted is reported as
+-- the kind reported for a stop before the last byte wanted
 abbrev pub fault_of : Stop → ErrorKind
 fault_of End = UnexpectedEof
 fault_of (Fault kind) = kind
 
--- ONE READ into a buffer: the bytes that came are the next of the feed and stand in the buffer's front; none of some
--- only after the last byte, at the feed's end; an error comes after the last byte alone, is the feed's fault, and
--- takes nothing. Nothing is said of the bytes where the feed isn't stated.
+-- ONE READ into a buffer. The bytes that came are the next of the feed and are at the front of the buffer. A nonempty
+-- read that gives none is at the feed's end, after the last byte. An error comes only after the last byte, is the
+-- feed's fault, and takes nothing. If the feed isn't stated, nothing is claimed about the bytes.
 pub record Reads (old new : Option Feed) (r : Result ℕ Error) (buf : List ℕ) : Type 0 where
   pub bound : IfOk r (λ n. n ≤ length buf)
   pub bytes : IfOk r (λ n. old ≡ prepended (take n buf) new)
@@ -73,14 +73,14 @@ abbrev pub fault_count : {T E : Type 0} → Result T E → ℕ
 fault_count (Ok x) = 0
 fault_count (Err e) = 1
 
--- HOW MANY ENDS AND FAULTS A READ MEETS, by the reader's own count of those that it told: one at most, and none where
--- bytes came.
+-- THE ENDS AND FAULTS THAT A READ MEETS, by the reader's own count of those it reported: at most one, and none if bytes
+-- came.
 pub record Tells (old new : ℕ) (r : Result ℕ Error) : Type 0 where
   pub once : new ≤ old + 1
   pub lazy : IfOk r (λ n. 0 < n → new ≤ old)
 
--- One read by cases: it took the bytes that it gave from the front of the feed, none only after its last byte
--- at its end. A fault comes after the last byte alone, and changes nothing.
+-- One read, by cases. It took the bytes that it gave from the front of the feed; it gave none only after the last byte,
+-- at the end. A fault comes only after the last byte and changes nothing.
 abbrev pub ReadsFrom : Option Feed → Option Feed → Result ℕ Error → List ℕ → Type 0
 ReadsFrom None new r buf = ⊤
 ReadsFrom (Some f) None r buf = ⊥
@@ -88,13 +88,13 @@ ReadsFrom (Some f) (Some g) (Ok n) buf =
     (f.bytes ≡ take n buf ++ g.bytes) × (g.stop ≡ f.stop) × (n ≡ 0 → 0 < length buf → (f.bytes ≡ []) × (f.stop ≡ End))
 ReadsFrom (Some f) (Some g) (Err e) buf = (f.bytes ≡ []) × (f.stop ≡ Fault (error_kind e)) × (g ≡ f)
 
--- these bytes begin those
+-- the first bytes are a prefix of the second
 abbrev pub IsFront : List ℕ → List ℕ → Type 0
 IsFront front whole = (rest : List ℕ) × (whole ≡ front ++ rest)
 
--- What a writer states: the bytes that it took, if it states them; the front of them that it has sent on, which no
--- failure takes back; how often it failed, and how the last time, if it states them; and whether it has ended: it
--- then answers Ok and takes no more.
+-- What a writer states: the bytes that it took, if it states them; the prefix of them that it has sent on, which no
+-- failure takes back; how often it failed, and the last kind, if it states that; and whether it has ended. An ended
+-- writer returns Ok and takes no more.
 pub record Sink : Type 0 where
   pub taken : Option (List ℕ)
   pub sent : List ℕ
@@ -102,7 +102,7 @@ pub record Sink : Type 0 where
   pub last_kind : Option ErrorKind
   pub has_ended : Bool
 
--- what was sent on begins what was taken, if that is stated
+-- what was sent on is a prefix of what was taken, if that is stated
 abbrev pub BeginsKnown : List ℕ → Option (List ℕ) → Type 0
 BeginsKnown sent None = ⊤
 BeginsKnown sent (Some taken) = IsFront sent taken
@@ -116,25 +116,25 @@ IsAllKnown sent (Some taken) = sent ≡ taken
 abbrev pub HoldsNothing : Sink → Type 0
 HoldsNothing s = IsAllKnown s.sent s.taken
 
--- what is stated is a front of these bytes
+-- what is stated is a prefix of these bytes
 abbrev pub IsKnownFront : Option (List ℕ) → Option (List ℕ) → Type 0
 IsKnownFront known whole = (rest : List ℕ) × (whole ≡ append_known known rest)
 
--- the bytes that a writer has taken, after these more; one that has ended takes none
+-- the bytes that a writer has taken, once it was given these; a writer that has ended takes none
 abbrev pub grown : Bool → Option (List ℕ) → List ℕ → Option (List ℕ)
 grown true known bs = known
 grown false known bs = append_known known bs
 
--- the kind that is stated, if one is, is this one
+-- the stated kind, if there is one, is this one
 abbrev pub StatesKind : Option ErrorKind → ErrorKind → Type 0
 StatesKind None kind = ⊤
 StatesKind (Some stated) kind = stated ≡ kind
 
--- one failure more, up to the greatest number
+-- the count after one more failure, at most 2^64 - 1
 abbrev pub next_count : ℕ → ℕ
 next_count n = min (n + 1) (2 ^ 64 - 1)
 
--- the writer took the text, or nothing if it has ended, and did not fail
+-- the writer took the text, or nothing if it has ended, and didn't fail
 pub record Took (old new : Sink) (text : List ℕ) : Type 0 where
   pub bytes : new.taken ≡ grown old.has_ended old.taken text
   pub sent : IsFront old.sent new.sent
@@ -142,7 +142,7 @@ pub record Took (old new : Sink) (text : List ℕ) : Type 0 where
   pub last_kind : new.last_kind ≡ old.last_kind
   pub stays : new.has_ended ≡ old.has_ended
 
--- the writer failed, and states a front of its bytes before and the text, with all that it had sent on
+-- the writer failed; it states a prefix of its earlier bytes and the text, including all that it had sent on
 pub record Failed (old new : Sink) (text : List ℕ) (kind : ErrorKind) : Type 0 where
   pub bytes : IsKnownFront new.taken (append_known old.taken text)
   pub sent : IsFront old.sent new.sent
@@ -156,25 +156,25 @@ abbrev pub Puts : {T : Type 0} → Sink → Sink → Result T Error → List ℕ
 Puts old new (Ok x) text = Took old new text
 Puts old new (Err e) text = Failed old new text (error_kind e)
 
--- a call that writes the front of a text took so many bytes, or the writer failed
+-- a call that writes the front of a text took n bytes, or the writer failed
 abbrev pub PutsFront : Sink → Sink → Result ℕ Error → List ℕ → Type 0
 PutsFront old new (Ok n) text = (n ≤ length text) × (0 < length text → 0 < n) × Took old new (take n text)
 PutsFront old new (Err e) text = Failed old new text (error_kind e)
 
--- what a writer states of its faults is as it was
+-- what a writer states of its faults didn't change
 pub record SameFaults (old new : Sink) : Type 0 where
   pub failures : new.failures ≡ old.failures
   pub last_kind : new.last_kind ≡ old.last_kind
   pub stays : new.has_ended ≡ old.has_ended
 
--- the writer failed by this kind, and had not ended
+-- the writer failed with this kind, and had not ended
 pub record Faulted (old new : Sink) (kind : ErrorKind) : Type 0 where
   pub failures : new.failures ≡ next_count old.failures
   pub last_kind : StatesKind new.last_kind kind
   pub was_open : old.has_ended ≡ false
 
--- What a call that writes does to what a writer states of its faults, whatever it writes: nothing where it answers Ok.
--- At a fault either nothing, and the fault was not the writer's, or the count rose, and it was.
+-- The effect of a writing call on the faults that a writer states, whatever it writes. Ok changes nothing. An error
+-- either changes nothing, and wasn't the writer's, or raised the count, and was.
 abbrev pub CountsFaults : {T : Type 0} → Sink → Sink → Result T Error → Type 0
 CountsFaults old new (Ok x) = SameFaults old new
 CountsFaults old new (Err e) = SameFaults old new ⊎ Faulted old new (error_kind e)
@@ -191,19 +191,19 @@ CopiedKnown None new from to n = ⊤
 CopiedKnown (Some f) None from to n = ⊥
 CopiedKnown (Some f) (Some g) from to n = Copied f g from to n
 
--- a reader stopped before it gave a byte more, or the writer failed within the next `left` bytes
+-- a reader stopped before it gave another byte, or the writer failed within the next `left` bytes
 abbrev pub CopyBreaks : Option Feed → Sink → Sink → ℕ → ErrorKind → Type 0
 CopyBreaks None from to left kind = ⊤
 CopyBreaks (Some f) from to left kind =
     ((f.bytes ≡ []) × (fault_of f.stop ≡ kind) × Took from to []) ⊎ Failed from to (take left f.bytes) kind
 
--- a call went on from a reader to a writer, by a byte or more of the next `left`
+-- a call copied at least one of the next `left` bytes from a reader to a writer, or broke off
 abbrev pub CopiesPiece : Option Feed → Option Feed → Sink → Sink → ℕ → Result ℕ Error → Type 0
 CopiesPiece f g from to left (Ok n) = (0 < n) × (n ≤ left) × CopiedKnown f g from to n
 CopiesPiece f g from to left (Err e) = CopyBreaks f from to left (error_kind e)
 
--- A call filled a buffer from the feed: whole, or with all that there was in front of an end. A fault came
--- before it was full.
+-- A call filled a buffer from the feed: whole, or with all bytes before an end. A fault came before the buffer was
+-- full.
 abbrev pub Fills : Option Feed → Option Feed → Result ℕ Error → List ℕ → Type 0
 Fills None new r buf = ⊤
 Fills (Some f) None r buf = ⊥
@@ -222,12 +222,12 @@ FilledTo (Some f) None n buf = ⊥
 FilledTo (Some f) (Some g) n buf =
     (n ≤ length f.bytes) × (take n buf ≡ take n f.bytes) × (g.bytes ≡ drop n f.bytes) × (g.stop ≡ f.stop)
 
--- a call read all bytes of a feed that ends; else it reported the fault, or found no memory
+-- a call read all bytes of a feed that ends, or reported the feed's fault, or was out of memory
 abbrev pub Gathers : {T : Type 0} → (T → List ℕ) → Feed → Result T Error → Type 0
 Gathers items f (Ok all) = (items all ≡ f.bytes) × (f.stop ≡ End)
 Gathers items f (Err e) = (f.stop ≡ Fault (error_kind e)) ⊎ (error_kind e ≡ OutOfMemory)
 
--- so many pieces of a feed were read into a list
+-- `count` pieces of 8192 bytes of a feed were read into a list
 abbrev pub GatheredTo : Option Feed → Option Feed → List ℕ → ℕ → Type 0
 GatheredTo None new all count = ⊤
 GatheredTo (Some f) None all count = ⊥

@@ -1,4 +1,4 @@
--- What clauses read of an `EqualReader`.
+-- What clauses see of an `EqualReader`.
 use Rattle.std.specs.Prelude.{◌≡◌, ℕ, ◌+◌, List, length, Option, Result, Ok, IfOk, OnErr}
 use Rattle.std.specs.declared.io.Error.{Error}
 use Rattle.std.specs.Option.{option_map}
@@ -10,17 +10,17 @@ use Rattle.tiny_http_io.specs.FeedParts.{feed_front, feed_behind}
 abbrev pub equal_inner : {R : Type 0} → EqualReader R → R
 equal_inner r = r.inner
 
--- how many bytes of it are still to be given
+-- how many of its bytes are still to be given
 abbrev pub equal_left : {R : Type 0} → EqualReader R → ℕ
 equal_left r = r.left
 
--- what it still gives: so many of the inner reader's bytes
+-- what it still gives: the next bytes of the inner reader, at most those that are left
 abbrev pub equal_feed : {R : Type 0} → (R → Option Feed) → EqualReader R → Option Feed
 equal_feed feed r = option_map (feed_front r.left) (feed r.inner)
 
--- ONE READ. Of what it still gives it is a read; what stands after the part stays the same. And whatever the reader
--- inside states: into an empty buffer, and where no byte is left, it answers 0 and changes nothing; the bytes that
--- came are taken off those that are left, and a fault takes none off.
+-- ONE READ. It is a read of what is still to be given; the bytes after the part don't change. Whatever the inner reader
+-- states, a read into an empty buffer, or with no byte left, returns 0 and changes nothing. The bytes that came are
+-- subtracted from those that are left; a fault subtracts none.
 pub record ReadsPart {R : Type 0} (feed : R → Option Feed) (old new : EqualReader R) (r : Result ℕ Error)
     (buf : List ℕ) : Type 0 where
   pub reads : Reads (equal_feed feed old) (equal_feed feed new) r buf

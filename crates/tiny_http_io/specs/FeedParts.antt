@@ -1,19 +1,19 @@
--- The first bytes of a feed, and what stands after them.
+-- The first bytes of a feed, and the feed after them.
 use Rattle.std.specs.Prelude.{ℕ, Bool, true, false, nat_lt, length, take, drop}
 use Rattle.tiny_http_io.specs.declared.device.Stop.{Stop}
 use Rattle.tiny_http_io.specs.declared.device.Stop.TheVariants.{End}
 use Rattle.tiny_http_io.specs.Device.{Feed}
 
--- where bytes are missing the stop is the feed's
+-- the stop of a part: the feed's if bytes are missing, and otherwise an end
 abbrev pub stop_where : Bool → Stop → Stop
 stop_where true stop = stop
 stop_where false stop = End
 
--- the first bytes, so many of them, or those that there are
+-- the first `size` bytes of the feed, or all of them if there are fewer
 unfoldable pub feed_front : ℕ → Feed → Feed
 feed_front size feed =
     record { bytes = take size feed.bytes; stop = stop_where (nat_lt (length feed.bytes) size) feed.stop }
 
--- and what stands after them
+-- the feed after them
 unfoldable pub feed_behind : ℕ → Feed → Feed
 feed_behind size feed = record { bytes = drop size feed.bytes; stop = feed.stop }

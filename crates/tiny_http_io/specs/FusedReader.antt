@@ -1,4 +1,4 @@
--- What clauses read of a `FusedReader`.
+-- What clauses see of a `FusedReader`.
 use Rattle.std.specs.Prelude.{◌≡◌, ℕ, ◌<◌, List, length, Bool, true, false, [], Option, Some, None, Result, Ok, IfOk}
 use Rattle.std.specs.Prelude.{OnErr, IsSome}
 use Rattle.std.specs.declared.io.Error.{Error}
@@ -10,7 +10,7 @@ abbrev pub inner_unless_over : {R : Type 0} → Bool → R → Option R
 inner_unless_over true inner = None
 inner_unless_over false inner = Some inner
 
--- the reader inside, until its end
+-- the inner reader, until its end
 abbrev pub fused_inner : {R : Type 0} → FusedReader R → Option R
 fused_inner r = inner_unless_over r.over r.inner
 
@@ -22,12 +22,12 @@ feed_unless false feed = feed
 abbrev pub fused_feed : {R : Type 0} → (R → Option Feed) → FusedReader R → Option Feed
 fused_feed feed r = feed_unless r.over (feed r.inner)
 
--- how many ends and faults the reader inside has told
+-- how many ends and faults the inner reader has reported
 abbrev pub fused_stop_count : {R : Type 0} → (R → ℕ) → FusedReader R → ℕ
 fused_stop_count stop_count r = stop_count r.inner
 
--- ONE READ. Of what it still gives it is a read; and whatever the reader inside states: into an empty buffer it changes
--- nothing; a byte or a fault is no end; and the reader isn't called again after its end.
+-- ONE READ. It is a read of what is still to be given. Whatever the inner reader states, a read into an empty buffer
+-- changes nothing, a byte or a fault is not an end, and the reader isn't called again after its end.
 pub record ReadsFused {R : Type 0} (feed : R → Option Feed) (old new : FusedReader R) (r : Result ℕ Error)
     (buf : List ℕ) : Type 0 where
   pub reads : Reads (fused_feed feed old) (fused_feed feed new) r buf

@@ -5,7 +5,7 @@ use Rattle.tiny_http_io.specs.declared.device.Stop.{Stop}
 use Rattle.tiny_http_io.specs.ToCome.{behind_held, to_come, stops_to_come}
 use Rattle.tiny_http_io.specs.declared.input.Input.{Input}
 
--- the feed that is still to come, where the reader states its own
+-- the feed that is still to come, if the reader states its own
 abbrev pub input_feed : {R : Type 0} → (R → Option Feed) → Input R → Option Feed
 input_feed feed s = to_come s.skip s.held (behind_held s.stop (feed s.inner))
 
@@ -13,15 +13,15 @@ input_feed feed s = to_come s.skip s.held (behind_held s.stop (feed s.inner))
 abbrev pub input_stop : {R : Type 0} → Input R → Option Stop
 input_stop s = s.stop
 
--- the reader inside
+-- the inner reader
 abbrev pub input_reader : {R : Type 0} → Input R → R
 input_reader s = s.inner
 
--- what the reader has told of ends and faults, and one that it may still tell until it has stopped
+-- the ends and faults that the reader has reported, plus one that it may still report until it has stopped
 abbrev pub input_stop_count : {R : Type 0} → (R → ℕ) → Input R → ℕ
 input_stop_count stop_count s = stop_count s.inner + stops_to_come s.stop
 
--- the bytes that are held
+-- the buffered bytes
 abbrev pub input_held : {R : Type 0} → Input R → List ℕ
 input_held s = s.held
 
@@ -29,7 +29,7 @@ input_held s = s.held
 abbrev pub input_skip : {R : Type 0} → Input R → ℕ
 input_skip s = s.skip
 
--- the bytes to be skipped are taken off, and nothing else has changed
+-- the bytes to be skipped were discarded, and nothing else has changed
 abbrev pub SkipsHeld : {R : Type 0} → Input R → Input R → Type 0
 SkipsHeld old new = new ≡ record old { held = drop old.skip old.held; skip = 0 }
 

@@ -10,23 +10,23 @@ abbrev pub held_return : Bool → List ℕ
 held_return true = 13 ∷ []
 held_return false = []
 
--- however the bytes go on, no CR LF begins in this text
+-- however the bytes continue, no CR LF begins in this text
 pub record BeginsNoLineEnd (text pend : List ℕ) : Type 0 where
   pub none_begins : (more : List ℕ) → has_crlf (text ++ (pend ++ more)) ≡ has_crlf (pend ++ more)
 
--- the first CR LF of these bytes stands after n of them
+-- the first CR LF of the bytes is after n of them
 pub record EndsLine (bytes : List ℕ) (n : ℕ) : Type 0 where
   pub within : n + 2 ≤ length bytes
   pub ends : take (n + 2) bytes ≡ take n bytes ++ (13 ∷ (10 ∷ []))
   pub first : BeginsNoLineEnd (take n bytes) (13 ∷ [])
 
--- what is left of a limit after so many bytes
+-- what is left of a limit after `count` bytes
 abbrev pub IsRoom : Option ℕ → Option ℕ → ℕ → Type 0
 IsRoom None None count = ⊤
 IsRoom (Some left) (Some room) count = room + count ≡ left
 IsRoom _ _ count = ⊥
 
--- where the reading of a line stops: at the limit, or before it
+-- where reading a line stops: at the limit, or before it
 abbrev pub StopsWithin : Option ℕ → LineFault → List ℕ → Type 0
 StopsWithin None TooLong gone = ⊥
 StopsWithin (Some left) TooLong gone = length gone ≡ left

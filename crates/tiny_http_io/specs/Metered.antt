@@ -1,12 +1,12 @@
--- What a clause reads of a `Metered`.
+-- What clauses see of a `Metered`.
 use Rattle.std.specs.Prelude.{[], None, false}
 use Rattle.tiny_http_io.specs.Device.{Sink}
 use Rattle.tiny_http_io.specs.declared.device.Metered.{Metered}
 
--- the stream inside
+-- the inner stream
 abbrev pub metered_inner : {S : Type 0} → Metered S → S
 metered_inner m = m.inner
 
--- what it states as a writer: its failures, and no bytes
+-- what it states as a writer: its failures, but no bytes
 abbrev pub metered_sink : {S : Type 0} → Metered S → Sink
 metered_sink m = record { taken = None; sent = []; failures = m.failures; last_kind = m.last; has_ended = false }

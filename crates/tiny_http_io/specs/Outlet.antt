@@ -1,10 +1,10 @@
--- What a contract sees of an `Outlet`.
+-- What clauses see of an `Outlet`.
 use Rattle.std.specs.Prelude.{◌≡◌, ℕ, Bool, false, ◌||◌, List, [], Result, Ok, Err}
 use Rattle.std.specs.IoError.{error_kind}
 use Rattle.std.specs.declared.io.Error.{Error}
 use Rattle.tiny_http_io.specs.Device.{Sink, IsFront, grown, Failed, HoldsNothing}
 
--- what a writer took and what is held back, as one sink
+-- the bytes that a writer took and those that are held back, as one sink
 abbrev pub holding : Sink → List ℕ → Bool → Sink
 holding s held ended =
     record {
@@ -15,15 +15,15 @@ holding s held ended =
       has_ended = ended || s.has_ended;
     }
 
--- What a clause sees of an `Outlet`: what is held back, whether it takes nothing more, the writer inside, and what that
--- reports.
+-- What clauses see of an `Outlet`: the bytes held back, whether it takes nothing more, the inner writer, and what that
+-- states.
 pub record OutletState (W : Type 0) : Type 0 where
   pub held : List ℕ
   pub ended : Bool
   pub writer : W
   pub sink : Sink
 
--- what its writer took and what is held back, as one sink
+-- the bytes that its writer took and those that are held back, as one sink
 abbrev pub output_of : {W : Type 0} → OutletState W → Sink
 output_of o = holding o.sink o.held o.ended
 
@@ -35,15 +35,15 @@ outlet_held o = o.held
 abbrev pub outlet_ended : {W : Type 0} → OutletState W → Bool
 outlet_ended o = o.ended
 
--- the writer inside
+-- the inner writer
 abbrev pub outlet_writer : {W : Type 0} → OutletState W → W
 outlet_writer o = o.writer
 
--- an outlet that still takes bytes has a writer that holds none of them back
+-- if the outlet still takes bytes, its writer holds none back
 abbrev pub SentOn : {W : Type 0} → OutletState W → Type 0
 SentOn o = (output_of o).has_ended ≡ false → HoldsNothing o.sink
 
--- what was held was sent; or the writer failed in it
+-- the bytes held back were sent, or the writer failed while they were
 abbrev pub EndsOutlet : {T : Type 0} → Sink → Sink → Result T Error → Type 0
 EndsOutlet old new (Ok x) =
     (new.taken ≡ old.taken)

@@ -1,4 +1,4 @@
--- What is still to come of an input, some of which is held or to be skipped.
+-- What is still to come of an input, part of which is buffered or to be skipped.
 use Rattle.std.specs.Prelude.{◌≡◌, ℕ, nat_le, if◌then◌else◌, List, [], length, drop, Option, None, Some, ⊤}
 use Rattle.std.specs.Option.{option_map}
 use Rattle.tiny_http_io.specs.Device.{Feed, prepended}
@@ -9,22 +9,22 @@ use Rattle.tiny_http_io.specs.declared.device.Stop.TheVariants.{End}
 abbrev pub stopped : Stop → Feed
 stopped stop = record { bytes = []; stop = stop }
 
--- what comes after the held bytes: the reader's feed, and nothing once the input has stopped
+-- what comes after the buffered bytes: the reader's feed, or nothing once the input has stopped
 abbrev pub behind_held : Option Stop → Option Feed → Option Feed
 behind_held None feed = feed
 behind_held (Some stop) feed = option_map (λ _. stopped stop) feed
 
--- how many ends and faults the reader may still tell: one, until the input has stopped
+-- how many ends and faults the reader may still report: one until the input has stopped, then none
 abbrev pub stops_to_come : Option Stop → ℕ
 stops_to_come None = 1
 stops_to_come (Some stop) = 0
 
--- the feed without its first n bytes; one that is cut short ends
+-- the feed without its first n bytes; if it has fewer, it is empty and ends
 abbrev pub skipped : ℕ → Feed → Feed
 skipped n feed =
     if nat_le n (length feed.bytes) then record { bytes = drop n feed.bytes; stop = feed.stop } else stopped End
 
--- what is still to come, after n bytes are skipped of those that are held and those after them
+-- what is still to come once n bytes are skipped, buffered ones first
 abbrev pub to_come : ℕ → List ℕ → Option Feed → Option Feed
 to_come n held feed = option_map (skipped n) (prepended held feed)
 

@@ -1,4 +1,4 @@
-//! A queue of bytes in a fixed room.
+//! A byte queue of fixed capacity.
 ghost use Rattle.std.specs.Prelude.{◌≡◌, ℕ, ◌+◌, ◌-◌, ◌≤◌, ◌==◌, min, List, [], ◌∷◌, ◌++◌, length, take, drop, Ok};
 ghost use Rattle.std.specs.Prelude.{IfOk, IfErr, OnOk, OnErr, IfSome, IfNone};
 ghost use Rattle.std.specs.IoError.{error_kind};
@@ -9,10 +9,10 @@ use crate::device::ReadDevice;
 use std::io;
 use std::marker::Model;
 
-/// How many bytes a buffer holds: that of a source, and that of an outlet (as tiny_http's).
+/// The capacity of a buffer in bytes, both of a source and of an outlet (as in the original).
 pub const CAPACITY: usize = 1024;
 
-/// Up to `CAPACITY` bytes, put in at the back and taken off at the front.
+/// A queue of at most `CAPACITY` bytes: bytes enter at the back and leave at the front.
 #[derive(Drop)]
 pub struct Buffer {
     bytes: [u8; CAPACITY],
@@ -33,7 +33,7 @@ impl Model for Buffer {
 }
 
 impl Buffer {
-    /// A buffer without a byte.
+    /// Makes an empty buffer.
     pub fn new() -> Buffer
         ensures { result ≡ [] }
     {
@@ -44,14 +44,14 @@ impl Buffer {
         }
     }
 
-    /// Whether no byte is held.
+    /// Returns whether the buffer is empty.
     pub fn is_empty(&self) -> bool
         ensures { result ≡ (length self.now == 0) }
     {
         self.start == self.end
     }
 
-    /// How many bytes are held, up to `CAPACITY`.
+    /// Returns the number of buffered bytes, at most `CAPACITY`.
     pub fn len(&self) -> usize
         ensures len { result ≡ length self.now }
         ensures bound { length self.now ≤ CAPACITY }
@@ -59,7 +59,7 @@ impl Buffer {
         self.end - self.start
     }
 
-    /// The bytes that are held, the front first.
+    /// Returns the buffered bytes, the front first.
     pub fn as_slice(&self) -> &[u8]
         ensures bytes { result.now ≡ self.now }
         ensures bound { length self.now ≤ CAPACITY }
@@ -67,7 +67,7 @@ impl Buffer {
         &self.bytes[self.start..self.end]
     }
 
-    /// Takes the first n bytes off.
+    /// Removes the first n bytes.
     pub fn consume(&mut self, n: usize)
         requires { n ≤ length self.old }
         ensures { self.new ≡ drop n self.old }
@@ -80,7 +80,7 @@ impl Buffer {
         self.start += n;
     }
 
-    /// Takes the first byte off, if there is one.
+    /// Removes and returns the first byte, if there is one.
     pub fn pop(&mut self) -> Option<u8>
         ensures some { IfSome result (λ b. self.old ≡ b ∷ self.new) }
         ensures none { IfNone result ((self.old ≡ []) × (self.new ≡ [])) }
@@ -90,7 +90,7 @@ impl Buffer {
         Some(first)
     }
 
-    /// Moves as many bytes as both have room for to the front of `to`, and says how many.
+    /// Moves bytes to the front of `to`, as many as are there and fit, and returns how many.
     pub fn give(&mut self, to: &mut [u8]) -> usize
         ensures count { result ≡ min (length self.old) (length to.old) }
         ensures bytes { self.old ≡ take result to.new ++ self.new }
@@ -103,7 +103,7 @@ impl Buffer {
         n
     }
 
-    /// Empties it.
+    /// Empties the buffer.
     pub fn clear(&mut self)
         ensures { self.new ≡ [] }
     {
@@ -127,7 +127,7 @@ impl Buffer {
         Ok(n)
     }
 
-    /// Puts as many bytes at the back as there is room for, and says how many.
+    /// Appends as many bytes as there is room for at the back, and returns how many.
     pub fn append(&mut self, from: &[u8]) -> usize
         ensures count { result ≤ length from.now }
         ensures room { length self.old ≡ 0 → result ≡ min CAPACITY (length from.now) }

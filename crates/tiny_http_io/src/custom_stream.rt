@@ -1,4 +1,4 @@
-//! A stream of a reader and a writer.
+//! A stream made of a reader and a writer.
 ghost use Rattle.std.specs.Prelude.{◌≡◌, [], length, Ok, OnOk, false};
 ghost use Rattle.tiny_http_io.specs.Device.{Reads, Tells, Puts, PutsFront, HoldsNothing};
 ghost use Rattle.tiny_http_io.specs.CustomStream.{custom_reader, custom_writer};
@@ -7,7 +7,7 @@ use crate::device::{ReadDevice, WriteDevice, put};
 use std::io;
 use std::io::{Read, Write};
 
-/// A stream that reads from its reader and writes to its writer. Neither knows of the other.
+/// A stream that reads from one device and writes to another. The two are independent.
 #[derive(Drop)]
 pub struct CustomStream<R, W> {
     reader: R,
@@ -15,7 +15,7 @@ pub struct CustomStream<R, W> {
 }
 
 impl<R, W> CustomStream<R, W> {
-    /// A stream of these two. It reads and writes nothing yet.
+    /// Joins a reader and a writer. Nothing is read or written yet.
     pub fn new(reader: R, writer: W) -> CustomStream<R, W>
         ensures reader { custom_reader result ≡ reader }
         ensures writer { custom_writer result ≡ writer }
@@ -23,7 +23,7 @@ impl<R, W> CustomStream<R, W> {
         CustomStream { reader, writer }
     }
 
-    /// The reader and the writer, as they stand.
+    /// Returns the reader and the writer in their current states.
     pub fn into_parts(self) -> (R, W)
         ensures { result ≡ (custom_reader self, custom_writer self) }
     {
@@ -36,7 +36,7 @@ impl<R: ReadDevice, W> ReadDevice for CustomStream<R, W> {
 
     ghost stop_count = { λ s. R.stop_count (custom_reader s) };
 
-    /// Reads from the reader. The writer isn't touched. The error is the reader's.
+    /// Reads from the reader. The writer isn't touched. Errors are the reader's.
     fn read_in(&mut self, buf: &mut [u8]) -> Result<usize, io::Error>
         ensures reads { Reads (R.feed (custom_reader self.old)) (R.feed (custom_reader self.new)) result buf.new }
         ensures empty { length buf.new ≡ 0 → (result ≡ Ok 0) × (self.new ≡ self.old) }
@@ -51,12 +51,12 @@ impl<R: ReadDevice, W> ReadDevice for CustomStream<R, W> {
 impl<R, W: WriteDevice> WriteDevice for CustomStream<R, W> {
     ghost sink = { λ s. W.sink (custom_writer s) };
 
-    /// The writer's count.
+    /// Returns the writer's count.
     fn failures(&self) -> u64 {
         self.writer.failures()
     }
 
-    /// Writes to the writer. The reader isn't touched. The error is the writer's.
+    /// Writes to the writer. The reader isn't touched. Errors are the writer's.
     fn write_out(&mut self, buf: &[u8]) -> Result<usize, io::Error>
         ensures puts { PutsFront (W.sink (custom_writer self.old)) (W.sink (custom_writer self.new)) result buf.now }
         ensures reader { custom_reader self.new ≡ custom_reader self.old }
@@ -64,7 +64,7 @@ impl<R, W: WriteDevice> WriteDevice for CustomStream<R, W> {
         self.writer.write_out(buf)
     }
 
-    /// Flushes the writer. The reader isn't touched. The error is the writer's.
+    /// Flushes the writer. The reader isn't touched. Errors are the writer's.
     fn flush_out(&mut self) -> Result<(), io::Error>
         ensures puts { Puts (W.sink (custom_writer self.old)) (W.sink (custom_writer self.new)) result [] }
         ensures sent { let s = W.sink (custom_writer self.new) in OnOk result (s.has_ended ≡ false → HoldsNothing s) }
@@ -73,7 +73,7 @@ impl<R, W: WriteDevice> WriteDevice for CustomStream<R, W> {
         self.writer.flush_out()
     }
 
-    /// Has the writer say that no byte follows. The reader isn't touched.
+    /// Has the writer signal that no byte follows. The reader isn't touched.
     fn end_out(&mut self)
         ensures sink { W.sink (custom_writer self.new) ≡ W.sink (custom_writer self.old) }
         ensures reader { custom_reader self.new ≡ custom_reader self.old }
@@ -89,7 +89,7 @@ impl<R: ReadDevice, W> Read for CustomStream<R, W> {
 
     ghost remaining = { λ s. bytes_of (R.feed (custom_reader s)) };
 
-    /// Reads from the reader, as `read_in`.
+    /// Reads from the reader, as `read_in` does.
     fn read(&mut self, buf: &mut [u8]) -> io::Result<usize>
         ensures bound { ReadsAtMost result buf.new }
         ensures bytes { ReadConsumes (bytes_of (R.feed (custom_reader self.old)))
@@ -104,12 +104,12 @@ impl<R: ReadDevice, W> Read for CustomStream<R, W> {
     }
 }
 
-// A writer may take some bytes and then fail, or answer `Ok` after its end and take none. The trait's words for known
-// bytes allow neither. So its `contents` are left unstated, and each clause says what the writer itself states.
+// `contents` is left unstated: a writer may take some bytes and then fail, or return `Ok` after its end and take none,
+// and std's clauses on known bytes allow neither. Each clause says what the writer itself states.
 impl<R, W: WriteDevice> Write for CustomStream<R, W> {
     ghost use Rattle.std.specs.Io.{WritesAtMost};
 
-    /// Writes to the writer, as `write_out`.
+    /// Writes to the writer, as `write_out` does.
     fn write(&mut self, buf: &[u8]) -> io::Result<usize>
         ensures bound { WritesAtMost result buf.now }
         ensures puts { PutsFront (W.sink (custom_writer self.old)) (W.sink (custom_writer self.new)) result buf.now }
@@ -118,7 +118,7 @@ impl<R, W: WriteDevice> Write for CustomStream<R, W> {
         self.write_out(buf)
     }
 
-    /// Flushes the writer, as `flush_out`.
+    /// Flushes the writer, as `flush_out` does.
     fn flush(&mut self) -> io::Result<()>
         ensures puts { Puts (W.sink (custom_writer self.old)) (W.sink (custom_writer self.new)) result [] }
         ensures sent { let s = W.sink (custom_writer self.new) in OnOk result (s.has_ended ≡ false → HoldsNothing s) }
@@ -127,8 +127,8 @@ impl<R, W: WriteDevice> Write for CustomStream<R, W> {
         self.flush_out()
     }
 
-    /// Writes all the bytes. It stops at the first fault and reports it, also one of kind `Interrupted`: a writer may
-    /// have ended by that, and a second try would then answer `Ok`.
+    /// Writes all bytes. It stops at the first fault and reports it, even one of kind `Interrupted`: the writer may
+    /// have ended by it, and a retry would then return `Ok`.
     fn write_all(&mut self, buf: &[u8]) -> io::Result<()>
         ensures puts { Puts (W.sink (custom_writer self.old)) (W.sink (custom_writer self.new)) result buf.now }
         ensures reader { custom_reader self.new ≡ custom_reader self.old }

@@ -1,4 +1,4 @@
-//! What is read and what is written: readers that may state what they give, and writers that count their failures.
+//! The device traits: readers that may state what they give, and writers that count their failures.
 ghost use Rattle.std.specs.Prelude.{◌≡◌, ◌<◌, ◌≤◌, ℕ, min, false, [], length, take, drop, Option, None, Some, Ok, IfOk};
 ghost use Rattle.std.specs.Prelude.{IfErr, OnOk, OnErr, vec_len, flat_map};
 ghost use Rattle.std.specs.IoError.{error_kind};
@@ -14,9 +14,9 @@ use std::marker::Model;
 /// How a reader's bytes stop.
 #[derive(Clone, Copy, Debug, PartialEq, Eq)]
 pub enum Stop {
-    /// No byte follows.
+    /// The end of input: no byte follows.
     End,
-    /// Each further read fails with this kind.
+    /// A fault: each further read fails with this kind.
     Fault(ErrorKind),
 }
 
@@ -25,50 +25,52 @@ pub trait ReadDevice {
     /// The bytes that it still gives and how they stop, if it states them.
     ghost feed: { Self → Option Feed } = { λ _. None };
 
-    /// How many ends and faults it has told, if it counts them. A wrapper states the count of its inner reader. By
-    /// this count a contract says that no second end or fault was asked for behind the first.
+    /// The number of ends and faults that it has reported, if it counts them. A wrapper states its inner reader's
+    /// count. With this count a contract can say that no second end or fault is asked for after the first.
     ghost stop_count: { Self → ℕ } = { λ _. 0 };
 
-    /// Reads some bytes into the front of `buf`, and says how many: 0 at the end, and where `buf`
-    /// is empty. After the last byte each call answers the stop. An error gives no byte.
+    /// Reads some bytes into the front of `buf` and returns how many: 0 at the end, or if `buf` is empty. After the
+    /// last byte each call reports the stop. A read that fails gives no byte.
     fn read_in(&mut self, buf: &mut [u8]) -> Result<usize, io::Error>
         ensures reads { Reads (feed self.old) (feed self.new) result buf.new }
         ensures empty { length buf.new ≡ 0 → (result ≡ Ok 0) × (self.new ≡ self.old) }
         ensures stop_count { Tells (stop_count self.old) (stop_count self.new) result };
 }
 
-/// A writer that counts its failures, and may state the bytes that it took and how it failed last.
+/// A writer that counts its failures, and may state the bytes that it took and its last failure.
 pub trait WriteDevice {
     /// The bytes that it took, if it states them, and those that it has sent on; its failures; and whether it has
     /// ended.
     ghost sink: { Self → Sink };
 
-    /// How often it has failed to write or to flush, up to 2^64 - 1.
+    /// Returns how often a write or a flush has failed, at most 2^64 - 1.
     fn failures(&self) -> u64
         ensures count { result ≡ (sink self.now).failures }
-        // A law of every writer, for which this call is only the place: of its bytes the first were sent on, and the
+        // A law of every writer, stated here for want of a better place: the first of its bytes were sent on, and the
         // others are held back.
         ensures sent { BeginsKnown (sink self.now).sent (sink self.now).taken };
 
-    /// Writes some bytes from the front of `buf`, and says how many: at least one if there is one.
-    /// A writer that has ended answers so too, and takes none of them.
+    /// Writes some bytes from the front of `buf` and returns how many: at least one if there is one. A writer that has
+    /// ended returns the same, but takes none of them.
     fn write_out(&mut self, buf: &[u8]) -> Result<usize, io::Error>
         ensures { PutsFront (sink self.old) (sink self.new) result buf.now };
 
-    /// Sends on what it holds back. The bytes that it took stay the same by that.
+    /// Sends on the bytes that it holds back. The bytes that it took stay the same.
     fn flush_out(&mut self) -> Result<(), io::Error>
         ensures puts { Puts (sink self.old) (sink self.new) result [] }
         ensures sent { OnOk result ((sink self.new).has_ended ≡ false → HoldsNothing (sink self.new)) };
 
-    /// Says that no byte follows (RFC 9112, section 9.6): the caller writes nothing more. What the writer states
-    /// stays the same. A writer that can't say so does nothing, as this body. That the others say it is tested.
+    /// Signals that no byte follows (RFC 9112, section 9.6). The caller writes nothing more.
+    ///
+    /// What the writer states stays the same. A writer that can't signal it does nothing, as this default does. That
+    /// the others do is tested, not proved.
     fn end_out(&mut self)
         ensures { sink self.new ≡ sink self.old }
     {}
 }
 
-/// Copies bytes from the front of `from` to that of `to`, as many as both have, and says how many. What stands behind
-/// them in `to` stays.
+/// Copies bytes from the front of `from` to the front of `to` and returns how many: as many as both have. The rest of
+/// `to` stays the same.
 pub fn copy_front(from: &[u8], to: &mut [u8]) -> usize
     ensures count { result ≡ min (length from.now) (length to.old) }
     ensures len { length to.new ≡ length to.old }
@@ -80,7 +82,7 @@ pub fn copy_front(from: &[u8], to: &mut [u8]) -> usize
     n
 }
 
-/// A reader of bytes in memory, with the stop that it is given. A contract sees it as its feed.
+/// A reader over bytes in memory with a given end or fault. A contract sees it as its feed.
 #[derive(Drop)]
 pub struct Canned {
     bytes: Vec<u8>,
@@ -97,7 +99,7 @@ impl Model for Canned {
 }
 
 impl Canned {
-    /// Gives these bytes, and then an end, or a fault of this kind at each call.
+    /// Makes a reader of these bytes, then an end, or a fault of this kind at each call.
     pub fn new(bytes: Vec<u8>, fault: Option<ErrorKind>) -> Canned
         ensures { result ≡ record { bytes = bytes.items; stop = stop_of fault } }
     {
@@ -140,14 +142,14 @@ impl ReadDevice for Cursor<Vec<u8>> {
 impl ReadDevice for io::Empty {
     ghost feed = { λ _. Some (whole_feed []) };
 
-    /// Answers the end.
+    /// Reports the end.
     fn read_in(&mut self, _buf: &mut [u8]) -> Result<usize, io::Error> {
         Ok(0)
     }
 }
 
-/// A stream with a count of its failures to write, and the kind of the last of them. As a reader it
-/// states no feed, as a writer it doesn't state its bytes.
+/// A device that counts its write failures and keeps the kind of the last one. As a reader it states no feed; as a
+/// writer it doesn't state its bytes.
 #[derive(Drop)]
 pub struct Metered<S> {
     inner: S,
@@ -158,7 +160,7 @@ pub struct Metered<S> {
 impl<S> Metered<S> {
     ghost use Rattle.tiny_http_io.specs.Metered.{metered_inner, metered_sink};
 
-    /// A stream that has not failed.
+    /// Wraps a stream. The count starts at 0.
     pub fn new(inner: S) -> Metered<S>
         ensures inner { metered_inner result ≡ inner }
         ensures sink { metered_sink result
@@ -179,7 +181,7 @@ impl<S> Metered<S> {
         self.last = Some(kind);
     }
 
-    /// Gives the stream back.
+    /// Returns the stream.
     pub fn into_inner(self) -> S
         ensures { result ≡ metered_inner self }
     {
@@ -191,11 +193,11 @@ impl<S: Read> ReadDevice for Metered<S> {
     ghost use Rattle.std.specs.Io.KnownBytes.{ReadConsumes};
     ghost use Rattle.tiny_http_io.specs.Metered.{metered_inner};
 
-    /// Reads once from the stream, and not at all into an empty buffer.
+    /// Reads once from the stream. A read into an empty buffer doesn't reach it.
     fn read_in(&mut self, buf: &mut [u8]) -> Result<usize, io::Error>
         ensures reads { Reads None None result buf.new }
         ensures empty { length buf.new ≡ 0 → (result ≡ Ok 0) × (self.new ≡ self.old) }
-        // What came is the stream's, if it states what it still gives.
+        // The bytes came from the stream, if it states what it still gives.
         ensures stream { ReadConsumes (S.remaining (metered_inner self.old)) (S.remaining (metered_inner self.new))
             result buf.new }
     {
@@ -212,15 +214,15 @@ impl<S: Write> WriteDevice for Metered<S> {
 
     ghost sink = { metered_sink };
 
-    /// The count.
+    /// Returns the count.
     fn failures(&self) -> u64 {
         self.failures
     }
 
-    /// Writes once to the stream. That it takes no byte of some is a fault of kind `WriteZero`.
+    /// Writes once to the stream. If the stream takes none of some bytes, it fails with `WriteZero`.
     fn write_out(&mut self, buf: &[u8]) -> Result<usize, io::Error>
         ensures puts { PutsFront (metered_sink self.old) (metered_sink self.new) result buf.now }
-        // The stream took what was taken, and nothing at a fault, if it states its bytes.
+        // The stream took these bytes, and none if it failed, if it states its bytes.
         ensures stream { WriteAppends (S.contents (metered_inner self.old)) (S.contents (metered_inner self.new))
             result buf.now }
     {
@@ -234,7 +236,7 @@ impl<S: Write> WriteDevice for Metered<S> {
         outcome
     }
 
-    /// Flushes the stream. No contract says so, as std's words for a flush say only that the bytes stay.
+    /// Flushes the stream. No contract says so, since std's clauses on a flush say only that the bytes stay.
     fn flush_out(&mut self) -> Result<(), io::Error>
         ensures puts { Puts (metered_sink self.old) (metered_sink self.new) result [] }
         ensures sent { OnOk result ((metered_sink self.new).has_ended ≡ false → HoldsNothing (metered_sink self.new)) }
@@ -249,15 +251,14 @@ impl<S: Write> WriteDevice for Metered<S> {
     }
 }
 
-// One failure more, up to the greatest number.
+// Returns the count after one more failure, at most 2^64 - 1.
 fn next(failures: u64) -> u64
     ensures { result ≡ next_count failures }
 {
     failures.saturating_add(1)
 }
 
-/// A writer in memory: it takes so many bytes, and then each write of a byte fails. It keeps what it
-/// took.
+/// A writer in memory that takes a given number of bytes; after them every nonempty write fails. It keeps the bytes.
 #[derive(Drop)]
 pub struct Budget {
     bytes: Vec<u8>,
@@ -270,8 +271,8 @@ pub struct Budget {
 impl Budget {
     ghost use Rattle.tiny_http_io.specs.Budget.{budget_bytes, budget_room, budget_kind, budget_sink};
 
-    /// Takes `room` bytes, and then fails with this kind; with `OutOfMemory` where there is no
-    /// memory for the bytes.
+    /// Makes a writer that takes `room` bytes and then fails with this kind. It fails with `OutOfMemory` if memory for
+    /// the bytes is refused.
     pub fn new(alloc: Global, room: usize, kind: ErrorKind) -> Budget
         ensures sink { budget_sink result
             ≡ record { taken = Some []; sent = []; failures = 0; last_kind = None; has_ended = false } }
@@ -281,7 +282,7 @@ impl Budget {
         Budget::from_vec(Vec::new(alloc), room, kind)
     }
 
-    /// The same, with these bytes as the first that it took.
+    /// As `new`, but with these bytes as the first that it took. They don't count towards `room`.
     pub fn from_vec(bytes: Vec<u8>, room: usize, kind: ErrorKind) -> Budget
         ensures sink { budget_sink result ≡ record
             { taken = Some bytes.items; sent = bytes.items; failures = 0; last_kind = None; has_ended = false } }
@@ -297,7 +298,7 @@ impl Budget {
         }
     }
 
-    /// What it took, itself.
+    /// Returns the bytes that it took.
     pub fn into_bytes(self) -> Vec<u8>
         ensures { result.items ≡ budget_bytes self }
     {
@@ -305,14 +306,14 @@ impl Budget {
         bytes
     }
 
-    /// What it took.
+    /// Borrows the bytes that it took.
     pub fn bytes(&self) -> &[u8]
         ensures { result.now ≡ budget_bytes self.now }
     {
         self.bytes.as_slice()
     }
 
-    // Counts a failure of this kind.
+    // Counts a failure of this kind and returns it as an error.
     fn fail(&mut self, kind: ErrorKind) -> io::Error
         ensures kind { error_kind result ≡ kind }
         ensures rest { self.new ≡ record self.old { failures = next_count self.old.failures; last = Some kind } }
@@ -329,13 +330,12 @@ impl WriteDevice for Budget {
 
     ghost sink = { budget_sink };
 
-    /// The count.
+    /// Returns the count.
     fn failures(&self) -> u64 {
         self.failures
     }
 
-    /// Takes as many bytes as there is room for. It fails where there is room for none, or where memory was refused,
-    /// and then takes none.
+    /// Takes as many bytes as there is room for. It fails, and takes none, if there is no room or memory is refused.
     fn write_out(&mut self, buf: &[u8]) -> Result<usize, io::Error>
         ensures puts { PutsFront (budget_sink self.old) (budget_sink self.new) result buf.now }
         ensures count { IfOk result (λ n. n ≡ min (length buf.now) (budget_room self.old)) }
@@ -364,7 +364,7 @@ impl WriteDevice for Budget {
         }
     }
 
-    /// Nothing is held back.
+    /// Does nothing: no bytes are held back.
     fn flush_out(&mut self) -> Result<(), io::Error>
         ensures puts { Puts (budget_sink self.old) (budget_sink self.new) result [] }
         ensures sent { OnOk result ((budget_sink self.new).has_ended ≡ false → HoldsNothing (budget_sink self.new)) }
@@ -375,7 +375,7 @@ impl WriteDevice for Budget {
     }
 }
 
-/// Reads once from the device, as `read_in`; its contract says by cases what came of it.
+/// Reads once from the device, as `read_in` does, but with its contract stated by cases.
 pub fn read_some<R: ReadDevice>(reader: &mut R, buf: &mut [u8]) -> Result<usize, io::Error>
     ensures bound { IfOk result (λ n. n ≤ length buf.new) }
     ensures bytes { ReadsFrom (R.feed reader.old) (R.feed reader.new) result buf.new }
@@ -384,8 +384,8 @@ pub fn read_some<R: ReadDevice>(reader: &mut R, buf: &mut [u8]) -> Result<usize,
     reader.read_in(buf)
 }
 
-/// Reads some bytes into the front of `buf`, at most `most` of them: as `read_in` into the smaller of
-/// that front and `buf`. Where either is empty it answers 0 and changes nothing.
+/// Reads at most `most` bytes into the front of `buf`. If `most` is 0 or `buf` is empty it returns 0 and changes
+/// nothing.
 pub fn read_front<R: ReadDevice>(
     reader: &mut R,
     most: usize,
@@ -393,7 +393,7 @@ pub fn read_front<R: ReadDevice>(
 ) -> Result<usize, io::Error>
     ensures most { IfOk result (λ n. n ≤ most) }
     ensures bound { IfOk result (λ n. n ≤ length buf.new) }
-    // The bytes that came are the next of the feed.
+    // The bytes are the next of the feed.
     ensures bytes { IfOk result (λ n. R.feed reader.old ≡ prepended (take n buf.new) (R.feed reader.new)) }
     ensures end { IfOk result (λ n. n ≡ 0 → 0 < most → 0 < length buf.new → StopsBy Stop.End (R.feed reader.old)) }
     ensures fault { IfErr result (λ e. StopsBy (Stop.Fault (error_kind e)) (R.feed reader.old)) }
@@ -407,8 +407,7 @@ pub fn read_front<R: ReadDevice>(
     reader.read_in(front)
 }
 
-/// Writes all the bytes, by as many calls as it takes. After the writer's first fault nothing more
-/// is written.
+/// Writes all the bytes, in as many calls as it takes. After the writer's first fault nothing more is written.
 pub fn put<W: WriteDevice>(writer: &mut W, bytes: &[u8]) -> Result<(), io::Error>
     ensures { Puts (W.sink writer.old) (W.sink writer.new) result bytes.now }
 {
@@ -419,7 +418,7 @@ pub fn put<W: WriteDevice>(writer: &mut W, bytes: &[u8]) -> Result<(), io::Error
     Ok(())
 }
 
-/// Writes pieces one after another, as `put`.
+/// Writes the pieces one after another, as `put` does.
 pub fn put_all<W: WriteDevice>(writer: &mut W, pieces: &[&[u8]]) -> Result<(), io::Error>
     ensures { Puts (W.sink writer.old) (W.sink writer.new) result (flat_map (λ p. p.now) pieces.now) }
 {
@@ -429,7 +428,7 @@ pub fn put_all<W: WriteDevice>(writer: &mut W, pieces: &[&[u8]]) -> Result<(), i
     Ok(())
 }
 
-/// A reader that gives another's bytes, at most so many a call. It is for tests of what reads.
+/// A reader that gives another reader's bytes in small pieces. It is for tests of code that reads.
 #[derive(Drop)]
 pub struct ByPieces<R> {
     inner: R,
@@ -440,7 +439,7 @@ impl<R> ByPieces<R> {
     ghost use Rattle.std.specs.Prelude.{max};
     ghost use Rattle.tiny_http_io.specs.Pieces.{pieces_inner, pieces_most};
 
-    /// Gives this reader's bytes, at most `most` a call, and at most one where `most` is 0.
+    /// Limits each read of `inner` to `most` bytes, or to one if `most` is 0.
     pub fn new(inner: R, most: usize) -> ByPieces<R>
         ensures inner { pieces_inner result ≡ inner }
         ensures most { pieces_most result ≡ max most 1 }
@@ -448,7 +447,7 @@ impl<R> ByPieces<R> {
         ByPieces { inner, most }
     }
 
-    /// Gives the reader back.
+    /// Returns the reader.
     pub fn into_inner(self) -> R
         ensures { result ≡ pieces_inner self }
     {
@@ -476,12 +475,12 @@ impl<R: ReadDevice> ReadDevice for ByPieces<R> {
     }
 }
 
-/// A reader or a writer of which one call fails, once: that call doesn't reach the stream inside, and every other
-/// does. It is a `ReadDevice` over one, and std's `Write` over one. It is for tests of what reads and writes.
+/// A reader or writer one call of which fails, once. That call doesn't reach the inner stream; every other does. It is
+/// a `ReadDevice` over a `ReadDevice`, and a `Write` over a `Write`. It is for tests of code that reads and writes.
 #[derive(Drop)]
 pub struct FailsAt<S> {
     inner: S,
-    // How many calls are left up to the one that fails, that one included. 0: none fails any more.
+    // The number of calls up to and including the one that fails. 0: none fails any more.
     calls: u64,
     kind: ErrorKind,
     has_failed: bool,
@@ -490,8 +489,8 @@ pub struct FailsAt<S> {
 impl<S> FailsAt<S> {
     ghost use Rattle.tiny_http_io.specs.FailsAt.{fails_at_inner, calls_left, fault_kind, has_failed, Counts};
 
-    /// The `nth` call, counted from 1, fails by this kind. For 0 none fails. Reads, writes and flushes count alike. A
-    /// read into an empty buffer doesn't count.
+    /// Makes the `nth` call, counted from 1, fail with this kind; with 0 none fails. Reads, writes and flushes all
+    /// count, but not a read into an empty buffer.
     pub fn new(inner: S, nth: u64, kind: ErrorKind) -> FailsAt<S>
         ensures inner { fails_at_inner result ≡ inner }
         ensures calls { calls_left result ≡ nth }
@@ -506,21 +505,21 @@ impl<S> FailsAt<S> {
         }
     }
 
-    /// Whether the call that fails has come.
+    /// Returns whether the failing call has come.
     pub fn has_failed(&self) -> bool
         ensures { result ≡ has_failed self.now }
     {
         self.has_failed
     }
 
-    /// Gives the stream back.
+    /// Returns the stream.
     pub fn into_inner(self) -> S
         ensures { result ≡ fails_at_inner self }
     {
         self.inner
     }
 
-    // Counts a call. An error if it is the one that fails.
+    // Counts a call. Fails if it is the failing one.
     fn count(&mut self) -> Result<(), io::Error>
         ensures { Counts self.old self.new result }
     {
@@ -540,13 +539,13 @@ impl<S: ReadDevice> ReadDevice for FailsAt<S> {
 
     ghost stop_count = { λ f. S.stop_count (fails_at_inner f) };
 
-    /// Reads once from the reader, or fails. It states no feed, since what it gives may go on behind a fault.
+    /// Reads once from the reader, or fails. It states no feed, since bytes may follow the fault.
     fn read_in(&mut self, buf: &mut [u8]) -> Result<usize, io::Error>
         ensures reads { Reads None None result buf.new }
         ensures empty { length buf.new ≡ 0 → (result ≡ Ok 0) × (self.new ≡ self.old) }
         ensures fails { 0 < length buf.new → calls_left self.old ≡ 1 → FailsNow self.old self.new result }
         ensures counts { 0 < length buf.new → calls_left self.old ≢ 1 → IsCounted self.old self.new }
-        // What came is the reader's, if it states what it still gives.
+        // The bytes came from the reader, if it states what it still gives.
         ensures stream { calls_left self.old ≢ 1
             → ReadsFrom (S.feed (fails_at_inner self.old)) (S.feed (fails_at_inner self.new)) result buf.new }
         ensures stop_count { Tells (S.stop_count (fails_at_inner self.old))
@@ -580,7 +579,7 @@ impl<S: Write> Write for FailsAt<S> {
         self.inner.write(buf)
     }
 
-    /// Flushes the stream, or fails. No contract says that it is flushed, as std's words for a flush say only that
+    /// Flushes the stream, or fails. No contract says that it is flushed, since std's clauses on a flush say only that
     /// the bytes stay.
     fn flush(&mut self) -> io::Result<()>
         ensures bytes { Keeps (S.contents (fails_at_inner self.old)) (S.contents (fails_at_inner self.new)) }
@@ -597,7 +596,7 @@ impl<R: ReadDevice> ReadDevice for &mut R {
 
     ghost stop_count = { λ r. R.stop_count r.now };
 
-    /// Reads from the reader that is lent.
+    /// Reads from the borrowed reader.
     fn read_in(&mut self, buf: &mut [u8]) -> Result<usize, io::Error> {
         ReadDevice::read_in(&mut **self, buf)
     }
@@ -606,22 +605,22 @@ impl<R: ReadDevice> ReadDevice for &mut R {
 impl<W: WriteDevice> WriteDevice for &mut W {
     ghost sink = { λ w. W.sink w.now };
 
-    /// The count of the writer that is lent.
+    /// Returns the borrowed writer's count.
     fn failures(&self) -> u64 {
         WriteDevice::failures(&**self)
     }
 
-    /// Writes to it.
+    /// Writes to the borrowed writer.
     fn write_out(&mut self, buf: &[u8]) -> Result<usize, io::Error> {
         WriteDevice::write_out(&mut **self, buf)
     }
 
-    /// Flushes it.
+    /// Flushes the borrowed writer.
     fn flush_out(&mut self) -> Result<(), io::Error> {
         WriteDevice::flush_out(&mut **self)
     }
 
-    /// Ends it.
+    /// Ends the borrowed writer.
     fn end_out(&mut self) {
         WriteDevice::end_out(&mut **self)
     }

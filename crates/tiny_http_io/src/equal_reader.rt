@@ -1,4 +1,4 @@
-//! A reader of so many bytes of another one.
+//! A reader of the first bytes of another reader.
 ghost use Rattle.std.specs.Prelude.{◌≡◌, ◌<◌, ◌≤◌, ◌+◌, length, take, Ok, IfOk, IfErr, OnErr};
 ghost use Rattle.std.specs.Option.{option_map};
 ghost use Rattle.std.specs.IoError.{error_kind};
@@ -9,18 +9,19 @@ use crate::device::{ReadDevice, Stop, read_front};
 use std::io;
 use std::io::Read;
 
-// How many bytes are read away at a time, at most.
+// The size of the buffer, in bytes, into which the rest is discarded.
 const PIECE: usize = 512;
 
-/// The first bytes of a reader, so many of them. Where the reader gives fewer, this one stops as it does.
+/// A reader of exactly n bytes of another. If that gives fewer, this one stops as it does.
 ///
-/// Dropped or finished, it reads the rest of its bytes away, through a buffer of a fixed size, up to an end or a fault.
+/// When dropped or finished it reads and discards the rest of its bytes, through a buffer of a fixed size, up to an end
+/// or a fault.
 pub struct EqualReader<R: ReadDevice + Drop> {
     inner: R,
     left: usize,
 }
 
-// Reads so many bytes away. It stops at an end or a fault.
+// Reads and discards `size` bytes. Stops at an end or a fault.
 fn read_away<R: ReadDevice>(inner: &mut R, size: usize)
     ensures feed { R.feed inner.new ≡ option_map (feed_behind size) (R.feed inner.old) }
     ensures stop_count { R.stop_count inner.new ≤ R.stop_count inner.old + 1 }
@@ -39,7 +40,7 @@ fn read_away<R: ReadDevice>(inner: &mut R, size: usize)
 impl<R: ReadDevice + Drop> EqualReader<R> {
     ghost use Rattle.tiny_http_io.specs.EqualReader.{equal_feed, equal_left, equal_inner};
 
-    /// The first `size` bytes of `reader`.
+    /// Limits `reader` to its first `size` bytes.
     pub fn new(reader: R, size: usize) -> EqualReader<R>
         ensures inner { equal_inner result ≡ reader }
         ensures size { equal_left result ≡ size }
@@ -50,11 +51,11 @@ impl<R: ReadDevice + Drop> EqualReader<R> {
         }
     }
 
-    /// Reads the rest of the bytes away, and hands the reader back: it stands after them, or has stopped before.
-    /// Faults met here are not reported.
+    /// Discards the rest of the bytes and returns the reader, which is after them or has stopped before. Faults met
+    /// here are not reported.
     pub fn finish(self) -> R
         ensures feed { R.feed result ≡ option_map (feed_behind (equal_left self)) (R.feed (equal_inner self)) }
-        // It is asked for no second end or fault.
+        // The reader isn't asked for a second end or fault.
         ensures stop_count { R.stop_count result ≤ R.stop_count (equal_inner self) + 1 }
     {
         let EqualReader { mut inner, left } = self;
@@ -74,7 +75,7 @@ impl<R: ReadDevice + Drop> EqualReader<R> {
         ensures past { equal_left self.old ≡ 0 → (result ≡ Ok 0) × (self.new ≡ self.old) }
         ensures count { IfOk result (λ n. equal_left self.old ≡ n + equal_left self.new) }
         ensures fault_takes_none { OnErr result (equal_left self.new ≡ equal_left self.old) }
-        // What is read away, now or later, stays the same.
+        // The bytes after the part don't change.
         ensures behind { option_map (feed_behind (equal_left self.new)) (R.feed (equal_inner self.new))
             ≡ option_map (feed_behind (equal_left self.old)) (R.feed (equal_inner self.old)) }
         ensures stop_count { Tells (R.stop_count (equal_inner self.old)) (R.stop_count (equal_inner self.new)) result }

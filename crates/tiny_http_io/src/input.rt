@@ -1,4 +1,4 @@
-//! The input of a source with its fields in the open: a reader and what is held of its bytes.
+//! The input of a source with its fields accessible: a reader and the bytes buffered from it.
 ghost use Rattle.std.specs.Prelude.{◌≡◌, ◌≢◌, true, false, ◌+◌, ◌-◌, ◌^◌, ◌<◌, ◌≤◌, ◌⊎◌, min, [], ◌∷◌, ◌++◌};
 ghost use Rattle.std.specs.Prelude.{length, take, drop, Option, None, Some, Ok, Err, IfOk, IfErr, OnOk, OnErr};
 ghost use Rattle.std.specs.Prelude.{IsSome, IfSome, IfNone, IsTrue};
@@ -19,7 +19,8 @@ use std::io;
 use std::io::ErrorKind;
 use tiny_http_text::ascii::AsciiString;
 
-/// A source with its fields in the open: a reader with a buffer, a number of bytes to skip, and why its input ended.
+/// A source without its input state: a reader with a buffer, a number of bytes to skip, and the reason why its input
+/// ended.
 #[derive(Drop)]
 pub(crate) struct Input<R> {
     inner: R,
@@ -47,14 +48,14 @@ impl<R: ReadDevice> Input<R> {
         }
     }
 
-    /// The reader inside.
+    /// Returns the inner reader.
     pub fn into_inner(self) -> R
         ensures { result ≡ input_reader self }
     {
         self.inner
     }
 
-    /// How the reader stopped, if it has.
+    /// Returns how the input stopped, if it has.
     pub fn stop(&self) -> Option<Stop>
         ensures stop { result ≡ input_stop self.now }
         ensures over { IsInputOver self.now
@@ -63,7 +64,7 @@ impl<R: ReadDevice> Input<R> {
         self.stop
     }
 
-    /// Whether a byte is still to come.
+    /// Returns whether another byte is to come.
     pub fn has_byte(&mut self) -> bool
         ensures some { IsTrue result
             → HasByte (input_feed R.feed self.old) × (input_stop self.new ≡ input_stop self.old) }
@@ -82,7 +83,7 @@ impl<R: ReadDevice> Input<R> {
         !self.held.is_empty()
     }
 
-    // Takes off what is held of the bytes to be skipped.
+    // Discards the buffered bytes that are to be skipped.
     fn pass(&mut self)
         ensures feed { input_feed R.feed self.new ≡ input_feed R.feed self.old }
         ensures fields { let n = min self.old.skip (length self.old.held) in
@@ -94,7 +95,7 @@ impl<R: ReadDevice> Input<R> {
         self.skip -= n;
     }
 
-    // Reads once, into the empty buffer.
+    // Reads once into the empty buffer.
     fn refill(&mut self)
         requires empty { self.old.held ≡ [] }
         requires open { self.old.stop ≡ None }
@@ -111,12 +112,12 @@ impl<R: ReadDevice> Input<R> {
         }
     }
 
-    // Holds a byte where one is still to come, and has skipped what was to be skipped.
+    // Skips what is to be skipped, and buffers a byte if one is still to come.
     fn fill(&mut self)
         ensures feed { input_feed R.feed self.new ≡ input_feed R.feed self.old }
         ensures skip { self.new.skip ≡ 0 }
         ensures over { self.new.held ≡ [] → IsSome self.new.stop }
-        // After an end or a fault the reader isn't called again; nor where a byte is held.
+        // The reader isn't called again after an end or a fault, nor if a byte is buffered.
         ensures once { IsSome (input_stop self.old)
             → IsSome (input_stop self.new) × (input_reader self.new ≡ input_reader self.old) }
         ensures stays { IsInputOver self.old → self.new ≡ self.old }
@@ -138,7 +139,7 @@ impl<R: ReadDevice> Input<R> {
         }
     }
 
-    // The first line that is held, if it keeps the limit: so many bytes, and CR LF after them.
+    // Returns the length of the first buffered line, without its CR LF, if it is complete and within the limit.
     fn held_line(&self, left: Option<usize>) -> Option<usize>
         ensures some { IfSome result (λ n. EndsLine (input_held self.now) n × IsWithin left n) }
         ensures none { IfNone result (IsUnfinished (seen_within left (input_held self.now))) }
@@ -154,7 +155,7 @@ impl<R: ReadDevice> Input<R> {
         }
     }
 
-    /// Finds the first line within the limit: held, or taken off.
+    /// Finds the first line within the limit. It stays buffered or is consumed.
     pub fn find_line(&mut self, alloc: Global, left: Option<usize>) -> Result<FirstLine, LineFault>
         ensures line { FindsLine left (input_feed R.feed self.old) (input_feed R.feed self.new) (input_held self.new)
             (input_skip self.new) result }
@@ -174,7 +175,7 @@ impl<R: ReadDevice> Input<R> {
             → input_reader self.new ≡ input_reader self.old }
         ensures full { IfSome left (λ n. input_skip self.old + n ≤ length (input_held self.old)
             → input_reader self.new ≡ input_reader self.old) }
-        // Memory is taken for a line alone that isn't held whole.
+        // Memory is needed only for a line that isn't whole in the buffer.
         ensures memory { result ≡ Err LineFault.Memory
             → has_crlf (drop (input_skip self.old) (input_held self.old)) ≡ false }
         ensures lazy { OnOk result (input_stop self.new ≡ input_stop self.old) }
@@ -198,14 +199,14 @@ impl<R: ReadDevice> Input<R> {
         }
     }
 
-    /// The bytes that are held.
+    /// Returns the buffered bytes.
     pub fn held(&self) -> &[u8]
         ensures { result.now ≡ input_held self.now }
     {
         self.held.as_slice()
     }
 
-    /// Takes n bytes off that are held, and the CR LF after them.
+    /// Consumes n buffered bytes and the CR LF after them.
     pub fn pass_line(&mut self, n: usize)
         requires skip { input_skip self.old ≡ 0 }
         requires line { EndsLine (input_held self.old) n }
@@ -219,7 +220,7 @@ impl<R: ReadDevice> Input<R> {
         self.held.consume(2);
     }
 
-    /// Takes n bytes off that are held.
+    /// Consumes n buffered bytes.
     pub fn consume(&mut self, n: usize)
         requires skip { input_skip self.old ≡ 0 }
         requires held { n ≤ length (input_held self.old) }
@@ -232,7 +233,7 @@ impl<R: ReadDevice> Input<R> {
         self.held.consume(n);
     }
 
-    // Takes n bytes off that are held, and the CR LF after them.
+    // Takes n buffered bytes, and consumes the CR LF after them. Fails if memory is refused; then nothing has changed.
     fn take_line(&mut self, alloc: Global, n: usize) -> Result<Vec<u8>, LineFault>
         requires { n + 2 ≤ length self.old.held }
         ensures text { IfOk result (λ text. text.items ≡ take n self.old.held) }
@@ -248,7 +249,7 @@ impl<R: ReadDevice> Input<R> {
         Ok(text)
     }
 
-    // The first line within the limit, byte by byte.
+    // Reads the first line within the limit, byte by byte. After any fault the input is over.
     fn read_slowly(&mut self, alloc: Global, left: Option<usize>) -> Result<Vec<u8>, LineFault>
         ensures text { IfOk result
             (λ text. input_feed R.feed self.old
@@ -293,7 +294,7 @@ impl<R: ReadDevice> Input<R> {
         Err(LineFault::TooLong)
     }
 
-    /// Lets the input end here.
+    /// Ends the input here.
     pub fn end(&mut self)
         ensures feed { input_feed R.feed self.new ≡ option_map (λ _. stopped Stop.End) (input_feed R.feed self.old) }
         ensures over { IsInputOver self.new }
@@ -313,10 +314,10 @@ impl<R: ReadDevice> Input<R> {
         left: Option<usize>,
     ) -> Result<AsciiString, LineFault>
         ensures line { ReadsWithin left (input_feed R.feed self.old) (input_feed R.feed self.new) result }
-        // After an end or a fault the reader isn't called again.
+        // The reader isn't called again after an end or a fault.
         ensures once { IsSome (input_stop self.old)
             → IsSome (input_stop self.new) × (input_reader self.new ≡ input_reader self.old) }
-        // Whatever the reader states, an input that is over stays so, and a line's place has its stop.
+        // Whatever the reader states, an input that is over stays so, and each line is reported as its stop.
         ensures limited { result ≡ Err LineFault.TooLong → IsSome left }
         ensures over { IfErr result (λ fault. fault ≢ LineFault.NotAscii → IsInputOver self.new) }
         ensures ended { IfErr result (λ fault. (fault ≡ LineFault.Memory) ⊎ (fault ≡ LineFault.TooLong)
@@ -352,8 +353,8 @@ impl<R: ReadDevice> Input<R> {
         }
     }
 
-    /// Takes n bytes, or none where fewer are left: then the input is over. Without memory for them nothing has
-    /// changed.
+    /// Takes exactly n bytes. If fewer are left it returns `None`, and the input is over. If memory is refused nothing
+    /// has changed.
     pub fn take_exactly(&mut self, alloc: Global, n: usize) -> Result<Option<Vec<u8>>, AllocError>
         ensures takes { IfOk result
             (λ body. TakesExactly (λ v. v.items) n (input_feed R.feed self.old) (input_feed R.feed self.new) body) }
@@ -378,7 +379,7 @@ impl<R: ReadDevice> Input<R> {
         Ok(Some(body))
     }
 
-    // Why there is no line after the input.
+    // Returns the fault of a line that the input stopped before.
     fn line_fault(&self) -> LineFault
         ensures fault { IfSome (input_stop self.now) (λ stop. result ≡ line_fault_of stop) }
         ensures in_time { (result ≢ LineFault.TooLong) × (result ≢ LineFault.NotAscii) × (result ≢ LineFault.Memory) }
@@ -390,14 +391,14 @@ impl<R: ReadDevice> Input<R> {
         }
     }
 
-    /// Skips n bytes more, before the next line or read. Where fewer are left the input ends.
+    /// Skips n more bytes before the next line or read. If fewer are left the input ends.
     pub fn skip(&mut self, n: usize)
         ensures feed { input_feed R.feed self.new ≡ option_map (skipped n) (input_feed R.feed self.old) }
         ensures alone { input_skip self.old + n < 2 ^ 64
             → (input_reader self.new ≡ input_reader self.old) × (input_stop self.new ≡ input_stop self.old) }
         ensures adds { input_skip self.old + n < 2 ^ 64
             → (input_skip self.new ≡ input_skip self.old + n) × (input_held self.new ≡ input_held self.old) }
-        // After an end or a fault the reader isn't called again.
+        // The reader isn't called again after an end or a fault.
         ensures once { IsSome (input_stop self.old)
             → IsSome (input_stop self.new) × (input_reader self.new ≡ input_reader self.old) }
         ensures calls { input_stop_count R.stop_count self.new ≤ input_stop_count R.stop_count self.old }
@@ -432,7 +433,7 @@ impl<R: ReadDevice> Input<R> {
         self.held.pop()
     }
 
-    // Reads once, past the empty buffer.
+    // Reads once, bypassing the empty buffer.
     fn read_past_buffer(&mut self, buf: &mut [u8]) -> Result<usize, io::Error>
         requires room { 0 < length buf.old }
         requires empty { (self.old.held ≡ []) × (self.old.skip ≡ 0) }
@@ -462,8 +463,8 @@ impl<R: ReadDevice> Input<R> {
         }
     }
 
-    /// Reads some bytes. After them each call answers how the input stopped. Where no byte is held or to be skipped,
-    /// a read into 1024 bytes or more goes straight to the reader.
+    /// Reads some bytes. After the last byte each call reports how the input stopped. If no byte is buffered or to be
+    /// skipped, a read into 1024 bytes or more goes straight to the reader.
     pub fn read(&mut self, buf: &mut [u8]) -> Result<usize, io::Error>
         ensures bound { IfOk result (λ n. n ≤ length buf.new) }
         ensures bytes { IfOk result
@@ -472,7 +473,7 @@ impl<R: ReadDevice> Input<R> {
         ensures fault { IfErr result (λ e. StopsBy (Stop.Fault (error_kind e)) (input_feed R.feed self.old)) }
         ensures again { OnErr result (input_feed R.feed self.new ≡ input_feed R.feed self.old) }
         ensures empty { length buf.new ≡ 0 → (result ≡ Ok 0) × (self.new ≡ self.old) }
-        // After an end or a fault the reader isn't called again.
+        // The reader isn't called again after an end or a fault.
         ensures once { IsSome (input_stop self.old)
             → IsSome (input_stop self.new) × (input_reader self.new ≡ input_reader self.old) }
         ensures over { OnErr result (IsInputOver self.new) }

@@ -1,9 +1,9 @@
-//! A law, the contract of a function that does nothing.
+//! A law, stated as the contract of a function that does nothing.
 ghost use Rattle.std.specs.Prelude.{◌≡◌};
 
 use crate::buffer::CAPACITY;
 
-/// The size that the contracts of a source and of an outlet take from the code.
+/// The buffer size that the contracts of `Source` and `Outlet` rely on.
 pub fn size_of_buffers()
     ensures { CAPACITY ≡ 1024 }
 {}

@@ -1,6 +1,6 @@
-//! What is read and what is written: the two traits of a device, the readers and writers that tests and programs
-//! begin with, and a connection's input and output through buffers. It stands on `tiny_http_text`; `tiny_http_wire`
-//! names `device` again, and `tiny_http_core` the other modules.
+//! Reading and writing: the two device traits, readers and writers for tests and programs to start with, and the
+//! buffered input and output of a connection. The crate depends on `tiny_http_text`. `tiny_http_wire` re-exports
+//! `device`, and `tiny_http_core` the other modules.
 #![tactic(auto)]
 
 mod buffer;

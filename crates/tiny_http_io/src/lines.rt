@@ -1,4 +1,4 @@
-//! Where a line ends, how many bytes it may have, and how its bytes are kept. A limit is a number of bytes, or none.
+//! Line ends and line limits. A limit is a number of bytes, or none.
 ghost use Rattle.std.specs.Prelude.{◌≡◌, ◌≢◌, ◌+◌, ◌-◌, ◌*◌, ◌^◌, ◌<◌, ◌≤◌, ◌++◌, ◌∷◌, [], false, true, length};
 ghost use Rattle.std.specs.Prelude.{vec_len, IsSome, IfSome, IfNone, IfErr, OnOk, IsTrue};
 ghost use Rattle.std.specs.Option.{option_map};
@@ -9,7 +9,7 @@ ghost use Rattle.tiny_http_io.specs.Source.{IsWithin};
 use crate::source::LineFault;
 use memchr::memchr;
 
-/// Where the first CR LF begins.
+/// Returns the position of the first CR LF.
 pub(crate) fn line_end(bytes: &[u8]) -> Option<usize>
     ensures some { IfSome result (EndsLine bytes.now) }
     ensures none { IfNone result (has_crlf bytes.now ≡ false) }
@@ -24,7 +24,7 @@ pub(crate) fn line_end(bytes: &[u8]) -> Option<usize>
     None
 }
 
-/// Whether so many bytes, and a CR LF after them, keep the limit.
+/// Returns whether a line of n bytes, with its CR LF, is within the limit.
 pub(crate) fn is_within(left: Option<usize>, n: usize) -> bool
     requires { n + 2 < 2 ^ 64 }
     ensures within { IsTrue result → IsWithin left n }
@@ -36,7 +36,7 @@ pub(crate) fn is_within(left: Option<usize>, n: usize) -> bool
     }
 }
 
-/// Whether so many bytes reach the limit.
+/// Returns whether n bytes reach the limit.
 pub(crate) fn is_reached(left: Option<usize>, n: usize) -> bool
     ensures reached { IsTrue result → IsSome left × IfSome left (λ left. left ≤ n) }
     ensures below { result ≡ false → IfSome left (λ left. n < left) }
@@ -47,7 +47,7 @@ pub(crate) fn is_reached(left: Option<usize>, n: usize) -> bool
     }
 }
 
-/// What is left of the limit after one byte.
+/// Returns the limit after one more byte.
 pub(crate) fn one_less(room: Option<usize>) -> Option<usize>
     requires { IfSome room (λ n. 0 < n) }
     ensures { result ≡ option_map (λ n. n - 1) room }
@@ -58,7 +58,8 @@ pub(crate) fn one_less(room: Option<usize>) -> Option<usize>
     }
 }
 
-// Takes a byte that doesn't end the line. A carriage return is kept once the byte after it is known.
+// Adds a byte that doesn't end the line. A CR is held back until the byte after it is known. Fails with `Memory` if
+// memory is refused.
 pub(crate) fn go_on(text: &mut Vec<u8>, after_return: &mut bool, b: u8) -> Result<(), LineFault>
     requires not_end { after_return.old ≡ true → b ≢ 10 }
     requires passed { BeginsNoLineEnd text.old.items (held_return after_return.old) }
@@ -85,7 +86,7 @@ pub(crate) fn go_on(text: &mut Vec<u8>, after_return: &mut bool, b: u8) -> Resul
     }
 }
 
-// One byte more of a line.
+// Appends a byte to the line. Fails with `Memory` if memory is refused.
 fn keep(text: &mut Vec<u8>, b: u8) -> Result<(), LineFault>
     ensures ok { OnOk result (text.new.items ≡ text.old.items ++ b ∷ []) }
     ensures len { OnOk result (vec_len text.new ≡ vec_len text.old + 1) }

@@ -1,4 +1,4 @@
-//! The output of a connection, through a buffer.
+//! The buffered output of a connection.
 ghost use Rattle.std.specs.Prelude.{◌≡◌, ◌<◌, ◌≤◌, true, false, [], length, Ok, OnOk, OnErr};
 ghost use Rattle.tiny_http_io.specs.Device.{BeginsKnown, HoldsNothing, Puts, PutsFront};
 
@@ -8,7 +8,7 @@ use std::io;
 use std::io::Write;
 use std::marker::Model;
 
-/// A writer with a buffer. After its first fault it takes and holds nothing.
+/// A buffered writer. After its first fault it takes and holds nothing.
 #[derive(Drop)]
 pub struct Outlet<W: WriteDevice> {
     inner: W,
@@ -29,7 +29,7 @@ impl<W: WriteDevice> Outlet<W> {
     ghost use Rattle.tiny_http_io.specs.Outlet.{output_of, outlet_held, outlet_ended, outlet_writer, SentOn};
     ghost use Rattle.tiny_http_io.specs.Outlet.{EndsOutlet};
 
-    /// An outlet over this writer. What it promises is for a writer that has not ended by itself.
+    /// Wraps a writer. The contracts are for a writer that has not ended by itself.
     pub fn new(inner: W) -> Outlet<W>
         ensures held { outlet_held result ≡ [] }
         ensures writer { outlet_writer result ≡ inner }
@@ -43,7 +43,7 @@ impl<W: WriteDevice> Outlet<W> {
         }
     }
 
-    /// What is held back: nothing after the end.
+    /// Returns the buffered bytes: none after the end.
     pub fn held(&self) -> &[u8]
         ensures bytes { result.now ≡ outlet_held self.now }
         ensures bound { length (outlet_held self.now) ≤ CAPACITY }
@@ -52,7 +52,7 @@ impl<W: WriteDevice> Outlet<W> {
         self.held.as_slice()
     }
 
-    // Sends all that is held.
+    // Sends all buffered bytes.
     fn send(&mut self) -> Result<(), io::Error>
         requires open { self.old.ended ≡ false }
         ensures puts { Puts (output_of self.old) (output_of self.new) result [] }
@@ -73,7 +73,7 @@ impl<W: WriteDevice> Outlet<W> {
         }
     }
 
-    // Hands bytes to the writer itself, where none are held.
+    // Writes to the inner writer directly. No bytes may be buffered.
     fn pass(&mut self, buf: &[u8]) -> Result<usize, io::Error>
         requires open { self.old.ended ≡ false }
         requires none { self.old.held ≡ [] }
@@ -90,7 +90,7 @@ impl<W: WriteDevice> Outlet<W> {
         }
     }
 
-    // Takes some bytes where none are held. Those that would fill the buffer go past it.
+    // Takes some bytes into the empty buffer. `CAPACITY` bytes or more bypass it.
     fn take_first(&mut self, buf: &[u8]) -> Result<usize, io::Error>
         requires open { self.old.ended ≡ false }
         requires none { self.old.held ≡ [] }
@@ -109,7 +109,7 @@ impl<W: WriteDevice> Outlet<W> {
     // Takes some bytes, at least one if there is one.
     fn take_some(&mut self, buf: &[u8]) -> Result<usize, io::Error>
         ensures puts { PutsFront (output_of self.old) (output_of self.new) result buf.now }
-        // Fewer bytes than the buffer has room for stay in it, where none are held.
+        // Fewer bytes than the buffer's capacity stay in it if it is empty.
         ensures small { outlet_held self.old ≡ []
             → length buf.now < CAPACITY
             → (outlet_writer self.new ≡ outlet_writer self.old) × (result ≡ Ok (length buf.now)) }
@@ -133,11 +133,11 @@ impl<W: WriteDevice> Outlet<W> {
         self.take_first(buf)
     }
 
-    /// Takes all the bytes, and sends what doesn't fit into the buffer. After the outlet has ended it takes none and
-    /// answers `Ok`.
+    /// Takes all bytes, and sends what doesn't fit into the buffer. After the outlet has ended it takes none and
+    /// returns `Ok`.
     pub fn write(&mut self, bytes: &[u8]) -> Result<(), io::Error>
         ensures puts { Puts (output_of self.old) (output_of self.new) result bytes.now }
-        // Fewer bytes than the buffer has room for stay in it, where none are held.
+        // Fewer bytes than the buffer's capacity stay in it if it is empty.
         ensures small { outlet_held self.old ≡ []
             → length bytes.now < CAPACITY
             → (outlet_writer self.new ≡ outlet_writer self.old) × (result ≡ Ok tt) }
@@ -152,7 +152,7 @@ impl<W: WriteDevice> Outlet<W> {
         Ok(())
     }
 
-    /// Sends what is held, and has the writer send it on.
+    /// Sends all buffered bytes and flushes the writer.
     pub fn flush(&mut self) -> Result<(), io::Error>
         ensures puts { Puts (output_of self.old) (output_of self.new) result [] }
         ensures held { outlet_held self.new ≡ [] }
@@ -176,7 +176,8 @@ impl<W: WriteDevice> Outlet<W> {
         }
     }
 
-    /// Does nothing; for the crates above. Its contract says what always holds between an outlet and its writer.
+    /// Does nothing. Its contract states what always holds between an outlet and its writer. It is for the crates
+    /// above.
     pub fn facts(&self)
         ensures sink { self.now.sink ≡ W.sink self.now.writer }
         ensures none { self.now.ended ≡ true → self.now.held ≡ [] }
@@ -185,14 +186,14 @@ impl<W: WriteDevice> Outlet<W> {
         let _ = self.inner.failures();
     }
 
-    /// Whether the outlet has ended: by `end` or `abandon`, or by the writer's first fault.
+    /// Returns whether the outlet has ended: by `end` or `abandon`, or by the writer's first fault.
     pub fn is_ended(&self) -> bool
         ensures { result ≡ outlet_ended self.now }
     {
         self.ended
     }
 
-    /// Sends what is held, if the writer takes it, and then takes nothing more.
+    /// Sends the buffered bytes, flushes the writer, and ends the outlet, whether or not that fails.
     pub fn end(&mut self) -> Result<(), io::Error>
         ensures ends { EndsOutlet (output_of self.old) (output_of self.new) result }
         ensures held { outlet_held self.new ≡ [] }
@@ -207,7 +208,7 @@ impl<W: WriteDevice> Outlet<W> {
         sent
     }
 
-    /// The writer's count of failures; for the crates above, as `abandon` is.
+    /// Returns the writer's failure count. Like `abandon`, it is for the crates above.
     pub fn writer_failures(&self) -> u64
         ensures count { result ≡ (output_of self.now).failures }
         ensures sent { let s = self.now.sink in BeginsKnown s.sent s.taken }
@@ -215,7 +216,7 @@ impl<W: WriteDevice> Outlet<W> {
         self.inner.failures()
     }
 
-    /// Takes nothing more, and drops what is held.
+    /// Ends the outlet and discards the buffered bytes.
     pub fn abandon(&mut self)
         ensures held { outlet_held self.new ≡ [] }
         ensures ended { outlet_ended self.new ≡ true }
@@ -226,7 +227,7 @@ impl<W: WriteDevice> Outlet<W> {
         self.ended = true;
     }
 
-    /// The writer. What is held is dropped.
+    /// Returns the writer. Buffered bytes are discarded.
     pub fn into_inner(self) -> W
         ensures inner { result ≡ outlet_writer self }
         ensures sink { W.sink result ≡ self.sink }
@@ -252,10 +253,10 @@ impl<W: WriteDevice> WriteDevice for Outlet<W> {
         self.flush()
     }
 
-    /// Has the writer say that no byte follows, unless bytes are held back: the caller flushes first.
+    /// Has the writer signal the end of its bytes, unless some are buffered: the caller flushes first.
     fn end_out(&mut self)
         ensures sink { output_of self.new ≡ output_of self.old }
-        // What is held stays, and so does whether the outlet has ended.
+        // The buffered bytes stay, and so does whether the outlet has ended.
         ensures rest { self.new ≡ record self.old { writer = self.new.writer } }
     {
         if self.held.is_empty() {
@@ -264,15 +265,14 @@ impl<W: WriteDevice> WriteDevice for Outlet<W> {
     }
 }
 
-// The inherent methods `write` and `flush` are found before these. `contents` is left unstated, as an outlet takes
-// bytes and drops them after its end, and a fault may lose what was held: each clause says what the outlet itself
-// states.
+// Method calls find the inherent `write` and `flush` before these. `contents` is left unstated, since an outlet takes
+// and drops bytes after its end, and a fault may lose buffered ones. Each clause says what the outlet itself states.
 impl<W: WriteDevice> Write for Outlet<W> {
     ghost use Rattle.std.specs.Io.{WritesAtMost};
     ghost use Rattle.tiny_http_io.specs.Outlet.{output_of, outlet_held, outlet_ended, SentOn};
 
-    /// Takes some of the bytes, at least one if there is one, and says how many. After the outlet has ended it takes
-    /// none and reports their whole count.
+    /// Takes some bytes, at least one if there is one, and returns how many. After the outlet has ended it takes none
+    /// and returns their full count.
     fn write(&mut self, buf: &[u8]) -> io::Result<usize>
         ensures bound { WritesAtMost result buf.now }
         ensures puts { PutsFront (output_of self.old) (output_of self.new) result buf.now }
@@ -284,7 +284,7 @@ impl<W: WriteDevice> Write for Outlet<W> {
         Outlet::take_some(self, buf)
     }
 
-    /// Sends what is held, and has the writer send it on.
+    /// Sends all buffered bytes and flushes the writer.
     fn flush(&mut self) -> io::Result<()>
         ensures puts { Puts (output_of self.old) (output_of self.new) result [] }
         ensures held { outlet_held self.new ≡ [] }
@@ -295,8 +295,10 @@ impl<W: WriteDevice> Write for Outlet<W> {
         Outlet::flush(self)
     }
 
-    /// Takes all the bytes, as the inherent `write`. It stops at the first fault and reports it, also one of kind
-    /// `Interrupted`: the outlet has ended by that, and a second try would answer `Ok`.
+    /// Takes all bytes, as the inherent `write` does.
+    ///
+    /// It stops at the first fault and reports it, even one of kind `Interrupted`: that fault has ended the outlet, so
+    /// a retry would return `Ok`.
     fn write_all(&mut self, buf: &[u8]) -> io::Result<()>
         ensures puts { Puts (output_of self.old) (output_of self.new) result buf.now }
         ensures ended { OnErr result (outlet_ended self.new ≡ true) }

@@ -1,4 +1,4 @@
-//! A connection's input, seen as what is still to come of it: lines and bytes through a buffer.
+//! The buffered input of a connection: lines and bytes, read through a fixed buffer.
 ghost use Rattle.std.specs.Prelude.{◌≡◌, true, ◌-◌, ◌^◌, ◌<◌, ◌≤◌, [], length, Option, None, Some, IsSome};
 ghost use Rattle.std.specs.Prelude.{IfSome};
 ghost use Rattle.tiny_http_io.specs.Device.{StopsBy, Tells};
@@ -13,52 +13,51 @@ use std::io::{ErrorKind, Read};
 use std::marker::Model;
 use tiny_http_text::ascii::AsciiString;
 
-/// Why there is no line.
+/// The reason why there is no line.
 #[derive(Clone, Copy, Debug, PartialEq, Eq)]
 pub enum LineFault {
-    /// The bytes ended before a CR LF.
+    /// The input ended before a CR LF.
     End,
-    /// The line has a byte from 128 on. The source goes on after it.
+    /// The line has a byte above 127. The source continues after it.
     NotAscii,
-    /// No line has ended in the next bytes, as many as were allowed, all of which came. The source answers `End` from
-    /// then on.
+    /// The limit was reached without a CR LF. All bytes up to the limit came. The source reports `End` from then on.
     TooLong,
     /// The reader timed out before a CR LF.
     TimedOut,
-    /// The reader failed so before a CR LF.
+    /// The reader failed with this kind before a CR LF.
     Broken(ErrorKind),
-    /// No memory for the line was found. The source answers `End` from then on.
+    /// Memory for the line was refused. The source reports `End` from then on.
     Memory,
 }
 
-/// Where the first line is found.
+/// The place of the first line.
 #[derive(Drop)]
 pub enum FirstLine {
-    /// It lies whole in the buffer: so many bytes, and CR LF after them. It isn't taken off yet.
+    /// The line is whole in the buffer: n bytes, then CR LF. It isn't consumed yet.
     Held(usize),
-    /// It was taken off, and is here without its CR LF.
+    /// The line was consumed. It comes without its CR LF.
     Taken(Vec<u8>),
 }
 
-/// Where a source stands among the heads and bodies of its connection.
+/// The position of a source among the heads and bodies of its connection.
 #[derive(Clone, Copy, Debug, PartialEq, Eq)]
 pub enum InputState {
-    /// A head comes next.
+    /// A head is next.
     Head,
-    /// The rest of a body comes next. A head follows once that was read or given up.
+    /// The rest of a body is next. A head follows once the body was read or given up.
     Body,
-    /// The last request's head was read: its body may come next, and no head follows.
+    /// The last request's head was read. Its body may be next; no head follows.
     Last,
-    /// A chunked body was given up before its end was read, so where a head would begin isn't known.
+    /// A chunked body was given up before its end, so the start of the next head isn't known.
     Abandoned,
-    /// A body broke off by this fault.
+    /// A body broke off with this fault.
     Broken(ErrorKind),
 }
 
 impl InputState {
     ghost use Rattle.tiny_http_io.specs.InputState.{after_body, after_fault, after_abandoned};
 
-    /// The standing after a body that was read or given up whole.
+    /// Returns the state after a body that was read or given up whole.
     pub fn after_body(self) -> InputState
         ensures { result ≡ after_body self }
     {
@@ -68,7 +67,7 @@ impl InputState {
         }
     }
 
-    /// The standing after a body that broke off by this fault.
+    /// Returns the state after a body that broke off with this fault.
     pub fn after_fault(self, kind: ErrorKind) -> InputState
         ensures { result ≡ after_fault kind self }
     {
@@ -78,7 +77,7 @@ impl InputState {
         }
     }
 
-    /// The standing after a chunked body that was given up before its end was read.
+    /// Returns the state after a chunked body that was given up before its end was read.
     pub fn after_abandoned(self) -> InputState
         ensures { result ≡ after_abandoned self }
     {
@@ -89,11 +88,12 @@ impl InputState {
     }
 }
 
-/// A reader with a buffer of 1024 bytes, a number of bytes to skip, and where it stands among heads and bodies. After
-/// its first end or fault the reader isn't called again. It is called only where the buffer is empty and a byte is
-/// wanted: nothing is read ahead but what one call of the reader gives. (The clauses `lazy` say that no end or fault
-/// of the reader was met in a call that gave what was asked for; the clauses `calls` that the reader tells one at most
-/// in all calls together.)
+/// A buffered reader with a count of bytes to skip and a position among heads and bodies.
+///
+/// The buffer holds 1024 bytes. The reader is called only if the buffer is empty and a byte is wanted, and never again
+/// after its first end or fault: nothing is read ahead beyond one call. By the clauses `lazy`, a call that returned
+/// what was asked for met no end or fault; by the clauses `calls`, the reader reports at most one in all calls
+/// together.
 #[derive(Drop)]
 pub struct Source<R: ReadDevice> {
     input: Input<R>,
@@ -124,7 +124,7 @@ impl<R: ReadDevice> Source<R> {
     ghost use Rattle.tiny_http_io.specs.Source.{EndsHere};
     ghost use Rattle.tiny_http_io.specs.Source.{ReadsOneLine, FindsOneLine, PassesLine, TakesHeld, TakesBytes};
 
-    /// A source over this reader. A head comes first.
+    /// Wraps a reader. A head is expected first.
     pub fn new(inner: R) -> Source<R>
         ensures feed { result.feed ≡ R.feed inner }
         ensures stop { result.stop ≡ None }
@@ -138,21 +138,21 @@ impl<R: ReadDevice> Source<R> {
         }
     }
 
-    /// Where the source stands.
+    /// Returns the position among heads and bodies.
     pub fn input_state(&self) -> InputState
         ensures { result ≡ self.now.input_state }
     {
         self.input_state
     }
 
-    /// Says where the source stands from now on; for the crates above, which read heads and bodies from it.
+    /// Sets the position among heads and bodies. It is for the crates above, which read heads and bodies.
     pub fn stand_at(&mut self, input_state: InputState)
         ensures { self.new ≡ record self.old { input_state = input_state } }
     {
         self.input_state = input_state;
     }
 
-    /// How the input stopped, or was made to end, if it has.
+    /// Returns how the input stopped or was made to end, if it has.
     pub fn stop(&self) -> Option<Stop>
         ensures stop { result ≡ self.now.stop }
         ensures over { self.now.is_over ≡ true → IsSome result × IfSome result (λ stop. StopsBy stop self.now.feed) }
@@ -160,7 +160,7 @@ impl<R: ReadDevice> Source<R> {
         self.input.stop()
     }
 
-    /// Whether a byte is still to come. It waits for one, or for the end or a fault.
+    /// Returns whether another byte is to come. Blocks until a byte, the end or a fault is there.
     pub fn has_byte(&mut self) -> bool
         ensures looks { LooksForByte self.old self.new result }
         ensures calls { CallsReader R.stop_count self.old self.new }
@@ -168,15 +168,15 @@ impl<R: ReadDevice> Source<R> {
         self.input.has_byte()
     }
 
-    /// The reader. What is held of its bytes is lost.
+    /// Returns the reader. Buffered bytes are lost.
     pub fn into_inner(self) -> R
         ensures { result ≡ self.reader }
     {
         self.input.into_inner()
     }
 
-    /// Skips n bytes more, before the next line or read. Where fewer are left the input ends. The reader isn't
-    /// called, but where 2^64 bytes and more are to be skipped together.
+    /// Skips n more bytes before the next line or read. If fewer are left, the input ends. The reader isn't called
+    /// unless the bytes to skip add up to 2^64 or more.
     pub fn skip(&mut self, n: usize)
         ensures skips { SkipsBytes n self.old self.new }
         ensures calls { CallsReader R.stop_count self.old self.new }
@@ -184,14 +184,14 @@ impl<R: ReadDevice> Source<R> {
         self.input.skip(n)
     }
 
-    /// Ends the source here: what is left of its input is given up, and the reader isn't called.
+    /// Ends the source here: discards the rest of its input without calling the reader.
     pub fn end(&mut self)
         ensures { EndsHere self.old self.new }
     {
         self.input.end()
     }
 
-    /// Reads the first line, without its CR LF (RFC 9112, section 2.2); a lone CR or LF stays in it.
+    /// Reads the next line, without its CR LF (RFC 9112, section 2.2). A lone CR or LF stays in the line.
     pub fn read_line(&mut self, alloc: Global) -> Result<AsciiString, LineFault>
         ensures line { ReadsLine self.old.feed self.new.feed result }
         ensures reads { ReadsOneLine None self.old self.new result }
@@ -200,8 +200,10 @@ impl<R: ReadDevice> Source<R> {
         self.input.read_line(alloc, None)
     }
 
-    /// Reads the first line, if it has ended within `left` bytes, its CR LF included. Else it is `TooLong` as soon as
-    /// so many bytes came, and the source ends. It holds no more of them. The other faults are those of `read_line`.
+    /// Reads the next line if it ends within `left` bytes, its CR LF included.
+    ///
+    /// Otherwise it fails with `TooLong` as soon as `left` bytes came, and the source ends. No more than `left` bytes
+    /// are buffered. The other faults are those of `read_line`.
     pub fn read_line_within(&mut self, alloc: Global, left: usize) -> Result<AsciiString, LineFault>
         ensures reads { ReadsOneLine (Some left) self.old self.new result }
         ensures calls { CallsReader R.stop_count self.old self.new }
@@ -209,9 +211,10 @@ impl<R: ReadDevice> Source<R> {
         self.input.read_line(alloc, Some(left))
     }
 
-    /// Finds the first line, whatever bytes it has, within `left` bytes where that is given; for the crates above. A
-    /// line that lies whole in the buffer stays there, to be parsed in its place, and takes no memory. Any other line
-    /// is taken off. The faults are those of `read_line_within`, but `NotAscii`.
+    /// Finds the next line, whatever its bytes are, within `left` bytes if that is given. It is for the crates above.
+    ///
+    /// A line that is whole in the buffer stays there, to be parsed in place, and takes no memory. Any other line is
+    /// consumed. The faults are those of `read_line_within`, except `NotAscii`.
     pub fn find_line(&mut self, alloc: Global, left: Option<usize>) -> Result<FirstLine, LineFault>
         ensures finds { FindsOneLine left self.old self.new result }
         ensures calls { CallsReader R.stop_count self.old self.new }
@@ -219,15 +222,15 @@ impl<R: ReadDevice> Source<R> {
         self.input.find_line(alloc, left)
     }
 
-    /// The bytes in the buffer; for the crates above. Those that are still to be skipped stand first.
+    /// Returns the buffered bytes; those still to be skipped come first. It is for the crates above.
     pub fn held(&self) -> &[u8]
         ensures { result.now ≡ self.now.held }
     {
         self.input.held()
     }
 
-    /// Takes a line off that `find_line` found in the buffer: n bytes, and the CR LF after them; for the crates
-    /// above. The reader isn't called.
+    /// Consumes a line that `find_line` found in the buffer: n bytes and the CR LF after them. The reader isn't called.
+    /// It is for the crates above.
     pub fn pass_line(&mut self, n: usize)
         requires skip { self.old.skip ≡ 0 }
         requires line { EndsLine self.old.held n }
@@ -236,7 +239,7 @@ impl<R: ReadDevice> Source<R> {
         self.input.pass_line(n)
     }
 
-    /// Takes n bytes off that are in the buffer; for the crates above. The reader isn't called.
+    /// Consumes n buffered bytes without calling the reader. It is for the crates above.
     pub fn consume(&mut self, n: usize)
         requires skip { self.old.skip ≡ 0 }
         requires held { n ≤ length self.old.held }
@@ -245,8 +248,8 @@ impl<R: ReadDevice> Source<R> {
         self.input.consume(n)
     }
 
-    /// Reads some bytes. After them each call answers how the reader stopped. Where no byte is held or to be skipped,
-    /// a read into 1024 bytes or more goes straight to the reader.
+    /// Reads some bytes. After the last byte each call reports how the reader stopped. If no byte is buffered or to be
+    /// skipped, a read into 1024 bytes or more goes straight to the reader.
     pub fn read(&mut self, buf: &mut [u8]) -> Result<usize, io::Error>
         ensures reads { ReadsSource self.old self.new result buf.new }
         ensures stop_count { Tells (R.stop_count self.old.reader) (R.stop_count self.new.reader) result }
@@ -255,8 +258,8 @@ impl<R: ReadDevice> Source<R> {
         self.input.read(buf)
     }
 
-    /// Takes n bytes; or answers `None` where fewer are left, all of which are taken, and then the source is over. An
-    /// error where there is no memory for them; then nothing has changed.
+    /// Takes exactly n bytes. If fewer are left, it takes all of them and returns `None`, and the source is over. If
+    /// memory is refused it fails, and nothing has changed.
     pub fn take_exactly(&mut self, alloc: Global, n: usize) -> Result<Option<Vec<u8>>, AllocError>
         ensures takes { TakesBytes n self.old self.new result }
         ensures calls { CallsReader R.stop_count self.old self.new }
@@ -270,10 +273,10 @@ impl<R: ReadDevice> ReadDevice for Source<R> {
 
     ghost feed = { λ s. s.feed };
 
-    // Its reader's.
+    // The inner reader's count.
     ghost stop_count = { λ s. R.stop_count s.reader };
 
-    /// Reads some bytes, as `Source::read`.
+    /// Reads some bytes, as `Source::read` does.
     fn read_in(&mut self, buf: &mut [u8]) -> Result<usize, io::Error>
         ensures reads { ReadsSource self.old self.new result buf.new }
         ensures stop_count { Tells (R.stop_count self.old.reader) (R.stop_count self.new.reader) result }
@@ -291,7 +294,7 @@ impl<R: ReadDevice> Read for Source<R> {
 
     ghost remaining = { λ s. bytes_of s.feed };
 
-    /// Reads some bytes, as `Source::read`.
+    /// Reads some bytes, as `Source::read` does.
     fn read(&mut self, buf: &mut [u8]) -> io::Result<usize>
         ensures bound { ReadsAtMost result buf.new }
         ensures bytes { ReadConsumes (bytes_of self.old.feed) (bytes_of self.new.feed) result buf.new }

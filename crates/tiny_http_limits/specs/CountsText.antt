@@ -1,9 +1,9 @@
--- The texts of what a server counts.
+-- The texts of the counters.
 use Rattle.std.specs.Prelude.{ℕ, List, [], ◌∷◌, ◌++◌, codes, decimal}
 use Rattle.tiny_http_limits.specs.declared.counts.Refusals.{Refusals}
 use Rattle.tiny_http_limits.specs.declared.counts.Counts.{Counts}
 
--- the texts, each behind the one before it
+-- the texts, concatenated
 abbrev pub joined : List (List ℕ) → List ℕ
 joined [] = []
 joined (text ∷ texts) = text ++ joined texts
@@ -16,7 +16,7 @@ refusals_text r =
     ∷ codes " 431:" ∷ decimal r.header_fields_too_large ∷ codes " 501:" ∷ decimal r.not_implemented
     ∷ codes " 505:" ∷ decimal r.version_not_supported ∷ codes " other:" ∷ decimal r.other ∷ [])
 
--- each count behind its name, in one line
+-- each count after its name, in one line
 abbrev pub counts_text : Counts → List ℕ
 counts_text c =
     joined (codes "connections " ∷ decimal c.connections ∷ codes ", requests " ∷ decimal c.requests

@@ -1,16 +1,15 @@
--- When a time is over. Lengths of time are in nanoseconds.
+-- Timeouts. Times are in nanoseconds.
 use Rattle.std.specs.Prelude.{◌≡◌, ℕ, ◌+◌, ◌-◌, ◌*◌, ◌/◌, ◌^◌, ◌<◌, ◌≤◌, min, Option, Some, None}
 use Rattle.std.specs.Duration.{as_nanos, max_nanos}
 use Rattle.std.specs.declared.time.Duration.{Duration}
 use Rattle.tiny_http_limits.specs.declared.times.Stall.{Stall}
 
--- WHAT IS LEFT OF A TIME, of which so much is gone. Less is gone than the time: the difference is left. Else it is
--- over.
+-- WHAT IS LEFT OF A TIME after `gone`: the difference, if less is gone than the time; otherwise the time is over.
 abbrev pub LeavesTime : ℕ → ℕ → Option Duration → Type 0
 LeavesTime gone time (Some left) = (gone < time) × (as_nanos left ≡ time - gone)
 LeavesTime gone time None = time ≤ gone
 
--- nothing was waited, and nothing has moved
+-- no time was waited, and no byte has moved
 abbrev pub IsFresh : Stall → Type 0
 IsFresh stall = (as_nanos stall.waited ≡ 0) × (stall.moved ≡ 0)
 
@@ -23,7 +22,7 @@ AddsCall old waited moved new =
 abbrev pub nanos_of_bytes : ℕ → ℕ → ℕ
 nanos_of_bytes bytes rate = min (bytes * 1_000_000_000) (2 ^ 64 - 1) / rate
 
--- A CALL COUNTS at a least rate: its wait, less the time that its bytes take
+-- A CALL COUNTS at a minimum rate: its wait, less the time that its bytes take
 abbrev pub GivesBack : Stall → ℕ → ℕ → ℕ → Stall → Type 0
 GivesBack old waited moved rate new =
     as_nanos new.waited ≡ min (as_nanos old.waited + waited) max_nanos - nanos_of_bytes moved rate

@@ -1,18 +1,18 @@
-//! How long accepting waits after a fault.
+//! The backoff of accepting after a fault.
 ghost use Rattle.std.specs.Prelude.{◌≡◌, ◌*◌, ◌≤◌, min};
 ghost use Rattle.std.specs.Duration.{as_nanos};
 
 use std::marker::Model;
 use std::time::Duration;
 
-/// The milliseconds of the first wait.
+/// The first wait, in milliseconds.
 pub const FIRST_MILLIS: u64 = 10;
 
-/// The milliseconds of the longest wait.
+/// The longest wait, in milliseconds.
 pub const MOST_MILLIS: u64 = 1_000;
 
-/// The next wait: 10 ms, and after each wait twice as long, up to 1,000 ms. A contract sees it as the milliseconds of
-/// that wait.
+/// An exponential backoff: 10 ms at first, doubling with each wait, at most 1,000 ms. A contract sees it as the next
+/// wait in milliseconds.
 #[derive(Clone, Copy, Debug, PartialEq, Eq)]
 pub struct Backoff {
     millis: u64,
@@ -31,7 +31,7 @@ impl Model for Backoff {
 }
 
 impl Backoff {
-    /// The next wait is the first one.
+    /// Starts at the first wait.
     pub fn new() -> Backoff
         ensures { result ≡ 10 }
     {
@@ -40,7 +40,7 @@ impl Backoff {
         }
     }
 
-    /// The next wait. The one behind it is twice as long, but 1,000 ms at most.
+    /// Returns the next wait and doubles the one after it, up to 1,000 ms.
     pub fn take(&mut self) -> Duration
         ensures wait { as_nanos result ≡ self.old * 1_000_000 }
         ensures next { self.new ≡ min (self.old * 2) 1_000 }

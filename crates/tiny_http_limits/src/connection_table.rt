@@ -1,4 +1,4 @@
-//! Who is connected.
+//! The table of open connections.
 ghost use Rattle.std.specs.Prelude.{◌≡◌, ◌≤◌, ◌↔◌, length, position, IfNone, IsTrue};
 ghost use Rattle.tiny_http_limits.specs.ConnectionTable.{nobody, count_of, is_address_full, Enters, has_number};
 ghost use Rattle.tiny_http_limits.specs.ConnectionTable.{item_of};
@@ -9,7 +9,7 @@ use std::alloc::Global;
 use std::marker::Model;
 use std::net::IpAddr;
 
-/// A client that is connected.
+/// An open connection in the table.
 #[derive(Debug, Drop)]
 pub struct Entry<T> {
     number: u64,
@@ -18,7 +18,7 @@ pub struct Entry<T> {
 }
 
 impl<T> Entry<T> {
-    /// What is kept for it.
+    /// Returns the item stored with the connection.
     pub fn item(&self) -> &T
         ensures { result.now ≡ self.now.item }
     {
@@ -26,26 +26,28 @@ impl<T> Entry<T> {
     }
 }
 
-/// Why a client isn't admitted.
+/// The reason why a connection isn't admitted.
 #[derive(Clone, Copy, Debug, PartialEq, Eq)]
 pub enum Refusal {
-    /// As many are connected as may be.
+    /// The limit of open connections is reached.
     Full,
-    /// As many of its address are connected as may be.
+    /// The limit of open connections of its address is reached.
     AddressFull,
     /// Memory was refused.
     Memory,
 }
 
-/// The clients that are connected, in the order in which they came, with what is kept for each. At most so many are,
-/// in all and of one address. A contract sees the two limits, the next number and the clients.
+/// The table of open connections, in order of arrival, each with an item.
+///
+/// It limits their number, in all and for each IP address. A contract sees the two limits, the next number and the
+/// entries.
 #[derive(Drop)]
 pub struct ConnectionTable<T> {
     most: usize,
     most_of_address: usize,
-    // The number of the next client.
+    // The number of the next connection.
     next: u64,
-    // As many as there are guests.
+    // The number of entries.
     present: Headcount,
     entries: Vec<Entry<T>>,
 }
@@ -65,7 +67,7 @@ impl<T> Model for ConnectionTable<T> {
 }
 
 impl<T: Drop> ConnectionTable<T> {
-    /// Nobody is connected. At most so many may be, in all and of one address.
+    /// Makes an empty table with these limits: connections in all, and connections of one address.
     pub fn new(alloc: Global, most: usize, most_of_address: usize) -> ConnectionTable<T>
         ensures { result ≡ nobody most most_of_address }
     {
@@ -78,23 +80,25 @@ impl<T: Drop> ConnectionTable<T> {
         }
     }
 
-    /// How many are connected.
+    /// Returns the number of open connections.
     pub fn count(&self) -> usize
         ensures { result ≡ length self.now.entries }
     {
         self.present.count()
     }
 
-    /// Whether as many are connected as may be.
+    /// Returns whether the limit of open connections is reached.
     pub fn is_full(&self) -> bool
         ensures { IsTrue result ↔ (self.now.most ≤ length self.now.entries) }
     {
         self.count() >= self.most
     }
 
-    /// Admits a client of this address, if it has one, and keeps this for it. Its number, which no earlier client
-    /// had; or why it isn't admitted, and then nothing has changed but that what was to be kept is dropped: in this
-    /// order, `Full`, also where no number is left; `AddressFull`; and `Memory`.
+    /// Adds a connection with its address, if it has one, and an item. Returns its number, which no earlier connection
+    /// had.
+    ///
+    /// An error drops the item and changes nothing else. The errors, in this order: `Full`, also if no number is left;
+    /// `AddressFull`; `Memory`.
     pub fn enter(&mut self, address: Option<IpAddr>, item: T) -> Result<u64, Refusal>
         ensures { Enters self.old address item result self.new }
     {
@@ -120,7 +124,7 @@ impl<T: Drop> ConnectionTable<T> {
         }
     }
 
-    // Whether as many of this address are connected as may be. Clients that have none aren't counted.
+    // Returns whether the address has as many connections as it may. A connection without an address isn't counted.
     fn is_address_full(&self, address: Option<IpAddr>) -> bool
         ensures { result ≡ is_address_full self.now address }
     {
@@ -130,7 +134,7 @@ impl<T: Drop> ConnectionTable<T> {
         }
     }
 
-    // How many of this address are connected.
+    // Returns the number of connections of this address.
     fn count_of(&self, address: IpAddr) -> usize
         ensures { result ≡ count_of address self.now.entries }
     {
@@ -140,8 +144,8 @@ impl<T: Drop> ConnectionTable<T> {
             .count()
     }
 
-    /// The client of this number isn't connected any more: what was kept for it. None, and nothing has changed, where
-    /// no client has that number.
+    /// Removes the connection with this number and returns its item. Returns `None`, and changes nothing, if there is
+    /// no such connection.
     pub fn leave(&mut self, number: u64) -> Option<T>
         ensures item { result ≡ item_of number self.old.entries }
         ensures gone { self.new ≡ record self.old { entries = without number self.old.entries } }
@@ -152,14 +156,14 @@ impl<T: Drop> ConnectionTable<T> {
         Some(self.entries.remove(at).item)
     }
 
-    // Where the client of this number stands.
+    // Returns the position of the connection with this number.
     fn position_of(&self, number: u64) -> Option<usize>
         ensures { result ≡ position (has_number number) self.now.entries }
     {
         self.entries.iter().position(|entry| entry.number == number)
     }
 
-    /// The clients that are connected.
+    /// Returns the open connections.
     pub fn entries(&self) -> &[Entry<T>]
         ensures entries { result.now ≡ self.now.entries }
         ensures kept { IsKept self.now }

@@ -1,11 +1,11 @@
-//! What a server counts.
+//! The counters of a server.
 ghost use Rattle.std.specs.Prelude.{◌≡◌, Some};
 ghost use Rattle.tiny_http_limits.specs.Counts.{no_refusals, no_counts, add_count, one_more, with_refusal};
 ghost use Rattle.tiny_http_limits.specs.Counts.{with_closing, with_end};
 
 use std::fmt;
 
-/// The limit by which a connection was closed.
+/// The limit that closed a connection.
 #[derive(Clone, Copy, Debug, PartialEq, Eq)]
 pub enum Closing {
     /// No byte of a head, or of an upgraded stream, came in time.
@@ -14,67 +14,67 @@ pub enum Closing {
     Head,
     /// A body took too long.
     Body,
-    /// An answer wasn't taken in time.
+    /// The client didn't take a response in time.
     Write,
 }
 
-/// What became of a connection.
+/// The outcome of a connection.
 #[derive(Clone, Copy, Debug, PartialEq, Eq)]
 pub struct Summary {
-    /// So many requests were handed out.
+    /// The number of requests that were handed out.
     pub requests: u64,
-    /// The status by which a head was refused that ended its requests.
+    /// The status code of the refused head that ended its requests, if there was one.
     pub refusal: Option<u16>,
-    /// The limit by which it was closed.
+    /// The limit that closed it, if one did.
     pub closing: Option<Closing>,
 }
 
-/// How many heads were refused, by the status of the answer.
+/// The number of refused heads, by the status code of the response.
 #[derive(Clone, Copy, Debug, PartialEq, Eq)]
 pub struct Refusals {
-    /// 400: a bad head.
+    /// 400: a malformed head.
     pub bad_request: u64,
     /// 408: a head that took too long.
     pub request_timeout: u64,
-    /// 414: a target that is too long.
+    /// 414: a request target that is too long.
     pub uri_too_long: u64,
-    /// 417: an expectation that isn't known.
+    /// 417: an unknown expectation.
     pub expectation_failed: u64,
-    /// 431: a head that is too long, or has too many headers.
+    /// 431: a head that is too long or has too many fields.
     pub header_fields_too_large: u64,
-    /// 501: a coding that isn't known.
+    /// 501: an unknown transfer coding.
     pub not_implemented: u64,
-    /// 505: a version that isn't served.
+    /// 505: an unsupported version.
     pub version_not_supported: u64,
-    /// Each other status.
+    /// Any other status code.
     pub other: u64,
 }
 
-/// What a server has counted since it began. Each count stays at 2^64 - 1.
+/// The counters of a server since it started. Each stops at 2^64 - 1.
 #[derive(Clone, Copy, Debug, PartialEq, Eq)]
 pub struct Counts {
-    /// Clients that were admitted.
+    /// Connections that were admitted.
     pub connections: u64,
     /// Requests that were handed out.
     pub requests: u64,
     /// Heads that were refused, each the last of its connection.
     pub refusals: Refusals,
-    /// Faults of accepting, after which it went on.
+    /// Accept faults that the server survived.
     pub accept_faults: u64,
-    /// Clients that were closed at once, since as many of their address were connected as may be.
+    /// Connections that were closed at once because the limit of their address was reached.
     pub turned_away: u64,
-    /// Connections that were closed since no byte of a head, or of an upgraded stream, came in time.
+    /// Connections closed because no byte of a head, or of an upgraded stream, came in time.
     pub idle: u64,
     /// Connections whose head took too long.
     pub slow_heads: u64,
     /// Connections whose body took too long.
     pub slow_bodies: u64,
-    /// Connections whose answers weren't taken in time.
+    /// Connections whose client didn't take the responses in time.
     pub slow_writes: u64,
 }
 
 impl Refusals {
-    /// None was.
+    /// Starts with every count at 0.
     pub fn new() -> Refusals
         ensures { result ≡ no_refusals }
     {
@@ -90,7 +90,7 @@ impl Refusals {
         }
     }
 
-    /// One more, of this status.
+    /// Counts a refused head with this status code.
     pub fn count(&mut self, status: u16)
         ensures { self.new ≡ with_refusal status self.old }
     {
@@ -108,7 +108,7 @@ impl Refusals {
 }
 
 impl Counts {
-    /// Nothing was counted yet.
+    /// Starts with every count at 0.
     pub fn new() -> Counts
         ensures { result ≡ no_counts }
     {
@@ -125,35 +125,35 @@ impl Counts {
         }
     }
 
-    /// One more client was admitted.
+    /// Counts an admitted connection.
     pub fn count_connection(&mut self)
         ensures { self.new ≡ record self.old { connections = one_more self.old.connections } }
     {
         self.connections = one_more(self.connections);
     }
 
-    /// One more fault of accepting.
+    /// Counts an accept fault.
     pub fn count_accept_fault(&mut self)
         ensures { self.new ≡ record self.old { accept_faults = one_more self.old.accept_faults } }
     {
         self.accept_faults = one_more(self.accept_faults);
     }
 
-    /// One more client was turned away.
+    /// Counts a connection that was turned away.
     pub fn count_turned_away(&mut self)
         ensures { self.new ≡ record self.old { turned_away = one_more self.old.turned_away } }
     {
         self.turned_away = one_more(self.turned_away);
     }
 
-    /// So many requests more.
+    /// Counts this many requests.
     pub fn count_requests(&mut self, requests: u64)
         ensures { self.new ≡ record self.old { requests = add_count self.old.requests requests } }
     {
         self.requests = self.requests.saturating_add(requests);
     }
 
-    /// A connection ended so: its requests, its refusal and its limit are counted.
+    /// Counts the end of a connection: its requests, its refusal and the limit that closed it.
     pub fn count_end(&mut self, summary: Summary)
         ensures { self.new ≡ with_end summary self.old }
     {
@@ -166,7 +166,7 @@ impl Counts {
         }
     }
 
-    // One more connection was closed by this limit.
+    // Counts a connection that this limit closed.
     fn count_closing(&mut self, closing: Closing)
         ensures { self.new ≡ with_closing closing self.old }
     {
@@ -179,7 +179,7 @@ impl Counts {
     }
 }
 
-// One more, but 2^64 - 1 at most.
+// Returns the count plus one, at most 2^64 - 1.
 fn one_more(count: u64) -> u64
     ensures { result ≡ one_more count }
 {
@@ -191,7 +191,7 @@ impl fmt::Display for Refusals {
 
     ghost output = { λ r. Some (refusals_text r) };
 
-    /// Writes each status and its count, as `400:2 408:0 414:0 417:0 431:1 501:0 505:0 other:0`.
+    /// Writes each status code with its count, as in `400:2 408:0 414:0 417:0 431:1 501:0 505:0 other:0`.
     #[tactic(auto, unfolding(crate::specs::CountsText::refusals_text))]
     fn fmt<W: fmt::Write>(&self, f: &mut fmt::Formatter<W>) -> fmt::Result {
         write!(f, "400:{} 408:{} ", self.bad_request, self.request_timeout)?;
@@ -214,7 +214,7 @@ impl fmt::Display for Counts {
 
     ghost output = { λ c. Some (counts_text c) };
 
-    /// Writes the counts in one line, as `connections 3, requests 12, refused 400:1 .. other:0, accept faults 0,
+    /// Writes the counts in one line, as in `connections 3, requests 12, refused 400:1 .. other:0, accept faults 0,
     /// closed: turned away 0, idle 1, head 0, body 0, write 0`.
     fn fmt<W: fmt::Write>(&self, f: &mut fmt::Formatter<W>) -> fmt::Result {
         write!(

@@ -3,7 +3,7 @@ ghost use Rattle.tiny_http_limits.specs.Headcount.{CountsIn, CountsOut};
 
 use std::marker::Model;
 
-/// The number of those who entered and didn't leave, from 0 to 2^64 - 1. A contract sees it as that number.
+/// The number of those who entered and didn't leave, at most 2^64 - 1. A contract sees it as that number.
 #[derive(Debug, Drop)]
 pub struct Headcount {
     present: usize,
@@ -27,7 +27,7 @@ impl Headcount {
         Headcount { present: 0 }
     }
 
-    /// Counts one more. Returns false, and changes nothing, only at 2^64 - 1.
+    /// Adds one. Returns false, and changes nothing, only at 2^64 - 1.
     pub fn enter(&mut self) -> bool
         ensures { CountsIn self.old result self.new }
     {
@@ -38,7 +38,7 @@ impl Headcount {
         true
     }
 
-    /// Counts one less. Returns false, and changes nothing, only at 0.
+    /// Subtracts one. Returns false, and changes nothing, only at 0.
     pub fn leave(&mut self) -> bool
         ensures { CountsOut self.old result self.new }
     {
@@ -49,7 +49,7 @@ impl Headcount {
         true
     }
 
-    /// Returns the number of those who are in.
+    /// Returns the current count.
     pub fn count(&self) -> usize
         ensures { result ≡ self.now }
     {

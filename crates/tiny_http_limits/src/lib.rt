@@ -1,6 +1,5 @@
-//! What a server on an open port allows its clients, as values: its limits, who is connected, when a time is over,
-//! how long it waits before it accepts again, and what it counts. It stands on the standard library alone;
-//! `tiny_http` names it again.
+//! The limits of a server on an open port, as plain values: the limits themselves, the connection table, timeouts, the
+//! accept backoff, and counters. The crate depends on the standard library alone. `tiny_http` re-exports it.
 #![tactic(auto)]
 
 pub mod backoff;

@@ -5,49 +5,48 @@ ghost use Rattle.std.specs.Duration.{as_nanos};
 use crate::times::Patience;
 use std::time::Duration;
 
-/// What a server on an open port allows its clients. `Limits::new()` has a value for each, that suits a process that
-/// may have 1,024 descriptors open.
+/// The limits that a server on an open port sets its clients. The defaults of `Limits::new()` suit a process that may
+/// have 1,024 open descriptors.
 #[derive(Clone, Copy, Debug, PartialEq, Eq)]
 pub struct Limits {
-    /// The most connections that are open at once: 1,000. At it accepting waits until one closes, and newcomers wait
-    /// in the system's queue. At 0 nobody is accepted.
+    /// Maximum number of open connections: 1,000. At the limit accepting waits until one closes, and new clients wait
+    /// in the system's queue. With 0 no connection is accepted.
     pub connections: usize,
-    /// The most of them that have the same IP address: 250. A newcomer beyond that is closed at once. Connections
-    /// over a Unix socket have no address, and aren't counted here. Behind a proxy all clients have the proxy's
-    /// address.
+    /// Maximum number of open connections of one IP address: 250. A further one is closed at once. Connections over a
+    /// Unix socket have no address and aren't counted. Behind a proxy all clients have the proxy's address.
     pub connections_of_address: usize,
-    /// The longest time for a head, from its first byte on: 30 seconds. A head that takes longer is answered 408. The
-    /// rest of a body that is skipped in front of the head counts as a part of it.
+    /// Maximum time for a head, from its first byte on: 30 seconds. A slower head is answered with 408. The rest of a
+    /// body that is skipped before the head counts as part of it.
     pub head_time: Duration,
-    /// The longest time for which a connection is kept on which no byte of a head comes: 60 seconds. It is closed
-    /// without an answer. Where a request is open as the time ends, or was open as it began, the time begins anew.
+    /// Maximum time without a byte of a head: 60 seconds. The connection is then closed without a response. If a
+    /// request is open when the time ends, or was open when it began, the time starts over.
     pub idle_time: Duration,
-    /// The longest time for which reads of a body may wait: 60 seconds. Its bytes give time back, as `least_rate`
-    /// says. Once the time is over a read reports `TimedOut`, as each later one does, and the connection ends after
-    /// the answer.
+    /// Maximum time that reads of a body may wait: 60 seconds. The bytes of the body give time back, as `least_rate`
+    /// describes. Once the time is over this and each later read report `TimedOut`, and the connection ends after the
+    /// response.
     pub body_time: Duration,
-    /// The longest time for which writes of answers may wait: 60 seconds. Their bytes give time back, as `least_rate`
-    /// says. Once the time is over the output ends, and the connection is closed.
+    /// Maximum time that writes of responses may wait: 60 seconds. Their bytes give time back, as `least_rate`
+    /// describes. Once the time is over the output ends, and the connection is closed.
     pub write_time: Duration,
-    /// The least rate of a body, or of answers, in bytes a second: 500. Each byte gives back the part of a second that
-    /// it takes at this rate, but no more than was waited. So the reads of a body of N bytes wait for `body_time` and
-    /// N / `least_rate` seconds at most, and writes likewise. At 0 no rate is asked for: each 4,096 bytes give back
-    /// the whole time.
+    /// Minimum rate of a body, or of responses, in bytes a second: 500. Each byte gives back the time that it takes at
+    /// this rate, but no more than was waited. So the reads of a body of N bytes wait at most `body_time` plus N /
+    /// `least_rate` seconds, and writes likewise. With 0 there is no minimum rate: each 4,096 bytes give back the whole
+    /// time.
     pub least_rate: usize,
-    /// The time without a byte either way after which a read of an upgraded stream reports `TimedOut`, and the
-    /// connection is closed: 10 minutes; never where it is `None`. It begins with each read, and anew once it is over
-    /// where bytes were written meanwhile. So it lasts at most twice as long.
+    /// Maximum time without a byte either way on an upgraded stream: 10 minutes; `None` means no limit. A read then
+    /// reports `TimedOut`, and the connection is closed. The time begins with each read. If it is over, and bytes were
+    /// written meanwhile, it starts over, so it lasts at most twice as long.
     pub stream_time: Option<Duration>,
-    /// The most connections that are upgraded at once: 750. A further upgrade is refused by `UpgradeError::TooMany`.
-    /// One counts until its connection is closed.
+    /// Maximum number of upgraded connections: 750. A further upgrade is refused with `UpgradeError::TooMany`. An
+    /// upgraded connection counts until it is closed.
     pub upgrades: usize,
-    /// The most requests and refused heads of one connection that are open: 64. At it the next head isn't read. A
-    /// request is open until it is answered or dropped, and so are those before it. Below 2 the number counts as 2.
+    /// Maximum number of open requests and refused heads of one connection: 64. At the limit the next head isn't read.
+    /// A request is open until it, and each request before it, is answered or dropped. Values below 2 count as 2.
     pub open_requests: usize,
 }
 
 impl Limits {
-    /// The limits that the fields name.
+    /// Returns the default limits, which the fields name.
     pub fn new() -> Limits
         ensures connections { result.connections ≡ 1_000 }
         ensures of_address { result.connections_of_address ≡ 250 }
@@ -75,7 +74,7 @@ impl Limits {
         }
     }
 
-    /// How long the reads of a body may wait.
+    /// Returns the time and rate limit for reads of a body.
     pub fn body_patience(&self) -> Patience
         ensures { result ≡ record { time = self.now.body_time; least_rate = self.now.least_rate } }
     {
@@ -85,7 +84,7 @@ impl Limits {
         }
     }
 
-    /// How long writes of answers may wait.
+    /// Returns the time and rate limit for writes of responses.
     pub fn write_patience(&self) -> Patience
         ensures { result ≡ record { time = self.now.write_time; least_rate = self.now.least_rate } }
     {

@@ -1,18 +1,18 @@
-//! When a time is over.
+//! Timeouts, with a minimum rate.
 ghost use Rattle.std.specs.Prelude.{◌≡◌, ◌+◌, ◌-◌, ◌<◌, ◌≤◌, ◌↔◌, IsTrue, false};
 ghost use Rattle.std.specs.Duration.{as_nanos};
 ghost use Rattle.tiny_http_limits.specs.Times.{LeavesTime, IsFresh, AddsCall, GivesBack, nanos_of_bytes};
 
 use std::time::Duration;
 
-/// The number of bytes that give all time back, where no rate is asked for.
+/// The number of bytes that give back the whole time if there is no minimum rate.
 pub const PIECE: usize = 4_096;
 
-// The nanoseconds of a second.
+// The number of nanoseconds in a second.
 const NANOS: u64 = 1_000_000_000;
 
-/// What is left at `now` of a time that began at `begun`; none once it is over. The two are times of one clock; where
-/// it went back the whole time is left.
+/// Returns what is left of `time` at `now`, or `None` once it is over. `begun` and `now` are times of one clock; if the
+/// clock went back, the whole time is left.
 pub fn time_left(begun: Duration, now: Duration, time: Duration) -> Option<Duration>
     ensures { LeavesTime (as_nanos now - as_nanos begun) (as_nanos time) result }
 {
@@ -24,8 +24,8 @@ pub fn time_left(begun: Duration, now: Duration, time: Duration) -> Option<Durat
     Some(left)
 }
 
-// The time that these bytes take at this rate, in bytes a second. What they take at one byte a second is counted up to
-// 2^64 - 1 nanoseconds.
+// Returns the time that these bytes take at `rate` bytes a second. The time at one byte a second saturates at 2^64 - 1
+// nanoseconds.
 fn time_of_bytes(bytes: usize, rate: usize) -> Duration
     requires { 0 < rate }
     ensures { as_nanos result ≡ nanos_of_bytes bytes rate }
@@ -34,26 +34,25 @@ fn time_of_bytes(bytes: usize, rate: usize) -> Duration
     Duration::from_nanos(nanos / rate as u64)
 }
 
-/// How long a peer may be waited for.
+/// The time and rate limit for waiting on a peer.
 #[derive(Clone, Copy, Debug, PartialEq, Eq)]
 pub struct Patience {
-    /// The time in all, less what its bytes give back.
+    /// The maximum time, less what the peer's bytes give back.
     pub time: Duration,
-    /// They give back the time that they take at this rate, in bytes a second; at 0 each piece of 4,096 bytes gives
-    /// all time back.
+    /// The rate, in bytes a second, at which bytes give time back; with 0 each 4,096 bytes give back the whole time.
     pub least_rate: usize,
 }
 
-/// How long a peer has been waited for, less the time that its bytes gave back.
+/// The time spent waiting for a peer, less what its bytes gave back.
 #[derive(Clone, Copy, Debug, PartialEq, Eq)]
 pub struct Stall {
     waited: Duration,
-    // How many bytes have moved since time was given back, where no rate is asked for.
+    // The bytes moved since time was last given back. It is used only if there is no minimum rate.
     moved: usize,
 }
 
 impl Stall {
-    /// The peer wasn't waited for yet.
+    /// Starts without any wait.
     pub fn new() -> Stall
         ensures { IsFresh result }
     {
@@ -63,15 +62,17 @@ impl Stall {
         }
     }
 
-    /// What is left of this time.
+    /// Returns what is left of `time`.
     pub fn left(&self, time: Duration) -> Duration
         ensures { as_nanos result ≡ as_nanos time - as_nanos self.now.waited }
     {
         time.saturating_sub(self.waited)
     }
 
-    /// Counts a call that waited for this time, and moved this number of bytes. They give time back, but no more than
-    /// was waited. Whether the time is over: it was waited for as a whole, and, at a rate of 0, no piece is whole now.
+    /// Counts a call that waited for this time and moved this number of bytes, and returns whether the time is over.
+    ///
+    /// The bytes give time back, but no more than was waited. The time is over once it was waited for as a whole and,
+    /// at a rate of 0, this call didn't complete a piece of 4,096 bytes.
     pub fn count(&mut self, waited: Duration, moved: usize, patience: Patience) -> bool
         ensures rate { 0 < patience.least_rate
             → GivesBack self.old (as_nanos waited) moved patience.least_rate self.new }
@@ -93,7 +94,7 @@ impl Stall {
         self.waited.as_nanos() >= time.as_nanos()
     }
 
-    // The same, where each piece of 4,096 bytes gives all time back.
+    // As `count`, if each piece of 4,096 bytes gives back the whole time.
     fn count_piece(&mut self, waited: Duration, moved: usize, time: Duration) -> bool
         ensures whole { 4_096 ≤ self.old.moved + moved → (result ≡ false) × IsFresh self.new }
         ensures part { self.old.moved + moved < 4_096 → AddsCall self.old (as_nanos waited) moved self.new }

@@ -1,6 +1,6 @@
-//! What threads hold of one connection: requests that any thread may read, answer, drop or upgrade, in any order,
-//! while the connection reads on. It stands on `tiny_http_open_request`, `tiny_http_socket` and `tiny_http_threads`;
-//! `tiny_http` names its modules again.
+//! Requests of one connection for threads: any thread may read, answer, drop or upgrade them, in any order, while the
+//! connection reads on. The crate is built on `tiny_http_open_request`, `tiny_http_socket` and `tiny_http_threads`, and
+//! `tiny_http` reexports its modules.
 #![tactic(auto)]
 
 mod answering;

@@ -1,11 +1,10 @@
-//! A value as it was, for contracts: as the standard library's `Snapshot`, but a type that holds one is found to be
-//! `Send` where its other fields are.
+//! A past value for contracts, like the standard library's `Snapshot`, but `Send` for a type whose other fields are.
 ghost use Rattle.std.specs.Prelude.{◌≡◌};
 ghost use base.Fml.{ftrue};
 
 use std::marker::{Model, PhantomData};
 
-// A value as contracts saw it. It has no bytes and owns nothing: the clause of `of` alone says which value it is.
+// A value as contracts saw it. It has no bytes and owns nothing: only the clause of `of` defines its value.
 #[derive(Drop)]
 pub(crate) struct Remembered<T> {
     marker: PhantomData<T>,
@@ -17,7 +16,7 @@ impl<T> Model for Remembered<T> {
 }
 
 impl<T> Remembered<T> {
-    // What contracts see there now.
+    // Remembers the value that contracts see at `x` now.
     pub(crate) fn of(x: &T) -> Remembered<T>
         ensures { result.value ≡ x.now }
     {

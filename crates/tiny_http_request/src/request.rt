@@ -1,4 +1,4 @@
-//! A request that threads may hold: its head, its body on the connection's input, and its turn at the output.
+//! A request that any thread may hold: its head, its body on the connection's input, and its turn at the output.
 ghost use Rattle.std.specs.Prelude.{◌≡◌, ◌<◌, ◌≤◌, ◌||◌, ◌⊎◌, ℕ, length, true, false, Option, Ok, Err, Some, None};
 ghost use Rattle.std.specs.Prelude.{IfOk, IfErr, IsErrOf, IfSome, OnOk, is_some};
 ghost use Rattle.std.specs.IoError.{error_kind};
@@ -64,17 +64,16 @@ use tiny_http_threads::sequential::{
     SequentialReaderBuilder, SequentialWriter, SequentialWriterBuilder,
 };
 
-/// Why no request is made of its parts.
+/// An error of `new_request`: no request is made of its parts.
 #[derive(Debug, Drop, Error)]
 pub enum RequestCreationError {
-    /// The headers expect something else than a 100 (RFC 9110, section 10.1.1).
+    /// The headers expect something other than a 100 (RFC 9110, section 10.1.1).
     #[error("the expectation can't be met")]
     ExpectationFailed,
-    /// A body of up to 1024 bytes couldn't be read: the reader's fault, or `ConnectionAborted` where its bytes end
-    /// early.
+    /// A body of up to 1024 bytes couldn't be read: the reader's fault, or `ConnectionAborted` if its bytes end early.
     #[error("{0}")]
     CreationIoError(io::Error),
-    /// Memory was refused.
+    /// Out of memory.
     #[error("out of memory")]
     Memory,
 }
@@ -84,7 +83,7 @@ impl From<io::Error> for RequestCreationError {
 
     ghost from_gives = { λ fault error. error ≡ CreationIoError fault };
 
-    /// The body couldn't be read.
+    /// Returns `CreationIoError`.
     fn from(error: io::Error) -> RequestCreationError {
         RequestCreationError::CreationIoError(error)
     }
@@ -95,7 +94,7 @@ impl From<AllocError> for RequestCreationError {
 
     ghost from_gives = { λ _ error. error ≡ Memory };
 
-    /// Memory was refused.
+    /// Returns `Memory`.
     fn from(_error: AllocError) -> RequestCreationError {
         RequestCreationError::Memory
     }
@@ -106,7 +105,7 @@ pub trait ReadWrite: Read + Write {}
 
 impl<R: ReadDevice, W: WriteDevice> ReadWrite for CustomStream<R, W> {}
 
-/// An upgrade that was refused: why, and the request, to which nothing was done.
+/// A refused upgrade: the reason, and the request, unchanged.
 #[derive(Drop)]
 pub struct RefusedUpgrade<R: ReadDevice + Drop, W: WriteDevice + Drop, Rt: Wait + Drop> {
     /// Why it was refused.
@@ -115,8 +114,8 @@ pub struct RefusedUpgrade<R: ReadDevice + Drop, W: WriteDevice + Drop, Rt: Wait 
     pub request: Request<R, W, Rt>,
 }
 
-/// A request. Any thread may hold it, read its body and answer it, while the connection reads on. Answers are sent in
-/// the order of the requests. If it is dropped it is answered by an empty 500, in its turn.
+/// A request. Any thread may hold it, read its body and respond to it while the connection reads on. Responses are sent
+/// in the order of the requests. A request that is dropped gets an empty 500, in its turn.
 pub struct Request<R: ReadDevice + Drop, W: WriteDevice + Drop, Rt: Wait + Drop> {
     alloc: Global,
     client: Client,
@@ -127,7 +126,7 @@ pub struct Request<R: ReadDevice + Drop, W: WriteDevice + Drop, Rt: Wait + Drop>
 }
 
 impl<R: ReadDevice + Drop, W: WriteDevice + Drop, Rt: Wait + Drop> Request<R, W, Rt> {
-    /// A request of these parts.
+    /// Returns a request of these parts.
     pub(crate) fn from_parts(
         alloc: Global,
         client: Client,
@@ -165,7 +164,7 @@ impl<R: ReadDevice + Drop, W: WriteDevice + Drop, Rt: Wait + Drop> Request<R, W,
         }
     }
 
-    // What is left of it as it is finished: what it owes, and its turn.
+    // Takes what finishing the request needs: what it owes, and its turn.
     fn into_parts(self) -> (OpenRequest<Body<R, Rt>>, SequentialWriter<Outlet<W>, Rt>)
         ensures { result.0 ≡ self.open_request }
     {
@@ -180,111 +179,110 @@ impl<R: ReadDevice + Drop, W: WriteDevice + Drop, Rt: Wait + Drop> Request<R, W,
         (open_request, writer)
     }
 
-    /// Whether the connection is encrypted.
+    /// Returns whether the connection is encrypted.
     pub fn secure(&self) -> bool
         ensures { result ≡ request_secure self.now }
     {
         self.client.secure
     }
 
-    /// What is asked for.
+    /// Returns the method.
     pub fn method(&self) -> &Method
         ensures { result.now ≡ (request_head self.now).method }
     {
         &self.head.method
     }
 
-    /// The request's target, as it was sent; it may be empty.
+    /// Returns the request target as it was sent. It may be empty.
     pub fn url(&self) -> &str
         ensures { result.now ≡ (request_head self.now).path }
     {
         self.head.path.as_str()
     }
 
-    /// The headers, in their order.
+    /// Returns the headers, in their order.
     pub fn headers(&self) -> &[Header]
         ensures { result.now ≡ (request_head self.now).headers.items }
     {
         self.head.headers.as_slice()
     }
 
-    /// The value of the first header of this name, which is compared without regard to the case of ASCII letters (RFC
-    /// 9110, section 5.1). `None` where there is no header of that name. Further headers of that name are passed
-    /// over.
+    /// Returns the value of the first header of this name, or `None` if there is none. Names are compared without
+    /// regard to the case of ASCII letters (RFC 9110, section 5.1). Further headers of the name are ignored.
     pub fn header(&self, name: &str) -> Option<&str>
         ensures { option_copied result ≡ value_of name.now (request_head self.now).headers.items }
     {
         self.head.header(name)
     }
 
-    /// Whether the headers of this name list this token. All of them are one list (RFC 9110, section 5.3), whose
-    /// elements stand between commas, with spaces and tabs round them left out (RFC 9110, section 5.6.1). Name and
-    /// token are compared without regard to the case of ASCII letters. An element has to be the token alone:
-    /// `gzip;q=1` isn't `gzip`.
+    /// Returns whether the headers of this name list this token. Together they form one list (RFC 9110, section 5.3),
+    /// whose elements are separated by commas and trimmed of spaces and tabs (RFC 9110, section 5.6.1). Name and token
+    /// are compared without regard to the case of ASCII letters. An element has to be the token alone: `gzip;q=1` isn't
+    /// `gzip`.
     pub fn header_lists(&self, name: &str, token: &str) -> bool
         ensures { result ≡ has_element name.now token.now (request_head self.now).headers.items }
     {
         self.head.header_lists(name, token)
     }
 
-    /// The path of the target, without its query, as it was sent: percent-encoded, and with `.` and `..` among its
-    /// segments (RFC 9112, section 3.2). It is `/a` of `/a?b` and of `http://host/a?b`, and `/` of `http://host`.
-    /// `*`, and the host and port of a `CONNECT`, are their own path. An empty target, which `Standard` refuses, has
-    /// an empty path.
+    /// Returns the path of the target, without its query, as it was sent: percent-encoded, and with `.` and `..`
+    /// segments (RFC 9112, section 3.2). It is `/a` for `/a?b` and for `http://host/a?b`, and `/` for `http://host`.
+    /// `*`, and the host and port of a `CONNECT`, are their own path. An empty target, which `Standard` refuses, has an
+    /// empty path.
     pub fn path(&self) -> &str
         ensures { IsPath (request_head self.now).path result.now }
     {
         self.head.target_path()
     }
 
-    /// The query of the target: what stands behind its first `?`, as it was sent; it may be empty. `None` where there
-    /// is no `?` (RFC 3986, section 3.4).
+    /// Returns the query of the target as it was sent: what follows its first `?`. It may be empty. `None` if there is
+    /// no `?` (RFC 3986, section 3.4).
     pub fn query(&self) -> Option<&str>
         ensures { IsQuery (request_head self.now).path (option_copied result) }
     {
         self.head.query()
     }
 
-    /// Whether the head asks for an upgrade that its profile takes (RFC 9110, section 7.8). Under `Standard` it does
-    /// by `upgrade` in `Connection`, and a protocol in `Upgrade`, in version 1.1, unless the connection ends after
-    /// the request. Then `upgrade` to a protocol that is named isn't `NotAsked`. Under the other profiles it does by
-    /// a first `Connection` that has `upgrade` in it somewhere: then all that follows the head is the body, whatever
-    /// `Upgrade` names.
+    /// Returns whether the head asks for an upgrade that its profile accepts (RFC 9110, section 7.8). Under `Standard`
+    /// that takes `upgrade` in `Connection`, a protocol in `Upgrade` and version 1.1, unless the connection ends after
+    /// the request; then `upgrade` to a named protocol isn't `NotAsked`. Under the other profiles it takes a first
+    /// `Connection` header that contains `upgrade`; then all that follows the head is the body, whatever `Upgrade`
+    /// names.
     pub fn is_upgrade(&self) -> bool
         ensures { result ≡ is_upgrade (request_head self.now) }
     {
         self.head.is_upgrade()
     }
 
-    /// The version of the request line; under `Standard` 1.1 for each later one with major version 1.
+    /// Returns the version of the request line. Under `Standard` a later version with major version 1 is 1.1.
     pub fn http_version(&self) -> &HTTPVersion
         ensures { result.now ≡ (request_head self.now).version }
     {
         &self.head.version
     }
 
-    /// The length that `Content-Length` says, where it can be read and no `Transfer-Encoding` hides it.
+    /// Returns the value of `Content-Length`, if it is valid and no `Transfer-Encoding` overrides it.
     pub fn body_length(&self) -> Option<usize>
         ensures { result ≡ (request_head self.now).framing.body_length }
     {
         self.head.body_length()
     }
 
-    /// The client's address; none of a client of a Unix socket.
+    /// Returns the client's address. A client of a Unix socket has none.
     pub fn remote_addr(&self) -> Option<&SocketAddr>
         ensures { option_copied result ≡ request_address self.now }
     {
         self.client.remote_addr.as_ref()
     }
 
-    // Has each later flush of the connection send: a program's own isn't to leave its bytes.
+    // Has each later flush of the connection send its bytes, so that a flush by the program never holds them.
     fn send_at_flush(&self) {
         if let Some(flush_policy) = &self.links.flush_policy {
             flush_policy.send_at_flush();
         }
     }
 
-    // Sends the 100 that is owed, if one is, in the turn of the request. None is owed any more.
+    // Sends the 100 that is owed, if any, in the turn of the request. Then none is owed.
     fn send_continue(&mut self, now: HttpDate)
         ensures open { request_open self.new ≡ record (request_open self.old) { owes_continue = false } }
         ensures body { request_body self.new ≡ request_body self.old }
@@ -300,8 +298,8 @@ impl<R: ReadDevice + Drop, W: WriteDevice + Drop, Rt: Wait + Drop> Request<R, W,
         }
     }
 
-    /// The body. If a 100 is owed it is sent first, dated `now`, in the turn of the request: that waits until the
-    /// requests before are finished. A fault of the writer isn't reported there.
+    /// Returns the body. If a 100 is owed it is sent first, dated `now`, in the turn of the request: the call waits
+    /// until the requests before are finished. A fault of the writer isn't reported here.
     pub fn as_reader(&mut self, now: HttpDate) -> &mut Body<R, Rt>
         ensures { result.now ≡ request_body self.old }
     {
@@ -309,8 +307,8 @@ impl<R: ReadDevice + Drop, W: WriteDevice + Drop, Rt: Wait + Drop> Request<R, W,
         &mut self.open_request.body
     }
 
-    /// What the head says, and the body, so that the head can be looked at while the body is read. An owed 100 is
-    /// sent first, as by `as_reader`.
+    /// Returns the head and the body, so that the head can be used while the body is read. A 100 that is owed is sent
+    /// first, as by `as_reader`.
     pub fn parts(&mut self, now: HttpDate) -> (&Head, &mut Body<R, Rt>)
         ensures head { result.0.now ≡ request_head self.old }
         ensures body { result.1.now ≡ request_body self.old }
@@ -324,22 +322,21 @@ impl<R: ReadDevice + Drop, W: WriteDevice + Drop, Rt: Wait + Drop> Request<R, W,
         (head, &mut open_request.body)
     }
 
-    /// Reads the body to its end, of at most `most` bytes. If a 100 is owed it is sent first, dated `now`, in the
-    /// turn of the request: that waits until the requests before are finished. What was read of the body before isn't
-    /// in the result.
+    /// Reads the body to its end, at most `most` bytes. If a 100 is owed it is sent first, dated `now`, in the turn of
+    /// the request: the call waits until the requests before are finished. Bytes that were read before aren't in the
+    /// result. Memory is taken as bytes come, and not for a stated length.
     ///
-    /// It is `TooLong` where more than `most` bytes are left: at once where the length is known, and then nothing is
-    /// sent or read; else once `most` bytes and one more have been read. It is `Cut` where the client's bytes end
-    /// within a body of a known length or within chunks, `Broken` where chunks break the grammar (RFC 9112, section
-    /// 7.1), and `Io` for any other fault of the reader, one of kind `Interrupted` too. It is `Memory` where memory
-    /// was refused. Memory is taken as bytes come, and not for a length that is stated.
+    /// It is `TooLong` if more than `most` bytes are left: at once if the length is known, and then nothing is sent or
+    /// read; else once `most` bytes and one more have been read. It is `Cut` if the client's bytes end within a body of
+    /// a known length or within chunks, `Broken` if chunks break the grammar (RFC 9112, section 7.1), `Io` for any
+    /// other fault of the reader, including one of kind `Interrupted`, and `Memory` if memory is refused.
     ///
-    /// After `TooLong` at once nothing has changed. After any other error the bytes that were read are lost, and the
-    /// body goes on where it stands. A fault is reported again by a later call. So is `Cut`, except of a body of a
-    /// known length under `Lenient` and `Strict`: it is over then, and a later call answers no byte.
+    /// After an immediate `TooLong` nothing has changed. After any other error the bytes that were read are lost, and
+    /// the body continues at the current position. A later call reports a fault again, and `Cut` too, except for a body
+    /// of a known length under `Lenient` and `Strict`: that body is over, and a later call returns no byte.
     ///
-    /// The request isn't answered by an error: a handler that passes it on by `?` drops the request, which sends a
-    /// 500. The code of each error stands at `BodyError`. A body that is all that follows the head, as that of an
+    /// No error responds to the request: a handler that returns it by `?` drops the request, which sends a 500.
+    /// `BodyError` lists the status code for each error. A body that is all that follows the head, such as that of an
     /// upgrade under each profile except `Standard`, ends with the client's bytes.
     pub fn read_body(
         &mut self,
@@ -357,7 +354,7 @@ impl<R: ReadDevice + Drop, W: WriteDevice + Drop, Rt: Wait + Drop> Request<R, W,
             → IfOk result (λ bytes. length bytes.items ≡ n) }
         // The bytes are what is left of the body, if the connection's reader states its feed.
         ensures whole { IfOk result (λ bytes. IsWholeOf bytes.items (body_left (request_body self.old))) }
-        // Of a body that isn't read from the connection the bytes are known, whatever the reader states.
+        // If the body isn't read from the connection, its bytes are known, whatever the reader states.
         ensures held { is_streaming (request_open self.old).body ≡ false → (feed : Option Feed)
             → IfOk result
             (λ bytes. remaining (request_open self.old).body feed
@@ -383,25 +380,25 @@ impl<R: ReadDevice + Drop, W: WriteDevice + Drop, Rt: Wait + Drop> Request<R, W,
         read_left(alloc, &mut self.open_request.body, self.head.form(), most)
     }
 
-    /// Sends the answer, dated `now`, in the turn of the request, and then gives the body up. It waits until the
-    /// requests before are finished. The first fault is the error: the data's, or the writer's; after it nothing more
-    /// is sent on the connection, and on a server with limits the connection ends: no further request is handed out.
-    /// One of kind `BrokenPipe`, `ConnectionAborted`, `ConnectionRefused` or `ConnectionReset` isn't reported, also
-    /// one of the data. Data that end before their stated length are `UnexpectedEof`, in chunks under `Standard`
-    /// alone. There a code below 200 or above 999, or a 2xx to `CONNECT`, is an error of kind `InvalidInput`, and the
-    /// request is dropped.
+    /// Sends the response, dated `now`, in the turn of the request, and then gives up the body. It waits until the
+    /// requests before are finished. The first fault is the error, of the data or of the writer. After it nothing more
+    /// is sent on the connection, and a server with limits ends the connection and hands out no further request.
+    ///
+    /// A fault of kind `BrokenPipe`, `ConnectionAborted`, `ConnectionRefused` or `ConnectionReset` isn't reported, even
+    /// if the data's. Data that end before their stated length are `UnexpectedEof`; in chunks only under `Standard`.
+    /// There a status code below 200 or above 999, or 2xx to `CONNECT`, is `InvalidInput`, and the request is dropped.
     ///
     /// Under `Standard` no request follows one that is answered or dropped while its 100 is owed, or while more than
-    /// 65,536 bytes of its body are unread. Then the answer says `Connection: close`, as it does where the request is
+    /// 65,536 bytes of its body are unread. Then the response says `Connection: close`, as it does if the request is
     /// the last by its head or the end of its body isn't known (RFC 9112, section 9.6).
     ///
-    /// Where the response was made by `with_close`, no further request is handed out. Under `Standard` the answer to
-    /// the last number says `Connection: close`: this answer, or that of a later request or refused head. A later
-    /// request says nothing of it that was dropped before, is upgraded or gives its raw writer.
+    /// After a response that was made by `with_close` no further request is handed out. Under `Standard` the response
+    /// to the last number says `Connection: close`: this response, or that of a later request or refused head. A later
+    /// request that was dropped before, is upgraded or gives its raw writer doesn't say it.
     ///
-    /// Behind that last answer the writer says that no byte follows, under each profile, once the answer is flushed:
-    /// the client of a socket sees the end then, also where a thread waits for its next head. Nothing is said behind
-    /// a raw writer or an upgrade, nor behind a text that was left and is written as their turn ends.
+    /// Under each profile the output ends once that last response is flushed: the client of a socket then sees end of
+    /// file, even while a thread waits for the next head. It doesn't end so after a raw writer or an upgrade, nor after
+    /// a text that was left and is written when their turn ends.
     pub fn respond<D: ReadDevice + Drop>(
         self,
         response: Response<D>,
@@ -425,17 +422,19 @@ impl<R: ReadDevice + Drop, W: WriteDevice + Drop, Rt: Wait + Drop> Request<R, W,
         reported(sent)
     }
 
-    /// Begins an answer whose body grows while it is sent, as that of server-sent events: writes its head, dated
-    /// `now`, in the turn of the request, and gives the request's body up. It waits until the requests before are
-    /// finished. The response's data are let go, and it says no length. The body is sent in chunks (RFC 9112, section
-    /// 7.1); to a version up to 1.0 as it is, so that the connection's end ends it (section 6.3): no further request
-    /// is handed out, and answers to those that were are lost. It isn't sent at all where none is asked for (`HEAD`)
-    /// or the code has no content: where `StreamedBody::form` is `Absent`, `finish` at once, since no call would tell
-    /// that the client has gone. The client sees the head with the first flush, or once 8192 bytes have come.
+    /// Begins a response whose body grows while it is sent, such as server-sent events. It writes the head, dated
+    /// `now`, in the turn of the request, and gives up the request's body. It waits until the requests before are
+    /// finished. The response's data are dropped, and no length is stated. The client gets the head with the first
+    /// flush, or once 8192 bytes have been written.
     ///
-    /// The code is refused that `respond` refuses: `InvalidInput`, and the request is dropped. Any other error is a
-    /// fault of the client's writer, or `BrokenPipe` where one ended the connection's output before. What is said of
-    /// the connection's end by `respond`, and of `with_close`, holds here.
+    /// The body is sent in chunks (RFC 9112, section 7.1). To a version up to 1.0 it is sent as it is, and ends with
+    /// the connection (section 6.3): no further request is handed out, and responses to those that were are lost. It
+    /// isn't sent if none is allowed (`HEAD`, or a code without content): if `StreamedBody::form` is `Absent`, call
+    /// `finish` at once, since no call would report that the client has disconnected.
+    ///
+    /// A status code that `respond` refuses is `InvalidInput`, and the request is dropped. Any other error is a fault
+    /// of the client's writer, or `BrokenPipe` if one ended the connection's output before. The rules of `respond` on
+    /// the end of the connection and on `with_close` apply.
     pub fn respond_streaming<D: Drop>(
         self,
         response: Response<D>,
@@ -467,10 +466,9 @@ impl<R: ReadDevice + Drop, W: WriteDevice + Drop, Rt: Wait + Drop> Request<R, W,
         Ok(StreamedBody::new(writer, form))
     }
 
-    /// Takes the raw writer in place of an answer, and gives the body up. What is written is all that the client gets
-    /// for the request, but for a 100 that was sent before. The turn ends as the writer is dropped. Under `Standard`
-    /// no request follows one that asks for an upgrade, or whose 100 is owed, or of whose body more than 65,536 bytes
-    /// are unread.
+    /// Takes the raw writer in place of a response, and gives up the body. The client gets only what is written, after
+    /// a 100 that was sent before. The turn ends when the writer is dropped. Under `Standard` no request follows one
+    /// that asks for an upgrade, whose 100 is owed, or of whose body more than 65,536 bytes are unread.
     pub fn into_writer(self) -> SequentialWriter<Outlet<W>, Rt> {
         self.send_at_flush();
         let (mut open_request, writer) = self.into_parts();
@@ -482,18 +480,17 @@ impl<R: ReadDevice + Drop, W: WriteDevice + Drop, Rt: Wait + Drop> Request<R, W,
         writer
     }
 
-    /// Answers by a response that upgrades the connection to this protocol (RFC 9110, section 7.8), in the turn of
-    /// the request: its head alone is sent, dated `now`, and its data are let go unread. It waits until the requests
-    /// before are finished. The stream then reads the body, and writes in the turn of the request, which ends as the
-    /// stream is dropped. Under `Standard` it reads all that follows the body, and no request follows. A fault of the
-    /// writer isn't reported.
+    /// Upgrades the connection to this protocol by this response, in the turn of the request (RFC 9110, section 7.8).
+    /// It sends only the response's head, dated `now`, and drops its data unread. It waits until the requests before
+    /// are finished, and reports no fault of the writer. The stream then reads the body, and writes in the turn of the
+    /// request, which ends when the stream is dropped. Under `Standard` it reads all that follows the body, and no
+    /// request follows.
     ///
-    /// It is an error where the protocol isn't ASCII, and the request is dropped. Under `Standard` it is one, too,
-    /// where the request doesn't ask for this protocol or is its connection's last, where the code isn't 101, and
-    /// where the body wasn't read until a read answered 0, or was cut or is broken. A body without bytes or of up to
-    /// 1024 bytes that came with its head needn't be read, and a counted one only to its last byte. On a server with
-    /// limits it is `TooMany` where as many connections are upgraded as may be. A request that isn't upgraded is
-    /// dropped.
+    /// It is an error if the protocol isn't ASCII. Under `Standard` it is also an error if the request doesn't ask for
+    /// this protocol or is its connection's last, if the status code isn't 101, and if the body wasn't read until a
+    /// read returned 0, or was cut or is broken. An empty body, or one of up to 1024 bytes that came with its head,
+    /// needn't be read, and a counted one only to its last byte. On a server with limits it is `TooMany` if the limit
+    /// of upgraded connections is reached. A request that isn't upgraded is dropped.
     pub fn upgrade<D: Drop>(
         self,
         protocol: &str,
@@ -517,9 +514,9 @@ impl<R: ReadDevice + Drop, W: WriteDevice + Drop, Rt: Wait + Drop> Request<R, W,
         Ok(self.begin_stream(protocol, response, is_whole, now))
     }
 
-    /// Upgrades as `upgrade` does, but only where the head asks for this protocol, under each profile: by
-    /// `is_upgrade`, and by an `Upgrade` header that lists it. Else it is `NotAsked`. Where it is refused nothing was
-    /// sent, and the request is handed back, to be answered. The response is let go.
+    /// Upgrades as `upgrade` does, but under each profile only if the head asks for this protocol, by `is_upgrade` and
+    /// by an `Upgrade` header that lists it; else it is `NotAsked`. If it is refused, nothing was sent, and the error
+    /// returns the request, which can be answered. The response is dropped.
     pub fn try_upgrade<D: Drop>(
         self,
         protocol: &str,
@@ -566,7 +563,7 @@ impl<R: ReadDevice + Drop, W: WriteDevice + Drop, Rt: Wait + Drop> Request<R, W,
         Ok(self.begin_stream(protocol, response, is_whole, now))
     }
 
-    // What the reads of its stream are told, where that still reads from the connection.
+    // Returns the timers for the stream's reads, if it still reads from the connection.
     fn stream_timers(&self, is_whole: bool) -> Option<&Arc<ConnectionTimers>> {
         if !self.open_request.by_standard && is_whole {
             return None;
@@ -574,7 +571,7 @@ impl<R: ReadDevice + Drop, W: WriteDevice + Drop, Rt: Wait + Drop> Request<R, W,
         self.links.timers.as_ref()
     }
 
-    // The connection is to be upgraded. False where as many are as may be.
+    // Counts the connection as upgraded. Returns false if the limit of upgraded connections is reached.
     fn enters_stream(&self, is_whole: bool) -> bool {
         match self.stream_timers(is_whole) {
             Some(timers) => timers.enter_stream(),
@@ -582,13 +579,13 @@ impl<R: ReadDevice + Drop, W: WriteDevice + Drop, Rt: Wait + Drop> Request<R, W,
         }
     }
 
-    /// Whether its answer would be lost, on a server with limits: an answer before it broke off the output of its
-    /// connection, or a raw writer closed it.
+    /// Returns whether a response would be lost, on a server with limits: an earlier response broke off the
+    /// connection's output, or a raw writer closed it.
     pub fn is_lost(&self) -> bool {
         self.writer.is_broken()
     }
 
-    // Sends the answer that upgrades, and gives the stream.
+    // Sends the response that upgrades, and returns the stream.
     fn begin_stream<D: Drop>(
         self,
         protocol: &str,
@@ -611,16 +608,16 @@ impl<R: ReadDevice + Drop, W: WriteDevice + Drop, Rt: Wait + Drop> Request<R, W,
         CustomStream::new(open_request.body, writer)
     }
 
-    /// Drops the request: it is answered by an empty 500, in its turn. That waits for nobody's turn.
+    /// Drops the request: the response is an empty 500, in its turn. The call doesn't wait for that turn.
     pub fn abandon(self) {
         drop(self);
     }
 }
 
 impl<R: ReadDevice + Drop, W: WriteDevice + Drop, Rt: Wait + Drop> Drop for Request<R, W, Rt> {
-    /// Leaves the turn with an empty 500, and then gives the body up. Under `Standard` the 500 says `Connection:
-    /// close` as an answer by `respond` does. Where this 500 is the last answer behind one that asked for the close,
-    /// the writer says that no byte follows, as `respond` tells.
+    /// Leaves the turn with an empty 500, and then gives up the body. Under `Standard` the 500 says `Connection: close`
+    /// as a response by `respond` does. If this 500 is the last response after one that asked to close the connection,
+    /// the output ends, as by `respond`.
     fn drop(self) {
         let (mut open_request, writer) = self.into_parts();
         let left = open_request.body.remainder();
@@ -647,7 +644,7 @@ impl<R: ReadDevice + Drop, W: WriteDevice + Drop, Rt: Wait + Drop> fmt::Debug
     }
 }
 
-// The kind of error of a body that ends early because its reader stopped so.
+// Returns the kind of error for a body that ends early because its reader stopped by `stop`.
 fn cut_kind(stop: Option<Stop>) -> ErrorKind
     ensures { IfSome stop (λ stop. result ≡ cut_kind stop) }
 {
@@ -657,7 +654,7 @@ fn cut_kind(stop: Option<Stop>) -> ErrorKind
     }
 }
 
-// The body that is so framed. One of up to 1024 bytes is read at once.
+// Returns the body with this framing. A body of up to 1024 bytes is read at once.
 fn body_of<R: ReadDevice>(
     alloc: Global,
     source: &mut Source<R>,
@@ -678,7 +675,7 @@ fn body_of<R: ReadDevice>(
     }
 }
 
-// The only reader of a source, where the body is to be read from it.
+// Returns the only reader of a source, if the body is to be read from it.
 fn alone<R: ReadDevice + Drop, Rt: Wait + Copy>(
     rt: Rt,
     alloc: Global,
@@ -695,9 +692,9 @@ fn alone<R: ReadDevice + Drop, Rt: Wait + Copy>(
     Ok(Some(reader))
 }
 
-/// A request of these parts, on a connection of its own: its body is read from `source_data`, and it is answered on
-/// `writer`. A body of up to 1024 bytes is read at once, unless a 100 is owed. `now` dates the 500 that is sent if
-/// the request is dropped. Any version is accepted, and the framing is judged under `Lenient`.
+/// Returns a request of these parts, on a connection of its own: its body is read from `source_data`, and its response
+/// is written to `writer`. A body of up to 1024 bytes is read at once, unless a 100 is owed. `now` dates the 500 that
+/// is sent if the request is dropped. Any version is accepted, and the framing is that of `Lenient`.
 #[allow(clippy::too_many_arguments)]
 pub fn new_request<R: ReadDevice + Drop, W: WriteDevice + Drop, Rt: Wait + Copy>(
     rt: Rt,
@@ -717,7 +714,7 @@ pub fn new_request<R: ReadDevice + Drop, W: WriteDevice + Drop, Rt: Wait + Copy>
     ensures framed { IfOk result (λ r. IsFramed r Profile.Lenient now) }
     ensures body { IfOk result
         (λ r. BeginsWith (head_framing (request_head r)) (R.feed source_data) (request_open r).body) }
-    // A body that is read later is read where it begins.
+    // A body that is read later is read from its beginning.
     ensures input { IfOk result
         (λ r. (request_body r).holds_input ≡ true → Begins (head_framing (request_head r)) (R.feed source_data)
         (request_body r).input (Some (request_open r).body)) }

@@ -1,4 +1,4 @@
-//! The body of an answer, where it grows while it is sent.
+//! The body of a response that grows while it is sent.
 ghost use Rattle.std.specs.Prelude.{◌≡◌};
 ghost use Rattle.tiny_http_request.specs.StreamedBody.{form_of};
 
@@ -10,21 +10,20 @@ use tiny_http_io::device::WriteDevice;
 use tiny_http_io::outlet::Outlet;
 use tiny_http_threads::sequential::SequentialWriter;
 
-/// The body of an answer that `Request::respond_streaming` began. It is written in the turn of its request, and is
-/// sent as `Streamed` says: what is written is held until it fills a piece of 8192 bytes, and `flush` sends what is
-/// there, with the head in front of the first byte. `finish` ends the body. Where it is dropped instead the
-/// connection ends within the body: one in chunks is visibly cut; that of a version up to 1.0, which goes on up to
-/// the connection's end, can't be told from a whole one.
+/// The body of a response that `Request::respond_streaming` began. It is written in the turn of its request, and sent
+/// by `Streamed`: bytes are held until they fill a piece of 8192 bytes, and `flush` sends what is held, with the head
+/// before the first byte. `finish` ends the body. If it is dropped instead, the connection ends within the body: a body
+/// in chunks is visibly cut; to a version up to 1.0, whose body ends with the connection, it looks whole.
 ///
-/// The first fault of the client's writer is the error of the call that met it. Then each later call is an error of
-/// kind `BrokenPipe`, and nothing more is sent on the connection. Where the body isn't sent at all no call tells a
-/// fault: a program whose body has no end asks `form` first.
+/// The first fault of the client's writer is the error of the call that met it. Each later call is an error of kind
+/// `BrokenPipe`, and nothing more is sent on the connection. If the body isn't sent at all, no call reports a fault: a
+/// program whose body has no end checks `form` first.
 pub struct StreamedBody<W: WriteDevice + Drop, Rt: Wait + Drop> {
     body: Streamed<SequentialWriter<Outlet<W>, Rt>>,
 }
 
 impl<W: WriteDevice + Drop, Rt: Wait + Drop> StreamedBody<W, Rt> {
-    // A body of which nothing has come yet, behind a head that was written.
+    // Returns an empty body after a head that was written.
     pub(crate) fn new(
         writer: SequentialWriter<Outlet<W>, Rt>,
         form: StreamedForm,
@@ -36,16 +35,16 @@ impl<W: WriteDevice + Drop, Rt: Wait + Drop> StreamedBody<W, Rt> {
         }
     }
 
-    /// How the body is sent: in chunks; up to the connection's end; or not at all, and then what is written is left
-    /// out.
+    /// Returns how the body is sent: in chunks, up to the connection's end, or not at all, and then what is written is
+    /// discarded.
     pub fn form(&self) -> StreamedForm
         ensures { result ≡ form_of self.now }
     {
         self.body.form()
     }
 
-    /// Sends what is held, and the end of the body, flushes, and ends the turn of its request. A body that goes on up
-    /// to the connection's end ends the connection. An error as in `write`.
+    /// Sends what is held and the end of the body, flushes, and ends the turn of its request. A body that goes up to
+    /// the connection's end ends the connection. Errors are as for `write`.
     pub fn finish(self) -> io::Result<()> {
         let Self { body } = self;
         let form = body.form();
@@ -62,15 +61,15 @@ impl<W: WriteDevice + Drop, Rt: Wait + Drop> StreamedBody<W, Rt> {
 impl<W: WriteDevice + Drop, Rt: Wait + Drop> Write for StreamedBody<W, Rt> {
     ghost use Rattle.std.specs.Io.{WritesAtMost};
 
-    /// Takes some of the bytes, at least one if there is one, and says how many.
+    /// Takes some of the bytes, at least one if there is one, and returns how many.
     fn write(&mut self, buf: &[u8]) -> io::Result<usize>
         ensures bound { WritesAtMost result buf.now }
     {
         self.body.write(buf)
     }
 
-    /// Takes all the bytes. It stops at the first fault and reports it, also one of kind `Interrupted`: after it the
-    /// body is broken.
+    /// Takes all the bytes. It stops at the first fault and reports it, even one of kind `Interrupted`: the body is
+    /// broken afterwards.
     fn write_all(&mut self, buf: &[u8]) -> io::Result<()> {
         let mut at = 0;
         while at < buf.len() {
@@ -83,7 +82,7 @@ impl<W: WriteDevice + Drop, Rt: Wait + Drop> Write for StreamedBody<W, Rt> {
         Ok(())
     }
 
-    /// Sends what is held, as one chunk where the body comes in chunks.
+    /// Sends what is held, as one chunk if the body is sent in chunks.
     fn flush(&mut self) -> io::Result<()> {
         self.body.flush()
     }

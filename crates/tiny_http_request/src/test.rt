@@ -1,4 +1,4 @@
-//! Requests for the tests of a program that answers them.
+//! Requests for testing a program's handlers.
 ghost use Rattle.std.specs.Prelude.{◌≡◌, ◌++◌, ◌∷◌, [], length, true, false, Some, Ok, Err, IfOk, IfErr, IsErrOf, ◌↔◌};
 ghost use Rattle.std.specs.Str.{IsAscii};
 ghost use Rattle.std.specs.Net.Socket.{socket_port};
@@ -21,7 +21,7 @@ use tiny_http_io::device::WriteDevice;
 use tiny_http_text::ascii::AsciiString;
 use tiny_http_text::number::Numeral;
 
-/// A writer that takes all bytes, and keeps none.
+/// A writer that takes all bytes and keeps none.
 #[derive(Clone, Copy, Debug)]
 pub struct Nowhere;
 
@@ -30,7 +30,7 @@ impl WriteDevice for Nowhere {
 
     ghost sink = { nowhere_sink };
 
-    /// Always 0.
+    /// Returns 0.
     fn failures(&self) -> u64 {
         0
     }
@@ -40,14 +40,14 @@ impl WriteDevice for Nowhere {
         Ok(buf.len())
     }
 
-    /// Nothing is held back.
+    /// Does nothing: no bytes are held.
     fn flush_out(&mut self) -> Result<(), io::Error> {
         Ok(())
     }
 }
 
-/// A writer that keeps all bytes, so that a test sees what was answered: one copy goes to the request, and the other
-/// is asked for the bytes.
+/// A writer that keeps all bytes, so that a test sees the response: one clone goes to the request, and the other
+/// returns the bytes.
 #[derive(Drop)]
 pub struct Recorder<Rt: Wait + Drop> {
     rt: Rt,
@@ -57,7 +57,7 @@ pub struct Recorder<Rt: Wait + Drop> {
 }
 
 impl<Rt: Wait + Copy> Recorder<Rt> {
-    /// A recorder without bytes. An error where memory was refused.
+    /// Returns a recorder without bytes. Fails if memory is refused.
     pub fn new(rt: Rt, alloc: Global) -> Result<Recorder<Rt>, AllocError> {
         let bytes = Arc::new(alloc, Mutex::new(Vec::new(alloc)))?;
         Ok(Recorder {
@@ -68,7 +68,7 @@ impl<Rt: Wait + Copy> Recorder<Rt> {
         })
     }
 
-    /// One more writer of the same bytes. An error where memory was refused.
+    /// Returns another writer to the same bytes. Fails if memory is refused.
     pub fn try_clone(&self) -> Result<Recorder<Rt>, AllocError> {
         Ok(Recorder {
             rt: self.rt,
@@ -78,8 +78,8 @@ impl<Rt: Wait + Copy> Recorder<Rt> {
         })
     }
 
-    /// All bytes that were written by now, by this one and its copies. `answer::read_answer` reads the answers in
-    /// them. An error where memory was refused.
+    /// Returns all bytes that were written so far, by this recorder and its clones. `answer::read_answer` reads the
+    /// responses in them. Fails if memory is refused.
     pub fn bytes(&self) -> Result<Vec<u8>, AllocError> {
         self.bytes.lock(&self.rt).as_slice().to_vec(self.alloc)
     }
@@ -90,12 +90,12 @@ impl<Rt: Wait + Drop> WriteDevice for Recorder<Rt> {
 
     ghost sink = { recorder_sink };
 
-    /// The count of its own failures.
+    /// Returns the count of its own failures.
     fn failures(&self) -> u64 {
         self.failures
     }
 
-    /// Keeps all the bytes. It fails by `OutOfMemory` where memory was refused.
+    /// Keeps all the bytes. It fails with `OutOfMemory` if memory is refused.
     fn write_out(&mut self, buf: &[u8]) -> Result<usize, io::Error> {
         match self.bytes.lock(&self.rt).extend_from_slice(buf) {
             Ok(()) => Ok(buf.len()),
@@ -106,7 +106,7 @@ impl<Rt: Wait + Drop> WriteDevice for Recorder<Rt> {
         }
     }
 
-    /// Nothing is held back.
+    /// Does nothing: no bytes are held.
     fn flush_out(&mut self) -> Result<(), io::Error> {
         Ok(())
     }
@@ -120,7 +120,7 @@ enum TestBody {
 }
 
 impl TestBody {
-    // Its bytes. An error where memory was refused.
+    // Returns its bytes. Fails if memory is refused.
     fn into_bytes(self, alloc: Global) -> Result<Vec<u8>, AllocError>
         ensures { IfOk result (λ v. v.items ≡ body_bytes self) }
     {
@@ -131,8 +131,8 @@ impl TestBody {
     }
 }
 
-/// A request to be made: `GET /` in version 1.1 with no header and no body, from 127.0.0.1:23456, not encrypted,
-/// unless a call below changes it.
+/// A builder of requests: `GET /` in version 1.1 without headers or body, from 127.0.0.1:23456, not encrypted, unless a
+/// call below changes it.
 #[derive(Drop)]
 pub struct TestRequest {
     body: TestBody,
@@ -144,7 +144,7 @@ pub struct TestRequest {
     headers: Vec<Header>,
 }
 
-// `Content-Length` of this length. An error where memory was refused.
+// Returns `Content-Length` with this length. Fails if memory is refused.
 fn length_header(alloc: Global, length: usize) -> Result<Header, AllocError>
     ensures { IfOk result (λ h. h ≡ length_header length) }
 {
@@ -156,7 +156,7 @@ fn length_header(alloc: Global, length: usize) -> Result<Header, AllocError>
     Ok(header)
 }
 
-// The headers, with the length of the body behind them if they have none. An error where memory was refused.
+// Appends a `Content-Length` with this length, unless the headers have one. Fails if memory is refused.
 fn with_length(
     alloc: Global,
     headers: Vec<Header>,
@@ -172,8 +172,8 @@ fn with_length(
 }
 
 impl TestRequest {
-    /// `GET /` in version 1.1 with no header and no body, from 127.0.0.1:23456, not encrypted. An error where memory
-    /// was refused.
+    /// Returns `GET /` in version 1.1 without headers or body, from 127.0.0.1:23456, not encrypted. Fails if memory is
+    /// refused.
     pub fn new(alloc: Global) -> Result<TestRequest, AllocError>
         ensures head { IfOk result (λ r. (r.method ≡ Method.Get) × (r.path ≡ 47 ∷ []) × (r.version ≡ version 1 1)) }
         ensures none { IfOk result (λ r. (r.headers.items ≡ []) × (body_bytes r.body ≡ [])) }
@@ -194,7 +194,7 @@ impl TestRequest {
         })
     }
 
-    /// With this body.
+    /// Sets the body.
     pub fn with_body(self, body: &'static str) -> TestRequest
         ensures body { body_bytes result.body ≡ body.now }
         ensures headers { result.headers ≡ self.headers }
@@ -205,7 +205,7 @@ impl TestRequest {
         request
     }
 
-    /// With these bytes as its body.
+    /// Sets the body to these bytes.
     pub fn with_body_bytes(self, body: Vec<u8>) -> TestRequest
         ensures body { body_bytes result.body ≡ body.items }
         ensures headers { result.headers ≡ self.headers }
@@ -216,7 +216,7 @@ impl TestRequest {
         request
     }
 
-    /// From a client of this address.
+    /// Sets the client's address.
     pub fn with_remote_addr(self, remote_addr: SocketAddr) -> TestRequest
         ensures { result ≡ record self { remote_addr = remote_addr } }
     {
@@ -225,7 +225,7 @@ impl TestRequest {
         request
     }
 
-    /// On an encrypted connection.
+    /// Makes the connection encrypted.
     pub fn with_https(self) -> TestRequest
         ensures { result ≡ record self { secure = true } }
     {
@@ -234,7 +234,7 @@ impl TestRequest {
         request
     }
 
-    /// By this method.
+    /// Sets the method.
     pub fn with_method(self, method: Method) -> TestRequest
         ensures { result ≡ record self { method = method } }
     {
@@ -243,7 +243,7 @@ impl TestRequest {
         request
     }
 
-    /// For this target. It is refused where it isn't ASCII. An error too where memory was refused.
+    /// Sets the request target. It is `Refused` if it isn't ASCII, and also fails if memory is refused.
     pub fn with_path(self, alloc: Global, path: &str) -> Result<TestRequest, ParseError>
         ensures path { IfOk result (λ r. r ≡ record self { path = path.now }) }
         ensures refused { IsErrOf result ParseError.Refused ↔ ¬ (IsAscii path.now) }
@@ -259,7 +259,7 @@ impl TestRequest {
         Ok(request)
     }
 
-    /// In this version.
+    /// Sets the version.
     pub fn with_http_version(self, version: HTTPVersion) -> TestRequest
         ensures { result ≡ record self { version = version } }
     {
@@ -268,7 +268,7 @@ impl TestRequest {
         request
     }
 
-    /// With this header behind those that it has. An error where memory was refused.
+    /// Appends this header. Fails if memory is refused.
     pub fn with_header(self, header: Header) -> Result<TestRequest, AllocError>
         ensures headers { IfOk result (λ r. r.headers.items ≡ self.headers.items ++ (header ∷ [])) }
         ensures body { IfOk result (λ r. r.body ≡ self.body) }
@@ -279,7 +279,7 @@ impl TestRequest {
         Ok(request)
     }
 
-    /// The request; its answer is thrown away. Else as `into_request_over`.
+    /// Returns the request, whose response is discarded. Otherwise it is like `into_request_over`.
     pub fn into_request<Rt: Wait + Copy>(
         self,
         rt: Rt,
@@ -299,9 +299,9 @@ impl TestRequest {
         self.into_request_over(rt, alloc, now, Nowhere)
     }
 
-    /// The request, which is answered on this writer, as a `Recorder`. It has the header `Content-Length` with the
-    /// body's length behind its others, if it has none of that name. `now` dates the 500 that is sent if it is
-    /// dropped. It is framed as under `Lenient`, also where its handler is a strict server's. Errors are those of
+    /// Returns the request, whose response goes to this writer, such as a `Recorder`. Without a `Content-Length`, one
+    /// with the body's length is appended to the headers. `now` dates the 500 that is sent if the request is dropped.
+    /// It is framed as under `Lenient`, even if its handler is that of a stricter server. Errors are those of
     /// `new_request`.
     pub fn into_request_over<W: WriteDevice + Drop, Rt: Wait + Copy>(
         self,

@@ -15,8 +15,8 @@ TeElement = List ℕ × ℕ
 abbrev pub IsSupported : TeElement → Type 0
 IsSupported e = coding_named e.0 ≢ None
 
--- one of the elements names the coding, with a quality above 0: no supported one has a greater quality, and no
--- supported one before it an equal one
+-- one of the elements names the coding, with a quality above 0: no supported element has a greater quality, and none
+-- before it an equal one
 pub record IsChosen (elements : List TeElement) (coding : Coding) : Type 0 where
   pub before : List TeElement
   pub chosen : TeElement
@@ -27,7 +27,7 @@ pub record IsChosen (elements : List TeElement) (coding : Coding) : Type 0 where
   pub none_greater : All (λ e. IsSupported e → e.1 ≤ chosen.1) elements
   pub none_equal_before : All (λ e. IsSupported e → e.1 ≢ chosen.1) before
 
--- the elements choose this coding; or none, where each supported one has quality 0
+-- the elements choose this coding, or none if each supported one has quality 0
 abbrev pub Choose : List TeElement → Option Coding → Type 0
 Choose elements None = All (λ e. IsSupported e → e.1 ≡ 0) elements
 Choose elements (Some coding) = IsChosen elements coding
@@ -35,7 +35,7 @@ Choose elements (Some coding) = IsChosen elements coding
 abbrev pub IsTe : Header → Type 0
 IsTe h = IsTrue (same_name h.field (codes "TE"))
 
--- THE CODING ASKED FOR: the one that the elements of the first TE header choose; without such a header none
+-- THE CODING ASKED FOR: the one that the elements of the first TE header choose; none if there is no such header
 abbrev pub AsksFor : List Header → Option Coding → Type 0
 AsksFor [] asked = asked ≡ None
 AsksFor (h ∷ hs) asked =

@@ -1,4 +1,4 @@
--- The transfer coding of an answer's body (RFC 9112, sections 6.1 and 7.4; RFC 9110, sections 10.1.4 and 12.4.2).
+-- The transfer coding of a response's body (RFC 9112, sections 6.1 and 7.4; RFC 9110, sections 10.1.4 and 12.4.2).
 use Rattle.std.specs.Prelude.{ℕ, max, Bool, ◌&&◌, ◌||◌, ◌==◌, nat_lt, nat_le, List, [], ◌∷◌, find, filter_map, Option}
 use Rattle.std.specs.Prelude.{Some, None, option_map, option_and_then, codes, if◌then◌else◌}
 use Rattle.tiny_http_head.specs.declared.common.HTTPVersion.{HTTPVersion}
@@ -12,7 +12,7 @@ use Rattle.tiny_http_response.specs.declared.coding.Coding.TheVariants.{Identity
 abbrev pub Weighed : Type 0
 Weighed = Coding × ℕ
 
--- the supported coding of a name
+-- the supported coding with this name
 abbrev pub coding_named : List ℕ → Option Coding
 coding_named name =
     if same_name name (codes "identity") then Some Identity
@@ -26,7 +26,7 @@ abbrev pub greatest_quality : List Weighed → ℕ
 greatest_quality [] = 0
 greatest_quality (w ∷ ws) = max w.1 (greatest_quality ws)
 
--- the first coding that has the greatest quality, where that is above 0
+-- the first coding with the greatest quality, if that is above 0
 abbrev pub most_wanted : List Weighed → Option Coding
 most_wanted ws =
     if nat_lt 0 (greatest_quality ws) then option_map (λ w. w.0) (find (λ w. w.1 == greatest_quality ws) ws) else None
@@ -37,7 +37,7 @@ coding_asked request_headers =
     option_and_then (λ h. most_wanted (supported_codings (qualities h.value)))
     (find (λ h. same_name h.field (codes "TE")) request_headers)
 
--- where the request asks for none: chunked, unless the length is known and below the threshold
+-- if the request asks for none: chunked, unless the length is known and below the threshold
 abbrev pub coding_by_length : ℕ → Option ℕ → Coding
 coding_by_length threshold None = Chunked
 coding_by_length threshold (Some n) = if nat_le threshold n then Chunked else Identity
@@ -50,12 +50,12 @@ coding_by None threshold length = coding_by_length threshold length
 abbrev pub is_up_to_1_0 : HTTPVersion → Bool
 is_up_to_1_0 v = nat_lt v.0 1 || (v.0 == 1 && v.1 == 0)
 
--- nothing but identity is sent to a version up to 1.0, with a status under 200 and with a 204
+-- only identity is sent to a version up to 1.0, with a status below 200 and with a 204
 abbrev pub takes_identity_alone : HTTPVersion → ℕ → Bool
 takes_identity_alone version status = is_up_to_1_0 version || (nat_lt status 200 || status == 204)
 
--- THE CODING of an answer: by the version of the request and the coding that it asks for, and the status, the threshold
--- and the length of the answer
+-- THE CODING of a response: by the version of the request and the coding that it asks for, and by the status, the
+-- threshold and the length of the response
 abbrev pub chosen_coding : HTTPVersion → Option Coding → ℕ → ℕ → Option ℕ → Coding
 chosen_coding version asked status threshold length =
     if takes_identity_alone version status then Identity else coding_by asked threshold length

@@ -1,4 +1,4 @@
--- Where a header goes that is added to an answer.
+-- What becomes of a header that is added to a response.
 use Rattle.std.specs.Prelude.{◌≡◌, ℕ, List, ◌∷◌, ◌++◌, [], Option, Some, None, codes, if◌then◌else◌, Bool}
 use Rattle.tiny_http_head.specs.declared.common.Header.{Header}
 use Rattle.tiny_http_head.specs.Common.{same_name}
@@ -12,21 +12,21 @@ abbrev pub place_of_length : Option ℕ → Place
 place_of_length None = Nowhere
 place_of_length (Some n) = Length n
 
--- the place of a header beside these
+-- the place of a header among these
 abbrev pub place_of : Header → List Header → Place
 place_of h headers =
     if is_reserved h.field then Nowhere else
     if same_name h.field (codes "Content-Length") then place_of_length (length_in h.value) else
     if is_second_type h headers then ContentType else Last
 
--- the answer with the header at this place
+-- the response with the header at this place
 abbrev pub placed : Place → Header → Answer → Answer
 placed Nowhere h a = a
 placed (Length n) h a = record a { data_length = Some n }
 placed ContentType h a = record a { headers = with_value (codes "Content-Type") h.value a.headers }
 placed Last h a = record a { headers = a.headers ++ h ∷ [] }
 
--- an answer of these parts
+-- the response with these parts
 abbrev pub answer_of : ℕ → ℕ → Bool → Option (List ℕ) → Bool → List Header → Option ℕ → Answer
 answer_of status threshold closes offered contentless headers length =
     record {
@@ -39,14 +39,14 @@ answer_of status threshold closes offered contentless headers length =
       contentless = contentless;
     }
 
--- a list and a length after a header was added to an answer that had these, whatever else it has
+-- the list and the length after a header is added to a response that had these, whatever its other parts
 abbrev pub Adds : Header → List Header → Option ℕ → List Header → Option ℕ → Type 0
 Adds h headers length more known =
     (status threshold : ℕ) (closes : Bool) (offered : Option (List ℕ)) (contentless : Bool)
     → answer_of status threshold closes offered contentless more known
     ≡ add_header h (answer_of status threshold closes offered contentless headers length)
 
--- the same of headers that were added one after another
+-- the same for headers added one after another
 abbrev pub AddsAll : List Header → List Header → Option ℕ → List Header → Option ℕ → Type 0
 AddsAll hs headers length more known =
     (status threshold : ℕ) (closes : Bool) (offered : Option (List ℕ)) (contentless : Bool)

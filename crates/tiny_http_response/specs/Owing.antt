@@ -1,4 +1,4 @@
--- Data of an answer in chunks whose length is stated (RFC 9112, section 8).
+-- Data of a chunked response with a stated length (RFC 9112, section 8).
 use Rattle.std.specs.Prelude.{ℕ, length, nat_le, Option, Some, if◌then◌else◌}
 use Rattle.std.specs.Option.{option_map}
 use Rattle.tiny_http_io.specs.Device.{Feed, fault_of}
@@ -6,7 +6,7 @@ use Rattle.tiny_http_io.specs.declared.device.Stop.TheVariants.{Fault}
 use Rattle.tiny_http_response.specs.declared.response_context.Persistence.{Persistence}
 use Rattle.tiny_http_response.specs.declared.owing.OwingReader.{OwingReader}
 
--- how many bytes the data owe: by the standard as many as are stated
+-- how many bytes the data owe: under `Standard` the stated length
 abbrev pub owed : Option Persistence → Option ℕ → ℕ
 owed (Some says) (Some n) = n
 owed says length = 0
@@ -23,6 +23,6 @@ owing n feed =
 abbrev pub owing_feed : {R : Type 0} → (R → Option Feed) → OwingReader R → Option Feed
 owing_feed feed r = option_map (owing r.left) (feed r.inner)
 
--- the reader inside
+-- the inner reader
 abbrev pub owing_inner : {R : Type 0} → OwingReader R → R
 owing_inner r = r.inner

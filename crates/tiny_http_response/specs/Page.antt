@@ -1,9 +1,9 @@
--- What a writer into a room of its own reports.
+-- What a writer into a fixed buffer states.
 use Rattle.std.specs.Prelude.{Some, None, false, take}
 use Rattle.tiny_http_io.specs.Device.{Sink}
 use Rattle.tiny_http_response.specs.declared.page.Page.{Page}
 
--- nothing is held back
+-- no bytes are held back
 abbrev pub page_sink : Page → Sink
 page_sink p =
     record {

@@ -1,4 +1,4 @@
--- Headers that a client reads as they were meant.
+-- Headers that a client reads as intended.
 use Rattle.std.specs.Prelude.{◌≡◌, false, IsTrue}
 use Rattle.tiny_http_text.specs.Bytes.{is_blank, AreAscii, HasNo, HasNoBlank, has_bare_front, has_bare_end, colon}
 use Rattle.tiny_http_text.specs.Lines.{has_crlf}

@@ -1,5 +1,5 @@
--- The list of an answer's headers: what it never holds, and what it holds once (RFC 9110, sections 7.6.1, 7.8 and 8.3;
--- RFC 9112, section 6).
+-- The header list of a response: what it never holds, and what it holds at most once (RFC 9110, sections 7.6.1, 7.8 and
+-- 8.3; RFC 9112, section 6).
 use Rattle.std.specs.Prelude.{◌≡◌, ◌≤◌, ℕ, false, List, count_by, codes}
 use Rattle.tiny_http_head.specs.declared.common.Header.{Header}
 use Rattle.tiny_http_head.specs.Common.{same_name}
@@ -13,8 +13,8 @@ count_named headers name = count_by (λ h. same_name h.field name) headers
 abbrev pub HasNone : List Header → List ℕ → Type 0
 HasNone headers name = has_header headers name ≡ false
 
--- THE LAW OF A LIST: how the answer is sent is said by the server itself, and the length by the answer; Content-Type
--- stands there at most once. In any case of letters.
+-- THE LAW OF A LIST: the server itself states how the response is sent, and the response states its length;
+-- Content-Type occurs at most once. Letter case is ignored.
 pub record IsResponseHeaders (headers : List Header) : Type 0 where
   pub connection : HasNone headers (codes "Connection")
   pub trailer : HasNone headers (codes "Trailer")

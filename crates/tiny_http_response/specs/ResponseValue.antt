@@ -23,7 +23,8 @@ response_of status headers text =
 abbrev pub response_text : ResponseValue → Printing → Text
 response_text r p = text_of r.answer r.content p
 
--- how an answer to a request is printed that asks for this coding, and what it says of its connection, by the standard
+-- how the response to a request that asks for this coding is printed, and what it says of its connection under
+-- `Standard`
 abbrev pub printing_to : Option Coding → HTTPVersion → Bool → Option Persistence → HttpDate → Printing
 printing_to asked version no_body persistence date =
     record {
@@ -35,7 +36,7 @@ printing_to asked version no_body persistence date =
       date = date;
     }
 
--- how the answer to a request is printed, by what is kept of it
+-- how the response to a request is printed, from what is kept of the request
 abbrev pub printing_in : ResponseContext → HttpDate → Printing
 printing_in context date = printing_to context.asked_coding context.version context.no_body context.persistence date
 
@@ -43,7 +44,7 @@ printing_in context date = printing_to context.asked_coding context.version cont
 abbrev pub printing_with : ResponseContext → Option (List ℕ) → HttpDate → Printing
 printing_with context upgrade date = record (printing_in context date) { upgrade = upgrade }
 
--- the same way of printing, with an upgrade to this protocol
+-- the same printing, with an upgrade to this protocol
 abbrev pub upgrading : List ℕ → Printing → Printing
 upgrading protocol p = record p { upgrade = Some protocol }
 

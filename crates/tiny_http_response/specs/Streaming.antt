@@ -1,4 +1,4 @@
--- Answers whose body comes after their head, and grows while it is sent.
+-- Responses whose body follows the head and grows while it is sent.
 use Rattle.std.specs.Prelude.{ℕ, Bool, true, false, List, Option, Some, None}
 use Rattle.httpdate.specs.declared.date.HttpDate.{HttpDate}
 use Rattle.tiny_http_response.specs.Coding.{is_up_to_1_0}
@@ -10,8 +10,8 @@ use Rattle.tiny_http_response.specs.declared.response_context.ResponseContext.{R
 use Rattle.tiny_http_response.specs.ByStandard.{status_version, listed_headers, contentless_framing}
 use Rattle.tiny_http_response.specs.Answer.{Answer, answer_head_text}
 
--- by what the code says of the content, whether none is asked for, and whether the version is one up to 1.0: no body;
--- one as it is; or one in chunks
+-- the form of the body, by the framing of a code without content, whether the request is a HEAD, and whether its
+-- version is at most 1.0: no body, the bytes as they are, or chunks
 abbrev pub form_by : Option FramingHeader → Bool → Bool → StreamedForm
 form_by (Some framing) no_body is_old = Absent
 form_by None true is_old = Absent
@@ -23,8 +23,7 @@ abbrev pub streamed_form : ResponseContext → ℕ → StreamedForm
 streamed_form context status =
     form_by (contentless_framing context.persistence true status None) context.no_body (is_up_to_1_0 context.version)
 
--- the head says neither length nor coding to a version up to 1.0, and chunks to a later one, also where no body is
--- asked for
+-- the head states neither length nor coding to a version up to 1.0, and chunked to a later one, even for a HEAD
 abbrev pub framing_by : Option FramingHeader → Bool → FramingHeader
 framing_by (Some framing) is_old = framing
 framing_by None true = Neither
@@ -34,7 +33,7 @@ abbrev pub streamed_framing : ResponseContext → ℕ → FramingHeader
 streamed_framing context status =
     framing_by (contentless_framing context.persistence true status None) (is_up_to_1_0 context.version)
 
--- THE HEAD of such an answer
+-- THE HEAD of such a response
 abbrev pub streamed_head : Answer → ResponseContext → HttpDate → List ℕ
 streamed_head a context date =
     answer_head_text (status_version context.persistence context.version) a.status None a.headers

@@ -1,4 +1,4 @@
-//! Headers that are added to an answer (RFC 9110, sections 7.6.1, 7.8 and 8.3; RFC 9112, section 6).
+//! Adding headers to a response (RFC 9110, sections 7.6.1, 7.8 and 8.3; RFC 9112, section 6).
 ghost use Rattle.std.specs.Prelude.{◌≡◌, ℕ, Bool, List, Option, ◌≤◌, ◌<◌, ◌+◌, IfErr, OnOk, OnErr, IsTrue, []};
 ghost use Rattle.std.specs.Prelude.{length, take, drop, slice_index_or, codes};
 ghost use Rattle.tiny_http_response.specs.Answer.{has_header};
@@ -12,20 +12,20 @@ use tiny_http_head::common::{Header, HeaderField};
 use tiny_http_head::grammar::parse_content_length;
 use tiny_http_text::ascii::AsciiString;
 
-/// Where a header goes that is added to an answer.
+/// What becomes of a header that is added to a response.
 #[derive(Clone, Copy)]
 enum Place {
-    /// It is left out.
+    /// The header is ignored.
     Nowhere,
-    /// It is the length of the data, in bytes.
+    /// The header sets the length of the data, in bytes.
     Length(usize),
-    /// Its value replaces that of the `Content-Type`.
+    /// The value replaces that of the first `Content-Type`.
     ContentType,
-    /// Behind the others.
+    /// The header is appended.
     Last,
 }
 
-// Whether a header of this name is never added.
+// Returns whether a header with this name is never added.
 fn is_reserved(name: &HeaderField) -> bool
     ensures { result ≡ is_reserved name.now }
 {
@@ -35,7 +35,7 @@ fn is_reserved(name: &HeaderField) -> bool
         || name.equiv("Upgrade")
 }
 
-// Where a header goes beside these.
+// Returns the place of a header among these.
 fn place_of(header: &Header, headers: &[Header]) -> Place
     ensures { result ≡ place_of header.now headers.now }
 {
@@ -54,7 +54,7 @@ fn place_of(header: &Header, headers: &[Header]) -> Place
     Place::Last
 }
 
-// Puts a value into the first header of this name, and gives its old value for it.
+// Swaps a value with that of the first header with this name.
 fn replace_value(headers: &mut [Header], name: &str, value: &mut AsciiString)
     ensures { headers.new ≡ with_value name.now value.old headers.old }
 {
@@ -66,8 +66,8 @@ fn replace_value(headers: &mut [Header], name: &str, value: &mut AsciiString)
     }
 }
 
-/// Adds a header to the list of an answer, or to the length of its data. Without memory for it the
-/// header comes back, and nothing is changed.
+/// Adds a header to the list of a response, or to the length of its data. If memory is refused, the error returns the
+/// header, and nothing changes.
 pub(crate) fn add(
     headers: &mut Vec<Header>,
     data_length: &mut Option<usize>,
@@ -93,7 +93,7 @@ pub(crate) fn add(
     }
 }
 
-/// Adds these headers one after another. The first for which there is no memory comes back.
+/// Adds these headers one after another. The error returns the first for which memory is refused.
 pub(crate) fn add_all(
     headers: &mut Vec<Header>,
     data_length: &mut Option<usize>,
@@ -114,7 +114,7 @@ pub(crate) fn add_all(
     Ok(())
 }
 
-// Where the header at `at` goes beside the first `kept`.
+// Returns the place of the header at `at` among the first `kept`.
 fn place_at(headers: &[Header], kept: usize, at: usize) -> Place
     requires order { kept ≤ at }
     requires within { at < length headers.now }
@@ -136,8 +136,8 @@ fn replace_type(headers: &mut [Header], kept: usize, at: usize)
     replace_value(&mut front[..kept], "Content-Type", &mut rest[0].value);
 }
 
-// Adds the header at `at` to the first `kept`, and says how many these are then. The headers behind
-// it stay.
+// Adds the header at `at` to the first `kept`, and returns how many those then are. The headers after `at` are
+// unchanged.
 fn add_at(headers: &mut [Header], data_length: &mut Option<usize>, kept: usize, at: usize) -> usize
     requires order { kept ≤ at }
     requires within { at < length headers.old }
@@ -164,7 +164,8 @@ fn add_at(headers: &mut [Header], data_length: &mut Option<usize>, kept: usize, 
     }
 }
 
-// Adds all the headers to an empty list that lies in front of them, and says how many it has.
+// Adds all the headers, one after another, to an initially empty list at the front of the slice. Returns the length of
+// that list.
 fn add_each(headers: &mut [Header], data_length: &mut Option<usize>) -> usize
     ensures bound { result ≤ length headers.new }
     ensures added { AddsAll headers.old [] data_length.old (take result headers.new) data_length.new }
@@ -177,8 +178,8 @@ fn add_each(headers: &mut [Header], data_length: &mut Option<usize>) -> usize
     kept
 }
 
-/// Makes of these headers what adding them one after another to an empty list comes to, in their
-/// room, and gives the length of the data then.
+/// Replaces these headers by the result of adding them one after another to an empty list, in the same allocation.
+/// Returns the resulting length of the data.
 pub(crate) fn add_in_place(
     headers: &mut Vec<Header>,
     mut data_length: Option<usize>,

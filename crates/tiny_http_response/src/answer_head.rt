@@ -1,4 +1,4 @@
-//! The head of an answer, line by line (RFC 9112, sections 4 and 5).
+//! The head of a response, line by line (RFC 9112, sections 4 and 5).
 ghost use Rattle.std.specs.Prelude.{◌≡◌};
 ghost use Rattle.std.specs.List.{flat_map};
 ghost use Rattle.std.specs.Option.{option_copied};
@@ -19,28 +19,28 @@ use tiny_http_io::device::{WriteDevice, put, put_all};
 use tiny_http_text::ascii::AsciiString;
 use tiny_http_text::number::Numeral;
 
-/// What the head of an answer is made of, beside how it says the length of the body.
+/// The head of a response, apart from the header that frames its body.
 #[derive(Clone, Copy)]
 pub(crate) struct ResponseHead<'a> {
     /// The version of the request.
     pub(crate) version: HTTPVersion,
-    /// What the answer says of its connection, by the standard.
+    /// What the response says about its connection, under `Profile::Standard`.
     pub(crate) persistence: Option<Persistence>,
     pub(crate) status: StatusCode,
     pub(crate) headers: &'a [Header],
-    /// The protocols that it offers to upgrade to.
+    /// The protocols that the response offers to upgrade to.
     pub(crate) offered: &'a Option<AsciiString>,
     pub(crate) date: HttpDate,
 }
 
-// Whether some header has this name.
+// Returns whether some header has this name.
 pub(crate) fn has_header(headers: &[Header], name: &str) -> bool
     ensures { result ≡ has_header headers.now name.now }
 {
     headers.iter().any(|h| h.field.equiv(name))
 }
 
-// `HTTP/`, version, code and phrase, piece by piece.
+// Writes a status line piece by piece: `HTTP/`, version, code and reason phrase.
 #[tactic(auto, unfolding(crate::specs::Answer::status_line))]
 fn put_other_status_line<W: WriteDevice>(
     writer: &mut W,
@@ -68,7 +68,7 @@ fn put_other_status_line<W: WriteDevice>(
     )
 }
 
-// The status line. That of a 200 under version 1.1 is one piece.
+// Writes the status line. For a 200 in version 1.1 it is one piece.
 fn put_status_line<W: WriteDevice>(
     writer: &mut W,
     version: HTTPVersion,
@@ -82,7 +82,7 @@ fn put_status_line<W: WriteDevice>(
     put_other_status_line(writer, version, status)
 }
 
-// One header line.
+// Writes one field line.
 #[tactic(auto, unfolding(crate::specs::Answer::field_line))]
 pub(crate) fn put_field<W: WriteDevice>(
     writer: &mut W,
@@ -94,7 +94,7 @@ pub(crate) fn put_field<W: WriteDevice>(
     put_all(writer, &[field, b": ", value, b"\r\n"])
 }
 
-// The line of a header.
+// Writes the field line of a header.
 fn put_header<W: WriteDevice>(writer: &mut W, header: &Header) -> Result<(), io::Error>
     ensures { Puts (W.sink writer.old) (W.sink writer.new) result (field_line_of header.now) }
 {
@@ -106,7 +106,7 @@ fn put_header<W: WriteDevice>(writer: &mut W, header: &Header) -> Result<(), io:
     )
 }
 
-// The lines of a list of headers.
+// Writes the field lines of a list of headers.
 fn put_headers<W: WriteDevice>(writer: &mut W, headers: &[Header]) -> Result<(), io::Error>
     ensures { Puts (W.sink writer.old) (W.sink writer.new) result (flat_map field_line_of headers.now) }
 {
@@ -116,7 +116,7 @@ fn put_headers<W: WriteDevice>(writer: &mut W, headers: &[Header]) -> Result<(),
     Ok(())
 }
 
-// The two lines of an upgrade to a protocol (RFC 9110, section 7.8).
+// Writes the two field lines of an upgrade to a protocol (RFC 9110, section 7.8).
 fn put_protocol<W: WriteDevice>(writer: &mut W, protocol: &str) -> Result<(), io::Error>
     ensures { Puts (W.sink writer.old) (W.sink writer.new) result (protocol_lines protocol.now) }
 {
@@ -124,7 +124,7 @@ fn put_protocol<W: WriteDevice>(writer: &mut W, protocol: &str) -> Result<(), io
     put_field(writer, b"Upgrade", protocol.as_bytes())
 }
 
-// These lines, if there is an upgrade.
+// Writes those lines, if there is an upgrade.
 #[tactic(auto, unfolding(crate::specs::Answer::upgrade_lines))]
 fn put_upgrade<W: WriteDevice>(writer: &mut W, upgrade: Option<&str>) -> Result<(), io::Error>
     ensures { Puts (W.sink writer.old) (W.sink writer.new) result (upgrade_lines (option_copied upgrade.entry)) }
@@ -135,7 +135,7 @@ fn put_upgrade<W: WriteDevice>(writer: &mut W, upgrade: Option<&str>) -> Result<
     put_protocol(writer, protocol)
 }
 
-// The server's name, unless the list has one.
+// Writes the `Server` header, unless the list has one.
 #[tactic(auto, unfolding(crate::specs::Answer::server_line, crate::specs::Answer::field_line))]
 fn put_server<W: WriteDevice>(writer: &mut W, headers: &[Header]) -> Result<(), io::Error>
     ensures { Puts (W.sink writer.old) (W.sink writer.new) result (server_line headers.now) }
@@ -146,7 +146,7 @@ fn put_server<W: WriteDevice>(writer: &mut W, headers: &[Header]) -> Result<(), 
     put(writer, b"Server: tiny-http (Rust)\r\n")
 }
 
-// The date, unless the list has one.
+// Writes the `Date` header, unless the list has one.
 #[tactic(auto, unfolding(crate::specs::Answer::date_line, crate::specs::Answer::field_line))]
 fn put_date<W: WriteDevice>(
     writer: &mut W,
@@ -158,13 +158,13 @@ fn put_date<W: WriteDevice>(
     if has_header(headers, "Date") {
         return Ok(());
     }
-    // The 29 bytes of this date are written over.
+    // The 29 bytes of this date are overwritten.
     let mut line = *b"Date: Thu, 01 Jan 1970 00:00:00 GMT\r\n";
     line[6..35].copy_from_slice(&now.to_bytes());
     put(writer, &line)
 }
 
-// The number of bytes of the body.
+// Writes the `Content-Length` header.
 #[tactic(auto, unfolding(crate::specs::Answer::field_line))]
 fn put_length<W: WriteDevice>(writer: &mut W, n: usize) -> Result<(), io::Error>
     ensures { Puts (W.sink writer.old) (W.sink writer.new) result (length_line n) }
@@ -173,7 +173,7 @@ fn put_length<W: WriteDevice>(writer: &mut W, n: usize) -> Result<(), io::Error>
     put_all(writer, &[b"Content-Length: ", digits.as_bytes(), b"\r\n"])
 }
 
-// The line that frames the body, if there is one.
+// Writes the header that frames the body, if there is one.
 #[tactic(auto, unfolding(crate::specs::Answer::framing_line))]
 fn put_framing<W: WriteDevice>(writer: &mut W, framing: FramingHeader) -> Result<(), io::Error>
     ensures { Puts (W.sink writer.old) (W.sink writer.new) result (framing_line framing) }
@@ -185,7 +185,7 @@ fn put_framing<W: WriteDevice>(writer: &mut W, framing: FramingHeader) -> Result
     }
 }
 
-// The status line of a head.
+// Writes the status line of a head.
 fn put_status<W: WriteDevice>(writer: &mut W, head: &ResponseHead<'_>) -> Result<(), io::Error>
     ensures { Puts (W.sink writer.old) (W.sink writer.new) result
         (status_line (status_version head.now.persistence head.now.version) head.now.status.0) }
@@ -196,7 +196,7 @@ fn put_status<W: WriteDevice>(writer: &mut W, head: &ResponseHead<'_>) -> Result
     }
 }
 
-// The header lines behind the date, for an upgrade or not.
+// Writes the field lines after the date, with or without an upgrade.
 fn put_listed<W: WriteDevice>(
     writer: &mut W,
     head: &ResponseHead<'_>,
@@ -218,7 +218,7 @@ fn put_listed<W: WriteDevice>(
     put_safe_headers(writer, head.headers)
 }
 
-// The lines of a head, piece by piece, and the empty line.
+// Writes the lines of a head, piece by piece, and the empty line.
 fn put_lines<W: WriteDevice>(
     writer: &mut W,
     head: &ResponseHead<'_>,
@@ -237,11 +237,10 @@ fn put_lines<W: WriteDevice>(
     put(writer, b"\r\n")
 }
 
-/// Writes the head of an answer: the status line, the header lines in their order, and an empty line (RFC 9112,
-/// sections 4 and 5). By the standard the status line is in version 1.1; `Connection` says that the connection ends,
-/// or to a version up to 1.0 that it persists, and that protocols are offered, but for an upgrade and a code below
-/// 200; and a header whose name isn't a token is left out, and makes one line else. A head of up to 512 bytes is
-/// written as one piece.
+/// Writes the head of a response: status line, field lines and an empty line (RFC 9112, sections 4 and 5). Under
+/// `Profile::Standard` the status line has version 1.1. Unless it is an upgrade or the code is below 200, `Connection`
+/// says that the connection closes, or for versions up to 1.0 that it persists, and offers protocols. A header whose
+/// name isn't a token is omitted; any other takes one line. A head of up to 512 bytes is one write.
 pub(crate) fn put_head<W: WriteDevice>(
     writer: &mut W,
     head: &ResponseHead<'_>,

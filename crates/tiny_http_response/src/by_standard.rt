@@ -1,5 +1,5 @@
-//! What the head of an answer says by the standard: of its connection, and each header on one line (RFC 9112,
-//! sections 9.3, 9.6 and 11.1; RFC 9110, sections 5.5, 7.8 and 15).
+//! What the head of a response says under `Profile::Standard`: the state of its connection, and each header on one line
+//! (RFC 9112, sections 9.3, 9.6 and 11.1; RFC 9110, sections 5.5, 7.8 and 15).
 ghost use Rattle.std.specs.Prelude.{◌≡◌, ◌∷◌, [], Some, option_map};
 ghost use Rattle.std.specs.List.{flat_map};
 ghost use Rattle.std.specs.Option.{option_copied};
@@ -19,7 +19,7 @@ use tiny_http_head::common::{HTTPVersion, Header, StatusCode};
 use tiny_http_io::device::{WriteDevice, put, put_all};
 use tiny_http_text::ascii::AsciiString;
 
-// What is said of a connection: that it ends, or, to a version up to 1.0, that it persists.
+// Returns the connection option to send: `close`, or `keep-alive` to a version up to 1.0 if the connection persists.
 pub(crate) fn persistence_option(
     version: HTTPVersion,
     persistence: Persistence,
@@ -33,7 +33,7 @@ pub(crate) fn persistence_option(
     }
 }
 
-// A byte of a value, or a space in its place.
+// Returns the byte, or a space if it isn't allowed in a field value.
 fn safe_byte(byte: u8) -> u8
     ensures { result ≡ safe_byte byte }
 {
@@ -44,7 +44,7 @@ fn safe_byte(byte: u8) -> u8
     }
 }
 
-// A value, byte by byte.
+// Writes a value byte by byte, with its disallowed bytes replaced.
 fn put_replaced<W: WriteDevice>(writer: &mut W, value: &[u8]) -> Result<(), io::Error>
     ensures { Puts (W.sink writer.old) (W.sink writer.new) result (safe_value value.now) }
 {
@@ -54,7 +54,7 @@ fn put_replaced<W: WriteDevice>(writer: &mut W, value: &[u8]) -> Result<(), io::
     Ok(())
 }
 
-// The line of a header whose value has bytes that may not stand there.
+// Writes the field line of a header whose value has bytes that aren't allowed in a field value.
 fn put_replaced_field<W: WriteDevice>(
     writer: &mut W,
     field: &[u8],
@@ -68,7 +68,7 @@ fn put_replaced_field<W: WriteDevice>(
     put(writer, b"\r\n")
 }
 
-// A header line, with a space in place of each byte that may not stand in a value.
+// Writes a field line, with a space in place of each byte that isn't allowed in a field value.
 fn put_safe_field<W: WriteDevice>(
     writer: &mut W,
     field: &[u8],
@@ -82,7 +82,7 @@ fn put_safe_field<W: WriteDevice>(
     put_replaced_field(writer, field, value)
 }
 
-// The line of a header, unless its name isn't a token.
+// Writes the field line of a header, unless its name isn't a token.
 fn put_safe_header<W: WriteDevice>(writer: &mut W, header: &Header) -> Result<(), io::Error>
     ensures { Puts (W.sink writer.old) (W.sink writer.new) result
         (flat_map field_line_of (safe_headers (header.now ∷ []))) }
@@ -95,7 +95,7 @@ fn put_safe_header<W: WriteDevice>(writer: &mut W, header: &Header) -> Result<()
     put_safe_field(writer, field, header.value.as_str().as_bytes())
 }
 
-/// The lines of a list of headers, each safe.
+/// Writes the field lines of a list of headers, each made safe.
 pub(crate) fn put_safe_headers<W: WriteDevice>(
     writer: &mut W,
     headers: &[Header],
@@ -108,7 +108,7 @@ pub(crate) fn put_safe_headers<W: WriteDevice>(
     Ok(())
 }
 
-// The `Connection` header of an answer that offers protocols.
+// Writes the `Connection` header of a response that offers protocols.
 fn put_options<W: WriteDevice>(writer: &mut W, option: Option<&str>) -> Result<(), io::Error>
     ensures { Puts (W.sink writer.old) (W.sink writer.new) result
         (field_line_of (connection_header (options_with_upgrade (option_copied option.entry)))) }
@@ -122,7 +122,7 @@ fn put_options<W: WriteDevice>(writer: &mut W, option: Option<&str>) -> Result<(
     }
 }
 
-// The headers that offer protocols, and say what becomes of the connection.
+// Writes the headers that offer protocols and state whether the connection closes.
 fn put_offer<W: WriteDevice>(
     writer: &mut W,
     protocols: &str,
@@ -135,8 +135,8 @@ fn put_offer<W: WriteDevice>(
     put_safe_field(writer, b"Upgrade", protocols.as_bytes())
 }
 
-/// The headers that say what becomes of the connection, and offer protocols (RFC 9112, section 9.6; RFC 9110, section
-/// 7.8).
+/// Writes the headers that state whether the connection closes, and offer protocols (RFC 9112, section 9.6; RFC 9110,
+/// section 7.8).
 pub(crate) fn put_connection<W: WriteDevice>(
     writer: &mut W,
     offered: &Option<AsciiString>,
@@ -154,7 +154,7 @@ pub(crate) fn put_connection<W: WriteDevice>(
     }
 }
 
-// A 304 says a length that is known and isn't 0.
+// Returns the framing of a 304: the length of its data, if known and not 0.
 fn framing_of_304(data_length: Option<usize>) -> FramingHeader
     ensures { result ≡ framing_of_304 data_length }
 {
@@ -164,9 +164,9 @@ fn framing_of_304(data_length: Option<usize>) -> FramingHeader
     }
 }
 
-// How an answer is framed that is a head alone by its code, by the standard (RFC 9110, sections 8.6 and 15.3.6; RFC
-// 9112, section 6.1). A 1xx and a 204 have neither header, a 205 the length 0, and a 304 the length of its data, if
-// that is known and isn't 0.
+// Returns the framing of a response that is only a head because of its code, under `Profile::Standard` (RFC 9110,
+// sections 8.6 and 15.3.6; RFC 9112, section 6.1). A 1xx and a 204 have neither header, a 205 has length 0, and a 304
+// the length of its data, if known and not 0.
 fn framing_by_standard(
     persistence: Option<Persistence>,
     status: StatusCode,
@@ -187,15 +187,15 @@ fn framing_by_standard(
     None
 }
 
-/// Whether no answer with this code has content (RFC 9110, section 6.4.1).
+/// Returns whether responses with this code never have content (RFC 9110, section 6.4.1).
 pub(crate) fn has_no_content(status: StatusCode) -> bool
     ensures { result ≡ has_no_content status.0 }
 {
     (status.0 >= 100 && status.0 < 200) || status.0 == 204 || status.0 == 304
 }
 
-/// How an answer is framed that is a head alone by its code: by the standard, and where it was made to say no length
-/// and its code has no content. That one has neither header.
+/// Returns the framing of a response that is only a head because of its code: under `Profile::Standard`, or if it was
+/// made by `Response::contentless` with a code that has no content. The latter has neither header.
 pub(crate) fn contentless_framing(
     persistence: Option<Persistence>,
     contentless: bool,

@@ -1,4 +1,4 @@
-//! How the body of an answer is sent (RFC 9112, sections 6 and 7).
+//! The transfer coding of a response body (RFC 9112, sections 6 and 7).
 ghost use Rattle.std.specs.Prelude.{◌≡◌, Option};
 ghost use Rattle.tiny_http_text.specs.QualityReading.{qualities};
 ghost use Rattle.tiny_http_response.specs.Coding.{coding_named, supported_codings, most_wanted, coding_asked};
@@ -19,7 +19,7 @@ pub enum Coding {
 /// The header that frames a body (RFC 9112, section 6).
 #[derive(Clone, Copy, Debug, PartialEq, Eq)]
 pub enum FramingHeader {
-    /// None.
+    /// No header.
     Neither,
     /// `Transfer-Encoding: chunked`
     TransferEncoding,
@@ -27,7 +27,7 @@ pub enum FramingHeader {
     ContentLength(usize),
 }
 
-// The supported coding of a name; letter case doesn't count.
+// Returns the supported coding with this name, ignoring letter case.
 fn coding_named(name: &str) -> Option<Coding>
     ensures { result ≡ coding_named name.now }
 {
@@ -40,8 +40,8 @@ fn coding_named(name: &str) -> Option<Coding>
     }
 }
 
-// The supported coding that has the greatest quality in the value of a TE header, the first among equals, where that
-// quality is above 0.
+// Returns the supported coding with the greatest quality in the value of a `TE` header, the first among equals. `None` if
+// that quality is 0.
 fn most_wanted(value: &str) -> Option<Coding>
     ensures { result ≡ most_wanted (supported_codings (qualities value.now)) }
 {
@@ -59,9 +59,9 @@ fn most_wanted(value: &str) -> Option<Coding>
     wanted
 }
 
-/// The coding that the headers of a request ask for (RFC 9110, section 10.1.4): that of the first `TE` header which has
-/// the greatest quality above 0, the first among equals (RFC 9110, section 12.4.2). None where there is no such header,
-/// or where it wants neither `identity` nor `chunked`. It takes no memory, and the answer outlives the headers.
+/// Returns the coding that the headers of a request ask for (RFC 9110, section 10.1.4): in the first `TE` header the
+/// one with the greatest quality above 0, the first among equals (section 12.4.2). `None` if there is no `TE`, or if it
+/// accepts neither `identity` nor `chunked`. Allocates nothing.
 #[tactic(auto, unfolding(crate::specs::Coding::coding_asked))]
 pub fn asked_coding(request_headers: &[Header]) -> Option<Coding>
     ensures { result ≡ coding_asked request_headers.now }
@@ -74,9 +74,9 @@ pub fn asked_coding(request_headers: &[Header]) -> Option<Coding>
     None
 }
 
-/// The coding of an answer (RFC 9112, sections 6.1 and 7.4; as tiny_http): the bytes as they are for a version up to
-/// 1.0, a status under 200 and a 204; else what the request asks for, as `asked_coding` says; else chunks where the
-/// length of the data, in bytes, isn't known or is at least the threshold.
+/// Chooses the coding of a response (RFC 9112, sections 6.1 and 7.4; as tiny_http). It is `Identity` for a version up
+/// to 1.0, a status below 200 and a 204; else what the request asks for, as `asked_coding` returns it; else `Chunked`
+/// if the length of the data, in bytes, is unknown or at least the threshold.
 pub fn choose(
     version: HTTPVersion,
     asked: Option<Coding>,

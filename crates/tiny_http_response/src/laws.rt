@@ -15,7 +15,7 @@ use crate::response::THRESHOLD;
 use tiny_http_body::chunked::{LONGEST_LINE, MOST_TRAILERS};
 use tiny_http_body::chunks::CHUNK;
 
-/// The sizes that the definitions of a chunked body and of an answer take from the code.
+/// The sizes that the definitions of a chunked body and of a response take from the code.
 pub fn sizes_of_bodies()
     ensures line { LONGEST_LINE ≡ 8192 }
     ensures trailers { MOST_TRAILERS ≡ 128 }
@@ -23,8 +23,8 @@ pub fn sizes_of_bodies()
     ensures threshold { THRESHOLD ≡ 32768 }
 {}
 
-/// The headers of a request ask for one coding, or for none, in one way: for that of the element of the first `TE`
-/// header which no other one outdoes (RFC 9110, sections 10.1.4 and 12.4.2).
+/// The headers of a request ask for at most one coding: that of the element of the first `TE` header which no other
+/// element outranks (RFC 9110, sections 10.1.4 and 12.4.2).
 pub fn one_coding_asked()
     ensures some { (headers : List Header) → AsksFor headers (coding_asked headers) }
     ensures one { (headers : List Header) (asked other : Option Coding)
@@ -33,10 +33,9 @@ pub fn one_coding_asked()
         → asked ≡ other }
 {}
 
-/// The list of an answer's headers never holds `Connection`, `Trailer`, `Transfer-Encoding`,
-/// `Upgrade` or `Content-Length`, in any case of letters, and holds `Content-Type` at most once: so
-/// is the empty list, and each header that is added keeps it so (RFC 9110, sections 7.6.1, 7.8 and
-/// 8.3; RFC 9112, section 6).
+/// The header list of a response never holds `Connection`, `Trailer`, `Transfer-Encoding`, `Upgrade` or
+/// `Content-Length`, in any letter case, and holds `Content-Type` at most once. The empty list satisfies this, and each
+/// added header preserves it (RFC 9110, sections 7.6.1, 7.8 and 8.3; RFC 9112, section 6).
 pub fn response_headers()
     ensures none { IsResponseHeaders [] }
     ensures one_more { (h : Header) (a : AnyAnswer)
@@ -47,8 +46,8 @@ pub fn response_headers()
         → IsResponseHeaders (with_headers hs a).headers }
 {}
 
-/// A header that is made of a name and a value, as by `Header::new`, is readable, and by the standard it is printed
-/// as it is (RFC 9110, sections 5.5 and 5.6.2).
+/// A header made from a name and a value, as by `Header::new`, is readable, and is printed unchanged under
+/// `Profile::Standard` (RFC 9110, sections 5.5 and 5.6.2).
 pub fn header_of_texts()
     ensures readable { (name value : List ℕ) → AreHeaderTexts name value → IsReadable (header_of name value) }
     ensures kept { (name value : List ℕ)

@@ -1,6 +1,6 @@
-//! Answers (RFC 9110, and RFC 9112, sections 4 to 7): what a response holds, which coding its body has, how it is
-//! printed, and how it leaves through a connection's outlet. It stands on `tiny_http_body`; `tiny_http_wire` names
-//! `response`, `response_context` and `coding` again.
+//! Responses (RFC 9110; RFC 9112, sections 4 to 7): what a response holds, the transfer coding of its body, how it is
+//! printed, and how it is sent through a connection's outlet. This crate builds on `tiny_http_body`; `tiny_http_wire`
+//! re-exports `response`, `response_context` and `coding`.
 #![tactic(auto)]
 
 mod add_header;

@@ -1,4 +1,4 @@
-//! Answers that are made of texts and of codes, and what a call becomes that found no memory for a header.
+//! Responses made from texts and from status codes, and the conversion of refused memory to `io::Error`.
 ghost use Rattle.std.specs.Prelude.{◌≡◌, ◌↔◌, ◌∷◌, [], IfOk, OnOk, IsErrOf, length, string_bytes};
 ghost use Rattle.tiny_http_io.specs.Cursor.{cursor_bytes};
 ghost use Rattle.tiny_http_head.specs.HeaderTexts.{AreHeaderTexts, header_of};
@@ -12,7 +12,7 @@ use std::io::{Cursor, ErrorKind};
 use tiny_http_head::common::{Header, ParseError, StatusCode};
 use tiny_http_text::number::Numeral;
 
-// The text of an answer that is made of a code.
+// Returns the text of a response made from a status code.
 #[tactic(auto, unfolding(crate::specs::Answer::status_text))]
 fn status_text(alloc: Global, status: StatusCode) -> Result<String, AllocError>
     ensures { IfOk result (λ text. string_bytes text ≡ status_text status.0) }
@@ -25,10 +25,9 @@ fn status_text(alloc: Global, status: StatusCode) -> Result<String, AllocError>
 }
 
 impl Response<Cursor<Vec<u8>>> {
-    /// An answer with this code, whose text is the code and its reason phrase, as `404 Not Found`, under
-    /// `Content-Type: text/plain; charset=UTF-8` (RFC 9110, section 15). An error where memory was refused. For a
-    /// code whose answers have no content, as a 204 or a 304, there is `contentless`: here the text isn't sent, and
-    /// its length may be said.
+    /// Creates a response with this status code whose text is the code and its reason phrase, such as `404 Not Found`,
+    /// with `Content-Type: text/plain; charset=UTF-8` (RFC 9110, section 15). Fails if memory is refused. For a code
+    /// without content, such as 204 or 304, use `contentless`: here the text isn't sent, but its length may be.
     pub fn status(alloc: Global, code: StatusCode) -> Result<Response<Cursor<Vec<u8>>>, AllocError>
         ensures answer { IfOk result
             (λ r. r.answer ≡ answer_with code.0 (text_plain ∷ []) (length (status_text code.0))) }
@@ -40,11 +39,10 @@ impl Response<Cursor<Vec<u8>>> {
 }
 
 impl<R> Response<R> {
-    /// The same answer with a header more. It is made of a name and a value as by `Header::new`, and added as by
-    /// `add_header`: so `Connection`, `Trailer`, `Transfer-Encoding` and `Upgrade` are left out. `Refused` where no
-    /// header is made of the texts, and for no other reason; `Memory` where memory was refused. In both cases the
-    /// answer is let go; `with_header` hands it back. In a function that answers an `io::Result`, `?` makes
-    /// `InvalidInput` and `OutOfMemory` of them.
+    /// Adds a header, made from a name and a value as by `Header::new`, as `add_header` does: `Connection`, `Trailer`,
+    /// `Transfer-Encoding` and `Upgrade` are ignored. The error is `Refused` if and only if the texts make no header,
+    /// and `Memory` if memory is refused. Both drop the response; `with_header` returns it. In a function that returns
+    /// `io::Result`, `?` converts them to `InvalidInput` and `OutOfMemory`.
     pub fn with(self, alloc: Global, name: &str, value: &str) -> Result<Response<R>, ParseError>
     where
         R: Drop,
@@ -66,7 +64,7 @@ impl<R: Drop> From<NotAdded<R>> for io::Error {
 
     ghost from_gives = { λ _ fault. error_kind fault ≡ OutOfMemory };
 
-    /// `OutOfMemory`. The answer and the header are let go.
+    /// Returns `OutOfMemory`, and drops the response and the header.
     fn from(_refused: NotAdded<R>) -> io::Error {
         ErrorKind::OutOfMemory.into()
     }
@@ -78,7 +76,7 @@ impl<R: Drop> From<Refused<R>> for io::Error {
 
     ghost from_gives = { λ _ fault. error_kind fault ≡ OutOfMemory };
 
-    /// `OutOfMemory`. The data are let go.
+    /// Returns `OutOfMemory`, and drops the data.
     fn from(_refused: Refused<R>) -> io::Error {
         ErrorKind::OutOfMemory.into()
     }

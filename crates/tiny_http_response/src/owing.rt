@@ -1,4 +1,4 @@
-//! Data that end before their stated length.
+//! A reader that reports data ending before their stated length.
 ghost use Rattle.std.specs.Prelude.{◌≡◌};
 ghost use Rattle.tiny_http_response.specs.Owing.{owed};
 
@@ -7,16 +7,16 @@ use std::io;
 use std::io::ErrorKind;
 use tiny_http_io::device::ReadDevice;
 
-/// A reader that owes a number of bytes. An end of the inner reader before the last of them is reported as
-/// `UnexpectedEof`. More bytes pass as they come.
+/// A reader that owes a number of bytes. If the inner reader ends before the last of them, the end is reported as
+/// `UnexpectedEof`. Bytes past that number pass unchanged.
 #[derive(Drop)]
 pub(crate) struct OwingReader<R> {
     inner: R,
     left: usize,
 }
 
-/// How many bytes the data of an answer in chunks owe: by the standard their length, if it is known. A client takes
-/// chunks without the last one for an incomplete answer (RFC 9112, section 8).
+/// Returns how many bytes the data of a chunked response owe: under `Profile::Standard` their length, if it is known,
+/// otherwise 0. A client takes a chunked body without its last chunk for incomplete (RFC 9112, section 8).
 pub(crate) fn owed(persistence: Option<Persistence>, data_length: Option<usize>) -> usize
     ensures { result ≡ owed persistence data_length }
 {
@@ -27,7 +27,7 @@ pub(crate) fn owed(persistence: Option<Persistence>, data_length: Option<usize>)
 }
 
 impl<R> OwingReader<R> {
-    /// The data of `reader`, which owe `length` bytes.
+    /// Wraps a reader whose data owe `length` bytes.
     pub(crate) fn new(reader: R, length: usize) -> OwingReader<R>
         ensures { result ≡ record { inner = reader; left = length } }
     {

@@ -1,4 +1,4 @@
-//! A writer into a small room of its own, so that many small pieces are handed on as one.
+//! A writer into a small fixed buffer, which joins many small writes into one.
 ghost use Rattle.std.specs.Prelude.{◌≡◌, ◌≤◌, ◌+◌, ◌++◌, [], Some, None, false, length, take};
 ghost use Rattle.tiny_http_response.specs.declared.page.TheConstants.{ROOM};
 
@@ -6,10 +6,10 @@ use std::io;
 use std::io::ErrorKind;
 use tiny_http_io::device::WriteDevice;
 
-// How many bytes a page takes.
+// The capacity of a page, in bytes.
 const ROOM: usize = 512;
 
-/// Takes `ROOM` bytes, and then each write of a byte fails.
+/// A writer that takes `ROOM` bytes, after which each nonempty write fails.
 #[derive(Drop)]
 pub(crate) struct Page {
     bytes: [u8; ROOM],
@@ -21,7 +21,7 @@ pub(crate) struct Page {
 impl Page {
     ghost use Rattle.tiny_http_response.specs.Page.{page_sink};
 
-    /// An empty page.
+    /// Creates an empty page.
     pub(crate) fn new() -> Page
         ensures { page_sink result ≡ record
             { taken = Some []; sent = []; failures = 0; last_kind = None; has_ended = false } }
@@ -33,7 +33,7 @@ impl Page {
         }
     }
 
-    // Takes these bytes, for which there is room.
+    // Appends bytes that fit.
     fn append(&mut self, bytes: &[u8])
         requires room { self.old.len + length bytes.now ≤ ROOM }
         ensures bytes { take self.new.len self.new.bytes ≡ take self.old.len self.old.bytes ++ bytes.now }
@@ -44,7 +44,7 @@ impl Page {
         self.len = end;
     }
 
-    /// What was written.
+    /// Returns the bytes written so far.
     pub(crate) fn as_slice(&self) -> &[u8]
         ensures { (page_sink self.now).taken ≡ Some result.now }
     {
@@ -57,12 +57,12 @@ impl WriteDevice for Page {
 
     ghost sink = { page_sink };
 
-    /// The count.
+    /// Returns the number of failed writes.
     fn failures(&self) -> u64 {
         self.failures
     }
 
-    /// Takes as many bytes as there is room for.
+    /// Takes as many bytes as fit. If `buf` isn't empty and none fit, the error is `OutOfMemory`.
     fn write_out(&mut self, buf: &[u8]) -> Result<usize, io::Error> {
         let n = buf.len().min(ROOM - self.len);
         if n == 0 && !buf.is_empty() {
@@ -73,7 +73,7 @@ impl WriteDevice for Page {
         Ok(n)
     }
 
-    /// Nothing is held back.
+    /// Does nothing: the page holds no bytes back.
     fn flush_out(&mut self) -> Result<(), io::Error> {
         Ok(())
     }

@@ -1,4 +1,4 @@
-//! Whether a client reads a header as it was meant (RFC 9110, section 5.5; RFC 9112, section 5).
+//! Whether a client reads a header as intended (RFC 9110, section 5.5; RFC 9112, section 5).
 ghost use Rattle.std.specs.Prelude.{◌≡◌, ◌↔◌, false, IsTrue};
 ghost use Rattle.std.specs.List.{AllByRecursion};
 ghost use Rattle.tiny_http_text.specs.Bytes.{HasNo, HasNoBlank, IsTrimmed, colon};
@@ -8,7 +8,7 @@ ghost use Rattle.tiny_http_response.specs.Readable.{IsReadable};
 use tiny_http_head::common::Header;
 use tiny_http_text::bytes::{cut, has_no_blank, is_trimmed};
 
-// Whether a CR LF stands in the text.
+// Returns whether the text contains CR LF.
 fn has_crlf(text: &[u8]) -> bool
     ensures { result ≡ has_crlf text.now }
 {
@@ -20,21 +20,21 @@ fn has_crlf(text: &[u8]) -> bool
     false
 }
 
-// Whether the name has no white space and no colon.
+// Returns whether the name has no white space and no colon.
 fn is_readable_name(name: &[u8]) -> bool
     ensures { IsTrue result ↔ (HasNoBlank name.now × HasNo colon name.now) }
 {
     has_no_blank(name) && cut(name, b':').is_none()
 }
 
-// Whether the value is trimmed and has no CR LF.
+// Returns whether the value is trimmed and has no CR LF.
 fn is_readable_value(value: &[u8]) -> bool
     ensures { IsTrue result ↔ (IsTrimmed value.now × (has_crlf value.now ≡ false)) }
 {
     is_trimmed(value) && !has_crlf(value)
 }
 
-// Whether a client reads the header as it was meant. Both its texts are ASCII by their type.
+// Returns whether a client reads the header as intended. Its name and value are ASCII by their types.
 fn is_readable(header: &Header) -> bool
     ensures { IsTrue result ↔ IsReadable header.now }
 {
@@ -43,7 +43,7 @@ fn is_readable(header: &Header) -> bool
     is_readable_name(name.as_bytes()) && is_readable_value(value.as_bytes())
 }
 
-// Whether a client reads each of these headers as it was meant.
+// Returns whether a client reads each of these headers as intended.
 pub(crate) fn are_readable(headers: &[Header]) -> bool
     ensures { IsTrue result ↔ AllByRecursion IsReadable headers.now }
 {

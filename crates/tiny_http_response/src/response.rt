@@ -1,4 +1,4 @@
-//! Answers to requests, and how they are printed.
+//! Responses, and how they are printed.
 ghost use Rattle.std.specs.Prelude.{◌≡◌, true, Option, Some, None, IfSome, if◌then◌else◌, ◌∷◌, IfOk, IfErr, OnOk};
 ghost use Rattle.std.specs.Prelude.{OnErr, IsTrue, ◌↔◌, vec_len, string_len, string_bytes, [], ◌<◌, ◌^◌, ◌++◌};
 ghost use Rattle.std.specs.Prelude.{length, ◌≤◌, ◌+◌};
@@ -42,8 +42,8 @@ use tiny_http_text::ascii::AsciiString;
 use tiny_http_text::bytes::are_ascii;
 use tiny_http_text::copies::owned;
 
-/// An answer to a request: a status code, headers, and a reader of the data with its length, where
-/// that is known. A contract sees it as the answer and the reader.
+/// A response: a status code, headers, and a reader of the data with its length, if known. A contract sees it as an
+/// `Answer` and the reader.
 #[derive(Drop)]
 pub struct Response<R> {
     reader: R,
@@ -56,7 +56,7 @@ pub struct Response<R> {
     contentless: bool,
 }
 
-/// An answer whose data any reader gives (as tiny_http).
+/// A response whose data come from any boxed reader (as tiny_http).
 pub type ResponseBox = Response<Metered<Box<dyn Read + Send + Drop>>>;
 
 impl<R> Model for Response<R> {
@@ -81,11 +81,11 @@ impl<R> Model for Response<R> {
     ghost invariant = { λ r. IsResponseHeaders r.headers.items };
 }
 
-/// The length in bytes from which data is sent in chunks, until another is set (as tiny_http). An answer that is to
-/// say its length however long it is, as that of a file, is given another one: `with_chunked_threshold(usize::MAX)`.
+/// The default chunked threshold: data of this length in bytes or more are sent in chunks (as tiny_http). To send a
+/// `Content-Length` whatever the length, as for a file, use `with_chunked_threshold(usize::MAX)`.
 pub const THRESHOLD: usize = 32768;
 
-// The header of a plain text.
+// Returns the `Content-Type` header of plain text.
 #[tactic(auto, unfolding(crate::specs::Answer::text_plain))]
 fn text_plain(alloc: Global) -> Result<Header, AllocError>
     ensures { IfOk result (λ h. h ≡ text_plain) }
@@ -96,10 +96,10 @@ fn text_plain(alloc: Global) -> Result<Header, AllocError>
 }
 
 impl<F: Read + OpenFile> Response<Metered<F>> {
-    /// An answer 200 with an open file as its data, and no headers (as tiny_http). The length is the file's, by its
-    /// metadata, and unknown where that can't be read. A file of `THRESHOLD` bytes or more is sent in chunks, and its
-    /// length isn't said; after `with_chunked_threshold(usize::MAX)` it is. One that shrinks meanwhile is a fault of
-    /// kind `UnexpectedEof`, in chunks by the standard alone. It takes no memory.
+    /// Creates a 200 response with an open file as its data, and no headers (as tiny_http). The length is the file's,
+    /// by its metadata, or unknown if that can't be read. A file of `THRESHOLD` bytes or more is sent in chunks,
+    /// without a `Content-Length`, unless `with_chunked_threshold(usize::MAX)` is set. If the file shrinks meanwhile,
+    /// sending it reports `UnexpectedEof`; in chunks it does so only under `Profile::Standard`. Allocates nothing.
     pub fn from_file(alloc: Global, file: F) -> Response<Metered<F>>
         ensures status { result.answer.status ≡ 200 }
         ensures headers { result.answer.headers ≡ [] }
@@ -112,8 +112,8 @@ impl<F: Read + OpenFile> Response<Metered<F>> {
 }
 
 impl Response<Cursor<Vec<u8>>> {
-    /// An answer 200 with a text as its data, of known length, under `Content-Type: text/plain;
-    /// charset=UTF-8` (as tiny_http). An error where there is no memory for that header.
+    /// Creates a 200 response with a text as its data, of known length, and `Content-Type: text/plain; charset=UTF-8`
+    /// (as tiny_http). Fails if memory for that header is refused.
     pub fn from_string(alloc: Global, text: String) -> Result<Response<Cursor<Vec<u8>>>, AllocError>
         ensures answer { IfOk result (λ r. r.answer ≡ answer_with 200 (text_plain ∷ []) (string_len text)) }
         ensures bytes { IfOk result (λ r. cursor_bytes r.data_reader ≡ string_bytes text) }
@@ -123,8 +123,7 @@ impl Response<Cursor<Vec<u8>>> {
         Ok(response)
     }
 
-    /// An answer 200 with these bytes as its data, of known length, and no headers. It takes no
-    /// memory.
+    /// Creates a 200 response with these bytes as its data, of known length, and no headers. Allocates nothing.
     pub fn from_data(alloc: Global, bytes: Vec<u8>) -> Response<Cursor<Vec<u8>>>
         ensures answer { result.answer ≡ answer_with 200 [] (vec_len bytes) }
         ensures bytes { cursor_bytes result.data_reader ≡ bytes.items }
@@ -135,18 +134,17 @@ impl Response<Cursor<Vec<u8>>> {
 }
 
 impl Response<io::Empty> {
-    /// An answer with this code, no headers and no data, of length 0. It takes no memory.
+    /// Creates a response with this status code, no headers and no data, of length 0. Allocates nothing.
     pub fn empty(alloc: Global, status: StatusCode) -> Response<io::Empty>
         ensures { result.answer ≡ answer_with status.0 [] 0 }
     {
         Response::of(alloc, status, io::empty(), Some(0))
     }
 
-    /// An answer without data that says no length, for a code whose answers have no content: one from 100 to 199, a
-    /// 204 or a 304 (RFC 9110, sections 6.4.1, 8.6, 15.3.5 and 15.4.5). Such an answer has neither `Content-Length`
-    /// nor `Transfer-Encoding`, under each profile and whatever the request asks for. `empty` says the length 0, but
-    /// by the standard. With another code this answer is printed as that of `empty`. It has no headers, and takes no
-    /// memory.
+    /// Creates a response without headers or data for a status code that has no content: 100 to 199, 204 or 304 (RFC
+    /// 9110, sections 6.4.1, 8.6, 15.3.5 and 15.4.5). It has neither `Content-Length` nor `Transfer-Encoding`, under
+    /// each profile and whatever the request asks for, whereas `empty` sends `Content-Length: 0` except under
+    /// `Profile::Standard`. With any other code it is printed as that of `empty`. Allocates nothing.
     pub fn contentless(alloc: Global, status: StatusCode) -> Response<io::Empty>
         ensures { result.answer ≡ contentless_answer status.0 }
     {
@@ -155,14 +153,14 @@ impl Response<io::Empty> {
         response
     }
 
-    /// The same as `empty`.
+    /// Creates the same response as `empty`.
     pub fn new_empty(alloc: Global, status: StatusCode) -> Response<io::Empty>
         ensures { result.answer ≡ answer_with status.0 [] 0 }
     {
         Response::empty(alloc, status)
     }
 
-    /// A copy, or an error where there is no memory for it.
+    /// Copies the response, or fails if memory is refused.
     pub fn try_clone(&self) -> Result<Response<io::Empty>, AllocError>
         ensures { IfOk result (λ r. r ≡ self.now) }
     {
@@ -180,7 +178,7 @@ impl Response<io::Empty> {
     }
 }
 
-// A copy of a text, if there is one.
+// Copies a text, if there is one.
 fn copy_of(text: &Option<AsciiString>) -> Result<Option<AsciiString>, AllocError>
     ensures { IfOk result (λ copy. copy ≡ text.now) }
 {
@@ -190,7 +188,7 @@ fn copy_of(text: &Option<AsciiString>) -> Result<Option<AsciiString>, AllocError
     }
 }
 
-// Copies of the headers, in a list of just their room.
+// Copies the headers into a list with exactly their capacity.
 fn copies_of(alloc: Global, headers: &[Header]) -> Result<Vec<Header>, AllocError>
     ensures { IfOk result (λ list. list.items ≡ headers.now) }
 {
@@ -201,25 +199,26 @@ fn copies_of(alloc: Global, headers: &[Header]) -> Result<Vec<Header>, AllocErro
     Ok(list)
 }
 
-/// What `Response::new` gives back where it finds no memory for a header: the data.
+/// The error of `Response::new` when memory for a header is refused. It returns the data.
 #[derive(Drop)]
 pub struct Refused<R> {
-    /// The reader of the data, as it was given.
+    /// The reader of the data, unchanged.
     pub reader: R,
 }
 
-/// What `Response::with_header` gives back where it finds no memory for the header: both, as they
-/// were given.
+/// The error of `Response::with_header` when memory for the header is refused. It returns the response and the header,
+/// both unchanged.
 #[derive(Drop)]
 pub struct NotAdded<R> {
-    /// The answer, without the header.
+    /// The response, without the header.
     pub response: Response<R>,
     /// The header.
     pub header: Header,
 }
 
 impl<R> Response<R> {
-    /// An answer with this code and data, of this length in bytes, if it is known, and no headers. It takes no memory.
+    /// Creates a response with this status code and data, and no headers. `data_length` is in bytes, if known.
+    /// Allocates nothing.
     pub fn of(
         alloc: Global,
         status: StatusCode,
@@ -241,10 +240,9 @@ impl<R> Response<R> {
         }
     }
 
-    /// An answer with this code and data, of this length in bytes, if it is known. Each of `headers`
-    /// and then each of `more` is added as `add_header` does. The room of `headers` is used for the
-    /// list: only a header of `more` takes memory. An error where there is none for it: the data
-    /// comes back.
+    /// Creates a response with this status code and data; `data_length` is in bytes, if known. Adds each of `headers`
+    /// and then each of `more` as `add_header` does. The list reuses the allocation of `headers`, so only a header of
+    /// `more` needs memory. If that is refused, the error returns the data.
     pub fn new(
         status: StatusCode,
         mut headers: Vec<Header>,
@@ -278,7 +276,7 @@ impl<R> Response<R> {
         }
     }
 
-    /// The same answer with another code.
+    /// Replaces the status code.
     pub fn with_status_code(mut self, code: StatusCode) -> Response<R>
         ensures { result ≡ record self { answer = record self.answer { status = code.0 } } }
     {
@@ -286,8 +284,7 @@ impl<R> Response<R> {
         self
     }
 
-    /// The same answer with other data, of this length in bytes, if it is known. The threshold is
-    /// kept.
+    /// Replaces the data; `data_length` is in bytes, if known. The threshold is kept.
     pub fn with_data<S>(self, reader: S, data_length: Option<usize>) -> Response<S>
     where
         R: Drop,
@@ -305,8 +302,8 @@ impl<R> Response<R> {
         }
     }
 
-    /// The same answer with another threshold: the length in bytes from which data is sent in
-    /// chunks. Shorter data say their length, unless the request's `TE` asks for chunks.
+    /// Sets the chunked threshold: data of this length in bytes or more are sent in chunks. Shorter data are sent with
+    /// a `Content-Length`, unless the request's `TE` asks for chunks.
     pub fn with_chunked_threshold(self, length: usize) -> Response<R>
         ensures { result ≡ record self { answer = record self.answer { threshold = length } } }
     {
@@ -315,10 +312,10 @@ impl<R> Response<R> {
         response
     }
 
-    /// The same answer, which offers to upgrade to these protocols, in place of those that it offered: a list such as
-    /// `websocket` or `h2c, foo/2`, as a 426 has to (RFC 9110, sections 7.8 and 15.5.22). An answer by the standard
-    /// has it as its `Upgrade` header, with a space in place of each byte that may not stand there, and names it in
-    /// `Connection`. Other answers, an upgrade's own and one with a code below 200 leave it out.
+    /// Offers to upgrade to these protocols, in place of any offered before: a list such as `websocket` or `h2c,
+    /// foo/2`, which a 426 must have (RFC 9110, sections 7.8 and 15.5.22). Under `Profile::Standard` the response sends
+    /// it in `Upgrade`, with a space in place of each byte that isn't allowed in a field value, and names `upgrade` in
+    /// `Connection`. Under other profiles, in an upgrade's own response and with a code below 200 it is omitted.
     pub fn with_upgrade_offer(self, protocols: AsciiString) -> Response<R>
         ensures { result ≡ record self { answer = record self.answer { offered = Some protocols } } }
     {
@@ -327,11 +324,11 @@ impl<R> Response<R> {
         response
     }
 
-    /// The same answer, behind which the connection is to end (RFC 9112, section 9.6). Where a `Connection` or a
-    /// `Request` sends it as its answer, no further request is handed out; those that were are answered. By the
-    /// standard the last answer of the connection says `Connection: close`: this one, if nothing was read behind its
-    /// request. Behind the last answer that `Request`s send the client of a socket sees the end; a `Connection`
-    /// closes nothing. An upgrade and an `Exchange` pass it over, and what `raw_print` and `print` print is the same.
+    /// Closes the connection after this response (RFC 9112, section 9.6). Once a `Connection` or a `Request` has sent
+    /// it, no further request is handed out; requests already handed out are answered. Under `Profile::Standard` the
+    /// last response of the connection has `Connection: close`: this one, if nothing was read after its request. After
+    /// the last response of `Request`s a socket's client sees end of file; a `Connection` closes nothing. Upgrades and
+    /// `Exchange` ignore this, and `raw_print` and `print` print the same bytes.
     pub fn with_close(self) -> Response<R>
         ensures { result ≡ record self { answer = record self.answer { closes = true } } }
     {
@@ -340,12 +337,11 @@ impl<R> Response<R> {
         response
     }
 
-    /// Adds a header (as tiny_http). `Connection`, `Trailer`, `Transfer-Encoding` and `Upgrade` are
-    /// left out, in any case of letters. A `Content-Length` is kept as the length of the data, if it
-    /// can be read: an optional `+`, then digits, at most 18446744073709551615; else it is left out.
-    /// A second `Content-Type` replaces the value of the first, at its place. Any other header is
-    /// put last, and that alone takes memory: without it the header comes back, and the answer is
-    /// unchanged.
+    /// Adds a header (as tiny_http). `Connection`, `Trailer`, `Transfer-Encoding` and `Upgrade` are ignored, in any
+    /// letter case. `Content-Length` sets the length of the data if its value is an optional `+` and digits, at most
+    /// 18446744073709551615; otherwise it is ignored. A second `Content-Type` replaces the value of the first, in
+    /// place. Any other header is appended, which alone needs memory: if that is refused, the error returns the header,
+    /// and the response is unchanged.
     pub fn add_header(&mut self, header: Header) -> Result<(), Header>
         ensures added { OnOk result (self.new ≡ record self.old { answer = add_header header self.old.answer }) }
         ensures refused { IfErr result (λ h. (h ≡ header) × (self.new ≡ self.old)) }
@@ -354,8 +350,7 @@ impl<R> Response<R> {
         add(&mut self.headers, &mut self.data_length, header)
     }
 
-    /// The same answer with a header more, as `add_header` does. An error where there is no memory
-    /// for it: both come back.
+    /// Adds a header as `add_header` does, and returns the response. If memory is refused, the error returns both.
     pub fn with_header(mut self, header: Header) -> Result<Response<R>, NotAdded<R>>
         ensures added { IfOk result (λ r. r ≡ record self { answer = add_header header self.answer }) }
         ensures refused { IfErr result (λ e. (e.response ≡ self) × (e.header ≡ header)) }
@@ -370,71 +365,71 @@ impl<R> Response<R> {
         }
     }
 
-    /// The status code.
+    /// Returns the status code.
     pub fn status_code(&self) -> StatusCode
         ensures { result.0 ≡ self.now.answer.status }
     {
         self.status
     }
 
-    /// The length of the data in bytes, if it is known.
+    /// Returns the length of the data in bytes, if known.
     pub fn data_length(&self) -> Option<usize>
         ensures { result ≡ self.now.answer.data_length }
     {
         self.data_length
     }
 
-    /// The headers, in the order in which they are sent.
+    /// Returns the headers, in the order in which they are sent.
     pub fn headers(&self) -> &[Header]
         ensures value { result.now ≡ self.now.answer.headers }
-        // It never holds `Connection`, `Trailer`, `Transfer-Encoding`, `Upgrade` or `Content-Length`, and
+        // The list never holds `Connection`, `Trailer`, `Transfer-Encoding`, `Upgrade` or `Content-Length`, and holds
         // `Content-Type` at most once.
         ensures law { IsResponseHeaders result.now }
     {
         self.headers.as_slice()
     }
 
-    /// Whether a client reads each of the headers as it was meant. The name has no white space (bytes 9 to 13 and 32)
-    /// and no colon. The value has no white space at its ends, and no CR LF. Both are ASCII (RFC 9110, section 5.5;
-    /// RFC 9112, section 5). Check it where a header has a client's text in it, such as a `Location` that is made of
-    /// a decoded path: what stands behind a CR LF is read as a header of its own. The client theorem asks this of the
-    /// headers of an answer that isn't printed by the standard.
+    /// Returns whether a client reads each header as intended (RFC 9110, section 5.5; RFC 9112, section 5): the name
+    /// has no white space (bytes 9 to 13 and 32) and no colon; the value is trimmed and has no CR LF; both are ASCII.
+    /// Check it if a header contains a client's text, such as a `Location` made from a decoded path: what follows a CR
+    /// LF would be read as another header. The client theorem requires it of the headers of a response that isn't
+    /// printed under `Profile::Standard`.
     pub fn is_readable(&self) -> bool
         ensures { IsTrue result ↔ AllByRecursion IsReadable self.now.answer.headers }
     {
         are_readable(self.headers.as_slice())
     }
 
-    /// The protocols that the answer offers to upgrade to, if it offers any.
+    /// Returns the protocols that the response offers to upgrade to, if any.
     pub fn upgrade_offer(&self) -> Option<&str>
         ensures { option_copied result ≡ self.now.answer.offered }
     {
         self.offered.as_ref().map(AsciiString::as_str)
     }
 
-    /// Whether the connection is to end behind the answer.
+    /// Returns whether the connection closes after the response.
     pub fn closes(&self) -> bool
         ensures { result ≡ self.now.answer.closes }
     {
         self.closes
     }
 
-    /// The length in bytes from which data is sent in chunks: `THRESHOLD`, until another is set.
+    /// Returns the length in bytes from which data are sent in chunks: `THRESHOLD` unless another was set.
     pub fn chunked_threshold(&self) -> usize
         ensures { result ≡ self.now.answer.threshold }
     {
         self.threshold
     }
 
-    /// Prints head and body for a request of this version with these headers, dated `now` (RFC 9112, sections 4 to
-    /// 7); for an upgrade to a protocol the head alone. The body is withheld for `no_body` (HEAD) and the codes 100
-    /// to 199, 204 and
-    /// 304. What the request's `TE` header asks for decides how the body is coded, as `coding::choose` says.
+    /// Prints head and body for a request of this version with these headers, dated `now` (RFC 9112, sections 4 to 7).
+    /// An upgrade to a protocol prints the head alone. The body is withheld if `no_body` (HEAD) is set and for the
+    /// codes 100 to 199, 204 and 304. `coding::choose` chooses the coding, with what the request's `TE` asks for.
+    /// Doesn't flush.
     ///
-    /// The first fault, of the writer or of the data, is reported, and nothing is written after it. Data that end
-    /// before their length are UnexpectedEof, unless they are sent in chunks. Data of unknown length that aren't sent
-    /// in chunks are read whole first: a fault of them, or OutOfMemory, leaves nothing written, as InvalidInput does
-    /// for a protocol that isn't ASCII. It doesn't flush.
+    /// The error is the first fault, of the writer or of the data; nothing is written after it. Data that end before
+    /// their length are `UnexpectedEof`, except in chunks. Data of unknown length that aren't sent in chunks are read
+    /// whole first: if they fail or memory is refused (`OutOfMemory`), nothing is written. Nor is it for a protocol
+    /// that isn't ASCII (`InvalidInput`).
     pub fn raw_print<W: WriteDevice>(
         self,
         alloc: Global,
@@ -457,7 +452,7 @@ impl<R> Response<R> {
               upgrade = option_copied upgrade.entry;
               date = now;
             })) }
-        // Whatever the data and the writer state: a fault of the writer's is one that its count has.
+        // For any data and writer: the writer's count accounts for a fault of the writer's.
         ensures uses { CountsFaults (W.sink writer.old) (W.sink writer.new) result }
     {
         let context = ResponseContext {
@@ -469,12 +464,11 @@ impl<R> Response<R> {
         self.print(alloc, writer, context, upgrade, now)
     }
 
-    /// Prints head and body as `raw_print` does, for a request of which `context` has what the answer needs. Where
-    /// the context says what becomes of the connection it is printed by the standard: the status line in version 1.1;
-    /// `Connection` behind the date where there is something to say, but for an upgrade and a code below 200; no
-    /// header of more than one line. No data are read for a code below 200, a 204, a 205 and a 304. In chunks, too,
-    /// data that end before their length are UnexpectedEof: no last chunk is sent, by which a client sees that the
-    /// answer is incomplete (RFC 9112, section 8).
+    /// Prints head and body as `raw_print` does, with what `context` holds of the request. If `context.persistence` is
+    /// `Some`, it follows `Profile::Standard`: the status line has version 1.1, each header takes one line, and
+    /// `Connection` follows the date if needed, except for an upgrade and a code below 200. No data are read for a code
+    /// below 200, 204, 205 and 304. Chunked data, too, that end before their length are `UnexpectedEof`; without the
+    /// last chunk the client sees that the response is incomplete (RFC 9112, section 8).
     pub fn print<W: WriteDevice>(
         self,
         alloc: Global,
@@ -537,11 +531,11 @@ impl<R> Response<R> {
         }
     }
 
-    /// Prints the head alone of an answer whose body comes later, and grows while it is sent:
-    /// `ResponseContext::streamed_form` says how that is to be sent. The head says chunks to a version from 1.1 on,
-    /// also where no body is asked for, and neither a length nor a coding to an earlier one (RFC 9112, section 6).
-    /// The answer's data, their length and its threshold are passed over. It is printed by the standard where `print`
-    /// would be. The error is the writer's first fault, after which nothing more is written. It doesn't flush.
+    /// Prints only the head of a response whose body follows and grows while it is sent, as
+    /// `ResponseContext::streamed_form` says. From version 1.1 on the head has `Transfer-Encoding: chunked`, even for a
+    /// `HEAD`; for earlier versions it has neither a length nor a coding (RFC 9112, section 6). The data, their length
+    /// and the threshold are ignored. Follows `Profile::Standard` if `print` would. The error is the writer's first
+    /// fault, after which nothing more is written. Doesn't flush.
     pub fn print_head<W: WriteDevice>(
         &self,
         writer: &mut W,
@@ -561,7 +555,7 @@ impl<R> Response<R> {
         put_head(writer, &head, None, context.streamed_framing(self.status))
     }
 
-    /// Gives the reader of the data.
+    /// Returns the reader of the data.
     pub fn into_reader(self) -> R
         ensures { result ≡ self.data_reader }
     {
@@ -569,14 +563,14 @@ impl<R> Response<R> {
     }
 }
 
-// Whether the body of an answer with this code is not sent.
+// Returns whether the body of a response with this status code is not sent.
 fn is_withheld(no_body: bool, status: StatusCode) -> bool
     ensures { result ≡ is_withheld no_body status.0 }
 {
     no_body || has_no_content(status)
 }
 
-// Prints an answer of known length whose body is sent as it is.
+// Prints a response of known length whose body is sent as it is.
 fn print_as_it_is<D: ReadDevice, W: WriteDevice>(
     source: &mut D,
     writer: &mut W,
@@ -590,7 +584,7 @@ fn print_as_it_is<D: ReadDevice, W: WriteDevice>(
         (if withheld then whole [] else identity_body n feed))) }
     ensures unread { withheld ≡ true → source.new ≡ source.old }
     ensures uses { CountsFaults (W.sink writer.old) (W.sink writer.new) result }
-    // `Ok` meets no end of the data; a fault, one end or fault of them at most.
+    // `Ok` reaches no end of the data; an error reaches at most one end or fault of them.
     ensures stop_count { D.stop_count source.new ≤ D.stop_count source.old + fault_count result }
 {
     put_head(writer, head, None, FramingHeader::ContentLength(n))?;
@@ -600,7 +594,7 @@ fn print_as_it_is<D: ReadDevice, W: WriteDevice>(
     put_exactly(source, writer, n)
 }
 
-// Prints bytes as the body of an answer.
+// Prints bytes as the body of a response.
 fn print_bytes<W: WriteDevice>(
     bytes: &[u8],
     writer: &mut W,
@@ -623,7 +617,7 @@ fn print_bytes<W: WriteDevice>(
     put(writer, bytes)
 }
 
-// Prints an answer of unknown length whose body is sent as it is: its data is read whole first.
+// Prints a response of unknown length whose body is sent as it is, after reading the data whole.
 fn print_gathered<D: ReadDevice, W: WriteDevice>(
     alloc: Global,
     source: &mut D,
@@ -643,7 +637,7 @@ fn print_gathered<D: ReadDevice, W: WriteDevice>(
     print_bytes(bytes.as_slice(), writer, head, withheld)
 }
 
-// Prints an answer whose body isn't coded, by its length.
+// Prints a response whose body isn't coded, with its length.
 fn print_uncoded<D: ReadDevice, W: WriteDevice>(
     alloc: Global,
     source: &mut D,
@@ -665,7 +659,7 @@ fn print_uncoded<D: ReadDevice, W: WriteDevice>(
     }
 }
 
-// Prints an answer whose body is sent in chunks.
+// Prints a response whose body is sent in chunks.
 fn print_in_chunks<D: ReadDevice, W: WriteDevice>(
     source: &mut D,
     writer: &mut W,
@@ -688,7 +682,7 @@ fn print_in_chunks<D: ReadDevice, W: WriteDevice>(
     put_chunked(source, writer)
 }
 
-// Prints an upgrade's answer.
+// Prints the response of an upgrade, or fails with `InvalidInput` for a protocol that isn't ASCII.
 fn print_upgrade<W: WriteDevice>(
     writer: &mut W,
     head: &ResponseHead<'_>,

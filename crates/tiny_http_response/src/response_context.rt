@@ -1,4 +1,4 @@
-//! What printing an answer needs of its request.
+//! What printing a response needs to know of its request.
 ghost use Rattle.std.specs.Prelude.{◌≡◌};
 ghost use Rattle.tiny_http_response.specs.Streaming.{streamed_form, streamed_framing};
 
@@ -7,34 +7,34 @@ use crate::coding::{Coding, FramingHeader};
 use tiny_http_body::streamed::StreamedForm;
 use tiny_http_head::common::{HTTPVersion, StatusCode};
 
-/// What an answer says of its connection (RFC 9112, section 9.3).
+/// What a response says about its connection (RFC 9112, section 9.3).
 #[derive(Clone, Copy, Debug, PartialEq, Eq)]
 pub enum Persistence {
-    /// That it persists. To version 1.1 nothing has to be said for that.
+    /// The connection persists. A response to HTTP/1.1 needs no header for that.
     Persistent,
-    /// That the server closes it behind the answer.
+    /// The server closes the connection after the response.
     Close,
 }
 
-/// What printing an answer needs of its request, so that the request's headers needn't be kept.
+/// What printing a response needs to know of its request, so that the request's headers needn't be kept.
 #[derive(Clone, Copy, Debug, PartialEq, Eq)]
 pub struct ResponseContext {
-    /// The version of the request.
+    /// The HTTP version of the request.
     pub version: HTTPVersion,
-    /// The transfer coding that the request asks for by its `TE` header, if it asks for one.
+    /// The transfer coding that the request's `TE` header asks for, if any.
     pub asked_coding: Option<Coding>,
-    /// The request is a `HEAD`, whose answer has no body.
+    /// Whether the response has no body because the request is a `HEAD`.
     pub no_body: bool,
-    /// What the answer says of its connection, where it is printed by the standard (RFC 9112, section 9.6). Without
-    /// it the answer is printed as by tiny_http: in the version of the request, with its headers as they are, and
-    /// with a length or a coding whatever its code is.
+    /// What the response says about its connection (RFC 9112, section 9.6). `Some` prints the response as
+    /// `Profile::Standard` requires. `None` prints it as tiny_http does: in the version of the request, with its
+    /// headers unchanged, and with a length or a coding whatever its status code is.
     pub persistence: Option<Persistence>,
 }
 
 impl ResponseContext {
-    /// How a body is sent that grows behind the head of an answer with this code: not at all where none is asked for
-    /// or the code has no content; as it is to a version up to 1.0, so that the connection's end ends it (RFC 9112,
-    /// section 6.3); else in chunks (section 7.1).
+    /// Returns how to send a body that grows after the head of a response with this status code. It is absent for a
+    /// `HEAD` and for a code without content. For versions up to 1.0 the bytes are sent as they are, and the end of the
+    /// connection ends them (RFC 9112, section 6.3). Otherwise they are sent in chunks (section 7.1).
     pub fn streamed_form(&self, status: StatusCode) -> StreamedForm
         ensures { result ≡ streamed_form self.now status.0 }
     {
@@ -47,7 +47,7 @@ impl ResponseContext {
         StreamedForm::Chunks
     }
 
-    // What the head says of such a body.
+    // Returns the header that frames a growing body.
     pub(crate) fn streamed_framing(&self, status: StatusCode) -> FramingHeader
         ensures { result ≡ streamed_framing self.now status.0 }
     {

@@ -1,4 +1,4 @@
-//! An answer on its way out: printed, flushed, and what follows a fault.
+//! Sending a response: printing, flushing, and the state of the outlet after a fault.
 ghost use Rattle.std.specs.Prelude.{◌≡◌, ◌<◌, ◌^◌, ◌==◌, true, [], length, Some, None, Ok, IfErr, OnErr, MatchBool};
 ghost use Rattle.std.specs.IoError.{error_kind};
 ghost use Rattle.std.specs.Option.{option_copied};
@@ -19,8 +19,8 @@ use std::io::ErrorKind;
 use tiny_http_io::device::{ReadDevice, WriteDevice};
 use tiny_http_io::outlet::Outlet;
 
-// Ends an outlet on which printing met a fault. Where the writer's count is still this one the fault was not the
-// writer's, and what is held is sent.
+// Ends an outlet after a fault in printing. If the writer's failure count is still `failures`, the fault was not the
+// writer's, and the held bytes are sent; otherwise they are discarded.
 fn end_behind_fault<W: WriteDevice>(outlet: &mut Outlet<W>, failures: u64)
     ensures ends { MatchBool ((output_of outlet.old).failures == failures)
         (EndsQuietly (output_of outlet.old) (output_of outlet.new))
@@ -36,7 +36,7 @@ fn end_behind_fault<W: WriteDevice>(outlet: &mut Outlet<W>, failures: u64)
     }
 }
 
-// Prints an answer, or an upgrade to a protocol, and flushes it, as `send` does.
+// Prints a response, or an upgrade to a protocol, and flushes it, as `send` does.
 fn send_printed<W: WriteDevice, D: ReadDevice + Drop>(
     alloc: Global,
     outlet: &mut Outlet<W>,
@@ -67,8 +67,8 @@ fn send_printed<W: WriteDevice, D: ReadDevice + Drop>(
     outlet.flush()
 }
 
-/// Prints an answer and flushes it. The first fault is the error: the data's, or the writer's. After it nothing more
-/// is sent on the connection; what was held before a fault of the data is sent.
+/// Prints a response and flushes it. The error is the first fault, of the data or of the writer. After an error nothing
+/// more is sent on the connection; bytes that were held before a fault of the data are still sent.
 pub fn send<W: WriteDevice, D: ReadDevice + Drop>(
     alloc: Global,
     outlet: &mut Outlet<W>,
@@ -92,8 +92,8 @@ pub fn send<W: WriteDevice, D: ReadDevice + Drop>(
     send_printed(alloc, outlet, response, response_context, None, now)
 }
 
-/// Sends an answer as `send` does, unless the output has ended: then nothing is sent, the data aren't read, and the
-/// result is `Ok`.
+/// Sends a response as `send` does, unless the output has ended. Then it sends nothing, leaves the data unread and
+/// returns `Ok`.
 pub fn send_unless_ended<W: WriteDevice, D: ReadDevice + Drop>(
     alloc: Global,
     outlet: &mut Outlet<W>,
@@ -110,7 +110,8 @@ pub fn send_unless_ended<W: WriteDevice, D: ReadDevice + Drop>(
     send(alloc, outlet, response, response_context, now)
 }
 
-/// Whether a fault of this kind says that the client has closed the connection: an answer to it is no failure.
+/// Returns whether an error of this kind means that the client has closed the connection. Such an error is not a
+/// failure of the response.
 pub fn is_closed_client(kind: ErrorKind) -> bool
     ensures { result ≡ is_closed_client kind }
 {
@@ -123,8 +124,8 @@ pub fn is_closed_client(kind: ErrorKind) -> bool
     )
 }
 
-/// What is reported of an answer that was sent so: its fault, unless that is of a kind which says that the client has
-/// closed the connection, also where it is one of the data.
+/// Converts the outcome of sending a response to what is reported. An error whose kind means that the client has closed
+/// the connection becomes `Ok`, even if it came from the data; any other error is kept.
 pub fn reported(sent: Result<(), io::Error>) -> Result<(), io::Error>
     ensures { result ≡ reported sent }
 {
@@ -134,10 +135,10 @@ pub fn reported(sent: Result<(), io::Error>) -> Result<(), io::Error>
     }
 }
 
-/// Prints an answer that upgrades the connection to a protocol, and flushes it (RFC 9110, section 7.8): its head
-/// alone, with `Connection: upgrade` and `Upgrade: PROTOCOL` in front of the other headers. The data are let go
-/// unread. The writer's first fault is the error. So is InvalidInput for a protocol that isn't ASCII, of which
-/// nothing is sent. After an error nothing more is sent on the connection. The call takes no memory.
+/// Prints the response that upgrades the connection to a protocol, and flushes it (RFC 9110, section 7.8): the head
+/// alone, with `Connection: upgrade` and `Upgrade: PROTOCOL` before the other headers. The data are dropped unread. The
+/// error is the writer's first fault, or `InvalidInput` for a protocol that isn't ASCII, of which nothing is sent.
+/// After an error nothing more is sent on the connection. Allocates nothing.
 pub fn send_upgrade<W: WriteDevice, D: Drop>(
     alloc: Global,
     outlet: &mut Outlet<W>,
@@ -146,7 +147,7 @@ pub fn send_upgrade<W: WriteDevice, D: Drop>(
     protocol: &str,
     now: HttpDate,
 ) -> Result<(), io::Error>
-    // Whatever the data are.
+    // Holds for any data.
     ensures sends { (content : Feed) → CanSend (output_of outlet.old)
         → SendsText (output_of outlet.old) (output_of outlet.new) (outlet_ended outlet.new) result
         (text_of response.answer content (upgrading protocol.now (printing_in response_context now))) }
@@ -159,7 +160,7 @@ pub fn send_upgrade<W: WriteDevice, D: Drop>(
     send_printed(alloc, outlet, answer, response_context, Some(protocol), now)
 }
 
-/// Writes a text. No reply reports a fault that is met there.
+/// Writes bytes. A fault is not reported.
 pub fn write_quietly<W: WriteDevice>(outlet: &mut Outlet<W>, text: &[u8])
     ensures sends { SendsQuietlyOn outlet.old outlet.new text.now }
     ensures fails_once { FailsOnce outlet.old outlet.new }
@@ -168,7 +169,7 @@ pub fn write_quietly<W: WriteDevice>(outlet: &mut Outlet<W>, text: &[u8])
     let _ = outlet.write(text);
 }
 
-/// Flushes what was written. No reply reports a fault that is met there.
+/// Flushes what was written. A fault is not reported.
 pub fn flush_quietly<W: WriteDevice>(outlet: &mut Outlet<W>)
     ensures sends { SendsQuietlyOn outlet.old outlet.new [] }
     ensures fails_once { FailsOnce outlet.old outlet.new }

@@ -1,4 +1,4 @@
--- What clauses read of sockets and of their addresses: of which kind they are.
+-- What clauses see of sockets and of their addresses: their kind.
 use Rattle.std.specs.Prelude.{◌≡◌, ℕ, List, Option, Some, None, ⊤}
 use Rattle.std.specs.declared.net.socket_addr.SocketAddr.{SocketAddr}
 use Rattle.std.specs.declared.net.unix.addr.SocketAddr.{SocketAddr as UnixAddr}
@@ -20,7 +20,7 @@ IsCopyOf (G.IP addrs) (G.Unix path) = ⊥
 IsCopyOf (G.Unix path) (G.IP addrs) = ⊥
 IsCopyOf (G.Unix path) (G.Unix copy) = path_buf_bytes copy ≡ path_buf_bytes path
 
--- a socket that listens at such a place is of its kind
+-- a socket that listens at such an address is of its kind
 abbrev pub IsBoundAs : ConfigListenAddr → Listener → Type 0
 IsBoundAs (G.IP addrs) (L.Tcp l) = ⊤
 IsBoundAs (G.IP addrs) (L.Unix l) = ⊥
@@ -34,21 +34,21 @@ HasAddressOf (L.Tcp l) (A.Unix addr) = ⊥
 HasAddressOf (L.Unix l) (A.IP addr) = ⊥
 HasAddressOf (L.Unix l) (A.Unix addr) = ⊤
 
--- a TCP connection has a peer's address, a Unix one has none
+-- a TCP connection has a peer address, a Unix one has none
 abbrev pub HasPeerOf : Connection → Option SocketAddr → Type 0
 HasPeerOf (C.Tcp s) (Some addr) = ⊤
 HasPeerOf (C.Tcp s) None = ⊥
 HasPeerOf (C.Unix s) (Some addr) = ⊥
 HasPeerOf (C.Unix s) None = ⊤
 
--- the two are of one kind
+-- the two are of the same kind
 abbrev pub IsSameKind : Connection → Connection → Type 0
 IsSameKind (C.Tcp s) (C.Tcp t) = ⊤
 IsSameKind (C.Tcp s) (C.Unix t) = ⊥
 IsSameKind (C.Unix s) (C.Tcp t) = ⊥
 IsSameKind (C.Unix s) (C.Unix t) = ⊤
 
--- a client's connection is of the kind of the listener that accepted it, and has its address as such a connection has
+-- a client's connection is of the kind of the listener that accepted it, and has a peer address if that kind has one
 abbrev pub IsAcceptedBy : Listener → Connection → Option SocketAddr → Type 0
 IsAcceptedBy (L.Tcp l) (C.Tcp s) addr = HasPeerOf (C.Tcp s) addr
 IsAcceptedBy (L.Tcp l) (C.Unix s) addr = ⊥

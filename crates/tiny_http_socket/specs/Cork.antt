@@ -1,4 +1,4 @@
--- What clauses read of the halves of a corked connection.
+-- What clauses see of the halves of a corked connection.
 use Rattle.std.specs.Prelude.{◌≡◌, ℕ, [], Option, Some, None, false, Result, Ok, Err}
 use Rattle.std.specs.IoError.{error_kind}
 use Rattle.std.specs.declared.io.Error.{Error}
@@ -7,15 +7,15 @@ use Rattle.tiny_http_socket.specs.ReadAhead.{ahead_feed}
 use Rattle.tiny_http_socket.specs.declared.cork.FlushingReader.{FlushingReader}
 use Rattle.tiny_http_socket.specs.declared.cork.CorkedWriter.{CorkedWriter}
 
--- the bytes that the half still gives that is read
+-- the bytes that the read half still gives
 abbrev pub reader_feed : {R W : Type 0} → FlushingReader R W → Option Feed
 reader_feed r = ahead_feed r.ahead
 
--- how many ends and faults the reader of that half told
+-- how many ends and faults the reader of that half has reported
 abbrev pub reader_stop_count : {R W : Type 0} → (R → ℕ) → FlushingReader R W → ℕ
 reader_stop_count stop_count r = stop_count r.ahead.reader
 
--- what the half states that is written: its failures, and no bytes
+-- what the write half states: its failures, and no bytes
 abbrev pub writer_sink : {W Rt : Type 0} → CorkedWriter W Rt → Sink
 writer_sink w = record { taken = None; sent = []; failures = w.failures; last_kind = w.last; has_ended = false }
 

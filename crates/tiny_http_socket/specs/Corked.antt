@@ -8,8 +8,8 @@ use Rattle.tiny_http_io.specs.Device.{Sink, IsFront, IsKnownFront, HoldsNothing,
 use Rattle.tiny_http_socket.specs.declared.corked.State.{State}
 use Rattle.tiny_http_socket.specs.declared.corked.State.TheVariants.{Open, Broken, Ended}
 
--- What a clause sees of a `Corked`: the bytes that wait, whether it takes more, the failures that it reported and the
--- kind of the last one, the writer inside, and what that reports.
+-- What a clause sees of a `Corked`: the buffered bytes, whether it takes more, the failures that it reported and the
+-- kind of the last one, the inner writer, and what that states.
 pub record CorkedState (W : Type 0) : Type 0 where
   pub waiting : List ℕ
   pub state : State
@@ -27,7 +27,7 @@ unreported_of Ended = None
 abbrev pub unreported : {W : Type 0} → CorkedState W → Option ErrorKind
 unreported c = unreported_of c.state
 
--- what a writer took and what waits in front of it; nothing waits once it has failed
+-- what a writer took and the bytes buffered before it; none are buffered once it has failed
 abbrev pub taken_by : State → Sink → List ℕ → Option (List ℕ)
 taken_by Open s waiting = grown s.has_ended s.taken waiting
 taken_by (Broken kind) s waiting = s.taken
@@ -39,7 +39,7 @@ takes_none Open s = s.has_ended
 takes_none (Broken kind) s = false
 takes_none Ended s = true
 
--- what its writer took and what waits, as one sink
+-- what its writer took and what is buffered, as one sink
 abbrev pub corked_sink : {W : Type 0} → CorkedState W → Sink
 corked_sink c =
     record {
@@ -50,24 +50,24 @@ corked_sink c =
       has_ended = takes_none c.state c.sink;
     }
 
--- a writer took what waited and then so many bytes of a text behind it, or it failed within them
+-- a writer took the buffered bytes and then n bytes of the text after them, or it failed within them
 abbrev pub PassesBehind : Sink → Sink → List ℕ → Result ℕ Error → List ℕ → Type 0
 PassesBehind old new waiting (Ok n) text =
     (n ≤ length text) × (0 < length text → 0 < n) × Took old new (waiting ++ take n text)
 PassesBehind old new waiting (Err e) text = Failed old new (waiting ++ text) (error_kind e)
 
--- a fault of this kind that was met before is reported, and the writer isn't called
+-- a fault of this kind that was met earlier is reported, and the writer isn't called
 abbrev pub ReportsFault : {W T : Type 0} → CorkedState W → CorkedState W → Result T Error → ErrorKind → Type 0
 ReportsFault old new (Ok x) kind = ⊥
 ReportsFault old new (Err e) kind = (error_kind e ≡ kind) × (new.writer ≡ old.writer) × (new.sink ≡ old.sink)
 
--- all that was taken is sent; or a front of it is, and the fault isn't reported yet
+-- all that was taken is sent; or a prefix of it is, and the fault isn't reported yet
 abbrev pub SentOrBroken : Sink → Sink → Option ErrorKind → Type 0
 SentOrBroken old new None =
     (new.taken ≡ old.taken) × (new.has_ended ≡ old.has_ended) × (new.has_ended ≡ false → HoldsNothing new)
 SentOrBroken old new (Some kind) = IsKnownFront new.taken old.taken × (new.has_ended ≡ false)
 
--- WHAT WAITS IS SENT, or the writer failed within it. No fault is reported, and so none is counted.
+-- THE BUFFERED BYTES ARE SENT, or the writer failed within them. No fault is reported, and so none is counted.
 pub record SendsWaiting (old new : Sink) (unreported : Option ErrorKind) : Type 0 where
   pub taken : SentOrBroken old new unreported
   pub sent : IsFront old.sent new.sent

@@ -2,7 +2,7 @@
 use Rattle.std.specs.Prelude.{ℕ, List, Option}
 use Rattle.tiny_http_io.specs.Device.{Feed, prepended}
 
--- the bytes that were read and aren't given yet, the reader inside, and what that still gives
+-- the bytes that were read ahead and not given yet, the inner reader, and what that still gives
 pub record AheadState (R : Type 0) : Type 0 where
   pub held : List ℕ
   pub reader : R

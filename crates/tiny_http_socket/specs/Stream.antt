@@ -1,4 +1,4 @@
--- What clauses read of a half of a client's connection.
+-- What clauses see of a half of a client's connection.
 use Rattle.std.specs.Prelude.{◌≡◌, [], Some, None, ⊤, false, Option}
 use Rattle.std.specs.declared.net.Shutdown.{Shutdown}
 use Rattle.std.specs.declared.net.Shutdown.TheVariants.{Read, Write}
@@ -25,28 +25,28 @@ stream_sink s = record { taken = None; sent = []; failures = s.failures; last_ki
 abbrev pub connection_of : RefinedTcpStream → Connection
 connection_of s = s.connection.value
 
--- it shuts the direction from the client down, and is over the connection
+-- it shuts down the direction from the client, and uses the connection
 pub record IsReadingHalf (connection : Connection) (s : RefinedTcpStream) : Type 0 where
   pub half : s.half ≡ Reading
   pub same : connection_of s ≡ connection
   pub sink : stream_sink s ≡ fresh_sink
 
--- it shuts the direction to the client down, and is over the connection
+-- it shuts down the direction to the client, and uses the connection
 pub record IsWritingHalf (connection : Connection) (s : RefinedTcpStream) : Type 0 where
   pub half : s.half ≡ Writing
   pub same : connection_of s ≡ connection
   pub sink : stream_sink s ≡ fresh_sink
 
--- it has the peer's address as its connection has
+-- it has a peer address if its connection has one
 abbrev pub HasSamePeer : RefinedTcpStream → Option SocketAddr → Type 0
 HasSamePeer s addr = HasPeerOf (connection_of s) addr
 
--- a Unix connection has no peer's address; a TCP one may have one
+-- a Unix connection has no peer address; a TCP one may have one
 abbrev pub MayHavePeerOf : Connection → Option SocketAddr → Type 0
 MayHavePeerOf (C.Tcp s) addr = ⊤
 MayHavePeerOf (C.Unix s) None = ⊤
 MayHavePeerOf (C.Unix s) (Some addr) = ⊥
 
--- so it is of the connection of this half
+-- the same for the connection of this half
 abbrev pub MayHavePeer : RefinedTcpStream → Option SocketAddr → Type 0
 MayHavePeer s addr = MayHavePeerOf (connection_of s) addr

@@ -1,4 +1,4 @@
--- What clauses read of a writer that has to be served in time.
+-- What clauses see of a writer with a timeout.
 use Rattle.std.specs.Prelude.{◌≡◌, ℕ, [], Some, None, false, Result, Ok, Err}
 use Rattle.std.specs.IoError.{error_kind}
 use Rattle.std.specs.declared.io.Error.{Error}
@@ -7,12 +7,12 @@ use Rattle.std.specs.declared.io.ErrorKind.TheVariants.{WouldBlock, TimedOut}
 use Rattle.tiny_http_io.specs.Device.{Sink, next_count}
 use Rattle.tiny_http_socket.specs.declared.timed_writer.TimedWriter.{TimedWriter}
 
--- the kind of a fault as it is reported under limits: a socket's own time-out is a time-out of its client
+-- the kind of a fault as it is reported under limits: a socket's own timeout is the client's
 abbrev pub kind_in_time : ErrorKind → ErrorKind
 kind_in_time WouldBlock = TimedOut
 kind_in_time kind = kind
 
--- what a call inside gave is reported: its bytes, or its fault by the kind under limits
+-- what an inner call gave is reported: its bytes, or its fault with the kind under limits
 abbrev pub IsReportOf : Result ℕ Error → Result ℕ Error → Type 0
 IsReportOf (Ok n) (Ok m) = m ≡ n
 IsReportOf (Ok n) (Err e) = ⊥

@@ -1,4 +1,4 @@
-//! TCP and Unix sockets under one name, and their addresses.
+//! TCP and Unix sockets as one type, and their addresses.
 ghost use Rattle.std.specs.Prelude.{◌≡◌, ◌≤◌, ◌++◌, length, IfOk};
 ghost use Rattle.tiny_http_socket.specs.Connection.{IsBoundAs, HasAddressOf, IsAcceptedBy, HasPeerOf, IsSameKind};
 ghost use Rattle.tiny_http_socket.specs.Connection.{IsCopyOf, ip_of, unix_of};
@@ -13,26 +13,26 @@ use std::rt::Files;
 use std::time::Duration;
 use std::{fmt, fs, io};
 
-/// What a server needs of the file system: the files of Unix sockets. Any runtime with files and sockets has it. A
-/// bound by `Files` in its place would not let generic code share a server among threads.
+/// The files of Unix sockets: what a server needs of the file system. Any runtime with files and sockets implements it.
+/// A bound by `Files` instead would not let generic code share a server among threads.
 pub trait SocketFiles {
-    /// Listens at this path, at which it makes a file. The system's fault where it can't.
+    /// Listens at this path, where it creates a file. Fails with the system's error.
     fn bind_unix(&self, path: Path<'_>) -> io::Result<unix_net::UnixListener>;
 
-    /// Removes the file at this path. The system's fault where it can't.
+    /// Removes the file at this path. Fails with the system's error.
     fn remove_socket(&self, path: Path<'_>) -> io::Result<()>;
 
-    /// Whether the file at this path is that of a socket; no link is followed. It isn't where the system can't say.
+    /// Returns whether the file at this path is a socket, without following links. False if the system can't say.
     fn is_socket(&self, path: Path<'_>) -> bool;
 }
 
 impl<R: Files + Net> SocketFiles for R {
-    /// Listens by the system.
+    /// Listens, using the system.
     fn bind_unix(&self, path: Path<'_>) -> io::Result<unix_net::UnixListener> {
         unix_net::UnixListener::bind(self, path)
     }
 
-    /// Removes the file by the system.
+    /// Removes the file, using the system.
     fn remove_socket(&self, path: Path<'_>) -> io::Result<()> {
         fs::remove_file(self, path)
     }
@@ -46,17 +46,17 @@ impl<R: Files + Net> SocketFiles for R {
     }
 }
 
-/// A listening socket: a TCP one, or a Unix one.
+/// A listening socket, TCP or Unix.
 #[derive(Debug, Drop)]
 pub enum Listener {
-    /// One of an IP address and a port.
+    /// A listener at an IP address and a port.
     Tcp(TcpListener),
-    /// One of a path.
+    /// A listener at a path.
     Unix(unix_net::UnixListener),
 }
 
 impl Listener {
-    /// The address that it is bound to. The system's fault, where it doesn't tell one.
+    /// Returns the address that it is bound to. Fails with the system's error if there is none.
     pub fn local_addr(&self) -> io::Result<ListenAddr>
         ensures { IfOk result (λ addr. HasAddressOf self.now addr) }
     {
@@ -66,8 +66,8 @@ impl Listener {
         }
     }
 
-    /// Waits for a client, and gives the connection to it, of the listener's kind, and the client's address, where it
-    /// is a TCP one. The system's fault, where it has no client to give.
+    /// Waits for a client. Returns its connection, of the listener's kind, and the client's address if it is TCP. Fails
+    /// with the system's error if no client can be accepted.
     pub fn accept(&self) -> io::Result<(Connection, Option<SocketAddr>)>
         ensures { IfOk result (λ client. IsAcceptedBy self.now client.0 client.1) }
     {
@@ -89,7 +89,7 @@ impl From<TcpListener> for Listener {
 
     ghost from_gives = { λ listener result. result ≡ Tcp listener };
 
-    /// A TCP one.
+    /// Wraps a TCP listener.
     fn from(listener: TcpListener) -> Listener {
         Listener::Tcp(listener)
     }
@@ -100,23 +100,24 @@ impl From<unix_net::UnixListener> for Listener {
 
     ghost from_gives = { λ listener result. result ≡ Unix listener };
 
-    /// A Unix one.
+    /// Wraps a Unix listener.
     fn from(listener: unix_net::UnixListener) -> Listener {
         Listener::Unix(listener)
     }
 }
 
-/// A connection to a peer: a TCP one, or a Unix one.
+/// A connection to a peer, TCP or Unix.
 #[derive(Debug, Drop)]
 pub enum Connection {
-    /// One between two IP addresses and ports.
+    /// A connection between two IP addresses and ports.
     Tcp(TcpStream),
-    /// One over a path.
+    /// A connection over a path.
     Unix(unix_net::UnixStream),
 }
 
 impl Connection {
-    /// The peer's address; none of a Unix one. The system's fault, where it no longer knows it.
+    /// Returns the peer's address, or `None` for a Unix socket. Fails with the system's error if it no longer knows the
+    /// address.
     pub fn peer_addr(&self) -> io::Result<Option<SocketAddr>>
         ensures { IfOk result (λ addr. HasPeerOf self.now addr) }
     {
@@ -126,8 +127,8 @@ impl Connection {
         }
     }
 
-    /// Shuts down one direction or both, for this and each other handle of the connection. The system's fault, where
-    /// the peer has gone.
+    /// Shuts down one direction or both, for this and every other handle of the connection. Fails with the system's
+    /// error if the peer has disconnected.
     pub fn shutdown(&self, how: Shutdown) -> io::Result<()> {
         match self {
             Connection::Tcp(stream) => stream.shutdown(how),
@@ -135,7 +136,7 @@ impl Connection {
         }
     }
 
-    /// Another handle of the same connection. The system's fault, where it has none left.
+    /// Creates another handle of the same connection. Fails with the system's error if it has no handle left.
     pub fn try_clone(&self) -> io::Result<Connection>
         ensures { IfOk result (λ other. IsSameKind self.now other) }
     {
@@ -145,7 +146,7 @@ impl Connection {
         }
     }
 
-    /// Has TCP send each piece at once (TCP_NODELAY), or gather small ones. Nothing is done at a Unix one.
+    /// Makes TCP send each piece at once (TCP_NODELAY), or gather small ones. Does nothing for a Unix socket.
     pub fn set_nodelay(&self, nodelay: bool) -> io::Result<()> {
         match self {
             Connection::Tcp(stream) => stream.set_nodelay(nodelay),
@@ -155,8 +156,8 @@ impl Connection {
 }
 
 impl Connection {
-    /// Has each later read, by this and each other handle, wait for so long at most, and then report `WouldBlock`.
-    /// The system's fault, and `InvalidInput` of no time.
+    /// Sets the maximum wait of each later read, by this and every other handle. After that time a read fails with
+    /// `WouldBlock`. Fails with the system's error, and with `InvalidInput` if the timeout is 0.
     pub fn set_read_timeout(&self, timeout: Duration) -> io::Result<()> {
         match self {
             Connection::Tcp(stream) => stream.set_read_timeout(Some(timeout)),
@@ -164,7 +165,7 @@ impl Connection {
         }
     }
 
-    /// Has each later read wait without end. The system's fault.
+    /// Makes each later read wait without a timeout. Fails with the system's error.
     pub fn clear_read_timeout(&self) -> io::Result<()> {
         match self {
             Connection::Tcp(stream) => stream.set_read_timeout(None),
@@ -172,8 +173,9 @@ impl Connection {
         }
     }
 
-    /// Has each later write, by this and each other handle, wait for so long at most, and then report `WouldBlock`,
-    /// or what was taken until then. The system's fault, and `InvalidInput` of no time.
+    /// Sets the maximum wait of each later write, by this and every other handle. After that time a write fails with
+    /// `WouldBlock`, or returns the number of bytes taken so far. Fails with the system's error, and with
+    /// `InvalidInput` if the timeout is 0.
     pub fn set_write_timeout(&self, timeout: Duration) -> io::Result<()> {
         match self {
             Connection::Tcp(stream) => stream.set_write_timeout(Some(timeout)),
@@ -183,7 +185,7 @@ impl Connection {
 }
 
 impl Read for Connection {
-    /// Reads once: 0 at the end of what the peer sends.
+    /// Reads once. Returns 0 at the end of input.
     fn read(&mut self, buf: &mut [u8]) -> io::Result<usize> {
         match self {
             Connection::Tcp(stream) => stream.read(buf),
@@ -201,7 +203,7 @@ impl Write for Connection {
         }
     }
 
-    /// Nothing is held back.
+    /// Does nothing: no bytes are held back.
     fn flush(&mut self) -> io::Result<()> {
         Ok(())
     }
@@ -224,7 +226,7 @@ fn write_by<S: Write + Drop>(stream: S, buf: &[u8]) -> io::Result<usize>
 }
 
 impl Connection {
-    /// Reads once, as `read` of a connection that is held alone: 0 at the end of what the peer sends.
+    /// Reads once through a shared reference, as `read` does. Returns 0 at the end of input.
     pub fn read_shared(&self, buf: &mut [u8]) -> io::Result<usize>
         ensures { IfOk result (λ n. n ≤ length buf.new) }
     {
@@ -234,7 +236,7 @@ impl Connection {
         }
     }
 
-    /// Writes once, as `write` of a connection that is held alone.
+    /// Writes once through a shared reference, as `write` does.
     pub fn write_shared(&self, buf: &[u8]) -> io::Result<usize>
         ensures { IfOk result (λ n. n ≤ length buf.now) }
     {
@@ -246,7 +248,7 @@ impl Connection {
 }
 
 impl Connection {
-    /// Writes once from the front of two texts, one behind the other, by one call of the system.
+    /// Writes once from the front of the concatenation of two texts, by one system call.
     pub fn write_both_shared(&self, front: &[u8], back: &[u8]) -> io::Result<usize>
         ensures { IfOk result (λ n. n ≤ length (front.now ++ back.now)) }
     {
@@ -263,7 +265,7 @@ impl From<TcpStream> for Connection {
 
     ghost from_gives = { λ stream result. result ≡ Tcp stream };
 
-    /// A TCP one.
+    /// Wraps a TCP stream.
     fn from(stream: TcpStream) -> Connection {
         Connection::Tcp(stream)
     }
@@ -274,24 +276,24 @@ impl From<unix_net::UnixStream> for Connection {
 
     ghost from_gives = { λ stream result. result ≡ Unix stream };
 
-    /// A Unix one.
+    /// Wraps a Unix stream.
     fn from(stream: unix_net::UnixStream) -> Connection {
         Connection::Unix(stream)
     }
 }
 
-/// Where a server is to listen.
+/// Where a server listens.
 #[derive(Debug, Drop)]
 pub enum ConfigListenAddr {
-    /// At the first of these addresses that can be bound.
+    /// The first of these addresses that can be bound.
     IP(Vec<SocketAddr>),
-    /// At this path.
+    /// This path.
     Unix(PathBuf),
 }
 
 impl ConfigListenAddr {
-    /// The addresses that these stand for. An error where a host's name isn't found or the text is no address, and of
-    /// kind `OutOfMemory` where memory was refused.
+    /// Resolves addresses. Fails if a host name isn't found or the text is no address, and with `OutOfMemory` if memory
+    /// is refused.
     pub fn from_socket_addrs<R: Net, A: ToSocketAddrs>(
         rt: &R,
         alloc: Global,
@@ -301,14 +303,14 @@ impl ConfigListenAddr {
         Ok(ConfigListenAddr::IP(found.collect(alloc)?))
     }
 
-    /// This path.
+    /// Listens at this path.
     pub fn unix_from_path(path: PathBuf) -> ConfigListenAddr
         ensures { result ≡ ConfigListenAddr.Unix path }
     {
         ConfigListenAddr::Unix(path)
     }
 
-    /// A copy. An error where memory was refused.
+    /// Copies the address. Fails if memory is refused.
     pub fn try_clone(&self) -> Result<ConfigListenAddr, AllocError>
         ensures { IfOk result (λ copy. IsCopyOf self.now copy) }
     {
@@ -321,9 +323,8 @@ impl ConfigListenAddr {
         }
     }
 
-    /// Listens there: at the first address that can be bound, or at the path, at which it makes a file. The system's
-    /// fault where it can't: the last address's, or of kind `InvalidInput` where there is no address or the path is
-    /// too long.
+    /// Listens at the first address that can be bound, or at the path, where it creates a file. Fails with the system's
+    /// error: that of the last address, or `InvalidInput` if there is no address or the path is too long.
     pub fn bind<R: Net<Listener = TcpListener, Stream = TcpStream> + SocketFiles>(
         &self,
         rt: &R,
@@ -351,7 +352,7 @@ pub enum ListenAddr {
 }
 
 impl ListenAddr {
-    /// The IP address and port; none of a Unix socket.
+    /// Returns the IP address and port, or `None` for a Unix socket.
     pub fn to_ip(self) -> Option<SocketAddr>
         ensures { result ≡ ip_of self }
     {
@@ -361,7 +362,7 @@ impl ListenAddr {
         }
     }
 
-    /// The address of a Unix socket; none of another.
+    /// Returns the address of a Unix socket, or `None` for an IP address.
     pub fn to_unix(self) -> Option<unix_net::SocketAddr>
         ensures { result ≡ unix_of self }
     {
@@ -377,7 +378,7 @@ impl From<SocketAddr> for ListenAddr {
 
     ghost from_gives = { λ addr result. result ≡ IP addr };
 
-    /// An IP address and a port.
+    /// Wraps an IP address and a port.
     fn from(addr: SocketAddr) -> ListenAddr {
         ListenAddr::IP(addr)
     }
@@ -388,7 +389,7 @@ impl From<unix_net::SocketAddr> for ListenAddr {
 
     ghost from_gives = { λ addr result. result ≡ Unix addr };
 
-    /// The address of a Unix socket.
+    /// Wraps the address of a Unix socket.
     fn from(addr: unix_net::SocketAddr) -> ListenAddr {
         ListenAddr::Unix(addr)
     }

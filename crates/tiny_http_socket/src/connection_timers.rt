@@ -1,4 +1,4 @@
-//! For what a client is waited for.
+//! What a connection waits for from its client.
 ghost use Rattle.std.specs.Prelude.{◌≡◌};
 ghost use Rattle.std.specs.IoError.{error_kind};
 ghost use Rattle.tiny_http_socket.specs.Timed.{kind_in_time};
@@ -11,11 +11,11 @@ use std::sync::atomic::{AtomicBool, AtomicU8, AtomicU16, AtomicU64, Ordering};
 use tiny_http_limits::counts::{Closing, Summary};
 use tiny_http_limits::limits::Limits;
 
-// So many requests of a connection may be open at least.
+// The minimum of the limit of open requests on a connection.
 const LEAST_OPEN: usize = 2;
 
-/// A fault as it is reported under limits: the system's time-out, `WouldBlock`, as `TimedOut`, and each other one as
-/// it is.
+/// Maps an error to what is reported under limits: the system's timeout, `WouldBlock`, becomes `TimedOut`; any other is
+/// unchanged.
 pub fn fault_in_time(fault: io::Error) -> io::Error
     ensures { error_kind result ≡ kind_in_time (error_kind fault) }
 {
@@ -25,23 +25,23 @@ pub fn fault_in_time(fault: io::Error) -> io::Error
     fault
 }
 
-/// For what the client of a connection is waited for.
+/// What a connection waits for from its client.
 #[derive(Clone, Copy, Debug, PartialEq, Eq)]
 pub enum Phase {
-    /// For the first byte of a head.
+    /// The first byte of a head.
     Between,
-    /// For the rest of a head, or of a body that is read with it or skipped in front of it.
+    /// The rest of a head, or of a body that is read with it or skipped before it.
     Head,
-    /// For bytes of a body, where somebody reads it.
+    /// Bytes of a body that is being read.
     Body,
-    /// For bytes of an upgraded stream.
+    /// Bytes of an upgraded stream.
     Stream,
-    /// For nothing more.
+    /// Nothing more.
     Stopped,
 }
 
 impl Phase {
-    // The number that stands for it.
+    // Returns the number that encodes the phase.
     fn number(self) -> u8 {
         match self {
             Phase::Between => 0,
@@ -52,7 +52,7 @@ impl Phase {
         }
     }
 
-    // The phase for which this number stands.
+    // Returns the phase that this number encodes.
     fn of(number: u8) -> Phase {
         match number {
             0 => Phase::Between,
@@ -64,7 +64,7 @@ impl Phase {
     }
 }
 
-// The number that stands for a limit, 0 for none.
+// Returns the number that encodes a limit; 0 encodes none.
 fn closing_number(closing: Closing) -> u8 {
     match closing {
         Closing::Idle => 1,
@@ -74,7 +74,7 @@ fn closing_number(closing: Closing) -> u8 {
     }
 }
 
-// The limit for which this number stands.
+// Returns the limit that this number encodes, if any.
 fn closing_of(number: u8) -> Option<Closing> {
     match number {
         1 => Some(Closing::Idle),
@@ -85,8 +85,8 @@ fn closing_of(number: u8) -> Option<Closing> {
     }
 }
 
-/// What threads share of a connection beside its halves: the limits, for what the client is waited for, and what
-/// became of the connection so far.
+/// The state of a connection that threads share besides its halves: the limits, what it waits for from the client, and
+/// what became of it so far.
 #[derive(Drop)]
 pub struct ConnectionTimers {
     limits: Option<Limits>,
@@ -94,11 +94,11 @@ pub struct ConnectionTimers {
     // No further head is read.
     is_stopped: AtomicBool,
     requests: AtomicU64,
-    // So many requests and refused heads aren't answered yet.
+    // The number of requests and refused heads without a response so far.
     open: Arc<AtomicU64>,
-    // How many connections are upgraded, of those that share this count.
+    // The number of upgraded connections among those that share this count.
     upgraded: Arc<AtomicU64>,
-    // This one counts among them.
+    // Whether this connection is counted among them.
     is_upgraded: AtomicBool,
     // Bytes of an upgraded stream were written since `take_written` was last called.
     has_written: AtomicBool,
@@ -108,8 +108,9 @@ pub struct ConnectionTimers {
 }
 
 impl ConnectionTimers {
-    /// Nothing was read yet. Without limits the client is waited for without end. `upgraded` counts the connections
-    /// that are upgraded; those that share it share the limit of upgrades. An error where memory was refused.
+    /// Creates the state of a connection from which nothing was read yet. Without limits there are no timeouts.
+    /// `upgraded` counts the upgraded connections; those that share it share the limit of upgrades. Fails if memory is
+    /// refused.
     pub fn new(
         alloc: Global,
         limits: Option<Limits>,
@@ -131,18 +132,18 @@ impl ConnectionTimers {
         Ok(Arc::new(alloc, timers)?)
     }
 
-    /// Where the requests and refused heads are counted that aren't answered yet.
+    /// Returns the counter of requests and refused heads without a response so far.
     pub fn open(&self) -> &Arc<AtomicU64> {
         &self.open
     }
 
-    /// Whether a request or a refused head isn't answered yet.
+    /// Returns whether a request or a refused head has no response yet.
     pub fn has_open(&self) -> bool {
         self.open.load(Ordering::SeqCst) > 0
     }
 
-    /// How many requests and refused heads may be open, where that is bounded, and as many are: 2 at least, since an
-    /// answer that waits to leave is sent as the connection is read.
+    /// Returns the maximum number of open requests and refused heads, if there is one and it is reached. It is at least
+    /// 2, since a buffered response is sent only as the connection is read.
     pub fn full_at(&self) -> Option<usize> {
         let most = self.limits.as_ref()?.open_requests.max(LEAST_OPEN);
         if self.open.load(Ordering::SeqCst) < most as u64 {
@@ -151,18 +152,18 @@ impl ConnectionTimers {
         Some(most)
     }
 
-    /// The limits, if there are some.
+    /// Returns the limits, if there are any.
     pub fn limits(&self) -> Option<&Limits> {
         self.limits.as_ref()
     }
 
-    /// For what the client is waited for.
+    /// Returns what the connection waits for from its client.
     pub fn phase(&self) -> Phase {
         Phase::of(self.phase.load(Ordering::SeqCst))
     }
 
-    /// The next head is to be read; bytes of it, or of what is skipped in front of it, may be there. False where the
-    /// connection was stopped: the caller doesn't read it then.
+    /// Starts the wait for the next head; `has_begun` means that bytes of it, or of what is skipped before it, may have
+    /// arrived. Returns false if the connection was stopped: the caller then doesn't read the head.
     pub fn begin_head(&self, has_begun: bool) -> bool {
         let phase = if has_begun {
             Phase::Head
@@ -173,7 +174,7 @@ impl ConnectionTimers {
         !self.is_stopped.load(Ordering::SeqCst)
     }
 
-    /// The first byte of a head has come, if one was waited for.
+    /// Records that the first byte of a head has arrived, if it was waited for.
     pub fn head_began(&self) {
         let (old, new) = (Phase::Between.number(), Phase::Head.number());
         let _ = self
@@ -181,13 +182,13 @@ impl ConnectionTimers {
             .compare_exchange(old, new, Ordering::SeqCst, Ordering::SeqCst);
     }
 
-    /// A request is handed out: the client is waited for where its body is read.
+    /// Records that a request is handed out: reads now wait for its body.
     pub fn begin_body(&self) {
         self.phase.store(Phase::Body.number(), Ordering::SeqCst);
         self.requests.fetch_add(1, Ordering::SeqCst);
     }
 
-    /// The connection is to be upgraded: it counts as that until `end_stream`. False where as many are as may be.
+    /// Counts the connection as upgraded until `end_stream`. Returns false if the limit of upgrades is reached.
     pub fn enter_stream(&self) -> bool {
         let Some(limits) = &self.limits else {
             return true;
@@ -203,38 +204,38 @@ impl ConnectionTimers {
         false
     }
 
-    /// The connection counts as upgraded no more, if it did.
+    /// Stops counting the connection as upgraded, if it was.
     pub fn end_stream(&self) {
         if self.is_upgraded.swap(false, Ordering::SeqCst) {
             self.upgraded.fetch_sub(1, Ordering::SeqCst);
         }
     }
 
-    /// What is read from now on is an upgraded stream.
+    /// Records that what is read from now on is an upgraded stream.
     pub fn begin_stream(&self) {
         self.phase.store(Phase::Stream.number(), Ordering::SeqCst);
     }
 
-    /// Bytes were written to the client. It is noted of an upgraded stream alone.
+    /// Records that bytes were written to the client, if it is on an upgraded stream.
     pub fn wrote(&self) {
         if self.phase() == Phase::Stream {
             self.has_written.store(true, Ordering::SeqCst);
         }
     }
 
-    /// Whether bytes of an upgraded stream were written since this was last asked.
+    /// Returns whether bytes of an upgraded stream were written since the last call.
     pub fn take_written(&self) -> bool {
         self.has_written.swap(false, Ordering::SeqCst)
     }
 
-    /// Has no further head read. Whether the connection waits for a head now: then nothing is read any more, and the
-    /// caller shuts down what the client sends.
+    /// Prevents any further head from being read. Returns whether the connection was waiting for a head: then nothing
+    /// more is read, and the caller shuts down the client's direction.
     pub fn stop(&self) -> bool {
         self.is_stopped.store(true, Ordering::SeqCst);
         self.stop_from(Phase::Between) || self.stop_from(Phase::Head)
     }
 
-    // Ends reading, if this is what is waited for.
+    // Ends reading if the connection is in this phase, and returns whether it was.
     fn stop_from(&self, phase: Phase) -> bool {
         let new = Phase::Stopped.number();
         let swapped = self
@@ -243,12 +244,12 @@ impl ConnectionTimers {
         swapped.is_ok()
     }
 
-    /// A head was refused with this status, and ended the requests.
+    /// Records that a head was refused with this status, which ends the requests.
     pub fn refused(&self, status: u16) {
         self.refusal.store(status, Ordering::SeqCst);
     }
 
-    /// The connection is over by this limit. The first one counts.
+    /// Records that this limit closed the connection. Only the first is kept.
     pub fn closed_by(&self, closing: Closing) {
         let new = closing_number(closing);
         let _ = self
@@ -256,12 +257,12 @@ impl ConnectionTimers {
             .compare_exchange(0, new, Ordering::SeqCst, Ordering::SeqCst);
     }
 
-    /// How many requests were handed out.
+    /// Returns the number of requests handed out.
     pub fn requests(&self) -> u64 {
         self.requests.load(Ordering::SeqCst)
     }
 
-    /// What became of the connection so far.
+    /// Returns what became of the connection so far.
     pub fn summary(&self) -> Summary {
         let refusal = match self.refusal.load(Ordering::SeqCst) {
             0 => None,

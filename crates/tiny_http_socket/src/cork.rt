@@ -1,4 +1,4 @@
-//! The two halves of a connection whose answers may leave together, which threads share.
+//! The two halves of a connection whose responses may be sent together. Threads share them.
 ghost use Rattle.std.specs.Prelude.{◌≡◌, ◌<◌, ◌≤◌, ⊤, length, IfOk};
 ghost use Rattle.tiny_http_socket.specs.Cork.{reader_feed, writer_sink, fresh_sink, CountsOutcome};
 
@@ -12,7 +12,7 @@ use std::sync::atomic::{AtomicBool, Ordering};
 use std::sync::{Arc, Mutex, Wait};
 use tiny_http_io::device::{ReadDevice, WriteDevice};
 
-/// Whether a flush of a connection may leave its bytes where they wait. Whoever lets it has them sent soon, by
+/// Whether a flush of a connection may leave its bytes buffered. Whoever allows that must send them soon, by
 /// `Cork::send`.
 #[derive(Drop)]
 pub struct FlushPolicy {
@@ -22,7 +22,7 @@ pub struct FlushPolicy {
 }
 
 impl FlushPolicy {
-    // Each flush sends.
+    // Creates a policy by which each flush sends.
     fn new() -> FlushPolicy {
         FlushPolicy {
             may_leave: AtomicBool::new(false),
@@ -30,29 +30,29 @@ impl FlushPolicy {
         }
     }
 
-    /// From now on a flush leaves its bytes, and a write may leave what it was given.
+    /// Makes each later flush leave its bytes buffered. A write may leave its bytes, too.
     pub fn leave_at_flush(&self) {
         self.may_leave.store(true, Ordering::SeqCst);
     }
 
-    /// From now on each flush sends, what waits included.
+    /// Makes each later flush send, including the buffered bytes.
     pub fn send_at_flush(&self) {
         self.may_leave.store(false, Ordering::SeqCst);
     }
 
-    // Whether a flush may leave its bytes.
+    // Returns whether a flush may leave its bytes.
     fn may_leave(&self) -> bool {
         self.may_leave.load(Ordering::SeqCst)
     }
 
-    // From now on each flush sends. Whether bytes may have been left since this was last asked.
+    // Makes each later flush send. Returns whether bytes may have been left since the last call.
     fn stop_and_take(&self) -> bool {
         self.send_at_flush();
         self.may_wait.swap(false, Ordering::SeqCst)
     }
 
-    // Whether bytes that are written or flushed now are left. It is asked again once they count as left, since
-    // `stop_and_take` may have come between.
+    // Returns whether bytes that are written or flushed now are left. It checks again after recording them as left,
+    // since `stop_and_take` may have run in between.
     fn leaves(&self) -> bool {
         if !self.may_leave() {
             return false;
@@ -62,19 +62,19 @@ impl FlushPolicy {
     }
 }
 
-/// What the two halves of a connection share: the writer, and what waits in front of it. Bytes are written under the
-/// lock. Only the thread whose turn it is waits for it; one that sends what waits, so that it may read, asks that
-/// thread in its place.
+/// What the two halves of a connection share: the writer, and the bytes buffered before it. Bytes are written under the
+/// lock. Only the thread whose turn it is waits for the lock; a thread that sends the buffered bytes before it reads
+/// asks that thread instead.
 #[derive(Drop)]
 pub struct Cork<W: WriteBoth + Drop> {
     flush_policy: Arc<FlushPolicy>,
-    // A thread that found the lock taken wants what waits to be sent.
+    // A thread that found the lock taken has asked for the buffered bytes to be sent.
     is_asked: AtomicBool,
     corked: Mutex<Corked<W>>,
 }
 
 impl<W: WriteBoth + Drop> Cork<W> {
-    // Nothing waits in front of this writer. An error where memory was refused.
+    // Wraps a writer with an empty buffer. Fails if memory is refused.
     fn new(alloc: Global, writer: W) -> Result<Cork<W>, AllocError> {
         let corked = Corked::new(alloc, writer)?;
         let flush_policy = Arc::new(alloc, FlushPolicy::new())?;
@@ -85,14 +85,14 @@ impl<W: WriteBoth + Drop> Cork<W> {
         })
     }
 
-    /// Whether a flush may leave its bytes.
+    /// Returns whether a flush may leave its bytes.
     pub fn flush_policy(&self) -> &Arc<FlushPolicy> {
         &self.flush_policy
     }
 
-    /// From now on each flush sends; and what was left is sent. It waits for no other thread, though it may wait for
-    /// the socket: where another thread has the lock, that one is asked to send it. A fault is reported by the next
-    /// write, or by the next flush that sends.
+    /// Makes each later flush send, and sends the bytes that were left. Doesn't wait for another thread, but may wait
+    /// for the socket: if another thread holds the lock, that thread is asked to send them. A fault is reported by the
+    /// next write, or by the next flush that sends.
     pub fn send(&self) {
         if !self.flush_policy.stop_and_take() {
             return;
@@ -101,18 +101,18 @@ impl<W: WriteBoth + Drop> Cork<W> {
             return;
         }
         self.is_asked.store(true, Ordering::SeqCst);
-        // Who had the lock may have left it just before it was asked.
+        // The holder may have released the lock just before it was asked.
         self.send_if_free();
     }
 
-    /// The same, where a flush may not leave its bytes. Where it may, nothing is done.
+    /// Sends as `send` does if a flush may not leave its bytes. Otherwise does nothing.
     pub fn send_unless_leaving(&self) {
         if !self.flush_policy.may_leave() {
             self.send();
         }
     }
 
-    // Sends what waits, if the lock is free. Whether it was.
+    // Sends the buffered bytes if the lock is free, and returns whether it was.
     fn send_if_free(&self) -> bool {
         match self.corked.try_lock() {
             Some(mut corked) => {
@@ -123,14 +123,14 @@ impl<W: WriteBoth + Drop> Cork<W> {
         }
     }
 
-    // Sends what waits, if a thread asked for it.
+    // Sends the buffered bytes if a thread asked for it.
     fn send_if_asked<Rt: Wait>(&self, rt: &Rt) {
         if self.is_asked.load(Ordering::SeqCst) && self.is_asked.swap(false, Ordering::SeqCst) {
             self.corked.lock(rt).send_waiting();
         }
     }
 
-    // Takes some of these bytes. They wait only where a flush may leave them.
+    // Takes some of these bytes. They stay buffered only if a flush may leave them.
     fn write<Rt: Wait>(&self, rt: &Rt, buf: &[u8]) -> io::Result<usize>
         ensures { IfOk result (λ n. (n ≤ length buf.now) × (0 < length buf.now → 0 < n)) }
     {
@@ -145,7 +145,7 @@ impl<W: WriteBoth + Drop> Cork<W> {
         written
     }
 
-    // Sends what waits, unless it may be left.
+    // Sends the buffered bytes, unless they may be left.
     fn flush<Rt: Wait>(&self, rt: &Rt) -> io::Result<()> {
         if self.flush_policy.leaves() {
             return Ok(());
@@ -155,7 +155,7 @@ impl<W: WriteBoth + Drop> Cork<W> {
         sent
     }
 
-    // Sends what waits, also where it may be left, and has the writer say that no byte follows.
+    // Sends the buffered bytes, even if they may be left, and ends the writer.
     fn end<Rt: Wait>(&self, rt: &Rt) {
         let mut corked = self.corked.lock(rt);
         corked.send_waiting();
@@ -165,8 +165,8 @@ impl<W: WriteBoth + Drop> Cork<W> {
     }
 }
 
-/// The half of a connection that is written. Bytes wait where a flush may leave them, and are sent at once where it
-/// may not. As a `WriteDevice` it counts its failures and states no bytes, since others may send what waits.
+/// The write half of a connection. Bytes stay buffered while a flush may leave them, and are sent at once otherwise. As
+/// a `WriteDevice` it counts its failures and states no bytes, since others may send the buffered ones.
 #[derive(Drop)]
 pub struct CorkedWriter<W: WriteBoth + Drop, Rt: Wait> {
     rt: Rt,
@@ -176,7 +176,7 @@ pub struct CorkedWriter<W: WriteBoth + Drop, Rt: Wait> {
 }
 
 impl<W: WriteBoth + Drop, Rt: Wait> CorkedWriter<W, Rt> {
-    /// What it shares with the half that is read.
+    /// Returns what it shares with the read half.
     pub fn cork(&self) -> &Arc<Cork<W>> {
         &self.cork
     }
@@ -197,51 +197,50 @@ impl<W: WriteBoth + Drop, Rt: Wait> WriteDevice for CorkedWriter<W, Rt> {
 
     ghost sink = { writer_sink };
 
-    /// The count.
+    /// Returns the number of faults reported.
     fn failures(&self) -> u64 {
         self.failures
     }
 
-    /// Takes some of these bytes. They wait where they may and there is room for them; else what waits is sent, and
-    /// with it some of them. A fault that was met as what waits was sent is reported.
+    /// Takes some of these bytes. They stay buffered if they may and fit; otherwise the buffered bytes are sent, with
+    /// some of these. A fault met in sending buffered bytes is reported.
     fn write_out(&mut self, buf: &[u8]) -> Result<usize, io::Error> {
         let written = self.cork.write(&self.rt, buf);
         self.count(&written);
         written
     }
 
-    /// Sends what waits, unless it may be left. A fault that was met before is reported where it sends.
+    /// Sends the buffered bytes, unless they may be left. If it sends, it reports a fault met earlier.
     fn flush_out(&mut self) -> Result<(), io::Error> {
         let sent = self.cork.flush(&self.rt);
         self.count(&sent);
         sent
     }
 
-    /// Sends what waits, also where it may be left, and has the writer say that no byte follows. A fault isn't
-    /// reported here.
+    /// Sends the buffered bytes, even if they may be left, and ends the writer. A fault isn't reported here.
     fn end_out(&mut self) {
         self.cork.end(&self.rt);
     }
 }
 
-// Sends what waits before the socket is read.
+// Sends the buffered bytes before the socket is read.
 #[derive(Drop)]
 struct Sending<W: WriteBoth + Drop> {
     cork: Arc<Cork<W>>,
 }
 
 impl<W: WriteBoth + Drop> BeforeRead for Sending<W> {
-    // Nothing is stated of what is sent behind a lock.
+    // States nothing, since the bytes are sent under a lock.
     ghost does = { λ _ _. ⊤ };
 
-    /// Sends it.
+    /// Sends the buffered bytes.
     fn before_read(&mut self) {
         self.cork.send();
     }
 }
 
-/// The half of a connection that is read. Before it calls the socket it has what waits sent, and from then on each
-/// flush sends.
+/// The read half of a connection. Before it reads from the socket it sends the buffered bytes, and makes each later
+/// flush send.
 #[derive(Drop)]
 pub struct FlushingReader<R: ReadDevice + Drop, W: WriteBoth + Drop> {
     ahead: ReadAhead<R>,
@@ -255,13 +254,13 @@ impl<R: ReadDevice + Drop, W: WriteBoth + Drop> ReadDevice for FlushingReader<R,
 
     ghost stop_count = { reader_stop_count R.stop_count };
 
-    /// Gives bytes that were read before, if there are some; else has what waits sent, and reads a piece.
+    /// Returns bytes that were read ahead, if there are any. Otherwise sends the buffered bytes, then reads a piece.
     fn read_in(&mut self, buf: &mut [u8]) -> Result<usize, io::Error> {
         self.ahead.read_after(&mut self.sending, buf)
     }
 }
 
-/// The two halves of a connection over this reader and this writer. An error where memory was refused.
+/// Creates the two halves of a connection over this reader and this writer. Fails if memory is refused.
 pub fn halves<R: ReadDevice + Drop, W: WriteBoth + Drop, Rt: Wait + Drop>(
     rt: Rt,
     alloc: Global,

@@ -1,4 +1,4 @@
-//! A writer in front of which bytes wait.
+//! A writer with a buffer.
 ghost use Rattle.std.specs.Prelude.{◌≡◌, ◌≢◌, ◌≤◌, ◌++◌, false, [], length, vec_len, None, Some, Ok, IfOk, IfErr};
 ghost use Rattle.std.specs.Prelude.{IfSome, OnOk, OnErr, IsOk};
 ghost use Rattle.std.specs.IoError.{error_kind};
@@ -13,23 +13,23 @@ use std::io::ErrorKind;
 use std::marker::Model;
 use tiny_http_io::device::{WriteDevice, put};
 
-/// So many bytes may wait.
+/// The capacity of the buffer, in bytes.
 pub const ROOM: usize = 16_384;
 
 // Whether a writer takes bytes.
 #[derive(Clone, Copy, Debug, PartialEq, Eq)]
 enum State {
-    // It does.
+    // It takes bytes.
     Open,
-    // It has failed by this kind, and the next call reports it.
+    // It has failed with this kind, and the next call reports it.
     Broken(ErrorKind),
     // It has failed, and a call has reported it.
     Ended,
 }
 
-/// A writer in front of which up to 16,384 bytes wait. They are sent where more come than there is room for, by a
-/// flush, by `write_past`, and by `send_waiting`. After its first fault it sends nothing; the call that meets the
-/// fault reports it, or the next one where `send_waiting` met it. From then on it takes nothing, and answers `Ok`.
+/// A writer that buffers up to 16,384 bytes. They are sent when more bytes come than fit, by a flush, by `write_past`,
+/// and by `send_waiting`. After its first fault it sends nothing. The fault is reported by the call that met it, or
+/// after `send_waiting` by the next call. After that it discards what it is given, and returns `Ok`.
 #[derive(Drop)]
 pub struct Corked<W: WriteBoth> {
     writer: W,
@@ -59,7 +59,7 @@ impl<W: WriteBoth> Model for Corked<W> {
 impl<W: WriteBoth + Drop> Corked<W> {
     ghost use Rattle.tiny_http_socket.specs.Corked.{corked_sink, unreported};
 
-    /// Nothing waits in front of this writer, and no failure is counted. An error where memory was refused.
+    /// Wraps a writer with an empty buffer and no failures counted. Fails if memory is refused.
     pub fn new(alloc: Global, writer: W) -> Result<Corked<W>, AllocError>
         ensures writer { IfOk result (λ c. (c.writer ≡ writer) × (c.sink ≡ W.sink writer)) }
         ensures none { IfOk result (λ c. (c.waiting ≡ []) × (unreported c ≡ None)) }
@@ -79,7 +79,7 @@ impl<W: WriteBoth + Drop> Corked<W> {
 impl<W: WriteBoth> Corked<W> {
     ghost use Rattle.tiny_http_socket.specs.Corked.{corked_sink, unreported, PassesBehind, ReportsFault, SendsWaiting};
 
-    /// What waits.
+    /// Returns the buffered bytes.
     pub fn waiting(&self) -> &[u8]
         ensures bytes { result.now ≡ self.now.waiting }
         ensures bound { length result.now ≤ ROOM }
@@ -87,7 +87,7 @@ impl<W: WriteBoth> Corked<W> {
         self.waiting.as_slice()
     }
 
-    /// The writer. What waits is dropped.
+    /// Returns the writer. The buffered bytes are discarded.
     pub fn into_inner(self) -> W
         ensures { result ≡ self.writer }
     {
@@ -95,7 +95,7 @@ impl<W: WriteBoth> Corked<W> {
         writer
     }
 
-    // Ends it by this fault, which is reported now.
+    // Ends it with this fault, which is reported now.
     fn end(&mut self, fault: io::Error) -> io::Error
         ensures kind { error_kind result ≡ error_kind fault }
         ensures begins { BeginsKnown self.old.sink.sent self.old.sink.taken }
@@ -110,7 +110,7 @@ impl<W: WriteBoth> Corked<W> {
         fault
     }
 
-    // Sends what waits, and has the writer send it on.
+    // Sends the buffered bytes, and flushes the writer.
     fn send(&mut self) -> Result<(), io::Error>
         ensures puts { Puts self.old.sink self.new.sink result self.old.waiting }
         ensures sent { OnOk result (self.new.sink.has_ended ≡ false → HoldsNothing self.new.sink) }
@@ -122,7 +122,7 @@ impl<W: WriteBoth> Corked<W> {
         self.writer.flush_out()
     }
 
-    // Hands what waits to the writer, with these bytes behind it, and says how many of these it took.
+    // Passes the buffered bytes and then these to the writer, and returns how many of these it took.
     fn pass(&mut self, buf: &[u8]) -> Result<usize, io::Error>
         ensures puts { PassesBehind self.old.sink self.new.sink self.old.waiting result buf.now }
         ensures rest { self.new ≡ record self.old { waiting = []; writer = self.new.writer; sink = self.new.sink } }
@@ -148,7 +148,7 @@ impl<W: WriteBoth> Corked<W> {
         self.writer.write_out(buf)
     }
 
-    // Sends what waits, and some of these bytes with it, at least one if there is one. A fault is reported.
+    // Sends the buffered bytes with some of these, at least one if there is one. Reports a fault.
     fn take_past(&mut self, buf: &[u8]) -> Result<usize, io::Error>
         requires open { self.old.state ≡ Open }
         ensures puts { PutsFront (corked_sink self.old) (corked_sink self.new) result buf.now }
@@ -163,7 +163,7 @@ impl<W: WriteBoth> Corked<W> {
         }
     }
 
-    // Takes some bytes, at least one if there is one. Where there is no room for them what waits is sent.
+    // Takes some bytes, at least one if there is one. If they don't fit, the buffered bytes are sent.
     fn take_some(&mut self, buf: &[u8]) -> Result<usize, io::Error>
         requires open { self.old.state ≡ Open }
         ensures puts { PutsFront (corked_sink self.old) (corked_sink self.new) result buf.now }
@@ -178,7 +178,7 @@ impl<W: WriteBoth> Corked<W> {
         self.take_past(buf)
     }
 
-    // Sends what waits, and reports a fault.
+    // Sends the buffered bytes, and reports a fault.
     fn flush(&mut self) -> Result<(), io::Error>
         requires open { self.old.state ≡ Open }
         ensures fault { IfErr result (λ e. Failed self.old.sink self.new.sink self.old.waiting (error_kind e)) }
@@ -193,7 +193,7 @@ impl<W: WriteBoth> Corked<W> {
         }
     }
 
-    /// Writes as `write_out`, but leaves nothing that waits: what does is sent, and with it some of these bytes.
+    /// Writes as `write_out` does, but leaves the buffer empty: sends the buffered bytes with some of these.
     pub fn write_past(&mut self, buf: &[u8]) -> Result<usize, io::Error>
         ensures puts { PutsFront (corked_sink self.old) (corked_sink self.new) result buf.now }
         ensures none { self.new.waiting ≡ [] }
@@ -211,8 +211,8 @@ impl<W: WriteBoth> Corked<W> {
         }
     }
 
-    /// Sends what waits, and has the writer send it on. Nothing waits then. A fault isn't reported here: the next
-    /// write or flush reports it. After a fault nothing is done.
+    /// Sends the buffered bytes, and flushes the writer. The buffer is then empty. A fault isn't reported here, but by
+    /// the next write or flush. After a fault it does nothing.
     pub fn send_waiting(&mut self)
         ensures sends { SendsWaiting (corked_sink self.old) (corked_sink self.new) (unreported self.new) }
         ensures none { self.new.waiting ≡ [] }
@@ -235,14 +235,14 @@ impl<W: WriteBoth> WriteDevice for Corked<W> {
 
     ghost sink = { corked_sink };
 
-    /// The count of the faults that were reported.
+    /// Returns the number of faults reported.
     fn failures(&self) -> u64 {
         let _ = self.writer.failures();
         self.failures
     }
 
-    /// Takes all the bytes where there is room for them: they wait. Else what waits is sent, and with it some of
-    /// them. A fault that `send_waiting` met is reported, and none is taken.
+    /// Buffers all the bytes if they fit. Otherwise sends the buffered bytes with some of these. A fault that
+    /// `send_waiting` met is reported, and no byte is taken.
     fn write_out(&mut self, buf: &[u8]) -> Result<usize, io::Error>
         ensures puts { PutsFront (corked_sink self.old) (corked_sink self.new) result buf.now }
         ensures fault { self.old.state ≡ Open
@@ -259,7 +259,7 @@ impl<W: WriteBoth> WriteDevice for Corked<W> {
         }
     }
 
-    /// Sends what waits, and has the writer send it on. A fault that `send_waiting` met is reported.
+    /// Sends the buffered bytes, and flushes the writer. A fault that `send_waiting` met is reported.
     fn flush_out(&mut self) -> Result<(), io::Error>
         ensures puts { Puts (corked_sink self.old) (corked_sink self.new) result [] }
         ensures sent { OnOk result ((corked_sink self.new).has_ended ≡ false → HoldsNothing (corked_sink self.new)) }
@@ -277,10 +277,10 @@ impl<W: WriteBoth> WriteDevice for Corked<W> {
         }
     }
 
-    /// Has the writer say that no byte follows, unless bytes wait: the caller sends them first.
+    /// Ends the writer, unless bytes are buffered: the caller sends them first.
     fn end_out(&mut self)
         ensures sink { corked_sink self.new ≡ corked_sink self.old }
-        // What waits stays, and so does whether it takes more.
+        // The buffer is unchanged, and so is whether more bytes are taken.
         ensures rest { self.new ≡ record self.old { writer = self.new.writer } }
     {
         if self.waiting.is_empty() {

@@ -1,7 +1,7 @@
-//! A client's socket: the two kinds, TCP and Unix, and its two halves, each of which closes its direction; answers
-//! that leave together, since what is written waits in a buffer until it is sent; large pieces that are read ahead;
-//! and the times within which the client has to give or take something. It stands on `tiny_http_io` and
-//! `tiny_http_limits`; `tiny_http` names its modules again.
+//! A client's socket: TCP or Unix, split in two halves, each of which shuts its direction down when dropped; a write
+//! buffer, so that several responses can be sent together; reading ahead in large pieces; and timeouts for what the
+//! client must send or accept. This crate builds on `tiny_http_io` and `tiny_http_limits`; `tiny_http` re-exports its
+//! modules.
 #![tactic(auto)]
 
 pub mod connection;

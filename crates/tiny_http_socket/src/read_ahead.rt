@@ -1,4 +1,4 @@
-//! A reader by large pieces.
+//! A reader that reads ahead in large pieces.
 ghost use Rattle.std.specs.Prelude.{◌≡◌, ◌≢◌, ◌<◌, ◌≤◌, ◌+◌, ◌++◌, min, [], length, take, drop, Ok, Err, IfOk, IfErr};
 ghost use Rattle.std.specs.Prelude.{OnOk, OnErr, vec_len};
 ghost use Rattle.std.specs.IoError.{error_kind};
@@ -11,20 +11,21 @@ use std::io;
 use std::marker::Model;
 use tiny_http_io::device::{ReadDevice, copy_front};
 
-/// So many bytes are asked for at once.
+/// The size of a piece, in bytes.
 pub const PIECE: usize = 16_384;
 
-/// What is done each time before a reader is called.
+/// An action before each call of a reader.
 pub trait BeforeRead {
-    /// It was done.
+    /// States that the action was done.
     ghost does: { Self → Self → Type 0 };
 
-    /// Does it.
+    /// Does the action.
     fn before_read(&mut self)
         ensures { Self.does self.old self.new };
 }
 
-/// A reader that is asked for up to 16,384 bytes at once. It is called only where no byte is held and one is wanted.
+/// A reader that reads ahead up to 16,384 bytes at once. It calls the inner reader only if a byte is requested and none
+/// is held.
 #[derive(Drop)]
 pub struct ReadAhead<R: ReadDevice> {
     reader: R,
@@ -49,7 +50,7 @@ impl<R: ReadDevice> Model for ReadAhead<R> {
 impl<R: ReadDevice + Drop> ReadAhead<R> {
     ghost use Rattle.tiny_http_socket.specs.ReadAhead.{ahead_feed};
 
-    /// Nothing was read from this reader. An error where memory was refused.
+    /// Wraps a reader from which nothing was read yet. Fails if memory is refused.
     pub fn new(alloc: Global, reader: R) -> Result<ReadAhead<R>, AllocError>
         ensures { IfOk result (λ a. (a.reader ≡ reader) × (a.held ≡ []) × (a.feed ≡ R.feed reader)) }
     {
@@ -66,7 +67,7 @@ impl<R: ReadDevice + Drop> ReadAhead<R> {
 impl<R: ReadDevice> ReadAhead<R> {
     ghost use Rattle.tiny_http_socket.specs.ReadAhead.{ahead_feed};
 
-    // Lets go of so many of the bytes that are held.
+    // Discards `n` held bytes.
     fn consume(&mut self, n: usize)
         requires { n ≤ length self.old.held }
         ensures { self.new ≡ record self.old { held = drop n self.old.held } }
@@ -74,7 +75,7 @@ impl<R: ReadDevice> ReadAhead<R> {
         self.start += n;
     }
 
-    // Gives the first bytes that are held, as many as there is room for, and says how many.
+    // Copies as many held bytes as fit into `buf`, and returns how many.
     fn give(&mut self, buf: &mut [u8]) -> usize
         ensures count { result ≡ min (length self.old.held) (length buf.new) }
         ensures bytes { self.old.held ≡ take result buf.new ++ self.new.held }
@@ -85,7 +86,7 @@ impl<R: ReadDevice> ReadAhead<R> {
         n
     }
 
-    // Reads a piece, where no byte is held.
+    // Reads a piece when no byte is held.
     fn fill(&mut self) -> Result<(), io::Error>
         requires none { self.old.held ≡ [] }
         ensures bytes { OnOk result (self.old.feed ≡ ahead_feed self.new) }
@@ -103,9 +104,9 @@ impl<R: ReadDevice> ReadAhead<R> {
         Ok(())
     }
 
-    /// Reads some bytes into the front of `buf`, and says how many: those that are held, if there are some. Else
-    /// `before` is done, and the reader is called: for a piece, or for as many bytes as `buf` has room for where that
-    /// is as many or more. An empty `buf` changes nothing.
+    /// Reads some bytes into the front of `buf`, and returns how many. Held bytes come first. If there are none, it
+    /// runs `before` and calls the reader: for a piece, or for `buf.len()` bytes if that is at least a piece. An empty
+    /// `buf` changes nothing.
     pub fn read_after<B: BeforeRead>(
         &mut self,
         before: &mut B,
@@ -127,7 +128,7 @@ impl<R: ReadDevice> ReadAhead<R> {
         self.read_more(buf)
     }
 
-    // Reads some bytes where none are held.
+    // Reads some bytes when none are held.
     fn read_more(&mut self, buf: &mut [u8]) -> Result<usize, io::Error>
         requires none { self.old.held ≡ [] }
         ensures reads { Reads self.old.feed (ahead_feed self.new) result buf.new }

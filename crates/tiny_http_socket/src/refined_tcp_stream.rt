@@ -1,4 +1,4 @@
-//! The two halves of a client's connection. A half that is dropped shuts its direction down.
+//! The two halves of a client's connection. Dropping a half shuts its direction down.
 ghost use Rattle.std.specs.Prelude.{◌≡◌, ◌<◌, ◌≤◌, ◌++◌, [], length, Ok, None, Some, OnOk, IfOk, IfErr, false, IsOk};
 ghost use Rattle.std.specs.IoError.{error_kind};
 ghost use Rattle.tiny_http_io.specs.Device.{next_count};
@@ -22,7 +22,7 @@ enum Half {
 }
 
 impl Half {
-    // What closes this direction alone.
+    // Returns how to shut down this direction alone.
     fn shutdown(self) -> Shutdown
         ensures { result ≡ shutdown_of self }
     {
@@ -33,8 +33,8 @@ impl Half {
     }
 }
 
-/// A half of a client's connection. Where it is dropped it shuts its direction down: the other half is as it was. It
-/// reads and writes the connection itself; as a `ReadDevice` it states no feed, and as a `WriteDevice` it counts its
+/// One half of a client's connection. Dropping it shuts its direction down, and leaves the other half unchanged. It
+/// reads and writes the connection directly. As a `ReadDevice` it states no feed; as a `WriteDevice` it counts its
 /// failures and states no bytes.
 pub struct RefinedTcpStream {
     connection: Arc<Connection>,
@@ -47,8 +47,8 @@ impl RefinedTcpStream {
     ghost use Rattle.tiny_http_socket.specs.Stream.{IsReadingHalf, IsWritingHalf, stream_sink, connection_of};
     ghost use Rattle.tiny_http_socket.specs.Stream.{HasSamePeer};
 
-    /// The reading half of a connection, and its writing half. They share it: it is closed once both are dropped, and
-    /// whoever else holds it. An error where memory was refused; the connection is closed then.
+    /// Splits a connection into its read half and its write half. The connection is closed once both are dropped, and
+    /// any other handle. Fails if memory is refused; the connection is then closed.
     pub fn new(
         alloc: Global,
         connection: Connection,
@@ -63,14 +63,14 @@ impl RefinedTcpStream {
         ))
     }
 
-    /// The connection, which both halves share.
+    /// Returns the connection, which both halves share.
     pub fn connection(&self) -> &Arc<Connection>
         ensures { result.now.value ≡ connection_of self.now }
     {
         &self.connection
     }
 
-    // A half that has not failed.
+    // Creates a half without failures.
     fn of(connection: Arc<Connection>, half: Half) -> RefinedTcpStream
         ensures { result ≡ record { connection = connection; half = half; failures = 0; last = None } }
     {
@@ -82,21 +82,22 @@ impl RefinedTcpStream {
         }
     }
 
-    /// Whether the connection is encrypted. None is.
+    /// Returns whether the connection is encrypted: always false.
     pub fn secure(&self) -> bool
         ensures { result ≡ false }
     {
         false
     }
 
-    /// The client's address; none of a Unix one. The system's fault, where it no longer knows it.
+    /// Returns the client's address, or `None` for a Unix socket. Fails with the system's error if it no longer knows
+    /// the address.
     pub fn peer_addr(&self) -> io::Result<Option<SocketAddr>>
         ensures { IfOk result (λ addr. HasSamePeer self.now addr) }
     {
         self.connection.peer_addr()
     }
 
-    // What a write is reported as, and counted if it is a fault. That it took no byte is one.
+    // Converts the result of a write to what is reported, and counts a fault. A write that takes no byte is one.
     fn report(&mut self, written: io::Result<usize>) -> io::Result<usize>
         ensures taken { IfOk result (λ n. (0 < n) × (written ≡ Ok n) × (self.new ≡ self.old)) }
         ensures fault { IfErr result
@@ -122,7 +123,7 @@ impl RefinedTcpStream {
 }
 
 impl Drop for RefinedTcpStream {
-    /// Shuts its direction down. What the system answers is passed over.
+    /// Shuts its direction down. The system's result is ignored.
     fn drop(self) {
         let RefinedTcpStream {
             connection,
@@ -134,7 +135,7 @@ impl Drop for RefinedTcpStream {
     }
 }
 
-// Reads once. A call that a signal interrupts is made again.
+// Reads once, and retries a call that a signal interrupts.
 fn read_once(connection: &Connection, buf: &mut [u8]) -> io::Result<usize>
     ensures { IfOk result (λ n. n ≤ length buf.new) }
 {
@@ -147,7 +148,7 @@ fn read_once(connection: &Connection, buf: &mut [u8]) -> io::Result<usize>
     Err(ErrorKind::Interrupted.into())
 }
 
-// Writes once. A call that a signal interrupts is made again.
+// Writes once, and retries a call that a signal interrupts.
 fn write_once(connection: &Connection, buf: &[u8]) -> io::Result<usize>
     ensures { IfOk result (λ n. n ≤ length buf.now) }
 {
@@ -160,7 +161,7 @@ fn write_once(connection: &Connection, buf: &[u8]) -> io::Result<usize>
     Err(ErrorKind::Interrupted.into())
 }
 
-// Writes two texts once, one behind the other. A call that a signal interrupts is made again.
+// Writes the concatenation of two texts once, and retries a call that a signal interrupts.
 fn write_both_once(connection: &Connection, front: &[u8], back: &[u8]) -> io::Result<usize>
     ensures { IfOk result (λ n. n ≤ length (front.now ++ back.now)) }
 {
@@ -177,8 +178,8 @@ impl RefinedTcpStream {
     ghost use Rattle.tiny_http_io.specs.Device.{PutsFront};
     ghost use Rattle.tiny_http_socket.specs.Stream.{stream_sink};
 
-    /// Writes once to the client from the front of two texts, one behind the other, and not at all where both are
-    /// empty. Else as `write_out`.
+    /// Writes once to the client from the front of the concatenation of two texts, as `write_out` does. Writes nothing
+    /// if both are empty.
     pub fn write_both(&mut self, front: &[u8], back: &[u8]) -> Result<usize, io::Error>
         ensures puts { PutsFront (stream_sink self.old) (stream_sink self.new) result (front.now ++ back.now) }
     {
@@ -191,27 +192,27 @@ impl RefinedTcpStream {
 }
 
 impl Read for RefinedTcpStream {
-    /// Reads once, as `read_in`.
+    /// Reads once, as `read_in` does.
     fn read(&mut self, buf: &mut [u8]) -> io::Result<usize> {
         self.read_in(buf)
     }
 }
 
 impl Write for RefinedTcpStream {
-    /// Writes once, as `write_out`.
+    /// Writes once, as `write_out` does.
     fn write(&mut self, buf: &[u8]) -> io::Result<usize> {
         self.write_out(buf)
     }
 
-    /// Nothing is held back.
+    /// Does nothing: no bytes are held back.
     fn flush(&mut self) -> io::Result<()> {
         Ok(())
     }
 }
 
 impl ReadDevice for RefinedTcpStream {
-    /// Reads once from the client, and not at all into an empty buffer: 0 at the end of what the client sends. A call
-    /// that a signal interrupts is made again.
+    /// Reads once from the client, and retries a call that a signal interrupts. Returns 0 at the end of input, and for
+    /// an empty buffer, without a call.
     fn read_in(&mut self, buf: &mut [u8]) -> Result<usize, io::Error> {
         if buf.is_empty() {
             return Ok(0);
@@ -226,13 +227,13 @@ impl WriteDevice for RefinedTcpStream {
 
     ghost sink = { stream_sink };
 
-    /// The count.
+    /// Returns the number of failed writes.
     fn failures(&self) -> u64 {
         self.failures
     }
 
-    /// Writes once to the client, and not at all from an empty buffer. That no byte is taken is a fault of kind
-    /// `WriteZero`. A call that a signal interrupts is made again.
+    /// Writes once to the client, and retries a call that a signal interrupts. An empty buffer writes nothing. If no
+    /// byte is taken, the error is `WriteZero`.
     fn write_out(&mut self, buf: &[u8]) -> Result<usize, io::Error>
         ensures puts { PutsFront (stream_sink self.old) (stream_sink self.new) result buf.now }
         ensures empty { length buf.now ≡ 0 → (result ≡ Ok 0) × (self.new ≡ self.old) }
@@ -244,7 +245,7 @@ impl WriteDevice for RefinedTcpStream {
         self.report(written)
     }
 
-    /// Nothing is held back.
+    /// Does nothing: no bytes are held back.
     fn flush_out(&mut self) -> Result<(), io::Error>
         ensures puts { Puts (stream_sink self.old) (stream_sink self.new) result [] }
         ensures sent { OnOk result ((stream_sink self.new).has_ended ≡ false → HoldsNothing (stream_sink self.new)) }
@@ -254,8 +255,8 @@ impl WriteDevice for RefinedTcpStream {
         Ok(())
     }
 
-    /// Shuts the direction to the client down, so that the client sees the end. What the system answers is passed
-    /// over. A drop, and a server that closes the connection, may do it again.
+    /// Shuts down the direction to the client, which then sees the end of input. The system's result is ignored. A
+    /// drop, and a server that closes the connection, may do it again.
     fn end_out(&mut self)
         ensures sink { stream_sink self.new ≡ stream_sink self.old }
         ensures unchanged { self.new ≡ self.old }

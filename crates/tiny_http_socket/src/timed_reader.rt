@@ -1,4 +1,4 @@
-//! A reader that a client has to serve in time.
+//! A reader with a timeout for the client to send bytes.
 ghost use Rattle.std.specs.Prelude.{◌≡◌, ◌≤◌, length, Ok, IfOk};
 ghost use Rattle.tiny_http_socket.specs.Timed.{IsReportOf, IsLate};
 
@@ -13,32 +13,32 @@ use tiny_http_io::device::ReadDevice;
 use tiny_http_limits::counts::Closing;
 use tiny_http_limits::times::{Patience, Stall, time_left};
 
-// The milliseconds that a socket is told to wait at least, since 0 stands for no end.
+// The minimum read timeout of a socket in milliseconds, since 0 means none.
 const LEAST_MILLIS: u64 = 1;
 
-/// A reader over the socket of a client, whose reads end in time where its connection has limits. The end of the time
-/// for a head's first byte counts as the client's end. That of a head, a body or an upgraded stream is a fault of kind
-/// `TimedOut`. It states no feed.
+/// A reader over a client's socket, with timeouts if its connection has limits. A timeout for the first byte of a head
+/// counts as the end of input. A timeout for a head, a body or an upgraded stream is a fault of kind `TimedOut`. It
+/// states no feed.
 #[derive(Drop)]
 pub struct TimedReader<R: ReadDevice + Drop, Rt: Clock> {
     rt: Rt,
     inner: R,
     socket: Arc<Connection>,
     timers: Arc<ConnectionTimers>,
-    // How long the socket waits in one read.
+    // The read timeout that was set on the socket.
     timeout: Option<Duration>,
-    // So many requests had been handed out.
+    // The number of requests handed out as of the last read.
     request: u64,
-    // When the head began that comes behind them.
+    // When the head after them began.
     begun: Option<Duration>,
-    // How the reads of the last one's body went.
+    // The progress of reading the body of the last of them.
     stall: Stall,
-    // The time for that body is over.
+    // Whether the time for that body is over.
     is_late: bool,
 }
 
 impl<R: ReadDevice + Drop, Rt: Clock> TimedReader<R, Rt> {
-    /// A reader over this one, which reads from this socket.
+    /// Wraps a reader that reads from this socket.
     pub fn new(
         rt: Rt,
         inner: R,
@@ -58,12 +58,12 @@ impl<R: ReadDevice + Drop, Rt: Clock> TimedReader<R, Rt> {
         }
     }
 
-    // The time of the clock; 0 where it can't be read.
+    // Returns the time of the clock, or 0 if it can't be read.
     fn now(&self) -> Duration {
         self.rt.monotonic().unwrap_or(Duration::from_secs(0))
     }
 
-    // Has the socket wait for so long in one read, or without end.
+    // Sets the socket's read timeout, or clears it.
     fn wait_for(&mut self, timeout: Option<Duration>) {
         if self.timeout != timeout {
             self.timeout = timeout;
@@ -76,7 +76,7 @@ impl<R: ReadDevice + Drop, Rt: Clock> TimedReader<R, Rt> {
         }
     }
 
-    // Reads where a head's first byte is waited for. The time begins anew where a request was open as it began.
+    // Reads while waiting for the first byte of a head. The timeout restarts if a request was open when it began.
     fn read_first(&mut self, time: Duration, buf: &mut [u8]) -> io::Result<usize>
         ensures { IfOk result (λ n. n ≤ length buf.new) }
     {
@@ -101,8 +101,8 @@ impl<R: ReadDevice + Drop, Rt: Clock> TimedReader<R, Rt> {
         Ok(0)
     }
 
-    // Reads where the rest of a head is waited for. Its time begins at the first such read: a head that came in one
-    // piece needs no clock.
+    // Reads the rest of a head. Its time begins at the first such read, so a head that arrives in one piece needs no
+    // clock.
     fn read_head(&mut self, time: Duration, buf: &mut [u8]) -> io::Result<usize>
         ensures { IfOk result (λ n. n ≤ length buf.new) }
     {
@@ -119,7 +119,7 @@ impl<R: ReadDevice + Drop, Rt: Clock> TimedReader<R, Rt> {
         }
     }
 
-    // The time for the head is over.
+    // Reports that the time for the head is over.
     fn head_is_late(&mut self) -> io::Result<usize>
         ensures { IsLate result }
     {
@@ -127,7 +127,7 @@ impl<R: ReadDevice + Drop, Rt: Clock> TimedReader<R, Rt> {
         Err(ErrorKind::TimedOut.into())
     }
 
-    // Reads where a body is read, which may wait for what is left of its time.
+    // Reads from a body, waiting at most for the rest of its time.
     fn read_body(&mut self, patience: Patience, buf: &mut [u8]) -> io::Result<usize>
         ensures { IfOk result (λ n. n ≤ length buf.new) }
     {
@@ -141,7 +141,7 @@ impl<R: ReadDevice + Drop, Rt: Clock> TimedReader<R, Rt> {
         self.check_body(patience, begun, read)
     }
 
-    // What a read of a body that began then is reported as.
+    // Converts the result of a read from a body, begun at `begun`, to what is reported.
     fn check_body(
         &mut self,
         patience: Patience,
@@ -167,7 +167,7 @@ impl<R: ReadDevice + Drop, Rt: Clock> TimedReader<R, Rt> {
         }
     }
 
-    // The time for the body is over: each later read of it fails.
+    // Reports that the time for the body is over. Each later read of it fails.
     fn body_is_late(&mut self) -> io::Result<usize>
         ensures { IsLate result }
     {
@@ -176,7 +176,7 @@ impl<R: ReadDevice + Drop, Rt: Clock> TimedReader<R, Rt> {
         Err(ErrorKind::TimedOut.into())
     }
 
-    // Reads where an upgraded stream is read. Its time begins anew where bytes were written meanwhile.
+    // Reads from an upgraded stream. The timeout restarts if bytes were written meanwhile.
     fn read_stream(&mut self, time: Option<Duration>, buf: &mut [u8]) -> io::Result<usize>
         ensures { IfOk result (λ n. n ≤ length buf.new) }
     {
@@ -195,7 +195,7 @@ impl<R: ReadDevice + Drop, Rt: Clock> TimedReader<R, Rt> {
         self.stream_is_late()
     }
 
-    // The time for the stream is over: the connection is shut down.
+    // Shuts the connection down because the time for the stream is over.
     fn stream_is_late(&mut self) -> io::Result<usize>
         ensures { IsLate result }
     {
@@ -204,7 +204,7 @@ impl<R: ReadDevice + Drop, Rt: Clock> TimedReader<R, Rt> {
         Err(ErrorKind::TimedOut.into())
     }
 
-    // Begins anew where another request was handed out since: with its body, or with the head behind it.
+    // Resets the times if another request was handed out since: for its body, or for the head after it.
     fn go_to(&mut self, request: u64) {
         if self.request != request {
             self.request = request;
@@ -216,7 +216,7 @@ impl<R: ReadDevice + Drop, Rt: Clock> TimedReader<R, Rt> {
 }
 
 impl<R: ReadDevice + Drop, Rt: Clock> ReadDevice for TimedReader<R, Rt> {
-    /// Reads once. Under limits no longer than what is waited for may take.
+    /// Reads once. Under limits it waits at most as long as the current phase allows.
     fn read_in(&mut self, buf: &mut [u8]) -> Result<usize, io::Error> {
         if buf.is_empty() {
             return Ok(0);

@@ -1,4 +1,4 @@
-//! A writer whose client has to take its bytes in time.
+//! A writer with a timeout for the client to accept its bytes.
 ghost use Rattle.std.specs.Prelude.{◌≡◌, ◌++◌, Ok, IfOk, IfErr};
 ghost use Rattle.std.specs.IoError.{error_kind};
 
@@ -15,30 +15,30 @@ use tiny_http_limits::counts::Closing;
 use tiny_http_limits::limits::Limits;
 use tiny_http_limits::times::{Patience, Stall};
 
-// So many milliseconds one call of the system waits at most, and less where a write may take less. It reports that it
-// timed out also where there is some room by then, which the next call finds.
+// The maximum wait of one system call in milliseconds; it is less if a write has less time. A call may report a timeout
+// although there is some room by then, which the next call finds.
 const STEP_MILLIS: u64 = 1_000;
 
-/// A writer to the socket of a client, whose writes end in time where its connection has limits, by a fault of kind
-/// `TimedOut`. The connection is shut down then. The clock is read once a call of the system took less than it was
-/// given, and from then on. As a `WriteDevice` it counts its failures and states no bytes.
+/// A writer to a client's socket. Under limits a write that takes too long fails with `TimedOut`, and the connection is
+/// shut down. The clock is read only after a system call has taken fewer bytes than it was given. As a `WriteDevice` it
+/// counts its failures and states no bytes.
 #[derive(Drop)]
 pub struct TimedWriter<Rt: Clock> {
     rt: Rt,
     socket: RefinedTcpStream,
     timers: Arc<ConnectionTimers>,
-    // How long writes may wait, where the connection has limits.
+    // How long writes may wait, if the connection has limits.
     patience: Option<Patience>,
-    // The client was waited for; before that nothing has to be counted.
+    // Whether the client was waited for; until then no time is counted.
     has_waited: bool,
     stall: Stall,
-    // The time for a write is over.
+    // Whether the time for a write is over.
     is_late: bool,
     failures: u64,
     last: Option<ErrorKind>,
 }
 
-// A call of the system that writes: when it began, if its time counts, and how many bytes it was given.
+// A writing system call: when it began, if its time counts, and how many bytes it was given.
 #[derive(Clone, Copy)]
 struct Asked {
     begun: Option<Duration>,
@@ -48,7 +48,7 @@ struct Asked {
 impl<Rt: Clock> TimedWriter<Rt> {
     ghost use Rattle.tiny_http_socket.specs.Timed.{timed_sink, failed_sink, IsReportOf};
 
-    /// A writer to this half of a socket.
+    /// Creates a writer to this half of a socket.
     pub fn new(rt: Rt, socket: RefinedTcpStream, timers: Arc<ConnectionTimers>) -> TimedWriter<Rt> {
         let patience = timers.limits().map(Limits::write_patience);
         if let Some(patience) = patience {
@@ -68,12 +68,12 @@ impl<Rt: Clock> TimedWriter<Rt> {
         }
     }
 
-    // The time of the clock; 0 where it can't be read.
+    // Returns the time of the clock, or 0 if it can't be read.
     fn now(&self) -> Duration {
         self.rt.monotonic().unwrap_or(Duration::from_secs(0))
     }
 
-    // A call that is to write so many bytes.
+    // Begins a call that is given this number of bytes.
     fn ask(&self, bytes: usize) -> Asked {
         let begun = if self.has_waited {
             Some(self.now())
@@ -83,7 +83,7 @@ impl<Rt: Clock> TimedWriter<Rt> {
         Asked { begun, bytes }
     }
 
-    // What such a call is reported as, and counted if it is a fault. Under limits its time is counted.
+    // Converts the result of such a call to what is reported, and counts a fault. Under limits its time is counted.
     fn report(&mut self, asked: Asked, written: io::Result<usize>) -> io::Result<usize>
         ensures taken { IfOk result (λ n. (written ≡ Ok n) × (timed_sink self.new ≡ timed_sink self.old)) }
         ensures fault { IfErr result (λ e. timed_sink self.new ≡ failed_sink self.old (error_kind e)) }
@@ -96,8 +96,7 @@ impl<Rt: Clock> TimedWriter<Rt> {
         written
     }
 
-    // The same, where the time of the write counts: a fault of it, `TimedOut`, is reported in the place of the
-    // system's.
+    // Does the same if the time of the write counts: a timeout of the system becomes `TimedOut`.
     fn in_time(
         &mut self,
         patience: Patience,
@@ -110,7 +109,7 @@ impl<Rt: Clock> TimedWriter<Rt> {
         match written {
             Ok(n) => {
                 self.timers.wrote();
-                // What was taken whole is sent, however late.
+                // Bytes that were all taken are sent, however late.
                 if self.is_over(patience, asked, n) && n < asked.bytes {
                     self.end_late();
                 }
@@ -120,9 +119,9 @@ impl<Rt: Clock> TimedWriter<Rt> {
         }
     }
 
-    // Counts a call that wrote this number of bytes. Whether the time for a write is over. A call that wrote nothing
-    // waited for a step, also where the clock can't be read. How long the first one waited that wrote some of its
-    // bytes isn't known.
+    // Counts the time of a call that wrote this number of bytes, and returns whether the time for a write is over. A
+    // call that wrote nothing waited for one step, even if the clock can't be read. The wait of the first call that
+    // wrote only some of its bytes is unknown.
     fn is_over(&mut self, patience: Patience, asked: Asked, written: usize) -> bool
         ensures { timed_sink self.new ≡ timed_sink self.old }
     {
@@ -139,7 +138,7 @@ impl<Rt: Clock> TimedWriter<Rt> {
         self.has_waited && self.stall.count(waited, written, patience)
     }
 
-    // Whether a write is to be made again: the system timed out, and the time for a write isn't over.
+    // Returns whether to retry a write: the system timed out, and the time for a write isn't over.
     fn tries_again(&mut self, asked: Asked, written: &io::Result<usize>) -> bool
         ensures { timed_sink self.new ≡ timed_sink self.old }
     {
@@ -159,7 +158,7 @@ impl<Rt: Clock> TimedWriter<Rt> {
         true
     }
 
-    // The time for a write is over: the connection is shut down, and each later write fails.
+    // Shuts the connection down because the time for a write is over. Each later write fails.
     fn end_late(&mut self)
         ensures { timed_sink self.new ≡ timed_sink self.old }
     {
@@ -180,7 +179,7 @@ impl<Rt: Clock> TimedWriter<Rt> {
     }
 }
 
-// How long one call of the system waits, where a write has this time.
+// Returns how long one system call waits if a write has this time.
 fn step(time: Duration) -> Duration {
     time.min(Duration::from_millis(STEP_MILLIS))
 }
@@ -190,13 +189,13 @@ impl<Rt: Clock> WriteDevice for TimedWriter<Rt> {
 
     ghost sink = { timed_sink };
 
-    /// The count.
+    /// Returns the number of failed writes.
     fn failures(&self) -> u64 {
         self.failures
     }
 
-    /// Writes once to the client, and not at all from an empty buffer. Under limits it ends in time, by a second or
-    /// less.
+    /// Writes once to the client; an empty buffer writes nothing. Under limits it ends at most a second after the time
+    /// for a write is over.
     fn write_out(&mut self, buf: &[u8]) -> Result<usize, io::Error> {
         if buf.is_empty() {
             return Ok(0);
@@ -215,20 +214,19 @@ impl<Rt: Clock> WriteDevice for TimedWriter<Rt> {
         self.report(self.ask(bytes), Err(ErrorKind::TimedOut.into()))
     }
 
-    /// Nothing is held back.
+    /// Does nothing: no bytes are held back.
     fn flush_out(&mut self) -> Result<(), io::Error> {
         Ok(())
     }
 
-    /// Shuts the direction to the client down, so that the client sees the end.
+    /// Shuts down the direction to the client, which then sees the end of input.
     fn end_out(&mut self) {
         self.socket.end_out();
     }
 }
 
 impl<Rt: Clock> WriteBoth for TimedWriter<Rt> {
-    /// Writes once to the client, by one call of the system, and not at all where both texts are empty. Else as
-    /// `write_out`.
+    /// Writes once to the client, by one system call, as `write_out` does. Writes nothing if both texts are empty.
     fn write_both(&mut self, front: &[u8], back: &[u8]) -> Result<usize, io::Error> {
         if front.is_empty() && back.is_empty() {
             return Ok(0);

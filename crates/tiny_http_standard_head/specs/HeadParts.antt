@@ -1,4 +1,4 @@
--- The parts of a head as they are read, line by line.
+-- The parts of a head, line by line.
 use Rattle.std.specs.Prelude.{◌≡◌, ℕ, ◌+◌, ◌≤◌, List, [], length, Ok, Err}
 use Rattle.tiny_http_text.specs.Bytes.{HasNo}
 use Rattle.tiny_http_head.specs.declared.common.Header.{Header}
@@ -24,7 +24,7 @@ abbrev pub HasNoLine : NoLine → List ℕ → Type 0
 HasNoLine no.Bare bytes = BeginsWithBareLine bytes
 HasNoLine no.Open bytes = HasNo line_feed bytes
 
--- why they don't begin with a request line
+-- why the bytes don't begin with a request line
 abbrev pub StopsRequest : List ℕ → NoHead → Type 0
 StopsRequest bytes stop.Bad = BeginsWithBadLine IsNoRequestLine (behind_empty_line bytes)
 StopsRequest bytes stop.OpenRequest = HasNo line_feed (behind_empty_line bytes)
@@ -32,11 +32,12 @@ StopsRequest bytes stop.OpenField = ⊥
 StopsRequest bytes stop.TooMany = ⊥
 StopsRequest bytes stop.Memory = HasGoodRequestLine bytes
 
--- the bytes begin with a good field line
+-- the bytes begin with a valid field line
 abbrev pub HasGoodFieldLine : List ℕ → Type 0
 HasGoodFieldLine bytes = (text : List ℕ) × (rest : List ℕ) × Line bytes text rest × (IsNoFieldLine text → ⊥)
 
--- why they don't begin with field lines, not too many, and an empty line; memory is wanted for a good field line alone
+-- why the bytes don't begin with field lines, at most MOST_HEADERS, and an empty line; memory is needed only for a
+-- valid field line
 abbrev pub StopsFields : List ℕ → NoHead → Type 0
 StopsFields bytes stop.Bad =
     (headers : List Header)
@@ -58,7 +59,7 @@ StopsFields bytes stop.TooMany =
     × (length headers ≡ MOST_HEADERS + 1)
 StopsFields bytes stop.Memory = HasGoodFieldLine bytes
 
--- the bytes are field lines, which are not too many, an empty line, and what is behind them
+-- the bytes are field lines, at most MOST_HEADERS, an empty line, and `after`
 abbrev pub EndsFields : List ℕ → List Header → List ℕ → Type 0
 EndsFields bytes headers after =
     (empty : List ℕ)
@@ -66,7 +67,7 @@ EndsFields bytes headers after =
     × (length headers ≤ MOST_HEADERS)
     × Line empty [] after
 
--- why a head isn't read to its end
+-- why no complete head was read
 abbrev pub StopsHead : List ℕ → NoHead → Type 0
 StopsHead bytes stop.Bad = HasBadLine bytes
 StopsHead bytes stop.OpenRequest = HasOpenRequestLine bytes
@@ -74,7 +75,7 @@ StopsHead bytes stop.OpenField = HasOpenField bytes
 StopsHead bytes stop.TooMany = HasTooManyFields bytes
 StopsHead bytes stop.Memory = HasGoodRequestLine bytes
 
--- a head that has come whole: how many bytes it has, and how it is judged
+-- a complete head: its length in bytes and the result of its validation
 abbrev pub ReadsWhole : List ℕ → StandardRead → Type 0
 ReadsWhole bytes (Whole h) =
     (after : List ℕ)

@@ -1,5 +1,4 @@
--- A whole head by the standard (RFC 9112, sections 2.2, 3 and 5), and what is read of the first bytes that a client
--- sends.
+-- Whole heads by the standard (RFC 9112, sections 2.2, 3 and 5), and how the first bytes from a client are read.
 use Rattle.std.specs.Prelude.{◌≡◌, ◌≢◌, ℕ, ◌+◌, ◌<◌, ◌≤◌, ◌⊎◌, Bool, not, ◌&&◌, ◌==◌, List, [], ◌∷◌, ◌++◌, length}
 use Rattle.std.specs.Prelude.{take, true, false, Result, Ok, Err, IsTrue, if◌then◌else◌}
 use Rattle.tiny_http_text.specs.Bytes.{HasNo, has_bare_end}
@@ -28,12 +27,12 @@ carriage_return = 13
 abbrev pub is_carriage_return : ℕ → Bool
 is_carriage_return b = b == carriage_return
 
--- the bytes begin with a line, in which no LF stands, and its CR LF; the rest follows
+-- the bytes begin with a line, which has no LF, and its CR LF; the rest follows
 pub record Line (bytes text rest : List ℕ) : Type 0 where
   pub joins : bytes ≡ text ++ (carriage_return ∷ line_feed ∷ rest)
   pub first : HasNo line_feed text
 
--- the first LF of the bytes has no CR in front
+-- the first LF of the bytes has no CR before it
 pub record BeginsWithBareLine (bytes : List ℕ) : Type 0 where
   pub text : List ℕ
   pub rest : List ℕ
@@ -41,13 +40,13 @@ pub record BeginsWithBareLine (bytes : List ℕ) : Type 0 where
   pub first : HasNo line_feed text
   pub bare : IsTrue (has_bare_end is_carriage_return text)
 
--- the bytes without one empty line in front
+-- the bytes without one empty line at the beginning
 abbrev pub behind_empty_line : List ℕ → List ℕ
 behind_empty_line [] = []
 behind_empty_line (a ∷ []) = a ∷ []
 behind_empty_line (a ∷ b ∷ bs) = if (a == carriage_return && b == line_feed) then bs else a ∷ b ∷ bs
 
--- the bytes begin with a request line, in front of which one empty line is passed over; the field lines follow
+-- the bytes begin with a request line, after at most one empty line; the field lines follow
 pub record BeginsWithRequestLine (bytes : List ℕ) (method : Method) (target : List ℕ) (v : HTTPVersion)
     (fields : List ℕ) : Type 0 where
   pub text : List ℕ
@@ -64,7 +63,7 @@ BeginsWithFieldLines bytes (h ∷ hs) rest =
     × ReadsFieldLine text h
     × BeginsWithFieldLines next hs rest
 
--- A HEAD: a request line, field lines, which are not too many, and an empty line
+-- A HEAD: a request line, field lines, at most MOST_HEADERS, and an empty line
 pub record BeginsWithHead (bytes : List ℕ) (m : Message) (after : List ℕ) : Type 0 where
   pub fields : List ℕ
   pub empty : List ℕ
@@ -73,23 +72,23 @@ pub record BeginsWithHead (bytes : List ℕ) (m : Message) (after : List ℕ) : 
   pub few : length m.headers ≤ MOST_HEADERS
   pub end : Line empty [] after
 
--- a good request line has ended, behind an empty line if there is one
+-- a valid request line has ended, after at most one empty line
 pub record HasGoodRequestLine (bytes : List ℕ) : Type 0 where
   pub text : List ℕ
   pub rest : List ℕ
   pub line : Line (behind_empty_line bytes) text rest
   pub good : IsNoRequestLine text → ⊥
 
--- A LINE THAT IS NO GOOD: no CR stands in front of its LF, or it isn't what has to stand there.
+-- A MALFORMED LINE: its LF has no CR before it, or its text doesn't match the grammar there.
 abbrev pub BeginsWithBadLine : (List ℕ → Type 0) → List ℕ → Type 0
 BeginsWithBadLine IsBad bytes =
     BeginsWithBareLine bytes ⊎ ((text : List ℕ) × (rest : List ℕ) × Line bytes text rest × IsBad text)
 
--- neither the empty line nor a field line
+-- the text is neither empty nor a field line
 abbrev pub IsNoFieldOrEnd : List ℕ → Type 0
 IsNoFieldOrEnd text = (text ≢ []) × IsNoFieldLine text
 
--- behind a request line and field lines, which are not too many, these bytes follow
+-- these bytes follow a request line and field lines, at most MOST_HEADERS
 pub record ComesToField (bytes rest : List ℕ) : Type 0 where
   pub method : Method
   pub target : List ℕ
@@ -100,7 +99,7 @@ pub record ComesToField (bytes rest : List ℕ) : Type 0 where
   pub lines : BeginsWithFieldLines fields headers rest
   pub few : length headers ≤ MOST_HEADERS
 
--- behind a request line stands one field line more than a head may have
+-- there is one field line more than a head may have
 pub record HasTooManyFields (bytes : List ℕ) : Type 0 where
   pub method : Method
   pub target : List ℕ
@@ -112,28 +111,28 @@ pub record HasTooManyFields (bytes : List ℕ) : Type 0 where
   pub lines : BeginsWithFieldLines fields headers rest
   pub many : length headers ≡ MOST_HEADERS + 1
 
--- the first bad line of a head
+-- the first malformed line of a head
 abbrev pub HasBadLine : List ℕ → Type 0
 HasBadLine bytes =
     BeginsWithBadLine IsNoRequestLine (behind_empty_line bytes)
     ⊎ ((rest : List ℕ) × ComesToField bytes rest × BeginsWithBadLine IsNoFieldOrEnd rest)
 
--- the request line hasn't ended; a line behind it hasn't
+-- the request line hasn't ended; a later line hasn't ended
 abbrev pub HasOpenRequestLine : List ℕ → Type 0
 HasOpenRequestLine bytes = HasNo line_feed (behind_empty_line bytes)
 
 abbrev pub HasOpenField : List ℕ → Type 0
 HasOpenField bytes = (rest : List ℕ) × ComesToField bytes rest × HasNo line_feed rest
 
--- what bytes are read as: a whole head, with what follows it and how it is judged; a bad line; a field line too many;
--- or a line that hasn't ended, the request line or one behind it
+-- how bytes are read: as a complete head, with what follows it and the result of its validation; as a malformed line;
+-- as a surplus field line; or as a line that hasn't ended, either the request line or a later one
 pub data Reading : Type 0 where
   ReadWhole : (message : Message) (after : List ℕ) (validated : Result HeadSummary HeadError) → Reading
   ReadBad : Reading
   ReadTooMany : Reading
   ReadOpen : (behind_request_line : Bool) → Reading
 
--- WHAT BYTES ARE READ AS
+-- HOW BYTES ARE READ
 abbrev pub AreReadAs : List ℕ → Reading → Type 0
 AreReadAs bytes (ReadWhole m after validated) = BeginsWithHead bytes m after
     × Validates m.version m.method m.headers validated
@@ -142,7 +141,7 @@ AreReadAs bytes ReadTooMany = HasTooManyFields bytes
 AreReadAs bytes (ReadOpen false) = HasOpenRequestLine bytes
 AreReadAs bytes (ReadOpen true) = HasOpenField bytes
 
--- the status of a fault
+-- the status code of a fault
 abbrev pub status_of : StandardFault → ℕ
 status_of BadLine = 400
 status_of RequestLineTooLong = 414
@@ -160,7 +159,7 @@ message_of h = record { method = h.method; path = h.target; version = h.version;
 abbrev pub is_begun : List ℕ → Bool
 is_begun bytes = not (length (behind_empty_line bytes) == 0)
 
--- WHAT IS READ of these bytes, where a head has at most `limit` of them
+-- THE RESULT OF READING these bytes, if a head has at most `limit` bytes
 abbrev pub Reads : ℕ → List ℕ → StandardRead → Type 0
 Reads limit bytes (Whole h) =
     (after : List ℕ)
@@ -179,8 +178,7 @@ Reads limit bytes (Refused TooManyFields) = HasTooManyFields (take limit bytes)
 Reads limit bytes (Unfinished has_begun) =
     (length bytes < limit) × (HasOpenRequestLine bytes ⊎ HasOpenField bytes) × (has_begun ≡ is_begun bytes)
 
--- Two readings say the same: the same head, of the same length and judged alike; the same fault; or unfinished, begun
--- alike.
+-- Two results agree: the same head with the same length and summary; the same fault; or unfinished with the same flag.
 abbrev pub IsSameRead : StandardRead → StandardRead → Type 0
 IsSameRead (Whole h) (Whole k) = (message_of h ≡ message_of k) × (h.length ≡ k.length) × (h.summary ≡ k.summary)
 IsSameRead (Refused e) (Refused f) = e ≡ f

@@ -1,4 +1,4 @@
--- Hosts and their ports (RFC 3986, section 3.2; RFC 9112, section 3.2).
+-- Hosts and ports (RFC 3986, section 3.2; RFC 9112, section 3.2).
 use Rattle.std.specs.Prelude.{◌≡◌, ◌≢◌, ℕ, ◌⊎◌, Bool, true, false, ◌&&◌, ◌||◌, ◌==◌, nat_lt, List, [], ◌∷◌, ◌++◌}
 use Rattle.std.specs.Prelude.{Option, Some, None, IsTrue, codes}
 use Rattle.std.specs.List.{list_all, list_any}
@@ -9,38 +9,38 @@ use Rattle.tiny_http_head.specs.Heads.{length_of}
 abbrev pub percent : ℕ
 percent = 37
 
--- two hexadecimal digits stand in front
+-- the text begins with two hexadecimal digits
 abbrev pub begins_with_two_hexadecimal_digits : List ℕ → Bool
 begins_with_two_hexadecimal_digits [] = false
 begins_with_two_hexadecimal_digits (a ∷ []) = false
 begins_with_two_hexadecimal_digits (a ∷ b ∷ bs) = is_ascii_hexdigit a && is_ascii_hexdigit b
 
--- a byte of a registered name that stands for itself
+-- a byte that is allowed unencoded in a registered name
 abbrev pub is_registered_name_byte : ℕ → Bool
 is_registered_name_byte b = is_ascii_alphanumeric b || list_any (λ c. c == b) (codes "-._~!$&'()*+,;=")
 
--- reg-name: such bytes, and percent signs, each with two hexadecimal digits behind it
+-- reg-name: such bytes, and percent signs that are followed by two hexadecimal digits
 abbrev pub is_registered_name : List ℕ → Bool
 is_registered_name [] = true
 is_registered_name (b ∷ bs) =
     (is_registered_name_byte b || (b == percent && begins_with_two_hexadecimal_digits bs)) && is_registered_name bs
 
--- a byte of an address
+-- a byte that is allowed in a bracketed address
 abbrev pub is_address_byte : ℕ → Bool
 is_address_byte b = is_ascii_hexdigit b || (b == colon || b == point)
 
--- In place of an IP-literal: hexadecimal digits, colons and points in brackets. The address isn't judged.
+-- Instead of IP-literal: hexadecimal digits, colons and points in brackets, not validated further.
 pub record IsBracketedAddress (text : List ℕ) : Type 0 where
   pub address : List ℕ
   pub joins : text ≡ codes "[" ++ address ++ codes "]"
   pub not_empty : address ≢ []
   pub bytes : IsTrue (list_all is_address_byte address)
 
--- uri-host, which may not be empty: an address in brackets, or a name
+-- uri-host, but not empty: a bracketed address or a name
 abbrev pub IsHost : List ℕ → Type 0
 IsHost text = IsBracketedAddress text ⊎ ((text ≢ []) × IsTrue (is_registered_name text))
 
--- uri-host ":" port, whose digits may be none
+-- uri-host ":" port, which may have no digits
 pub record HostAndPort (text host port : List ℕ) : Type 0 where
   pub joins : text ≡ host ++ colon ∷ port
   pub is_host : IsHost host
@@ -50,11 +50,11 @@ pub record HostAndPort (text host port : List ℕ) : Type 0 where
 abbrev pub IsHostWithPort : List ℕ → Type 0
 IsHostWithPort text = IsHost text ⊎ ((host : List ℕ) × (port : List ℕ) × HostAndPort text host port)
 
--- the value of a Host header: empty, or a host with or without a port
+-- the value of a Host field: empty, or a host with or without a port
 abbrev pub IsHostValue : List ℕ → Type 0
 IsHostValue value = (value ≡ []) ⊎ IsHostWithPort value
 
--- a number is there, and is 1 to 65535
+-- the number is present and from 1 to 65535
 abbrev pub is_port_number : Option ℕ → Bool
 is_port_number None = false
 is_port_number (Some n) = nat_lt 0 n && nat_lt n 65536

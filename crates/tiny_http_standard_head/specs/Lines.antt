@@ -1,5 +1,6 @@
--- The lines of a head by the standard (RFC 9112, sections 2.3, 3 and 5; RFC 9110, sections 5.5 and 5.6.2), each a
--- joining of named parts. A token, a byte of a value and optional white space are those of the crate `httparse`.
+-- The lines of a head by the standard (RFC 9112, sections 2.3, 3 and 5; RFC 9110, sections 5.5 and 5.6.2), each as a
+-- concatenation of named parts. Tokens, the bytes of a value and optional white space are those of the crate
+-- `httparse`.
 use Rattle.std.specs.Prelude.{◌≡◌, ℕ, ◌+◌, ◌-◌, ◌<◌, ◌⊎◌, Bool, ◌&&◌, ◌||◌, ◌==◌, nat_lt, ◌/◌, ◌%◌, List, []}
 use Rattle.std.specs.Prelude.{◌∷◌, ◌++◌, length, take, drop, IsTrue, codes, MatchBool, if◌then◌else◌}
 use Rattle.std.specs.List.{list_all, flat_map, starts_with}
@@ -27,34 +28,34 @@ pub record IsVersion (text : List ℕ) (v : HTTPVersion) : Type 0 where
   pub major : v.0 < 10
   pub minor : v.1 < 10
 
--- the text is no version
+-- the text isn't a version
 abbrev pub IsNoVersion : List ℕ → Type 0
 IsNoVersion text = (v : HTTPVersion) → IsVersion text v → ⊥
 
--- the bytes up to the first slash or question mark
+-- the bytes before the first slash or question mark
 abbrev pub authority_in : List ℕ → List ℕ
 authority_in [] = []
 authority_in (b ∷ bs) = if (b == slash || b == question_mark) then [] else b ∷ authority_in bs
 
--- the scheme stands in front, without case, and the authority behind it is a host with or without a port
+-- the target begins with the scheme, in any case, and its authority is a host with or without a port
 pub record HasScheme (scheme target : List ℕ) : Type 0 where
   pub front : IsTrue (same_name (take (length scheme) target) scheme)
   pub authority : IsHostWithPort (authority_in (drop (length scheme) target))
 
--- In place of absolute-form: http:// or https://, and a host with or without a port. What follows isn't judged.
+-- Instead of absolute-form: http:// or https://, and a host with or without a port. The rest isn't validated.
 abbrev pub IsAbsoluteForm : List ℕ → Type 0
 IsAbsoluteForm target = HasScheme (codes "http://") target ⊎ HasScheme (codes "https://") target
 
--- In place of origin-form: it begins with a slash. What follows isn't judged.
+-- Instead of origin-form: a slash. The rest isn't validated.
 abbrev pub is_origin_form : List ℕ → Bool
 is_origin_form target = starts_with ◌==◌ target (codes "/")
 
--- asterisk-form: the target of an OPTIONS alone
+-- asterisk-form: a target of OPTIONS only
 abbrev pub is_asterisk_form : List ℕ → List ℕ → Bool
 is_asterisk_form method target = bytes_eq target (codes "*") && bytes_eq method (codes "OPTIONS")
 
--- request-target: of the bytes 33 to 126. That of a CONNECT is in authority-form, and that of another method in one
--- of the other three forms.
+-- request-target: bytes 33 to 126. For CONNECT it is in authority-form, and for other methods in one of the other three
+-- forms.
 abbrev pub IsTarget : List ℕ → List ℕ → Type 0
 IsTarget method target =
     IsTrue (list_all is_ascii_graphic target)
@@ -69,20 +70,20 @@ pub record RequestLine (text method target : List ℕ) (v : HTTPVersion) : Type 
   pub target_is : IsTarget method target
   pub version_is : IsVersion version_text v
 
--- the text is a request line with a method of this name
+-- the text is a request line, and its method is the one of that name
 abbrev pub ReadsRequestLine : List ℕ → Method → List ℕ → HTTPVersion → Type 0
 ReadsRequestLine text method target v = (name : List ℕ) × RequestLine text name target v × (method ≡ method_of name)
 
--- the text is no request line
+-- the text isn't a request line
 abbrev pub IsNoRequestLine : List ℕ → Type 0
 IsNoRequestLine text = (method : List ℕ) → (target : List ℕ) → (v : HTTPVersion) → RequestLine text method target v → ⊥
 
--- In these headers a byte from 128 on has to be refused before it is handed out as a percent sign and digits, which
--- are good there.
+-- In these fields a byte above 127 is refused before percent-encoding, whose result would be valid there.
 abbrev pub must_be_ascii : List ℕ → Bool
 must_be_ascii field = same_name field (codes "Host") || same_name field (codes "Transfer-Encoding")
 
--- field-line = field-name ":" OWS field-value OWS. A byte of the value from 128 on is good, but in a host or a coding.
+-- field-line = field-name ":" OWS field-value OWS. A byte above 127 is valid in a value, except in Host and
+-- Transfer-Encoding.
 pub record FieldLine (text field value : List ℕ) : Type 0 where
   pub padded : List ℕ
   pub joins : text ≡ field ++ colon ∷ padded
@@ -91,17 +92,17 @@ pub record FieldLine (text field value : List ℕ) : Type 0 where
   pub trims : Trims is_ows padded value
   pub ascii : IsTrue (must_be_ascii field) → AreAscii value
 
--- a hexadecimal digit, with a capital letter
+-- a hexadecimal digit, in upper case
 abbrev pub uppercase_hexadecimal_digit : ℕ → ℕ
 uppercase_hexadecimal_digit d = if nat_lt d 10 then digit_zero + d else capital_a + (d - 10)
 
--- a byte of a value as it is handed out: one from 128 on as a percent sign and its two hexadecimal digits
+-- a byte of a value, percent-encoded if it is above 127
 abbrev pub percent_encoded_byte : ℕ → List ℕ
 percent_encoded_byte b =
     if is_ascii b then b ∷ [] else percent ∷ uppercase_hexadecimal_digit (b / 16) ∷ uppercase_hexadecimal_digit
     (b % 16) ∷ []
 
--- a value as it is handed out
+-- a value with its bytes above 127 percent-encoded
 abbrev pub percent_encoded : List ℕ → List ℕ
 percent_encoded value = flat_map percent_encoded_byte value
 
@@ -109,6 +110,6 @@ percent_encoded value = flat_map percent_encoded_byte value
 abbrev pub ReadsFieldLine : List ℕ → Header → Type 0
 ReadsFieldLine text h = (value : List ℕ) × FieldLine text h.field value × (h.value ≡ percent_encoded value)
 
--- the text is no field line
+-- the text isn't a field line
 abbrev pub IsNoFieldLine : List ℕ → Type 0
 IsNoFieldLine text = (field : List ℕ) → (value : List ℕ) → FieldLine text field value → ⊥

@@ -1,4 +1,4 @@
--- A head that is read from a source: what it is, and what is left of the input behind it.
+-- Reading a head from a source: the result, and the input that is left after it.
 use Rattle.std.specs.Prelude.{◌≡◌, ◌≢◌, ℕ, ◌+◌, ◌-◌, ◌<◌, ◌≤◌, ◌⊎◌, ⊤, Bool, true, ◌||◌, ◌==◌, not, List, [], ◌∷◌}
 use Rattle.std.specs.Prelude.{◌++◌}
 use Rattle.std.specs.Prelude.{length, take, drop, Option, Some, None, Result, Ok, Err, IsTrue, IsErr}
@@ -29,21 +29,21 @@ use Rattle.tiny_http_standard_head.specs.Heads.{behind_empty_line, BeginsWithReq
 use Rattle.tiny_http_standard_head.specs.Heads.{BeginsWithBadLine, IsNoFieldOrEnd, HasOpenRequestLine, is_begun}
 use Rattle.tiny_http_standard_head.specs.Heads.{HasGoodRequestLine, Reads}
 
--- a line that is no good: no CR stands at its end, or its text isn't what has to stand there
+-- a malformed line: it doesn't end with a CR, or its text doesn't match the grammar there
 abbrev pub IsBadLine : (List ℕ → Type 0) → List ℕ → Type 0
 IsBadLine IsBad line =
     IsTrue (has_bare_end is_carriage_return line)
     ⊎ ((text : List ℕ) × (line ≡ text ++ carriage_return ∷ []) × IsBad text)
 
--- a line that is good: a CR stands at its end, and its text isn't one of those that are no good
+-- a valid line: it ends with a CR, and its text isn't a bad one
 abbrev pub IsGoodLine : (List ℕ → Type 0) → List ℕ → Type 0
 IsGoodLine IsBad line = (text : List ℕ) × (line ≡ text ++ carriage_return ∷ []) × (IsBad text → ⊥)
 
--- a text of a request line that isn't one, nor the empty line
+-- the text is neither empty nor a request line
 abbrev pub IsNoRequestOrEmpty : List ℕ → Type 0
 IsNoRequestOrEmpty text = (text ≢ []) × IsNoRequestLine text
 
--- what a line is read as: a request line, or the empty line; no memory is wanted but for a request line
+-- what a line is read as: a request line or the empty line; memory is needed only for a request line
 abbrev pub RequestIn : List ℕ → Result (Option (Method × List ℕ × HTTPVersion)) NoHead → Type 0
 RequestIn line (Ok None) = line ≡ carriage_return ∷ []
 RequestIn line (Ok (Some r)) =
@@ -52,7 +52,7 @@ RequestIn line (Err (Refused BadLine)) = IsBadLine IsNoRequestOrEmpty line
 RequestIn line (Err Memory) = IsGoodLine IsNoRequestLine line
 RequestIn line (Err _) = ⊥
 
--- what a line is read as: a field line, or the empty line; no memory is wanted but for a field line
+-- what a line is read as: a field line or the empty line; memory is needed only for a field line
 abbrev pub FieldIn : List ℕ → Result (Option Header) NoHead → Type 0
 FieldIn line (Ok None) = line ≡ carriage_return ∷ []
 FieldIn line (Ok (Some h)) = (text : List ℕ) × (line ≡ text ++ carriage_return ∷ []) × ReadsFieldLine text h
@@ -60,7 +60,7 @@ FieldIn line (Err (Refused BadLine)) = IsBadLine IsNoFieldOrEnd line
 FieldIn line (Err Memory) = IsGoodLine IsNoFieldLine line
 FieldIn line (Err _) = ⊥
 
--- why there is no head where there is no line; later says that a line of the head has come
+-- why there is no head if there is no line; `later` means that a line of the head has come
 abbrev pub no_head : NoLine → StandardFault → Bool → NoHead
 no_head (no_line.Cut has_begun) too_long later = Unfinished (has_begun || later)
 no_head no_line.TooLong too_long later = Refused too_long
@@ -75,26 +75,26 @@ abbrev pub IsUnfinishedRead : StandardRead → Type 0
 IsUnfinishedRead (read.Unfinished has_begun) = ⊤
 IsUnfinishedRead _ = ⊥
 
--- as much of the limit is left as of the bytes was not taken
+-- the limit shrinks by the number of bytes taken
 abbrev pub IsSpent : ℕ → List ℕ → ℕ → List ℕ → Type 0
 IsSpent limit bytes left rest = limit + length rest ≡ left + length bytes
 
--- a line stands at the front of what the limit lets through, and was taken
+-- a line is at the front of the bytes within the limit, and was taken
 pub record TakesText (limit left : ℕ) (f : Feed) (new : Option Feed) (text : List ℕ) : Type 0 where
   pub rest : List ℕ
   pub line : Line (take limit f.bytes) text (take left rest)
   pub goes : new ≡ feed_from f rest
   pub spent : IsSpent limit f.bytes left rest
 
--- a line hasn't ended, where the limit was reached
+-- the limit was reached before the end of a line
 abbrev pub IsLong : ℕ → List ℕ → Type 0
 IsLong limit bytes = HasNo line_feed (take limit bytes) × (limit ≤ length bytes)
 
--- nor where the bytes end before it
+-- the bytes ended before the end of a line and before the limit
 abbrev pub IsShort : ℕ → List ℕ → Type 0
 IsShort limit bytes = HasNo line_feed bytes × (length bytes < limit)
 
--- a request line, or an empty one
+-- reading a request line, or an empty one
 abbrev pub ReadsRequest : ℕ → ℕ → Option Feed → Option Feed → Result (Option (Method × List ℕ × HTTPVersion)) NoHead
     → Type 0
 ReadsRequest limit left None new r = ⊤
@@ -108,7 +108,7 @@ ReadsRequest limit left (Some f) new (Err (Unfinished has_begun)) =
 ReadsRequest limit left (Some f) new (Err Memory) = ⊤
 ReadsRequest limit left (Some f) new (Err _) = ⊥
 
--- a field line, or the empty line
+-- reading a field line, or the empty line
 abbrev pub ReadsField : ℕ → ℕ → Option Feed → Option Feed → Result (Option Header) NoHead → Type 0
 ReadsField limit left None new r = ⊤
 ReadsField limit left (Some f) new (Ok None) = TakesText limit left f new []
@@ -120,8 +120,8 @@ ReadsField limit left (Some f) new (Err (Unfinished has_begun)) = IsShort limit 
 ReadsField limit left (Some f) new (Err Memory) = ⊤
 ReadsField limit left (Some f) new (Err _) = ⊥
 
--- why no memory is found for the first line: it is a good one; or it doesn't lie whole in the buffer: bytes of it were
--- taken, or none that is held then is an LF within the limit
+-- why memory was needed for the first line: it is valid; or it isn't whole in the buffer, since bytes of it were taken,
+-- or the buffered bytes within the limit have no LF
 abbrev pub LacksMemory : (List ℕ → Type 0) → ℕ → Feed → Option Feed → List ℕ → Type 0
 LacksMemory IsBad limit f new held =
     ((text : List ℕ) × (rest : List ℕ) × Line (take limit f.bytes) text rest × (IsBad text → ⊥))
@@ -130,7 +130,7 @@ LacksMemory IsBad limit f new held =
     × HasNo line_feed gone
     × (gone ≡ [] → HasNo line_feed (take limit held)))
 
--- the same of a request line, in front of which an empty line is passed over
+-- the same for a request line, after at most one empty line
 abbrev pub LacksMemoryAtStart : ℕ → Feed → Option Feed → List ℕ → Type 0
 LacksMemoryAtStart limit f new held =
     HasGoodRequestLine (take limit f.bytes)
@@ -139,7 +139,7 @@ LacksMemoryAtStart limit f new held =
     × HasNo line_feed (behind_empty_line gone)
     × (behind_empty_line gone ≡ [] → HasNo line_feed (take (limit - length gone) held)))
 
--- the request line, and an empty line in front of it if there is one
+-- reading the request line, after at most one empty line
 abbrev pub ReadsStart : ℕ → ℕ → Option Feed → Option Feed → Result (Method × List ℕ × HTTPVersion) NoHead → Type 0
 ReadsStart limit left None new r = ⊤
 ReadsStart limit left (Some f) new (Ok r) =
@@ -156,7 +156,7 @@ ReadsStart limit left (Some f) new (Err (Unfinished has_begun)) =
 ReadsStart limit left (Some f) new (Err Memory) = ⊤
 ReadsStart limit left (Some f) new (Err _) = ⊥
 
--- these headers were read
+-- these header fields were read
 abbrev pub HasReadFields : ℕ → ℕ → Option Feed → Option Feed → List Header → Type 0
 HasReadFields limit left None new headers = ⊤
 HasReadFields limit left (Some f) new headers =
@@ -165,7 +165,7 @@ HasReadFields limit left (Some f) new headers =
     × (new ≡ feed_from f rest)
     × IsSpent limit f.bytes left rest
 
--- all headers and the empty line
+-- reading all field lines and the empty line
 abbrev pub ReadsFields : ℕ → ℕ → Option Feed → Option Feed → Result (Vec Header) NoHead → Type 0
 ReadsFields limit left None new r = ⊤
 ReadsFields limit left (Some f) new (Ok headers) =
@@ -182,23 +182,23 @@ ReadsFields limit left (Some f) new (Err (Unfinished has_begun)) =
 ReadsFields limit left (Some f) new (Err Memory) = ⊤
 ReadsFields limit left (Some f) new (Err _) = ⊥
 
--- what is read where there is no head
+-- the result if there is no head
 abbrev pub IsWithoutHead : NoHead → Result StandardRead AllocError → Type 0
 IsWithoutHead (Refused fault) r = r ≡ Ok (read.Refused fault)
 IsWithoutHead (Unfinished has_begun) r = r ≡ Ok (read.Unfinished has_begun)
 IsWithoutHead Memory r = IsErr r
 
--- behind a whole head the input goes on
+-- the input continues after a complete head
 abbrev pub LeavesBehind : Feed → Option Feed → StandardRead → Type 0
 LeavesBehind f new (read.Whole h) = new ≡ feed_from f (drop h.length f.bytes)
 LeavesBehind f new _ = ⊤
 
--- A HEAD OF A SOURCE is what all its bytes that are still to come are read as
+-- A HEAD OF A SOURCE is read as all bytes that are still to come
 abbrev pub ReadsFrom : ℕ → Option Feed → Option Feed → StandardRead → Type 0
 ReadsFrom limit None new r = ⊤
 ReadsFrom limit (Some f) new r = Reads limit f.bytes r × LeavesBehind f new r
 
--- whatever the source states: a whole head is judged as it says
+-- whatever the source states, a complete head was validated with this summary
 abbrev pub IsValidated : StandardRead → Type 0
 IsValidated (read.Whole h) = Validates h.version h.method h.headers.items (Ok h.summary)
 IsValidated _ = ⊤

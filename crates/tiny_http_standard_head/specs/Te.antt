@@ -1,4 +1,4 @@
--- Whether a request asks for chunks by TE (RFC 9110, sections 10.1.4 and 12.4.2).
+-- Whether a client accepts chunks, by TE (RFC 9110, sections 10.1.4 and 12.4.2).
 use Rattle.std.specs.Prelude.{ℕ, Bool, false, not, ◌&&◌, List, [], ◌∷◌, map, take, drop, codes, if◌then◌else◌}
 use Rattle.std.specs.List.{list_any}
 use Rattle.std.specs.Str.{bytes_eq}
@@ -9,11 +9,11 @@ use Rattle.tiny_http_head.specs.Common.{same_name}
 use Rattle.tiny_http_standard_head.specs.Lists.{has_element_that}
 use Rattle.tiny_http_standard_head.specs.Validation.{is_chunked}
 
--- what stands between the semicolons of an element, without white space (space and tab) round it
+-- the texts between the semicolons of an element, stripped of spaces and tabs
 abbrev pub between_semicolons : List ℕ → List (List ℕ)
 between_semicolons element = map (trimmed is_ows) (parts semicolon element)
 
--- a parameter that is a weight: q=, without case, and a value, which may be any text
+-- a parameter that is a weight: q= in either case, and any text as its value
 abbrev pub is_weight : List ℕ → Bool
 is_weight parameter = same_name (take 2 parameter) (codes "q=")
 
@@ -21,25 +21,25 @@ is_weight parameter = same_name (take 2 parameter) (codes "q=")
 abbrev pub weight_value : List ℕ → List ℕ
 weight_value weight = trimmed is_ows (drop 2 weight)
 
--- a qvalue that is zero: 0, and then perhaps a point with up to three zeros behind it
+-- a qvalue of zero: 0, optionally with a point and at most three zeros
 abbrev pub is_zero : List ℕ → Bool
 is_zero value = list_any (bytes_eq value) (codes "0" ∷ codes "0." ∷ codes "0.0" ∷ codes "0.00" ∷ codes "0.000" ∷ [])
 
--- among parameters, the first weight is zero
+-- the first weight among the parameters is zero
 abbrev pub has_zero_weight : List (List ℕ) → Bool
 has_zero_weight [] = false
 has_zero_weight (parameter ∷ more) =
     if is_weight parameter then is_zero (weight_value parameter) else has_zero_weight more
 
--- a coding with its parameters asks for chunks: it is chunked, and its weight isn't zero
+-- a coding with its parameters accepts chunks: it is chunked, and its weight isn't zero
 abbrev pub coding_asks_chunked : List (List ℕ) → Bool
 coding_asks_chunked [] = false
 coding_asks_chunked (coding ∷ parameters) = is_chunked coding && not (has_zero_weight parameters)
 
--- so does an element of the list
+-- an element of the list accepts chunks
 abbrev pub element_asks_chunked : List ℕ → Bool
 element_asks_chunked element = coding_asks_chunked (between_semicolons element)
 
--- THE REQUEST ASKS FOR CHUNKS: some element of its TE headers does
+-- THE CLIENT ACCEPTS CHUNKS: some element of the TE fields does
 abbrev pub asks_chunked : List Header → Bool
 asks_chunked headers = has_element_that (codes "TE") element_asks_chunked headers

@@ -1,4 +1,4 @@
--- What a whole head says, computed from element to element.
+-- What a complete head says, computed element by element.
 use Rattle.std.specs.Prelude.{ℕ, Bool, true, false, ◌||◌, List, [], ◌∷◌, Option, None, is_some, Result}
 use Rattle.std.specs.Prelude.{Ok, Err, codes, if◌then◌else◌}
 use Rattle.std.specs.Str.{bytes_eq}
@@ -15,7 +15,7 @@ use Rattle.tiny_http_standard_head.specs.declared.validation.HeadError.TheVarian
 use Rattle.tiny_http_standard_head.specs.Validation.{is_chunked, is_unknown_expectation, is_protocol, is_1_0}
 use Rattle.tiny_http_standard_head.specs.Te.{element_asks_chunked}
 
--- an element is what is wanted
+-- the element matches
 abbrev pub is_wanted : Wanted → List ℕ → Bool
 is_wanted Close element = same_name element (codes "close")
 is_wanted KeepAlive element = same_name element (codes "keep-alive")
@@ -25,7 +25,7 @@ is_wanted Protocol element = is_protocol element
 is_wanted UnknownExpectation element = is_unknown_expectation element
 is_wanted Chunks element = element_asks_chunked element
 
--- what the codings are after a further one
+-- the state after one more coding
 abbrev pub coding_after : Codings → List ℕ → Codings
 coding_after Absent coding = if is_chunked coding then Chunked else if bytes_eq coding [] then Bad else Others
 coding_after Others coding = if is_chunked coding then Behind else if bytes_eq coding [] then Bad else Others
@@ -42,7 +42,7 @@ coded_body Chunked = Ok (None, true)
 coded_body Behind = Err UnknownCoding
 coded_body _ = Err InvalidHead
 
--- the body by the codings, and the length that was found
+-- the body by the codings and the content length
 abbrev pub body_with : HTTPVersion → Codings → Option ℕ → Result (Option ℕ × Bool) HeadError
 body_with v Absent n = Ok (n, false)
 body_with v codings n = if (is_1_0 v || is_some n) then Err InvalidHead else coded_body codings

@@ -1,4 +1,4 @@
-//! Whole heads by the standard, read from bytes (RFC 9112, sections 2.2, 3 and 5).
+//! Parsing of whole heads from bytes, by the standard (RFC 9112, sections 2.2, 3 and 5).
 ghost use Rattle.std.specs.Prelude.{◌≡◌, ◌<◌, ◌≤◌, IfOk, IfErr, OnErr, length, take};
 ghost use Rattle.tiny_http_standard_head.specs.Heads.{Line, behind_empty_line, is_begun, BeginsWithRequestLine};
 ghost use Rattle.tiny_http_standard_head.specs.Heads.{HasGoodRequestLine, Reads, status_of};
@@ -12,43 +12,44 @@ use tiny_http_head::common::{HTTPVersion, Header, Method};
 use tiny_http_text::ascii::AsciiString;
 use tiny_http_text::bytes::cut;
 
-/// Maximum number of header lines in a head; 431 answers one more (RFC 6585, section 5).
+/// Maximum number of field lines in a head. One more is answered with 431 (RFC 6585, section 5).
 pub const MOST_HEADERS: usize = 256;
 
-/// A head, and how it is judged.
+/// A request head, with what its fields say.
 #[derive(Drop)]
 pub struct StandardHead {
     /// The method.
     pub method: Method,
-    /// The target, as it came.
+    /// The request target, as received.
     pub target: AsciiString,
     /// The version, `HTTP/1.x`.
     pub version: HTTPVersion,
-    /// The headers, in their order.
+    /// The header fields, in order.
     pub headers: Vec<Header>,
-    /// What the head says of its body, and of the connection.
+    /// What the head says about its body and the connection.
     pub summary: HeadSummary,
-    /// How many bytes it has, with an empty line in front and the empty line at its end.
+    /// The length in bytes, including an empty line before the head and the one that ends it.
     pub length: usize,
 }
 
-/// Why a head is refused.
+/// The reason why a head is refused.
 #[derive(Clone, Copy, Debug, PartialEq, Eq)]
 pub enum StandardFault {
-    /// A line isn't one of the grammar, or no CR stands in front of its LF.
+    /// A line doesn't match the grammar, or its LF has no CR before it.
     BadLine,
-    /// As many bytes came as a head may have, and its request line hasn't ended.
+    /// The limit was reached before the end of the request line.
     RequestLineTooLong,
-    /// As many bytes came as a head may have, and it hasn't ended behind its request line.
+    /// The limit was reached after the request line, before the end of the head.
     HeaderFieldsTooLarge,
-    /// A good header line came after `MOST_HEADERS` others.
+    /// A valid field line came after `MOST_HEADERS` others.
     TooManyFields,
-    /// Its lines are good, and it is refused.
+    /// All lines are valid, but the head isn't.
     Invalid(HeadError),
 }
 
 impl StandardFault {
-    /// The status that answers it: 400, 414, 431, 505, 501 or 417 (RFC 9110, section 15; RFC 6585, section 5).
+    /// Returns the status code that reports it: 400, 414, 431, 505, 501 or 417 (RFC 9110, section 15; RFC 6585, section
+    /// 5).
     pub fn status(self) -> u16
         ensures { result ≡ status_of self }
     {
@@ -63,44 +64,44 @@ impl StandardFault {
     }
 }
 
-/// What is read of the first bytes that a client sends.
+/// The result of parsing the first bytes from a client.
 #[derive(Drop)]
 pub enum StandardRead {
-    /// A whole head.
+    /// A complete head.
     Whole(StandardHead),
     /// A head that is refused.
     Refused(StandardFault),
     /// More bytes are needed.
     Unfinished {
-        /// Whether a byte of a head has come. A lone CR has begun one, and the LF behind it makes both an empty line,
-        /// so the last answer counts.
+        /// Whether a byte of a head has come. A lone CR counts as one, until an LF makes it an empty line. So the last
+        /// value is the one that counts.
         has_begun: bool,
     },
 }
 
-// Why there is no line.
+// The reason why there is no line.
 enum NoLine {
-    // No CR stands in front of its LF.
+    // Its LF has no CR before it.
     Bare,
     // It hasn't ended.
     Open,
 }
 
-// Why there is no head among the bytes.
+// The reason why there is no complete head.
 enum NoHead {
-    // A line is bad.
+    // A line is malformed.
     Bad,
     // The request line hasn't ended.
     OpenRequest,
-    // A line behind it hasn't.
+    // A line after the request line hasn't ended.
     OpenField,
-    // A field line came after as many as a head may have.
+    // There is one field line too many.
     TooMany,
     // Memory was refused.
     Memory,
 }
 
-// The first line, and what follows its CR LF.
+// Splits the bytes after the first line: its text without CR LF, and the rest.
 fn next_line(bytes: &[u8]) -> Result<(&[u8], &[u8]), NoLine>
     ensures some { IfOk result (λ r. Line bytes.now r.0.now r.1.now) }
     ensures none { IfErr result (λ why. HasNoLine why bytes.now) }
@@ -115,7 +116,7 @@ fn next_line(bytes: &[u8]) -> Result<(&[u8], &[u8]), NoLine>
     Ok((&line[..n - 1], rest))
 }
 
-// The bytes without one empty line in front.
+// Skips one empty line at the beginning.
 fn behind_empty_line(bytes: &[u8]) -> &[u8]
     ensures { result.now ≡ behind_empty_line bytes.now }
 {
@@ -125,7 +126,7 @@ fn behind_empty_line(bytes: &[u8]) -> &[u8]
     bytes
 }
 
-// What a request line says, and the bytes behind it.
+// Parses the request line and returns the rest of the bytes.
 fn read_request(
     alloc: Global,
     bytes: &[u8],
@@ -145,7 +146,7 @@ fn read_request(
     }
 }
 
-// The headers, and the bytes behind the empty line.
+// Parses the field lines and returns the bytes after the empty line.
 fn read_fields(alloc: Global, bytes: &[u8]) -> Result<(Vec<Header>, &[u8]), NoHead>
     ensures some { IfOk result (λ r. EndsFields bytes.now r.0.items r.1.now) }
     ensures none { IfErr result (λ stop. StopsFields bytes.now stop) }
@@ -176,7 +177,7 @@ fn read_fields(alloc: Global, bytes: &[u8]) -> Result<(Vec<Header>, &[u8]), NoHe
     }
 }
 
-// A head that has come whole, judged.
+// Parses and validates a complete head.
 fn read_whole(alloc: Global, bytes: &[u8]) -> Result<StandardRead, NoHead>
     ensures some { IfOk result (λ read. ReadsWhole bytes.now read) }
     ensures none { IfErr result (λ stop. StopsHead bytes.now stop) }
@@ -202,7 +203,8 @@ fn read_whole(alloc: Global, bytes: &[u8]) -> Result<StandardRead, NoHead>
     }
 }
 
-// What comes of a head that hasn't ended: this fault, where as many bytes came as it may have; else more are needed.
+// Returns the result for a head that hasn't ended: this fault if the limit is reached, or else that more bytes are
+// needed.
 fn not_ended(bytes: &[u8], limit: usize, fault: StandardFault) -> StandardRead
     ensures full { limit ≤ length bytes.now → result ≡ StandardRead.Refused fault }
     ensures open { length bytes.now < limit → result ≡ StandardRead.Unfinished (is_begun bytes.now) }
@@ -215,16 +217,11 @@ fn not_ended(bytes: &[u8], limit: usize, fault: StandardFault) -> StandardRead
     }
 }
 
-/// Reads the head that begins where `bytes` do. A head has at most `limit` bytes, its empty lines included, and at
-/// most `MOST_HEADERS` header lines.
-///
-/// A line ends at its first LF, in front of which a CR has to stand. One empty line in front of the request line is
-/// passed over. The first bad line is refused, whatever follows, and so is the first good header line that is one too
-/// many. Where `limit` bytes have come and the head hasn't ended, the fault is `RequestLineTooLong` in its request
-/// line, and else `HeaderFieldsTooLarge`; a limit below 3 so refuses where no byte of a head has come. A whole head is
-/// judged by `judging::judge`. While fewer bytes have come, more are needed: call again with the same bytes and those
-/// that came since. Each call reads them from the start, so a head that comes byte by byte wants a reader that keeps
-/// its lines. An error where there is no memory for what is read, which is so only behind a good request line.
+/// Parses and validates the head at the start of `bytes`. It has at most `limit` bytes with its empty lines, and at
+/// most `MOST_HEADERS` field lines. A line ends at its first LF, which needs a CR before it. One empty line before the
+/// request line is skipped. The first malformed or surplus line is refused at once. Without an end in `limit` bytes
+/// (below 3, perhaps before any byte of a head), it is too long. Otherwise call again with these bytes and the new
+/// ones; all are parsed again. Fails if memory is refused, which happens only after a valid request line.
 pub fn read_head(alloc: Global, bytes: &[u8], limit: usize) -> Result<StandardRead, AllocError>
     ensures reads { IfOk result (λ read. Reads limit bytes.now read) }
     ensures begun { OnErr result (HasGoodRequestLine (take limit bytes.now)) }

@@ -1,4 +1,4 @@
-//! Hosts and their ports (RFC 3986, section 3.2; RFC 9112, section 3.2).
+//! Hosts and ports (RFC 3986, section 3.2; RFC 9112, section 3.2).
 ghost use Rattle.std.specs.Prelude.{◌≡◌, ◌≤◌, ◌<◌, ◌↔◌, ℕ, List, ◌∷◌, ◌++◌, length, drop, take, IsTrue, IfSome};
 ghost use Rattle.std.specs.Prelude.{IfNone, slice_index};
 ghost use Rattle.std.specs.List.{list_all};
@@ -11,21 +11,21 @@ ghost use Rattle.tiny_http_standard_head.specs.Hosts.{is_port_number};
 
 use tiny_http_head::content_length::number_in;
 
-// Whether two hexadecimal digits stand in front.
+// Returns whether the text begins with two hexadecimal digits.
 fn begins_with_two_hexadecimal_digits(text: &[u8]) -> bool
     ensures { result ≡ begins_with_two_hexadecimal_digits text.now }
 {
     text.len() >= 2 && text[0].is_ascii_hexdigit() && text[1].is_ascii_hexdigit()
 }
 
-// Whether the byte stands for itself in a registered name.
+// Returns whether the byte is allowed unencoded in a registered name.
 fn is_registered_name_byte(b: u8) -> bool
     ensures { result ≡ is_registered_name_byte b }
 {
     b.is_ascii_alphanumeric() || b"-._~!$&'()*+,;=".contains(&b)
 }
 
-// Whether this is a registered name, or nothing.
+// Returns whether the text is a registered name, or empty.
 fn is_registered_name(text: &[u8]) -> bool
     ensures { result ≡ is_registered_name text.now }
 {
@@ -39,21 +39,21 @@ fn is_registered_name(text: &[u8]) -> bool
     true
 }
 
-// Whether the byte may stand in an address in brackets.
+// Returns whether the byte is allowed in a bracketed address.
 fn is_address_byte(b: u8) -> bool
     ensures { result ≡ is_address_byte b }
 {
     b.is_ascii_hexdigit() || b == b':' || b == b'.'
 }
 
-// Whether these are bytes of an address.
+// Returns whether all bytes are allowed in a bracketed address.
 fn are_address_bytes(text: &[u8]) -> bool
     ensures { result ≡ list_all is_address_byte text.now }
 {
     text.iter().all(|b| is_address_byte(*b))
 }
 
-// Whether this is an address in brackets.
+// Returns whether the text is a bracketed address.
 fn is_bracketed_address(text: &[u8]) -> bool
     ensures { IsTrue result ↔ IsBracketedAddress text.now }
 {
@@ -64,9 +64,9 @@ fn is_bracketed_address(text: &[u8]) -> bool
     are_address_bytes(&text[1..n - 1])
 }
 
-/// Whether the text is a host (RFC 3986, section 3.2.2): one or more of hexadecimal digits, `:` and `.` in brackets,
-/// which aren't judged further; or one or more of letters, digits, ``-._~!$&'()*+,;=``, and `%` with two hexadecimal
-/// digits behind it.
+/// Returns whether the text is a host (RFC 3986, section 3.2.2): one or more hexadecimal digits, `:` and `.` in
+/// brackets, which are not validated further; or one or more of letters, digits, ``-._~!$&'()*+,;=``, and `%` with two
+/// hexadecimal digits.
 pub fn is_host(text: &[u8]) -> bool
     ensures { IsTrue result ↔ IsHost text.now }
 {
@@ -79,7 +79,7 @@ pub fn is_host(text: &[u8]) -> bool
     is_registered_name(text)
 }
 
-// What stands before the last such byte, and after it.
+// Splits the text at the last `c`.
 fn cut_last(text: &[u8], c: u8) -> Option<(&[u8], &[u8])>
     ensures some { IfSome result (λ r. (text.now ≡ r.0.now ++ c ∷ r.1.now) × HasNo c r.1.now) }
     ensures none { IfNone result (HasNo c text.now) }
@@ -94,14 +94,14 @@ fn cut_last(text: &[u8], c: u8) -> Option<(&[u8], &[u8])>
     Some((&text[..end - 1], &text[end..]))
 }
 
-// Whether these are digits, or nothing.
+// Returns whether the text has only digits; it may be empty.
 fn are_digits(text: &[u8]) -> bool
     ensures { result ≡ list_all is_ascii_digit text.now }
 {
     text.iter().all(|b| b.is_ascii_digit())
 }
 
-/// Whether the text is a host, which may be followed by a colon and any number of digits, also none (RFC 3986,
+/// Returns whether the text is a host, optionally followed by a colon and any number of digits, even none (RFC 3986,
 /// section 3.2). `:80` alone isn't one, nor is a host after user information, as in `user@host`.
 pub fn is_host_with_port(text: &[u8]) -> bool
     ensures { IsTrue result ↔ IsHostWithPort text.now }
@@ -115,15 +115,15 @@ pub fn is_host_with_port(text: &[u8]) -> bool
     }
 }
 
-/// Whether the text may be the value of a `Host` header: empty, or a host with or without a port (RFC 9110, section
-/// 7.2; RFC 9112, section 3.2).
+/// Returns whether the text is a valid `Host` value: empty, or a host with or without a port (RFC 9110, section 7.2;
+/// RFC 9112, section 3.2).
 pub fn is_host_value(text: &[u8]) -> bool
     ensures { IsTrue result ↔ IsHostValue text.now }
 {
     text.is_empty() || is_host_with_port(text)
 }
 
-// Whether a number is there, and is 1 to 65535.
+// Returns whether the number is present and from 1 to 65535.
 fn is_port_number(number: Option<usize>) -> bool
     ensures { result ≡ is_port_number number }
 {
@@ -133,8 +133,8 @@ fn is_port_number(number: Option<usize>) -> bool
     }
 }
 
-/// Whether the text is the target of a `CONNECT`: a host, a colon, and digits whose number is 1 to 65535 (RFC 9112,
-/// section 3.2.3; RFC 9110, section 9.3.6).
+/// Returns whether the text is a target of `CONNECT`: a host, a colon, and a port from 1 to 65535 (RFC 9112, section
+/// 3.2.3; RFC 9110, section 9.3.6).
 pub fn is_authority(text: &[u8]) -> bool
     ensures { IsTrue result ↔ IsAuthority text.now }
 {

@@ -1,4 +1,4 @@
-//! The laws of heads by the standard: a text has one reading at most, all bytes have one, and a head has one judgement.
+//! Laws of heads by the standard: a text has at most one reading, all bytes have exactly one, and so has validation.
 ghost use Rattle.std.specs.Prelude.{◌≡◌, ℕ, List, Result};
 ghost use Rattle.tiny_http_head.specs.declared.common.Method.{Method};
 ghost use Rattle.tiny_http_head.specs.declared.common.HTTPVersion.{HTTPVersion};
@@ -10,7 +10,7 @@ ghost use Rattle.tiny_http_standard_head.specs.Heads.{Reading, AreReadAs, Reads,
 ghost use Rattle.tiny_http_standard_head.specs.Lines.{RequestLine, FieldLine};
 ghost use Rattle.tiny_http_standard_head.specs.Validation.{Validates};
 
-/// A text is one request line at most: one method, one target and one version.
+/// A text is at most one request line: one method, one target and one version.
 pub fn one_request_line()
     ensures { (text m t m' t' : List ℕ) (v v' : HTTPVersion)
         → RequestLine text m t v
@@ -18,7 +18,7 @@ pub fn one_request_line()
         → (m ≡ m') × (t ≡ t') × (v ≡ v') }
 {}
 
-/// A text is one field line at most: one name and one value.
+/// A text is at most one field line: one name and one value.
 pub fn one_field_line()
     ensures { (text field value field' value' : List ℕ)
         → FieldLine text field value
@@ -26,7 +26,7 @@ pub fn one_field_line()
         → (field ≡ field') × (value ≡ value') }
 {}
 
-/// A head has a judgement, and one.
+/// Validation of a head has exactly one result.
 pub fn one_validation()
     ensures some { (v : HTTPVersion) (method : Method) (headers : List Header)
         → (r : Result HeadSummary HeadError) × Validates v method headers r }
@@ -36,8 +36,8 @@ pub fn one_validation()
         → r ≡ r' }
 {}
 
-/// The first bytes of a client are read in one way: they are a whole head, which is judged, or they have a bad line,
-/// or one that hasn't ended; and no two of these.
+/// The first bytes of a client have exactly one reading: a complete head with the result of its validation, a malformed
+/// or surplus line, or a line that hasn't ended.
 pub fn one_reading()
     ensures some { (bytes : List ℕ) → (r : Reading) × AreReadAs bytes r }
     ensures read { (bytes : List ℕ) (r r' : Reading) → AreReadAs bytes r → AreReadAs bytes r' → r ≡ r' }

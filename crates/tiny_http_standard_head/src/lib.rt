@@ -1,5 +1,5 @@
-//! The head of a request by the standard (RFC 9110 and RFC 9112): its lines, the hosts in them, and what its headers
-//! say. It stands on `tiny_http_head` and `tiny_http_io`, and judges bytes by the crate `httparse`.
+//! Request heads by the standard (RFC 9110 and RFC 9112): their lines, hosts, and what their fields say. The crate
+//! depends on `tiny_http_head` and `tiny_http_io`, and uses the byte classes of the crate `httparse`.
 #![tactic(auto)]
 
 pub mod heads;

@@ -17,7 +17,7 @@ use tiny_http_text::ascii::AsciiString;
 use tiny_http_text::bytes::{are_ascii, cut, is};
 use tiny_http_text::copies::owned;
 
-// The version that a text is: `HTTP/`, a digit, a point and a digit.
+// Parses a version: `HTTP/`, a digit, a point and a digit.
 fn version_in(text: &[u8]) -> Option<HTTPVersion>
     ensures some { IfSome result (λ v. IsVersion text.now v) }
     ensures none { IfNone result (IsNoVersion text.now) }
@@ -31,7 +31,7 @@ fn version_in(text: &[u8]) -> Option<HTTPVersion>
     Some(HTTPVersion(*major - b'0', *minor - b'0'))
 }
 
-// The bytes up to the first slash or question mark.
+// Returns the bytes before the first slash or question mark.
 fn authority_in(text: &[u8]) -> &[u8]
     ensures { result.now ≡ authority_in text.now }
 {
@@ -42,7 +42,7 @@ fn authority_in(text: &[u8]) -> &[u8]
     &text[..end]
 }
 
-// Whether the target is in absolute-form under this scheme.
+// Returns whether the target is in absolute-form with this scheme.
 fn has_scheme(scheme: &[u8], target: &[u8]) -> bool
     ensures { IsTrue result ↔ HasScheme scheme.now target.now }
 {
@@ -53,28 +53,28 @@ fn has_scheme(scheme: &[u8], target: &[u8]) -> bool
     is_host_with_port(authority_in(&target[n..]))
 }
 
-// Whether the target stands for absolute-form.
+// Returns whether the target is in absolute-form.
 fn is_absolute_form(target: &[u8]) -> bool
     ensures { IsTrue result ↔ IsAbsoluteForm target.now }
 {
     has_scheme(b"http://", target) || has_scheme(b"https://", target)
 }
 
-// Whether the target is in asterisk-form.
+// Returns whether the target is in asterisk-form.
 fn is_asterisk_form(method: &[u8], target: &[u8]) -> bool
     ensures { result ≡ is_asterisk_form method.now target.now }
 {
     is(target, "*") && is(method, "OPTIONS")
 }
 
-// Whether the bytes are visible.
+// Returns whether all bytes are visible.
 fn are_visible(target: &[u8]) -> bool
     ensures { result ≡ list_all is_ascii_graphic target.now }
 {
     target.iter().all(|b| b.is_ascii_graphic())
 }
 
-// Whether the text is a target for this method.
+// Returns whether the text is a valid target for this method.
 fn is_target(method: &[u8], target: &[u8]) -> bool
     ensures { IsTrue result ↔ IsTarget method.now target.now }
 {
@@ -87,7 +87,7 @@ fn is_target(method: &[u8], target: &[u8]) -> bool
     target.starts_with(b"/") || is_asterisk_form(method, target) || is_absolute_form(target)
 }
 
-// The method, the target and the version of a request line.
+// Splits a request line into its method, target and version.
 fn split_request_line(text: &[u8]) -> Option<(&[u8], &[u8], HTTPVersion)>
     ensures some { IfSome result (λ r. RequestLine text.now r.0.now r.1.now r.2) }
     ensures none { IfNone result (IsNoRequestLine text.now) }
@@ -107,13 +107,12 @@ fn split_request_line(text: &[u8]) -> Option<(&[u8], &[u8], HTTPVersion)>
     Some((method, target, version))
 }
 
-/// Reads a request line: a token, a space, the target, a space and the version, and nothing else (RFC 9112, section
-/// 3). The target has the bytes 33 to 126 alone. That of a `CONNECT` is a host with a port. Another begins with a
-/// slash, or is `*` with `OPTIONS`, or begins with `http://` or `https://`, without case, and a host with or without a
-/// port, which ends at the first `/` or `?` or with the target (`hosts::is_host_with_port`): the host is judged as in
-/// a `Host` header, but mustn't be empty. The version is `HTTP/`, a digit, a point and a digit: `judging::judge` says
-/// whether it is served. `None` for any other text. An error where the text is a request line and there is no memory
-/// for the answer.
+/// Parses a request line: a token, a space, the target, a space and the version (RFC 9112, section 3). The target has
+/// only bytes 33 to 126. For `CONNECT` it is a host with a port. Otherwise it begins with `/`, or is `*` for `OPTIONS`,
+/// or begins with `http://` or `https://` in any case and a nonempty host, with or without a port, up to the first `/`
+/// or `?` (`hosts::is_host_with_port`). The version is `HTTP/`, a digit, a point and a digit; `validation::validate`
+/// checks if it is supported. Returns `None` for any other text. Fails if the text is a request line and memory is
+/// refused.
 pub fn parse_request_line(
     alloc: Global,
     text: &[u8],
@@ -130,7 +129,7 @@ pub fn parse_request_line(
     Ok(Some((method, target, version)))
 }
 
-// A hexadecimal digit, with a capital letter.
+// Returns the hexadecimal digit, in upper case.
 fn uppercase_hexadecimal_digit(d: u8) -> u8
     requires { d < 16 }
     ensures { result ≡ uppercase_hexadecimal_digit d }
@@ -138,7 +137,7 @@ fn uppercase_hexadecimal_digit(d: u8) -> u8
     if d < 10 { b'0' + d } else { b'A' + (d - 10) }
 }
 
-// Adds a byte as it is handed out.
+// Appends a byte, percent-encoded if it is above 127.
 fn push_encoded(bytes: &mut Vec<u8>, b: u8) -> Result<(), AllocError>
     ensures { OnOk result (bytes.new.items ≡ bytes.old.items ++ percent_encoded_byte b) }
 {
@@ -152,7 +151,7 @@ fn push_encoded(bytes: &mut Vec<u8>, b: u8) -> Result<(), AllocError>
     Ok(())
 }
 
-// A value as it is handed out, which is ASCII.
+// Percent-encodes the bytes above 127, which makes the value ASCII.
 fn percent_encoded(alloc: Global, value: &[u8]) -> Result<AsciiString, AllocError>
     ensures { IfOk result (λ s. s ≡ percent_encoded value.now) }
 {
@@ -166,14 +165,14 @@ fn percent_encoded(alloc: Global, value: &[u8]) -> Result<AsciiString, AllocErro
     owned(alloc, bytes.as_slice())
 }
 
-// Whether a byte from 128 on is refused in this header.
+// Returns whether bytes above 127 are refused in this field.
 fn must_be_ascii(field: &[u8]) -> bool
     ensures { result ≡ must_be_ascii field.now }
 {
     field.eq_ignore_ascii_case(b"Host") || field.eq_ignore_ascii_case(b"Transfer-Encoding")
 }
 
-// The name and the value of a field line.
+// Splits a field line into its name and its value.
 fn split_field_line(text: &[u8]) -> Option<(&[u8], &[u8])>
     ensures some { IfSome result (λ r. FieldLine text.now r.0.now r.1.now) }
     ensures none { IfNone result (IsNoFieldLine text.now) }
@@ -191,11 +190,11 @@ fn split_field_line(text: &[u8]) -> Option<(&[u8], &[u8])>
     Some((field, value))
 }
 
-/// Reads a field line: a token, a colon at once, and the value, round which spaces and tabs are left out (RFC 9112,
-/// section 5). The value has no byte 0 to 8, 10 to 31 or 127. A byte from 128 on is handed out as `%` and two
-/// hexadecimal digits, in capitals, so the byte 233 and the three bytes `%E9` give the same text. In a `Host` and a
-/// `Transfer-Encoding` such a byte isn't good, whatever the version of the head. `None` for any other text. An error
-/// where the text is a field line and there is no memory for the answer.
+/// Parses a field line: a token, immediately a colon, and the value, stripped of spaces and tabs (RFC 9112, section 5).
+///
+/// The value has no byte 0 to 8, 10 to 31 or 127. A byte above 127 is percent-encoded in upper case, so the byte 233
+/// and the three bytes `%E9` give the same text. `Host` and `Transfer-Encoding` must not have one, whatever the
+/// version. Returns `None` for any other text. Fails if the text is a field line and memory is refused.
 pub fn parse_field_line(alloc: Global, text: &[u8]) -> Result<Option<Header>, AllocError>
     ensures some { IfOk result (λ found. IfSome found (λ h. ReadsFieldLine text.now h)) }
     ensures none { result ≡ Ok None → IsNoFieldLine text.now }

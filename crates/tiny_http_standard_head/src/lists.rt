@@ -1,4 +1,4 @@
-//! The lists that headers are (RFC 9110, sections 5.3 and 5.6.1).
+//! Field values as lists (RFC 9110, sections 5.3 and 5.6.1).
 ghost use Rattle.std.specs.Prelude.{◌≡◌};
 ghost use Rattle.std.specs.List.{list_any};
 ghost use Rattle.tiny_http_head.specs.Common.{same_name};
@@ -7,14 +7,14 @@ ghost use Rattle.tiny_http_standard_head.specs.Lists.{between_commas, has_elemen
 use crate::validation::trim;
 use tiny_http_head::common::Header;
 
-// Whether the element is this word, without case.
+// Compares an element with a word, case-insensitively.
 fn is_word(word: &str, element: &[u8]) -> bool
     ensures { result ≡ same_name element.now word.now }
 {
     element.eq_ignore_ascii_case(word.as_bytes())
 }
 
-// Whether an element of the value is this word.
+// Returns whether some element of the value is this word.
 fn has_word(value: &str, word: &str) -> bool
     ensures { result ≡ list_any (λ element. same_name element word.now) (between_commas value.now) }
 {
@@ -26,10 +26,10 @@ fn has_word(value: &str, word: &str) -> bool
     false
 }
 
-/// Whether the headers of this name list this word. They are one list, however many there are (RFC 9110, section
-/// 5.3). Its elements stand between commas, with spaces and tabs round them left out (RFC 9110, section 5.6.1). Name
-/// and word are compared without regard to the case of ASCII letters. An element is wholly the word: one with
-/// parameters isn't. A comma in a quoted text divides as well. The empty word is listed where an element is empty.
+/// Returns whether the fields of this name list this word. All such fields form one list (RFC 9110, section 5.3), whose
+/// elements are between commas, stripped of spaces and tabs (RFC 9110, section 5.6.1). Name and word are compared
+/// case-insensitively (ASCII). The whole element must match: one with parameters doesn't. A comma in a quoted string
+/// also separates. The empty word matches an empty element.
 pub fn has_element(headers: &[Header], name: &str, word: &str) -> bool
     ensures { result ≡ has_element name.now word.now headers.now }
 {

@@ -1,4 +1,4 @@
-//! Whole heads by the standard, read from a source (RFC 9112, sections 2.2, 3 and 5).
+//! Parsing of whole heads from a source, by the standard (RFC 9112, sections 2.2, 3 and 5).
 ghost use Rattle.std.specs.Prelude.{◌≡◌, ◌+◌, ◌<◌, ◌≤◌, ◌++◌, ◌∷◌, [], IsTrue, Ok, Err, None, IfSome, IfNone, IfOk};
 ghost use Rattle.std.specs.Prelude.{IfErr, OnOk, OnErr};
 ghost use Rattle.tiny_http_text.specs.Bytes.{crlf, has_bare_end};
@@ -22,18 +22,18 @@ use tiny_http_io::device::ReadDevice;
 use tiny_http_io::source::Source;
 use tiny_http_text::ascii::AsciiString;
 
-// Why there is no head.
+// The reason why there is no head.
 #[derive(Clone, Copy, Debug, PartialEq, Eq)]
 enum NoHead {
     // It is refused.
     Refused(StandardFault),
-    // The source stopped before its end.
+    // The source stopped before the end of the head.
     Unfinished { has_begun: bool },
     // Memory was refused.
     Memory,
 }
 
-// A line's text: the CR at its end is left out; `None` where there is none.
+// Returns the text of a line before its CR, or `None` if it doesn't end with one.
 fn text_of(line: &[u8]) -> Option<&[u8]>
     ensures some { IfSome result (λ text. line.now ≡ text.now ++ carriage_return ∷ []) }
     ensures none { IfNone result (IsTrue (has_bare_end is_carriage_return line.now)) }
@@ -45,7 +45,7 @@ fn text_of(line: &[u8]) -> Option<&[u8]>
     Some(&line[..n - 1])
 }
 
-// What a request line says, or `None` where the line is empty.
+// Parses a request line; returns `None` for an empty line.
 fn request_in(
     alloc: Global,
     line: &[u8],
@@ -65,7 +65,7 @@ fn request_in(
     }
 }
 
-// The header of a line, or `None` where the line is empty.
+// Parses a field line; returns `None` for the empty line.
 fn field_in(alloc: Global, line: &[u8]) -> Result<Option<Header>, NoHead>
     ensures { FieldIn line.now result }
 {
@@ -82,7 +82,7 @@ fn field_in(alloc: Global, line: &[u8]) -> Result<Option<Header>, NoHead>
     }
 }
 
-// Why there is no head where there is no line, which is too long by this fault.
+// Converts the reason why there is no line; `too_long` is the fault of one that is too long.
 fn no_head(why: NoLine, too_long: StandardFault, later: bool) -> NoHead
     ensures { result ≡ no_head why too_long later }
 {
@@ -95,7 +95,7 @@ fn no_head(why: NoLine, too_long: StandardFault, later: bool) -> NoHead
     }
 }
 
-// Reads a request line, or an empty one, of which so many bytes may come.
+// Reads a request line or an empty line, within `left` bytes.
 fn read_request<R: ReadDevice>(
     alloc: Global,
     source: &mut Source<R>,
@@ -127,7 +127,7 @@ fn read_request<R: ReadDevice>(
     }
 }
 
-// Reads a header, or the empty line, of which so many bytes may come.
+// Reads a field line or the empty line, within `left` bytes.
 fn read_field<R: ReadDevice>(
     alloc: Global,
     source: &mut Source<R>,
@@ -158,7 +158,7 @@ fn read_field<R: ReadDevice>(
     }
 }
 
-// Reads the request line, and an empty line in front of it if there is one.
+// Reads the request line, after at most one empty line.
 fn read_start<R: ReadDevice>(
     alloc: Global,
     source: &mut Source<R>,
@@ -186,14 +186,14 @@ fn read_start<R: ReadDevice>(
     }
 }
 
-// Reads the headers and the empty line behind them.
+// Reads the field lines and the empty line after them.
 fn read_fields<R: ReadDevice>(
     alloc: Global,
     source: &mut Source<R>,
     left: &mut usize,
 ) -> Result<Vec<Header>, NoHead>
     ensures reads { ReadsFields left.old left.new source.old.feed source.new.feed result }
-    // Reports `Memory` only after a good line, or for a line that isn't whole in the buffer.
+    // Reports `Memory` only after a valid line, or for a line that isn't whole in the buffer.
     ensures memory { result ≡ Err NoHead.Memory → IfSome source.old.feed
         (λ f. LacksMemory IsNoFieldLine left.old f source.new.feed source.new.held) }
     ensures shorter { OnOk result (left.new ≤ left.old) }
@@ -220,7 +220,7 @@ fn read_fields<R: ReadDevice>(
     }
 }
 
-// What is read where there is no head.
+// Converts the reason why there is no head.
 fn without_head(why: NoHead) -> Result<StandardRead, AllocError>
     ensures { IsWithoutHead why result }
 {
@@ -231,19 +231,18 @@ fn without_head(why: NoHead) -> Result<StandardRead, AllocError>
     }
 }
 
-/// Reads the next head of a source. A head has at most `limit` bytes, its empty lines included, and at most
-/// `MOST_HEADERS` header lines. What is read is what `heads::read_head` makes of all the bytes that the source still
-/// gives. No byte behind the head is taken off, and none is read ahead but what one call of the reader gives. A line
-/// that lies whole in the buffer of the source is parsed there. A bad line, or a header line too many, is refused as
-/// soon as its LF has come. `Unfinished` says that the source has stopped, which then is over. An error where memory
-/// was refused; then the source may stand within the head.
+/// Reads the next head of a source, with at most `limit` bytes and `MOST_HEADERS` field lines. The result is that of
+/// `heads::read_head` on all bytes that the source still gives. No byte after the head is consumed, and none is read
+/// ahead beyond one call of the reader. A line that is whole in the buffer is parsed in place. A malformed or surplus
+/// line is refused as soon as its LF has come. `Unfinished` means that the source has stopped, and is over. Fails if
+/// memory is refused; the source may then be in the middle of the head.
 pub fn read_head_from<R: ReadDevice>(
     alloc: Global,
     source: &mut Source<R>,
     limit: usize,
 ) -> Result<StandardRead, AllocError>
     ensures reads { IfOk result (λ read. ReadsFrom limit source.old.feed source.new.feed read) }
-    // Memory is wanted for a good request line and what stands behind it, or for one that isn't whole in the buffer.
+    // Memory is needed only from a valid request line on, or for a line that isn't whole in the buffer.
     ensures memory { OnErr result (IfSome source.old.feed
         (λ f. LacksMemoryAtStart limit f source.new.feed source.new.held)) }
     ensures validated { IfOk result IsValidated }

@@ -1,4 +1,4 @@
-//! Lines of the bytes that a source still gives, each up to its first LF (RFC 9112, section 2.2).
+//! The lines of a source, each up to its first LF (RFC 9112, section 2.2).
 ghost use Rattle.std.specs.Prelude.{◌≡◌, ◌<◌, IfSome, IfNone, IfOk, IfErr, OnOk, true, length, take};
 ghost use Rattle.tiny_http_text.specs.Bytes.{HasNo};
 ghost use Rattle.tiny_http_io.specs.Source.{GoesOn, IsCutOff};
@@ -10,30 +10,30 @@ use std::alloc::Global;
 use tiny_http_io::device::ReadDevice;
 use tiny_http_io::source::Source;
 
-/// A line in front of its LF.
+/// A line, without its LF.
 #[derive(Drop)]
 pub(crate) enum FoundLine {
-    /// It lies whole in the buffer of the source: so many bytes, and an LF behind them. It isn't taken off yet.
+    /// The line is whole in the buffer: n bytes, then an LF. It isn't consumed yet.
     Held(usize),
-    /// It was taken off, with its LF.
+    /// The line was consumed, with its LF.
     Taken(Vec<u8>),
 }
 
-/// Why there is no line.
+/// The reason why there is no line.
 #[derive(Clone, Copy, Debug, PartialEq, Eq)]
 pub(crate) enum NoLine {
-    /// The source stopped in front of an LF and of the limit.
+    /// The source stopped before an LF and before the limit.
     Cut {
         /// Whether a byte came.
         has_begun: bool,
     },
-    /// As many bytes came as the limit allows.
+    /// The limit was reached.
     TooLong,
     /// Memory for the line was refused.
     Memory,
 }
 
-// Where the first LF stands.
+// Returns the position of the first LF.
 fn find_line_feed(bytes: &[u8]) -> Option<usize>
     ensures some { IfSome result (EndsLine bytes.now) }
     ensures none { IfNone result (HasNo line_feed bytes.now) }
@@ -41,14 +41,14 @@ fn find_line_feed(bytes: &[u8]) -> Option<usize>
     memchr(b'\n', bytes)
 }
 
-// The bytes that the limit lets through.
+// Returns the bytes within the limit.
 fn within(bytes: &[u8], limit: usize) -> &[u8]
     ensures { result.now ≡ take limit bytes.now }
 {
     &bytes[..bytes.len().min(limit)]
 }
 
-// Takes a line off whose first bytes are in the buffer, but not its LF, wherever its other pieces come.
+// Consumes a line that is only partly in the buffer, and reads the rest of it.
 fn take_line<R: ReadDevice>(
     alloc: Global,
     source: &mut Source<R>,
@@ -95,8 +95,8 @@ fn take_line<R: ReadDevice>(
     }
 }
 
-/// Finds the next line, within so many bytes with its LF. A line that lies whole in the buffer stays there, to be
-/// parsed in its place, and takes no memory.
+/// Finds the next line, within `limit` bytes including its LF. A line that is whole in the buffer stays there, to be
+/// parsed in place, and takes no memory.
 pub(crate) fn find_line<R: ReadDevice>(
     alloc: Global,
     source: &mut Source<R>,

@@ -1,5 +1,5 @@
-//! What a whole head says, and why it is refused (RFC 9112, sections 3.2, 6 and 9.3; RFC 9110, sections 7.8, 10.1.1
-//! and 15), and whether it asks for chunks (RFC 9110, section 10.1.4).
+//! Validation of complete heads, and what they say (RFC 9112, sections 3.2, 6 and 9.3; RFC 9110, sections 7.8, 10.1.1
+//! and 15), including whether a client accepts chunks (RFC 9110, section 10.1.4).
 ghost use Rattle.std.specs.Prelude.{◌≡◌, ◌↔◌, ◌==◌, not, IsTrue, IsFalse, IfSome, IfNone, codes};
 ghost use Rattle.std.specs.List.{list_all, list_any};
 ghost use Rattle.httparse.specs.Grammar.{is_ows};
@@ -23,37 +23,38 @@ use tiny_http_head::common::{HTTPVersion, Header, Method};
 use tiny_http_head::content_length::one_length;
 use tiny_http_text::bytes::{cut, is};
 
-/// What a head says of its body, and of the connection.
+/// What a head says about its body and the connection.
 #[derive(Clone, Copy, Debug, PartialEq, Eq)]
 pub struct HeadSummary {
-    /// The length that `Content-Length` says. There is no body where it is `Some(0)`, or `None` without chunks.
+    /// The value of `Content-Length`. There is no body if it is `Some(0)`, or if it is `None` and the body isn't
+    /// chunked.
     pub body_length: Option<usize>,
-    /// Whether the body comes in chunks.
+    /// Whether the body is chunked.
     pub is_chunked: bool,
-    /// Whether a 100 is owed before the body.
+    /// Whether a 100 (Continue) is due before the body.
     pub owes_continue: bool,
-    /// Whether the head asks for another protocol.
+    /// Whether the head asks for an upgrade.
     pub asks_upgrade: bool,
-    /// Whether the head alone makes its request the connection's last.
+    /// Whether the head alone makes this the last request of the connection.
     pub is_last: bool,
 }
 
-/// Why a head of good lines is refused.
+/// The reason why a head with valid lines is refused.
 #[derive(Clone, Copy, Debug, PartialEq, Eq)]
 pub enum HeadError {
-    /// Its major version isn't 1: 505 (RFC 9110, section 15.6.6).
+    /// The major version isn't 1: 505 (RFC 9110, section 15.6.6).
     UnsupportedVersion,
-    /// Its host is missing or invalid, or there is a second one, or what frames its body is invalid: 400 (RFC 9112,
-    /// sections 3.2 and 6).
+    /// The host is missing, invalid or repeated, or the framing of the body is invalid: 400 (RFC 9112, sections 3.2 and
+    /// 6).
     InvalidHead,
-    /// Codings are named in front of a last `chunked`, in version 1.1 or later and without a length: 501 (RFC 9112,
-    /// section 6.1).
+    /// There are other transfer codings before a final `chunked`, in version 1.1 or later and without a content length:
+    /// 501 (RFC 9112, section 6.1).
     UnknownCoding,
-    /// It expects something else than a 100: 417 (RFC 9110, section 10.1.1).
+    /// An expectation other than `100-continue`: 417 (RFC 9110, section 10.1.1).
     UnknownExpectation,
 }
 
-// What an element of a list is looked at for.
+// What to look for in a list.
 #[derive(Clone, Copy)]
 enum Wanted {
     Close,
@@ -65,29 +66,29 @@ enum Wanted {
     Chunks,
 }
 
-// What the elements of `Transfer-Encoding` are so far.
+// The elements of `Transfer-Encoding` so far.
 #[derive(Clone, Copy, PartialEq, Eq)]
 enum Codings {
-    // None came.
+    // None.
     Absent,
-    // Others than `chunked` came.
+    // Only others than `chunked`.
     Others,
-    // `chunked` alone came.
+    // Only `chunked`.
     Chunked,
-    // `chunked` came behind others.
+    // Others, then `chunked`.
     Behind,
-    // An empty one came, or one behind `chunked`.
+    // An empty one, or one after `chunked`.
     Bad,
 }
 
-// The text without spaces and tabs at its ends.
+// Strips spaces and tabs from both ends of the text.
 pub(crate) fn trim(text: &str) -> &[u8]
     ensures { result.now ≡ trimmed is_ows text.now }
 {
     trim_space_and_tab(text.as_bytes())
 }
 
-// Whether this is a token, or two with a slash between.
+// Returns whether the text is a token, or two with a slash between.
 fn is_one_or_two_tokens(text: &[u8]) -> bool
     ensures { result ≡ is_one_or_two_tokens (parts slash text.now) }
 {
@@ -97,21 +98,21 @@ fn is_one_or_two_tokens(text: &[u8]) -> bool
     is_token(name) && is_token(version)
 }
 
-// Whether no percent sign stands in the text.
+// Returns whether the text has no percent sign.
 fn has_no_percent(text: &[u8]) -> bool
     ensures { result ≡ list_all (λ b. not (b == percent)) text.now }
 {
     text.iter().all(|b| *b != b'%')
 }
 
-// Whether this is a protocol's name, with or without a version.
+// Returns whether the text is a protocol name, with or without a version.
 fn is_protocol(text: &[u8]) -> bool
     ensures { result ≡ is_protocol text.now }
 {
     is_one_or_two_tokens(text) && has_no_percent(text)
 }
 
-// The value of a parameter that is a weight: what stands behind `q=` or `Q=` (RFC 9110, section 12.4.2).
+// Returns the value of a weight parameter: the text after `q=` or `Q=` (RFC 9110, section 12.4.2).
 fn weight_value(parameter: &[u8]) -> Option<&[u8]>
     ensures some { IfSome result (λ value. IsTrue (is_weight parameter.now)
         × (value.now ≡ weight_value parameter.now)) }
@@ -123,14 +124,14 @@ fn weight_value(parameter: &[u8]) -> Option<&[u8]>
     Some(trim_space_and_tab(&parameter[2..]))
 }
 
-// Whether the value of a weight is a zero with at most three digits behind the point (RFC 9110, section 12.4.2).
+// Returns whether the weight is zero, with at most three digits after the point (RFC 9110, section 12.4.2).
 fn is_zero(value: &[u8]) -> bool
     ensures { result ≡ is_zero value.now }
 {
     is(value, "0") || is(value, "0.") || is(value, "0.0") || is(value, "0.00") || is(value, "0.000")
 }
 
-// Whether the first weight among the parameters is zero.
+// Returns whether the first weight among the parameters is zero.
 fn has_zero_weight(parameters: &[u8]) -> bool
     ensures { result ≡ has_zero_weight (between_semicolons parameters.now) }
 {
@@ -142,14 +143,14 @@ fn has_zero_weight(parameters: &[u8]) -> bool
     false
 }
 
-// Whether the coding is `chunked`, without case.
+// Returns whether the coding is `chunked`, case-insensitively.
 fn is_chunked(coding: &[u8]) -> bool
     ensures { result ≡ is_chunked coding.now }
 {
     coding.eq_ignore_ascii_case(b"chunked")
 }
 
-// Whether an element of `TE`, a coding and its parameters, asks for chunks (RFC 9110, section 10.1.4).
+// Returns whether an element of `TE`, a coding with its parameters, accepts chunks (RFC 9110, section 10.1.4).
 fn element_asks_chunked(element: &[u8]) -> bool
     ensures { result ≡ element_asks_chunked element.now }
 {
@@ -159,7 +160,7 @@ fn element_asks_chunked(element: &[u8]) -> bool
     is_chunked(trim_space_and_tab(coding)) && !has_zero_weight(parameters)
 }
 
-// Whether an element is what is wanted.
+// Returns whether the element matches.
 fn is_wanted(wanted: Wanted, element: &[u8]) -> bool
     ensures { result ≡ is_wanted wanted element.now }
 {
@@ -175,7 +176,7 @@ fn is_wanted(wanted: Wanted, element: &[u8]) -> bool
     }
 }
 
-// Whether an element of the value is what is wanted.
+// Returns whether some element of the value matches.
 fn has_in(value: &str, wanted: Wanted) -> bool
     ensures { result ≡ list_any (is_wanted wanted) (between_commas value.now) }
 {
@@ -187,7 +188,7 @@ fn has_in(value: &str, wanted: Wanted) -> bool
     false
 }
 
-// Whether an element of the headers of that name is what is wanted.
+// Returns whether some element of the fields of that name matches.
 fn has(headers: &[Header], name: &str, wanted: Wanted) -> bool
     ensures { result ≡ has_element_that name.now (is_wanted wanted) headers.now }
 {
@@ -199,7 +200,7 @@ fn has(headers: &[Header], name: &str, wanted: Wanted) -> bool
     false
 }
 
-// Whether the hosts are as the version asks: one, and in 1.0 one at most.
+// Returns whether there is exactly one valid `Host`; version 1.0 may have none.
 fn has_valid_host(version: HTTPVersion, headers: &[Header]) -> bool
     ensures { IsTrue result ↔ HasValidHost version (values_of (codes "Host") headers.now) }
 {
@@ -215,7 +216,7 @@ fn has_valid_host(version: HTTPVersion, headers: &[Header]) -> bool
     has_one || is_1_0(version)
 }
 
-// What the codings are after a further one.
+// Returns the state after one more coding.
 fn coding_after(was: Codings, coding: &[u8]) -> Codings
     ensures { result ≡ coding_after was coding.now }
 {
@@ -228,7 +229,7 @@ fn coding_after(was: Codings, coding: &[u8]) -> Codings
     }
 }
 
-// What the codings are after those of a value.
+// Returns the state after the codings of one more value.
 fn codings_in(value: &str, was: Codings) -> Codings
     ensures { result ≡ codings_on was (between_commas value.now) }
 {
@@ -239,7 +240,7 @@ fn codings_in(value: &str, was: Codings) -> Codings
     codings
 }
 
-// What the elements of all `Transfer-Encoding` headers are.
+// Returns the state after all `Transfer-Encoding` fields.
 fn codings_of(headers: &[Header]) -> Codings
     ensures { result ≡ codings_on Absent (elements_of (codes "Transfer-Encoding") headers.now) }
 {
@@ -252,7 +253,7 @@ fn codings_of(headers: &[Header]) -> Codings
     codings
 }
 
-// The body by the codings and the length: its length, and whether it comes in chunks.
+// Returns the content length, and whether the body is chunked.
 fn body_of(version: HTTPVersion, headers: &[Header]) -> Result<(Option<usize>, bool), HeadError>
     ensures { result ≡ body_by version (codings_on Absent (elements_of (codes "Transfer-Encoding") headers.now))
         (one_length (elements_of (codes "Content-Length") headers.now)) }
@@ -274,14 +275,14 @@ fn body_of(version: HTTPVersion, headers: &[Header]) -> Result<(Option<usize>, b
     }
 }
 
-// Whether the version is 1.0.
+// Returns whether the version is 1.0.
 fn is_1_0(version: HTTPVersion) -> bool
     ensures { result ≡ is_1_0 version }
 {
     version.0 == 1 && version.1 == 0
 }
 
-// Whether a body follows.
+// Returns whether a body follows.
 fn has_body(length: Option<usize>, is_chunked: bool) -> bool
     ensures { result ≡ has_body length is_chunked }
 {
@@ -291,7 +292,7 @@ fn has_body(length: Option<usize>, is_chunked: bool) -> bool
     }
 }
 
-// Whether a 100 is owed.
+// Returns whether a 100 (Continue) is due.
 fn owes_continue(
     version: HTTPVersion,
     headers: &[Header],
@@ -303,7 +304,7 @@ fn owes_continue(
     !is_1_0(version) && has_body(length, is_chunked) && has(headers, "Expect", Wanted::Continue)
 }
 
-// Whether the head asks for another protocol.
+// Returns whether the head asks for an upgrade.
 fn asks_upgrade(version: HTTPVersion, headers: &[Header]) -> bool
     ensures { result ≡ asks_upgrade version headers.now }
 {
@@ -312,14 +313,14 @@ fn asks_upgrade(version: HTTPVersion, headers: &[Header]) -> bool
         && has(headers, "Upgrade", Wanted::Protocol)
 }
 
-// Whether an element is this protocol.
+// Returns whether the element is this protocol.
 fn is_protocol_named(protocol: &str, element: &[u8]) -> bool
     ensures { result ≡ is_protocol_named protocol.now element.now }
 {
     is_protocol(element) && element.eq_ignore_ascii_case(protocol.as_bytes())
 }
 
-// Whether an element of the value is this protocol.
+// Returns whether some element of the value is this protocol.
 fn names_in(value: &str, protocol: &str) -> bool
     ensures { result ≡ list_any (is_protocol_named protocol.now) (between_commas value.now) }
 {
@@ -331,9 +332,8 @@ fn names_in(value: &str, protocol: &str) -> bool
     false
 }
 
-/// Whether the `Upgrade` headers name this protocol, without case: an element of theirs is wholly it (RFC 9110,
-/// section 7.8). An element is passed over that isn't a token, or two with a slash between, or that has a percent
-/// sign.
+/// Returns whether the `Upgrade` fields list this protocol, case-insensitively, as a whole element (RFC 9110, section
+/// 7.8). An element is ignored if it has a percent sign, or isn't a token or two with a slash between.
 pub fn names_protocol(headers: &[Header], protocol: &str) -> bool
     ensures { result ≡ names_protocol headers.now protocol.now }
 {
@@ -345,19 +345,18 @@ pub fn names_protocol(headers: &[Header], protocol: &str) -> bool
     false
 }
 
-/// Whether the `TE` headers of a request ask for chunks (RFC 9110, section 10.1.4). The headers of that name are one
-/// list, whose empty elements are passed over (RFC 9110, sections 5.3 and 5.6.1.2). An element asks for chunks if its
-/// coding is `chunked`, without case, and its weight isn't zero. The weight is the first parameter that begins with
-/// `q=` or `Q=` (RFC 9110, section 12.4.2). Its value is zero as `0`, `0.`, `0.0`, `0.00` or `0.000`. Any other value
-/// asks for chunks, also one that isn't a number. Other parameters are passed over, and so are those behind the
-/// weight. A comma or a semicolon in a quoted text divides as well.
+/// Returns whether the `TE` fields of a request, which form one list, accept chunks (RFC 9110, sections 5.3, 5.6.1.2
+/// and 10.1.4). An element does if its coding is `chunked`, case-insensitively, and its weight isn't zero. The weight
+/// is the first parameter that begins with `q=` or `Q=` (RFC 9110, section 12.4.2); zero is `0`, `0.`, `0.0`, `0.00` or
+/// `0.000`, and any other value, even one that isn't a number, accepts chunks. All other parameters and empty elements
+/// are ignored. A comma or semicolon in a quoted string also separates.
 pub fn asks_chunked(headers: &[Header]) -> bool
     ensures { result ≡ asks_chunked headers.now }
 {
     has(headers, "TE", Wanted::Chunks)
 }
 
-// Whether the connection ends after the request, by its head.
+// Returns whether the head makes this the last request of the connection.
 fn is_last(version: HTTPVersion, method: &Method, headers: &[Header]) -> bool
     ensures { result ≡ is_last version method.now headers.now }
 {
@@ -370,19 +369,19 @@ fn is_last(version: HTTPVersion, method: &Method, headers: &[Header]) -> bool
     method.as_str() == "CONNECT"
 }
 
-/// Judges a head whose lines are good, in this order. Each minor version after 1.0 counts as 1.1.
+/// Validates a head with valid lines. The errors, in this order, where 1.1 means any later minor version too:
 ///
-/// - Another major version than 1 is `UnsupportedVersion`.
-/// - `InvalidHead`: no `Host` in 1.1, two of them, or one whose value is neither empty nor a host; elements of
-///   `Content-Length` that aren't one number, the empty one too; a `Transfer-Encoding` in 1.0, or beside a
-///   `Content-Length`, or whose last element isn't `chunked`, or with another one that is empty or `chunked`.
-/// - Codings in front of `chunked` are `UnknownCoding`.
-/// - An element of `Expect` that isn't empty or `100-continue` is `UnknownExpectation`. A 100 is owed in 1.1, where a
-///   body follows and `Expect` has `100-continue`.
+/// - `UnsupportedVersion`: the major version isn't 1.
+/// - `InvalidHead`: no `Host` in 1.1, two, or one that is neither empty nor a host; `Content-Length` elements that aren't
+///   one number (an empty one isn't); `Transfer-Encoding` in 1.0, beside `Content-Length`, without a final `chunked`, or
+///   with an earlier element that is empty or `chunked`.
+/// - `UnknownCoding`: other codings before `chunked`.
+/// - `UnknownExpectation`: an element of `Expect` other than `100-continue` and the empty one. A 100 is due in 1.1 if a
+///   body follows and `Expect` lists `100-continue`.
 ///
-/// A head asks for an upgrade in 1.1, if `Connection` has `upgrade`, and `Upgrade` has a protocol: a token, or two
-/// with a slash between, without `%`, which may stand for a byte from 128 on. The head makes its request the last by
-/// `close`, in 1.0 without `keep-alive`, and by the method `CONNECT`.
+/// A head asks for an upgrade in 1.1 if `Connection` lists `upgrade` and `Upgrade` lists a protocol: a token, or two
+/// with a slash between, without `%`, which may stand for a byte above 127. `close`, in 1.0 the absence of
+/// `keep-alive`, or the method `CONNECT` makes its request the last.
 pub fn validate(
     version: HTTPVersion,
     method: &Method,

@@ -2,7 +2,7 @@
 use Rattle.std.specs.Prelude.{◌≡◌, ℕ, Bool, true, false, ◌&&◌, ◌==◌, List, [], ◌∷◌, ◌++◌, if◌then◌else◌}
 use Rattle.tiny_http_text.specs.Bytes.{crlf}
 
--- whether a CR LF stands in the bytes
+-- the bytes contain a CR LF
 abbrev pub has_crlf : List ℕ → Bool
 has_crlf [] = false
 has_crlf (a ∷ []) = false
@@ -13,6 +13,6 @@ pub record Line (bytes text rest : List ℕ) : Type 0 where
   pub joins : bytes ≡ text ++ crlf ++ rest
   pub first : has_crlf text ≡ false
 
--- no line is finished in the bytes
+-- the bytes contain no complete line
 abbrev pub IsUnfinished : List ℕ → Type 0
 IsUnfinished bytes = has_crlf bytes ≡ false

@@ -1,10 +1,10 @@
--- Header values that list names with their qualities (RFC 9110, sections 5.6.1 and 12.4.2).
+-- Field values that list names with their qualities (RFC 9110, sections 5.6.1 and 12.4.2).
 use Rattle.std.specs.Prelude.{◌≡◌, ℕ, ◌+◌, ◌-◌, ◌*◌, ◌^◌, ◌≤◌, ◌⊎◌, ⊤, List, [], ◌∷◌, ◌++◌, length, codes, IsTrue}
 use Rattle.std.specs.List.{list_all}
 use Rattle.std.specs.Str.Parse.{AllDigits, digits_value}
 use Rattle.tiny_http_text.specs.Bytes.{is_blank, Trims, parts, comma, semicolon, point}
 
--- a quality that can be read: one to six digits, and optionally a point and up to three digits more; in thousandths
+-- a readable quality: one to six digits, optionally a point and at most three digits more; in thousandths
 pub record IsQuality (text : List ℕ) (thousandths : ℕ) : Type 0 where
   pub whole : List ℕ
   pub fraction : List ℕ
@@ -26,13 +26,13 @@ pub record GivesQuality (parameter : List ℕ) (thousandths : ℕ) : Type 0 wher
   pub trims : Trims is_blank padded text
   pub quality : IsQuality text thousandths
 
--- the first of the parameters that gives a quality gives this one; where none does it is 1000
+-- the quality of the first parameter that gives one, or 1000 if none does
 abbrev pub FirstQuality : List (List ℕ) → ℕ → Type 0
 FirstQuality [] q = q ≡ 1000
 FirstQuality (parameter ∷ more) q =
     GivesQuality parameter q ⊎ (((n : ℕ) → GivesQuality parameter n → ⊥) × FirstQuality more q)
 
--- an element: its first part round the semicolons, trimmed, is the name, and the others are parameters
+-- an element: its first part, up to a semicolon and trimmed, is the name; the other parts are parameters
 pub record Element (text name : List ℕ) (q : ℕ) : Type 0 where
   pub padded : List ℕ
   pub parameters : List (List ℕ)
@@ -40,13 +40,13 @@ pub record Element (text name : List ℕ) (q : ℕ) : Type 0 where
   pub trims : Trims is_blank padded name
   pub quality : FirstQuality parameters q
 
--- the texts are these elements, one by one
+-- the texts are these elements, in order
 abbrev pub Elements : List (List ℕ) → List (List ℕ × ℕ) → Type 0
 Elements [] [] = ⊤
 Elements [] (e ∷ es) = ⊥
 Elements (text ∷ texts) [] = ⊥
 Elements (text ∷ texts) (e ∷ es) = Element text e.0 e.1 × Elements texts es
 
--- the parts of the value round the commas are these names with their qualities
+-- the parts of the value between the commas are these names with their qualities
 abbrev pub ListsQualities : List ℕ → List (List ℕ × ℕ) → Type 0
 ListsQualities value list = Elements (parts comma value) list

@@ -1,4 +1,4 @@
-//! Texts whose bytes are all below 128.
+//! ASCII strings: texts whose bytes are all below 128.
 ghost use Rattle.std.specs.Prelude.{◌≡◌, ◌==◌, ◌≤◌, ◌<◌, ◌↔◌, ℕ, List, length, map, Some, IsTrue, IsOk, IfOk, IfErr};
 ghost use Rattle.std.specs.Prelude.{OnOk, OnErr, IsAscii, nat_eq, take};
 ghost use Rattle.std.specs.Cmp.Lexicographic.{pointwise};
@@ -17,10 +17,10 @@ use std::hash::{Hash, Hasher};
 use std::marker::Model;
 use thiserror::Error;
 
-// How many bytes a text has at most that lies in place, without memory of its own.
+// The longest text, in bytes, that is stored inline, without an allocation.
 const SHORT: usize = 30;
 
-// The bytes of a text that lies in place: the first `len` of these.
+// The bytes of a text that is stored inline: the first `len` of `bytes`.
 #[derive(Clone, Copy, Drop)]
 struct ShortBytes {
     bytes: [u8; 30],
@@ -28,15 +28,17 @@ struct ShortBytes {
     ghost within: { len ≤ 30 },
 }
 
-// The bytes of a text: in place where they are few, as those of most headers are.
+// The bytes of a text. Short texts, such as most header fields, are stored inline.
 #[derive(Drop)]
 enum TextBytes {
     Short(ShortBytes),
     Long(Vec<u8>),
 }
 
-/// A text that owns its bytes, all below 128. One of up to 30 bytes that is made by a copy takes no memory of its
-/// own. A contract sees it as the list of its bytes.
+/// An owned ASCII string.
+///
+/// A copy of at most 30 bytes is stored inline and takes no memory. A contract sees the string as the list of its
+/// bytes.
 #[derive(Drop)]
 pub struct AsciiString {
     text: TextBytes,
@@ -53,7 +55,7 @@ impl Model for AsciiString {
     ghost invariant = { λ s. IsAscii (text_bytes s.text) };
 }
 
-/// A view of an `AsciiString`, or of a part of one. A contract sees it as the list of its bytes.
+/// A borrowed ASCII string: an `AsciiString` or a part of one. A contract sees it as the list of its bytes.
 #[derive(Debug, Drop)]
 pub struct AsciiStr<'a> {
     text: &'a str,
@@ -67,7 +69,7 @@ impl<'a> Model for AsciiStr<'a> {
     ghost invariant = { λ s. IsAscii s.text.now };
 }
 
-/// Bytes that are no ASCII text, and the place of the first one from 128 on.
+/// The error for bytes that are not ASCII. It keeps the bytes and the position of the first byte above 127.
 #[derive(Debug, Drop, Error)]
 #[error("the byte at place {place} is not ASCII")]
 pub struct FromAsciiError {
@@ -78,14 +80,14 @@ pub struct FromAsciiError {
 impl FromAsciiError {
     ghost use Rattle.tiny_http_text.specs.FromAsciiError.{refused_bytes, bad_place};
 
-    /// Gives the bytes back as they were handed in.
+    /// Returns the bytes that were refused, unchanged.
     pub fn into_source(self) -> Vec<u8>
         ensures { result.items ≡ refused_bytes self }
     {
         self.source
     }
 
-    /// The place of the first byte from 128 on, counted from 0.
+    /// Returns the position of the first byte above 127, counted from 0.
     pub fn place(&self) -> usize
         ensures { result ≡ bad_place self.now }
     {
@@ -93,7 +95,7 @@ impl FromAsciiError {
     }
 }
 
-// The place of the first byte from 128 on, or the length.
+// Returns the position of the first byte above 127, or the length if there is none.
 fn ascii_len(bytes: &[u8]) -> usize
     ensures bound { result ≤ length bytes.now }
     ensures found { result < length bytes.now → IsFirstNotAscii bytes.now result }
@@ -111,7 +113,7 @@ fn ascii_len(bytes: &[u8]) -> usize
 }
 
 impl ShortBytes {
-    // A copy of a few bytes.
+    // Copies at most 30 bytes.
     fn copied(bytes: &[u8]) -> ShortBytes
         requires { length bytes.now ≤ 30 }
         ensures { take result.len result.bytes ≡ bytes.now }
@@ -125,7 +127,6 @@ impl ShortBytes {
         }
     }
 
-    // The bytes.
     fn as_slice(&self) -> &[u8]
         ensures { result.now ≡ take self.now.len self.now.bytes }
     {
@@ -136,7 +137,7 @@ impl ShortBytes {
 impl TextBytes {
     ghost use Rattle.tiny_http_text.specs.TextBytes.{text_bytes};
 
-    // A copy of the bytes, in place where they are few. An error where there is no memory for more of them.
+    // Copies the bytes, inline if there are at most 30. Fails only if memory for more is refused.
     fn copied(alloc: Global, bytes: &[u8]) -> Result<TextBytes, AllocError>
         ensures text { IfOk result (λ t. text_bytes t ≡ bytes.now) }
         ensures short { length bytes.now ≤ 30 → IsOk result }
@@ -147,7 +148,6 @@ impl TextBytes {
         Ok(TextBytes::Long(bytes.to_vec(alloc)?))
     }
 
-    // The bytes.
     fn as_slice(&self) -> &[u8]
         ensures { result.now ≡ text_bytes self.now }
     {
@@ -157,7 +157,7 @@ impl TextBytes {
         }
     }
 
-    // A copy of the text's bytes.
+    // Copies the text. Fails only if memory for more than 30 bytes is refused.
     fn try_clone(&self) -> Result<TextBytes, AllocError>
         ensures text { IfOk result (λ t. text_bytes t ≡ text_bytes self.now) }
         ensures short { length (text_bytes self.now) ≤ 30 → IsOk result }
@@ -172,7 +172,7 @@ impl TextBytes {
 impl AsciiString {
     ghost use Rattle.tiny_http_text.specs.FromAsciiError.{refused_bytes, bad_place};
 
-    /// Takes bytes that are all below 128, and no others. A refusal hands them back.
+    /// Makes a string of bytes that are all below 128. The error hands other bytes back.
     pub fn from_ascii(bytes: Vec<u8>) -> Result<AsciiString, FromAsciiError>
         ensures ok { IfOk result (λ s. s ≡ bytes.items) }
         ensures succeeds { IsOk result ↔ IsAscii bytes.items }
@@ -193,8 +193,8 @@ impl AsciiString {
         })
     }
 
-    /// A copy of bytes that are all below 128, which isn't checked again. An error where there is no memory for it; up
-    /// to 30 bytes it takes none.
+    /// Copies bytes that are known to be ASCII, without checking them again. Fails if memory is refused; a copy of at
+    /// most 30 bytes takes none.
     pub(crate) fn copied_unchecked(alloc: Global, bytes: &[u8]) -> Result<AsciiString, AllocError>
         requires { IsAscii bytes.now }
         ensures text { IfOk result (λ s. s ≡ bytes.now) }
@@ -204,7 +204,7 @@ impl AsciiString {
         Ok(AsciiString { text })
     }
 
-    /// The text as a `&str`.
+    /// Returns the text as a `&str`.
     pub fn as_str(&self) -> &str
         ensures value { result.now ≡ self.now }
         ensures ascii { IsAscii self.now }
@@ -212,7 +212,7 @@ impl AsciiString {
         unsafe { str::from_utf8_unchecked(self.text.as_slice()) }
     }
 
-    /// A view of the text.
+    /// Borrows the text.
     pub fn as_ascii(&self) -> AsciiStr<'_>
         ensures { result ≡ self.now }
     {
@@ -221,35 +221,35 @@ impl AsciiString {
         }
     }
 
-    /// The number of bytes.
+    /// Returns the number of bytes.
     pub fn len(&self) -> usize
         ensures { result ≡ length self.now }
     {
         self.as_ascii().len()
     }
 
-    /// Whether there is no byte.
+    /// Returns whether the text is empty.
     pub fn is_empty(&self) -> bool
         ensures { result ≡ (length self.now == 0) }
     {
         self.as_ascii().is_empty()
     }
 
-    /// The view without white space (bytes 9 to 13 and 32) at its ends.
+    /// Returns the text without white space (bytes 9 to 13 and 32) at its ends.
     pub fn trim(&self) -> AsciiStr<'_>
         ensures { result ≡ trimmed is_blank self.now }
     {
         self.as_ascii().trim()
     }
 
-    /// Whether two texts are equal but for the case of ASCII letters.
+    /// Compares two texts, ignoring the case of ASCII letters.
     pub fn eq_ignore_ascii_case(&self, other: &str) -> bool
         ensures { IsTrue result ↔ (map to_ascii_lowercase self.now ≡ map to_ascii_lowercase other.now) }
     {
         self.as_ascii().eq_ignore_ascii_case(other)
     }
 
-    /// A copy of the text, or an error where there is no memory for it. Up to 30 bytes take none.
+    /// Copies the text. Fails if memory is refused; a copy of at most 30 bytes takes none.
     pub fn try_clone(&self) -> Result<AsciiString, AllocError>
         ensures text { IfOk result (λ s. s ≡ self.now) }
         ensures short { length self.now ≤ 30 → IsOk result }
@@ -271,7 +271,7 @@ impl fmt::Display for AsciiString {
 
     ghost styled_output = { λ s _. Some s };
 
-    /// Writes the text. Width and the like change nothing.
+    /// Writes the text. Formatting parameters such as width are ignored.
     fn fmt<W: fmt::Write>(&self, f: &mut fmt::Formatter<W>) -> fmt::Result {
         f.write_str(self.as_str())
     }
@@ -282,7 +282,7 @@ impl PartialEq for AsciiString {
 
     ghost laws = { Prim.search (comparing, rules) };
 
-    /// Whether the two texts are the same, letter case included.
+    /// Compares the texts byte by byte; letter case counts.
     fn eq(&self, other: &AsciiString) -> bool {
         self.as_str() == other.as_str()
     }
@@ -304,7 +304,7 @@ impl Hash for AsciiString {
 }
 
 impl<'a> AsciiStr<'a> {
-    /// The text as a `&str`.
+    /// Returns the text as a `&str`.
     pub fn as_str(&self) -> &'a str
         ensures value { result.now ≡ self.now }
         ensures ascii { IsAscii self.now }
@@ -312,21 +312,21 @@ impl<'a> AsciiStr<'a> {
         self.text
     }
 
-    /// The number of bytes.
+    /// Returns the number of bytes.
     pub fn len(&self) -> usize
         ensures { result ≡ length self.now }
     {
         self.text.len()
     }
 
-    /// Whether there is no byte.
+    /// Returns whether the text is empty.
     pub fn is_empty(&self) -> bool
         ensures { result ≡ (length self.now == 0) }
     {
         self.text.is_empty()
     }
 
-    /// The view without white space (bytes 9 to 13 and 32) at its ends.
+    /// Returns the text without white space (bytes 9 to 13 and 32) at its ends.
     pub fn trim(&self) -> AsciiStr<'a>
         ensures { result ≡ trimmed is_blank self.now }
     {
@@ -335,7 +335,7 @@ impl<'a> AsciiStr<'a> {
         }
     }
 
-    /// Whether two texts are equal but for the case of ASCII letters.
+    /// Compares two texts, ignoring the case of ASCII letters.
     pub fn eq_ignore_ascii_case(&self, other: &str) -> bool
         ensures { IsTrue result ↔ (map to_ascii_lowercase self.now ≡ map to_ascii_lowercase other.now) }
     {

@@ -1,4 +1,4 @@
-//! Bytes of a text, trimmed and cut.
+//! Trimming, splitting and comparing byte strings.
 ghost use Rattle.std.specs.Prelude.{◌≡◌, ◌↔◌, ℕ, ◌≤◌, ◌<◌, List, ◌∷◌, ◌++◌, length, take, IfSome, IfNone, IsTrue};
 ghost use Rattle.std.specs.Prelude.{slice_index, not};
 ghost use Rattle.std.specs.List.{list_all};
@@ -6,14 +6,14 @@ ghost use Rattle.std.specs.Str.{bytes_eq};
 ghost use Rattle.tiny_http_text.specs.Bytes.{HasNo, IsTrimmed, is_ascii, is_blank, parts, skip_while, skip_end_while};
 ghost use Rattle.tiny_http_text.specs.Bytes.{trimmed};
 
-// White space: bytes 9 to 13 and 32.
+// Returns whether the byte is white space: 9 to 13 or 32.
 fn is_blank(b: u8) -> bool
     ensures { result ≡ is_blank b }
 {
     (b >= 9 && b <= 13) || b == 32
 }
 
-/// The text without white space at its end.
+/// Returns the text without trailing white space.
 pub fn trim_end(text: &[u8]) -> &[u8]
     ensures { result.now ≡ skip_end_while is_blank text.now }
 {
@@ -24,7 +24,7 @@ pub fn trim_end(text: &[u8]) -> &[u8]
     &text[..end]
 }
 
-/// The text without white space at its front.
+/// Returns the text without leading white space.
 pub fn trim_front(text: &[u8]) -> &[u8]
     ensures { result.now ≡ skip_while is_blank text.now }
 {
@@ -35,21 +35,21 @@ pub fn trim_front(text: &[u8]) -> &[u8]
     &text[start..]
 }
 
-/// The text without white space at its ends.
+/// Returns the text without leading and trailing white space.
 pub fn trim(text: &[u8]) -> &[u8]
     ensures { result.now ≡ trimmed is_blank text.now }
 {
     trim_end(trim_front(text))
 }
 
-/// Whether no white space stands at the ends of the text.
+/// Returns whether the text has no leading or trailing white space.
 pub fn is_trimmed(text: &[u8]) -> bool
     ensures { IsTrue result ↔ IsTrimmed text.now }
 {
     trim(text).len() == text.len()
 }
 
-// Where the byte stands first, or the length.
+// Returns the position of the first `c`, or the length if there is none.
 fn find(text: &[u8], c: u8) -> usize
     ensures bound { result ≤ length text.now }
     ensures first { HasNo c (take result text.now) }
@@ -62,7 +62,7 @@ fn find(text: &[u8], c: u8) -> usize
     i
 }
 
-/// What stands before the first such byte, and after it.
+/// Splits the text at the first `c`: the bytes before it and the bytes after it.
 pub fn cut(text: &[u8], c: u8) -> Option<(&[u8], &[u8])>
     ensures some { IfSome result (λ r. (text.now ≡ r.0.now ++ c ∷ r.1.now) × HasNo c r.0.now) }
     ensures none { IfNone result (HasNo c text.now) }
@@ -74,28 +74,28 @@ pub fn cut(text: &[u8], c: u8) -> Option<(&[u8], &[u8])>
     Some((&text[..i], &text[i + 1..]))
 }
 
-/// Whether the text is this word.
+/// Compares the text with a word, byte by byte.
 pub fn is(text: &[u8], word: &str) -> bool
     ensures { result ≡ bytes_eq text.now word.now }
 {
     text == word.as_bytes()
 }
 
-/// What stands before the first such byte, or all.
+/// Returns the bytes before the first `c`, or all of them if there is none.
 pub fn first_part(text: &[u8], c: u8) -> &[u8]
     ensures { (more : List (List ℕ)) × (parts c text.now ≡ result.now ∷ more) }
 {
     &text[..find(text, c)]
 }
 
-/// Whether all bytes are below 128.
+/// Returns whether all bytes are below 128.
 pub fn are_ascii(text: &[u8]) -> bool
     ensures { result ≡ list_all is_ascii text.now }
 {
     text.is_ascii()
 }
 
-/// Whether there is no white space in the text.
+/// Returns whether the text has no white space.
 pub fn has_no_blank(text: &[u8]) -> bool
     ensures { result ≡ list_all (λ b. not (is_blank b)) text.now }
 {

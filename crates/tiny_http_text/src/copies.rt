@@ -1,11 +1,11 @@
-//! Texts copied.
+//! Owned copies of ASCII texts.
 ghost use Rattle.std.specs.Prelude.{◌≡◌, ◌≤◌, length, IfOk, IsOk};
 ghost use Rattle.tiny_http_text.specs.Bytes.{AreAscii};
 
 use crate::ascii::AsciiString;
 use std::alloc::{AllocError, Global};
 
-/// A copy of the text, or an error where there is no memory for it. Up to 30 bytes take none.
+/// Copies the text. Fails if memory is refused; a copy of at most 30 bytes takes none.
 pub fn owned(alloc: Global, text: &[u8]) -> Result<AsciiString, AllocError>
     requires { AreAscii text.now }
     ensures text { IfOk result (λ s. s ≡ text.now) }

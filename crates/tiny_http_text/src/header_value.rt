@@ -1,4 +1,4 @@
-//! Header values that list names with their qualities (RFC 9110, section 12.4.2).
+//! Field values that list names with qualities (RFC 9110, section 12.4.2).
 ghost use Rattle.std.specs.Prelude.{◌≡◌, ◌-◌, ◌^◌, ◌<◌, ◌≤◌, length, map, IfOk, IfSome};
 ghost use Rattle.std.specs.Option.{SomeIff};
 ghost use Rattle.std.specs.Str.Parse.{IsNumeral, digits_value};
@@ -10,10 +10,10 @@ ghost use Rattle.tiny_http_text.specs.QualityReading.{first_quality, element};
 use crate::text::{cut, trim, trim_front};
 use std::alloc::{AllocError, Global};
 
-// The quality of an element that gives none that can be read.
+// The quality, in thousandths, of an element without a readable one.
 const DEFAULT_QUALITY: u32 = 1000;
 
-// The number below 2^32 that decimal digits write. `parse` takes a plus before them; a quality has none.
+// Parses decimal digits as a number below 2^32. `str::parse` accepts a leading plus, which a quality can't have.
 fn number(digits: &str) -> Option<u32>
     ensures { SomeIff result (IsNumeral 10 digits.now × (digits_value 10 digits.now < 2 ^ 32))
         (digits_value 10 digits.now) }
@@ -24,7 +24,7 @@ fn number(digits: &str) -> Option<u32>
     digits.parse::<u32>().ok()
 }
 
-// The number that one to six digits write.
+// Parses one to six digits.
 fn short_number(digits: &str) -> Option<u32>
     ensures value { result ≡ short_number digits.now }
     ensures bound { IfSome result (λ n. (n < 10 ^ length digits.now) × (n < 1000000)) }
@@ -35,7 +35,7 @@ fn short_number(digits: &str) -> Option<u32>
     number(digits)
 }
 
-// What the last of one to three digits after a point counts, in thousandths.
+// Returns the weight of the last of one to three fraction digits, in thousandths.
 fn scale(digits: usize) -> u32
     requires some { 1 ≤ digits }
     requires few { digits ≤ 3 }
@@ -48,7 +48,7 @@ fn scale(digits: usize) -> u32
     }
 }
 
-// The thousandths that up to three digits after a point write.
+// Parses at most three fraction digits as thousandths.
 fn thousandths(digits: &str) -> Option<u32>
     ensures value { result ≡ thousandths digits.now }
     ensures bound { IfSome result (λ n. n < 1000) }
@@ -62,7 +62,7 @@ fn thousandths(digits: &str) -> Option<u32>
     Some(short_number(digits)? * scale(digits.len()))
 }
 
-// The thousandths that a quality writes.
+// Parses a quality, in thousandths.
 fn quality(text: &str) -> Option<u32>
     ensures { result ≡ quality text.now }
 {
@@ -72,7 +72,7 @@ fn quality(text: &str) -> Option<u32>
     }
 }
 
-// The quality that a parameter gives, if it is one.
+// Returns the quality of a `q=` parameter, or `None` if the parameter is another one or can't be read.
 fn parameter_quality(parameter: &str) -> Option<u32>
     ensures { result ≡ parameter_quality parameter.now }
 {
@@ -80,7 +80,7 @@ fn parameter_quality(parameter: &str) -> Option<u32>
     quality(trim(padded))
 }
 
-// The quality that the first of the parameters gives that gives one.
+// Returns the first readable quality among the parameters, or 1000 if there is none.
 fn first_quality(parameters: &str) -> u32
     ensures { result ≡ first_quality (parts semicolon parameters.now) }
 {
@@ -94,8 +94,9 @@ fn first_quality(parameters: &str) -> u32
     parameter_quality(rest).unwrap_or(DEFAULT_QUALITY)
 }
 
-/// Reads one element of such a value, the text between two commas: its name and its quality in
-/// thousandths, as `parse_header_value` says. It takes no memory.
+/// Parses one list element, the text between two commas, into its name and its quality in thousandths.
+///
+/// It follows the rules of `parse_header_value` and takes no memory.
 pub fn parse_element(text: &str) -> (&str, u32)
     ensures computed { (result.0.now, result.1) ≡ element text.now }
     ensures element { Element text.now result.0.now result.1 }
@@ -106,13 +107,11 @@ pub fn parse_element(text: &str) -> (&str, u32)
     }
 }
 
-/// Reads the value of `TE`, or of a header like it, as a list: the names between the commas, in
-/// their order, each with its quality in thousandths (RFC 9110, section 12.4.2; as tiny_http, but for
-/// the form of the numbers). A name stands before the first semicolon of its element, and is
-/// trimmed of white space (bytes 9 to 13 and 32). Its quality is that of the first of the further
-/// parts that begins, after white space, with `q=` and can be read: one to six digits, and
-/// optionally a point and up to three digits more, between white space. Where there is none it is
-/// 1000. An error where there is no memory for the list.
+/// Parses the value of `TE`, or of a similar field, into its names and their qualities in thousandths, in order (RFC
+/// 9110, section 12.4.2). The original crate differs in the form of numbers. A name is the part of its element before
+/// the first semicolon, without white space (bytes 9 to 13 and 32) at its ends. Its quality is that of the first
+/// parameter that begins, after white space, with `q=` and can be read: one to six digits, optionally a point and at
+/// most three digits, between white space. Without one it is 1000. Fails if memory for the list is refused.
 pub fn parse_header_value(alloc: Global, value: &str) -> Result<Vec<(&str, u32)>, AllocError>
     ensures { IfOk result (λ list. ListsQualities value.now (map (λ e. (e.0.now, e.1)) list.items)) }
 {

@@ -1,6 +1,6 @@
-//! Texts of a small HTTP server: bytes and texts trimmed and cut, ASCII texts, numbers as texts, and values that list
-//! names with qualities. It stands on the standard library alone; `tiny_http_wire` names `ascii`, `header_value` and
-//! `number` again.
+//! The texts of a small HTTP server: trimming and splitting, ASCII strings, formatted numbers, and field values that
+//! list names with qualities. The crate depends on the standard library alone. `tiny_http_wire` re-exports `ascii`,
+//! `header_value` and `number`.
 #![tactic(auto)]
 
 pub mod ascii;

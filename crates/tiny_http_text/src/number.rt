@@ -1,13 +1,13 @@
-//! Numbers as texts, written without memory.
+//! Numbers formatted without allocating.
 ghost use Rattle.std.specs.Prelude.{◌≡◌, ◌<◌, ◌≤◌, false, decimal, IsAscii};
 ghost use Rattle.std.specs.Fmt.{digits, digit_glyph};
 
 use std::marker::Model;
 
-// How many digits the greatest number has in base 10. Greater bases need fewer.
+// The digits of the greatest number in base 10. Greater bases need fewer.
 const MOST_DIGITS: usize = 20;
 
-/// The digits of a number, in a small buffer of its own. A contract sees it as the list of the digits.
+/// The digits of a number, in an inline buffer. A contract sees it as the list of the digits.
 #[derive(Drop)]
 pub struct Numeral {
     buffer: [u8; 20],
@@ -25,7 +25,7 @@ impl Model for Numeral {
     ghost invariant = { λ n. (n.start < 20) × IsAscii (drop n.start n.buffer) };
 }
 
-// The digit of a value, in lower case.
+// Returns the digit of a value, in lower case.
 #[inline(always)]
 fn glyph(value: u8) -> u8
     requires { value < 16 }
@@ -40,21 +40,21 @@ fn glyph(value: u8) -> u8
 }
 
 impl Numeral {
-    /// The number in base 10, without leading zeros: 1 to 20 digits.
+    /// Formats the number in base 10, without leading zeros: 1 to 20 digits.
     pub fn decimal(number: u64) -> Numeral
         ensures { result ≡ decimal number }
     {
         Numeral::in_base(number, 10)
     }
 
-    /// The number in base 16, in lower case and without leading zeros: 1 to 16 digits.
+    /// Formats the number in base 16, in lower case and without leading zeros: 1 to 16 digits.
     pub fn hexadecimal(number: u64) -> Numeral
         ensures { result ≡ digits 16 false number }
     {
         Numeral::in_base(number, 16)
     }
 
-    /// The digits, the highest first.
+    /// Returns the digits, the most significant first.
     pub fn as_bytes(&self) -> &[u8]
         ensures value { result.now ≡ self.now }
         ensures ascii { IsAscii self.now }
@@ -62,7 +62,7 @@ impl Numeral {
         &self.buffer[self.start..]
     }
 
-    /// The digits as a text.
+    /// Returns the digits as a `&str`.
     pub fn as_str(&self) -> &str
         ensures { result.now ≡ self.now }
     {
@@ -72,7 +72,7 @@ impl Numeral {
         }
     }
 
-    // The number in the base. It is inlined, so that the base is a constant where it divides.
+    // Formats the number. It is inlined so that the divisor is a constant.
     #[inline(always)]
     fn in_base(number: u64, base: u64) -> Numeral
         requires low { 10 ≤ base }

@@ -1,10 +1,10 @@
-//! Texts trimmed and cut.
+//! Trimming and splitting strings.
 ghost use Rattle.std.specs.Prelude.{◌≡◌, ◌<◌, ◌∷◌, ◌++◌, IfSome, IfNone};
 ghost use Rattle.tiny_http_text.specs.Bytes.{HasNo, is_blank, skip_while, trimmed};
 
 use crate::bytes;
 
-/// The text without white space (bytes 9 to 13 and 32) at its front.
+/// Returns the text without leading white space (bytes 9 to 13 and 32).
 pub fn trim_front(text: &str) -> &str
     ensures { result.now ≡ skip_while is_blank text.now }
 {
@@ -12,7 +12,7 @@ pub fn trim_front(text: &str) -> &str
     &text[text.len() - front.len()..]
 }
 
-/// The text without white space (bytes 9 to 13 and 32) at its ends.
+/// Returns the text without leading and trailing white space (bytes 9 to 13 and 32).
 pub fn trim(text: &str) -> &str
     ensures { result.now ≡ trimmed is_blank text.now }
 {
@@ -21,7 +21,7 @@ pub fn trim(text: &str) -> &str
     &front[..core.len()]
 }
 
-/// What stands before the first such character, and after it.
+/// Splits the text at the first `c`: the text before it and the text after it.
 pub fn cut(text: &str, c: char) -> Option<(&str, &str)>
     requires { c < 128 }
     ensures some { IfSome result (λ r. (text.now ≡ r.0.now ++ c ∷ r.1.now) × HasNo c r.0.now) }

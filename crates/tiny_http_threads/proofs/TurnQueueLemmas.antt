@@ -12,7 +12,7 @@ use Rattle.tiny_http_turns.specs.declared.turns.Finishing.TheVariants.{Passed as
 use Rattle.tiny_http_turns.specs.declared.turns.Leaving.{Leaving}
 use Rattle.tiny_http_turns.specs.declared.turns.Leaving.TheVariants.{Left as IsLeft, Go as LeaveGo, Strange as LeaveStrange}
 use Rattle.tiny_http_turns.proofs.TurnsLemmas.{waiting-none_held}
-use Rattle.tiny_http_threads.specs.TurnQueue.{QueueView, IsSoundQueue, IsItsTurn, waker}
+use Rattle.tiny_http_threads.specs.TurnQueue.{TurnQueueView, IsSoundTurnQueue, IsItsTurn, waker}
 
 -- ---- one mark more
 get-push : (marks : List Mark) (m : Mark) (n : ℕ) → n < length marks → slice_get (marks ++ m ∷ []) n ≡ slice_get marks n
@@ -201,30 +201,30 @@ module _ {T : Type 0} where
 -- ---- what stands under the lock
 module _ {T W C : Type 0} where
   -- the same number of marks, and those that wait had waited, or may; it isn't their turn
-  sound-same : (old new : QueueView T W C) → IsSoundQueue old → length new.turns.marks ≡ length old.turns.marks → new.waiting ≡ old.waiting
-      → ((n : ℕ) → IsItsTurn new.turns.marks n → IsItsTurn old.turns.marks n) → IsSoundQueue new
+  sound-same : (old new : TurnQueueView T W C) → IsSoundTurnQueue old → length new.turns.marks ≡ length old.turns.marks → new.waiting ≡ old.waiting
+      → ((n : ℕ) → IsItsTurn new.turns.marks n → IsItsTurn old.turns.marks n) → IsSoundTurnQueue new
   sound-same old new sound long waiting turn = record {
     issued = λ n waits. subst (λ l. n < l) (sym long) (sound.issued n (subst (λ ws. IsSome (waker ws n)) waiting waits));
     waits = λ n waits is. sound.waits n (subst (λ ws. IsSome (waker ws n)) waiting waits) (turn n is);
   }
 
-  module _ (old new : QueueView T W C) (sound : IsSoundQueue old) (order : IsInOrder new.turns) where
+  module _ (old new : TurnQueueView T W C) (sound : IsSoundTurnQueue old) (order : IsInOrder new.turns) where
     module _ (k : ℕ) (marks : new.turns.marks ≡ marks_after_step (Take k) old.turns.marks) where
       long-take : length new.turns.marks ≡ length old.turns.marks
       long-take = ap length marks ∙ length-take (slice_get old.turns.marks k) k old.turns.marks
 
-      pub sound-taken : (item : T) → new.waiting ≡ old.waiting → TakesTurn (turn_answer (Take k) old.turns.marks) old.turns.resting (Some item) new.turns.resting → IsSoundQueue new
+      pub sound-taken : (item : T) → new.waiting ≡ old.waiting → TakesTurn (turn_answer (Take k) old.turns.marks) old.turns.resting (Some item) new.turns.resting → IsSoundTurnQueue new
       sound-taken item waiting takes = sound-same old new sound long-take waiting (λ n turn. absurd (turn-held new.turns order (taken-none (turn_answer (Take k) old.turns.marks) old.turns.resting new.turns.resting item takes) n turn))
 
       module _ (takes : TakesTurn (turn_answer (Take k) old.turns.marks) old.turns.resting None new.turns.resting) where
         marks-same : new.turns.marks ≡ old.turns.marks
         marks-same = marks ∙ untaken (slice_get old.turns.marks k) k old.turns.marks old.turns.resting new.turns.resting takes
 
-        pub sound-untaken : new.waiting ≡ old.waiting → IsSoundQueue new
+        pub sound-untaken : new.waiting ≡ old.waiting → IsSoundTurnQueue new
         sound-untaken waiting = sound-same old new sound long-take waiting (λ n turn. subst (λ ms. IsItsTurn ms n) marks-same turn)
 
         -- the number waits from now on
-        pub sound-waits : k < length old.turns.marks → (IsItsTurn old.turns.marks k → ⊥) → ((n : ℕ) → n ≢ k → waker new.waiting n ≡ waker old.waiting n) → IsSoundQueue new
+        pub sound-waits : k < length old.turns.marks → (IsItsTurn old.turns.marks k → ⊥) → ((n : ℕ) → n ≢ k → waker new.waiting n ≡ waker old.waiting n) → IsSoundTurnQueue new
         sound-waits was_issued not_yet others = record {
           issued = λ n waits. subst (λ l. n < l) (sym long-take) (is_issued n waits);
           waits = λ n waits is. no_turn n waits (subst (λ ms. IsItsTurn ms n) marks-same is);
@@ -237,7 +237,7 @@ module _ {T W C : Type 0} where
             no_turn n waits is = ⊎_elim (λ e. not_yet (subst (λ j. IsItsTurn old.turns.marks j) e is)) (λ ne. sound.waits n (subst IsSome (others n ne) waits) is) (cases_eq n k)
 
     pub sound-leave : (k : ℕ) (text : List ℕ) (r : Leaving T) → new.waiting ≡ old.waiting → new.turns.marks ≡ marks_after_step (Leave k text) old.turns.marks
-        → LeavesTurn (turn_answer (Leave k text) old.turns.marks) old.turns.resting r new.turns.resting → IsSoundQueue new
+        → LeavesTurn (turn_answer (Leave k text) old.turns.marks) old.turns.resting r new.turns.resting → IsSoundTurnQueue new
     sound-leave k text r waiting marks leaves = sound-same old new sound (ap length marks ∙ length-leave (slice_get old.turns.marks k) k text old.turns.marks) waiting
         (left-turn (slice_get old.turns.marks k) k text old.turns new.turns r refl order marks leaves)
 
@@ -246,13 +246,13 @@ module _ {T W C : Type 0} where
       long-finish = ap length marks ∙ length-finish (slice_get old.turns.marks k) k old.turns.marks
 
       -- the item doesn't rest
-      pub sound-not_passed : (item : T) (r : Finishing T) → (r ≡ IsPassed → ⊥) → new.waiting ≡ old.waiting → Finishes (turn_answer (Finish k) old.turns.marks) item old.turns.resting r new.turns.resting → IsSoundQueue new
+      pub sound-not_passed : (item : T) (r : Finishing T) → (r ≡ IsPassed → ⊥) → new.waiting ≡ old.waiting → Finishes (turn_answer (Finish k) old.turns.marks) item old.turns.resting r new.turns.resting → IsSoundTurnQueue new
       sound-not_passed item IsPassed other waiting h = absurd (other refl)
       sound-not_passed item (FinishGo on with) other waiting h = sound-same old new sound long-finish waiting (λ n turn. absurd (turn-held new.turns order (gone-none (turn_answer (Finish k) old.turns.marks) item on with old.turns.resting new.turns.resting h) n turn))
       sound-not_passed item (FinishStrange back) other waiting h = sound-same old new sound long-finish waiting (λ n turn. subst (λ ms. IsItsTurn ms n) (marks ∙ unfinished (slice_get old.turns.marks k) k old.turns.marks item back old.turns.resting new.turns.resting h) turn)
 
       -- the item rests, and the next number waits no more
-      pub sound-passed : waker new.waiting (first_unfinished new.turns.marks) ≡ None → ((n : ℕ) → n ≢ first_unfinished new.turns.marks → waker new.waiting n ≡ waker old.waiting n) → IsSoundQueue new
+      pub sound-passed : waker new.waiting (first_unfinished new.turns.marks) ≡ None → ((n : ℕ) → n ≢ first_unfinished new.turns.marks → waker new.waiting n ≡ waker old.waiting n) → IsSoundTurnQueue new
       sound-passed gone others = record {
         issued = λ n waits. subst (λ l. n < l) (sym long-finish) (sound.issued n (subst IsSome (others n (apart n waits)) waits));
         waits = λ n waits is. apart n waits is.1;
@@ -261,7 +261,7 @@ module _ {T W C : Type 0} where
           apart : (n : ℕ) → IsSome (waker new.waiting n) → n ≢ first_unfinished new.turns.marks
           apart n waits e = let none : IsSome {T = W} None = subst IsSome (ap (waker new.waiting) e ∙ gone) waits in cc
 
-  pub sound-issue : (old new : QueueView T W C) → IsSoundQueue old → new.turns.marks ≡ old.turns.marks ++ Open ∷ [] → new.waiting ≡ old.waiting → IsSoundQueue new
+  pub sound-issue : (old new : TurnQueueView T W C) → IsSoundTurnQueue old → new.turns.marks ≡ old.turns.marks ++ Open ∷ [] → new.waiting ≡ old.waiting → IsSoundTurnQueue new
   sound-issue old new sound marks waiting =
       let long : length new.turns.marks ≡ length old.turns.marks + 1 = ap length marks ∙ length-append old.turns.marks (Open ∷ []) in
       record {

@@ -16,7 +16,7 @@ use Rattle.tiny_http_threads.specs.declared.turn_queue.Taking.TheVariants.{Held,
 -- The turns, with a mark for each number that was issued; the numbers whose threads wait, and what wakes each; the last
 -- number that was issued unless the line was closed; where those are counted that aren't finished; whether a thread
 -- waits for room.
-pub record QueueView (T W C : Type 0) : Type 0 where
+pub record TurnQueueView (T W C : Type 0) : Type 0 where
   pub turns : TurnsState T
   pub waiting : List (ℕ × W)
   pub last : Option ℕ
@@ -32,12 +32,12 @@ abbrev pub waker : {W : Type 0} → List (ℕ × W) → ℕ → Option W
 waker waiting n = lookup (is_at (nat_cmp n)) waiting
 
 -- a number that waits was issued, and its turn hasn't come
-pub record IsSoundQueue {T W C : Type 0} (queue : QueueView T W C) : Type 0 where
+pub record IsSoundTurnQueue {T W C : Type 0} (queue : TurnQueueView T W C) : Type 0 where
   pub issued : (n : ℕ) → IsSome (waker queue.waiting n) → n < length queue.turns.marks
   pub waits : (n : ℕ) → IsSome (waker queue.waiting n) → IsItsTurn queue.turns.marks n → ⊥
 
 -- the item rests, no number is issued, and nothing else is there
-pub record IsNewQueue {T W C : Type 0} (item : T) (queue : QueueView (Box T) W C) : Type 0 where
+pub record IsNewTurnQueue {T W C : Type 0} (item : T) (queue : TurnQueueView (Box T) W C) : Type 0 where
   pub rests : option_map box_value queue.turns.resting ≡ Some item
   pub marks : queue.turns.marks ≡ []
   pub waiting : queue.waiting ≡ []

@@ -29,7 +29,7 @@ enum Taking<T> {
 // The turns, and the numbers whose threads wait for theirs: each of them was issued, and its turn hasn't come. A
 // contract sees a `LineState`.
 #[derive(Drop)]
-struct QueueState<T> {
+struct TurnQueueState<T> {
     turns: Turns<Box<T>>,
     // The last number that was issued unless the line was closed.
     last: Option<u64>,
@@ -43,15 +43,15 @@ struct QueueState<T> {
     wants_room: bool,
 }
 
-impl<T> Model for QueueState<T> {
+impl<T> Model for TurnQueueState<T> {
     ghost use Rattle.std.specs.Global.{Box, Global};
     ghost use Rattle.std.specs.Prelude.{◌≡◌, length};
     ghost use Rattle.std.specs.declared.sync.Arc.{Arc};
     ghost use Rattle.std.specs.declared.sync.Condvar.{Condvar};
     ghost use Rattle.std.specs.declared.sync.atomic.AtomicU64.{AtomicU64};
-    ghost use Rattle.tiny_http_threads.specs.TurnQueue.{QueueView, IsSoundQueue};
+    ghost use Rattle.tiny_http_threads.specs.TurnQueue.{TurnQueueView, IsSoundTurnQueue};
 
-    ghost Value = { QueueView (Box T) (Arc Condvar Global) (Arc AtomicU64 Global) };
+    ghost Value = { TurnQueueView (Box T) (Arc Condvar Global) (Arc AtomicU64 Global) };
 
     ghost view = { λ q. record {
       turns = q.turns;
@@ -61,7 +61,7 @@ impl<T> Model for QueueState<T> {
       wants_room = q.wants_room;
     } };
 
-    ghost invariant = { λ q. (q.issued ≡ length q.turns.marks) × IsSoundQueue (record {
+    ghost invariant = { λ q. (q.issued ≡ length q.turns.marks) × IsSoundTurnQueue (record {
       turns = q.turns;
       waiting = q.waiters.entries;
       last = q.last;
@@ -100,14 +100,14 @@ fn take_waiter(waiters: &mut BTreeMap<u64, Arc<Condvar>>, number: u64) -> Option
     waiters.remove(&number)
 }
 
-impl<T: Drop> QueueState<T> {
-    ghost use Rattle.tiny_http_threads.specs.TurnQueue.{IsSoundQueue, IsNewQueue, ListsWaiter, WakesNext, taken_item};
+impl<T: Drop> TurnQueueState<T> {
+    ghost use Rattle.tiny_http_threads.specs.TurnQueue.{IsSoundTurnQueue, IsNewTurnQueue, ListsWaiter, WakesNext, taken_item};
 
     // No number is issued. An error where memory was refused.
-    fn new(alloc: Global, item: T) -> Result<QueueState<T>, AllocError>
-        ensures { IfOk result (λ q. IsNewQueue item q) }
+    fn new(alloc: Global, item: T) -> Result<TurnQueueState<T>, AllocError>
+        ensures { IfOk result (λ q. IsNewTurnQueue item q) }
     {
-        Ok(QueueState {
+        Ok(TurnQueueState {
             turns: Turns::new(alloc, Box::new(alloc, item)?),
             last: None,
             issued: 0,
@@ -255,7 +255,10 @@ impl<T: Drop> QueueState<T> {
 }
 
 // The line of these turns, on which no thread waits.
-fn share<T: Drop>(alloc: Global, state: QueueState<T>) -> Result<Arc<TurnQueue<T>>, AllocError> {
+fn share<T: Drop>(
+    alloc: Global,
+    state: TurnQueueState<T>,
+) -> Result<Arc<TurnQueue<T>>, AllocError> {
     let queue = TurnQueue {
         state: Mutex::new(state),
         finished: Condvar::new(),
@@ -270,7 +273,7 @@ fn share<T: Drop>(alloc: Global, state: QueueState<T>) -> Result<Arc<TurnQueue<T
 /// written under the lock.
 #[derive(Drop)]
 pub(crate) struct TurnQueue<T> {
-    state: Mutex<QueueState<T>>,
+    state: Mutex<TurnQueueState<T>>,
     // On which a thread waits that wants room.
     finished: Condvar,
     // Set under the lock alone.
@@ -284,7 +287,7 @@ pub(crate) struct TurnQueue<T> {
 impl<T: Drop> TurnQueue<T> {
     /// No number is issued. An error where memory was refused.
     pub fn new(alloc: Global, item: T) -> Result<Arc<TurnQueue<T>>, AllocError> {
-        share(alloc, QueueState::new(alloc, item)?)
+        share(alloc, TurnQueueState::new(alloc, item)?)
     }
 
     /// The next number, and whether its turn has come. An error where memory was refused, or no number is left.
@@ -546,7 +549,7 @@ impl<T: Drop, R: Wait + Drop> Held<T, R> {
     pub(crate) fn first(rt: R, alloc: Global, item: T) -> Result<Held<T, R>, AllocError>
         ensures { IfOk result (λ held. held.item.value ≡ item) }
     {
-        let mut state = QueueState::new(alloc, item)?;
+        let mut state = TurnQueueState::new(alloc, item)?;
         let number = state.issue()?;
         let Taking::Held(item) = state.take(alloc, number) else {
             unreachable!()

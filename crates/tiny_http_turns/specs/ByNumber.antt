@@ -1,17 +1,17 @@
--- Values under numbers, of which the first that are kept stand behind numbers without one.
+-- Values under consecutive numbers. Leading numbers without a value are only counted.
 use Rattle.std.specs.Prelude.{ℕ, List, [], ◌∷◌, ◌++◌, replicate, Option, Some, None, ⊤}
 
--- so many numbers have no value, and this is kept of the others
+-- `passed` numbers without a value, then these entries
 abbrev pub with_passed : {T : Type 0} → ℕ → List (Option T) → List (Option T)
 with_passed passed kept = replicate passed None ++ kept
 
--- the first of these numbers, if there is one, has a value
+-- the first entry, if there is one, has a value
 abbrev pub BeginsWithValue : {T : Type 0} → List (Option T) → Type 0
 BeginsWithValue [] = ⊤
 BeginsWithValue (None ∷ kept) = ⊥
 BeginsWithValue (Some value ∷ kept) = ⊤
 
--- the value under a number, if there is such a number and it has one
+-- the value under a number, if the number exists and has one
 abbrev pub value_of : {T : Type 0} → Option (Option T) → Option T
 value_of None = None
 value_of (Some value) = value

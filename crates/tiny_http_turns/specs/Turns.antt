@@ -1,4 +1,4 @@
--- THE TURN MACHINE: numbers that have one item in turn.
+-- THE TURN MACHINE: numbers that hold one item in order.
 use Prim.Native.Nat.{suc}
 use Rattle.std.specs.Global.{Vec}
 use Rattle.std.specs.Prelude.{◌≡◌, ℕ, Bool, true, false, not, List, [], ◌∷◌, ◌++◌, length, map, replicate, Option}
@@ -6,29 +6,29 @@ use Rattle.std.specs.Prelude.{Some, None, is_some, slice_get, slice_set, ◌==�
 use Rattle.tiny_http_turns.specs.declared.turns.Entry.{Entry}
 use Rattle.tiny_http_turns.specs.declared.turns.Entry.TheVariants.{Open as IsOpen, Held as IsHeld, Left as IsLeft}
 
--- what is known of one number
+-- the state of a number
 pub data Mark : Type 0 where
   Open : Mark
   Held : Mark
   Left : (text : List ℕ) → Mark
   Finished : Mark
 
--- what is stored for it
+-- the mark of a stored entry
 abbrev pub mark_of : Entry → Mark
 mark_of IsOpen = Open
 mark_of IsHeld = Held
 mark_of (IsLeft text) = Left text.items
 
--- so many numbers are finished, and this is stored for the others
+-- `turn` finished numbers, then those of these entries
 abbrev pub marks_of : ℕ → List Entry → List Mark
 marks_of turn entries = replicate turn Finished ++ map mark_of entries
 
--- the marks of all numbers, and the item where no number holds it
+-- the marks of all numbers, and the item if no number holds it
 pub record TurnsState (T : Type 0) : Type 0 where
   pub marks : List Mark
   pub resting : Option T
 
--- the first number that is not finished, or the next to be issued
+-- the first unfinished number, or the next to be issued
 abbrev pub first_unfinished : List Mark → ℕ
 first_unfinished [] = 0
 first_unfinished (Open ∷ marks) = 0
@@ -36,7 +36,7 @@ first_unfinished (Held ∷ marks) = 0
 first_unfinished (Left text ∷ marks) = 0
 first_unfinished (Finished ∷ marks) = suc (first_unfinished marks)
 
--- numbers that are open or left
+-- each number is open, or a text was left for it
 abbrev pub AreOpenOrLeft : List Mark → Type 0
 AreOpenOrLeft [] = Unit {0}
 AreOpenOrLeft (Open ∷ marks) = AreOpenOrLeft marks
@@ -44,7 +44,7 @@ AreOpenOrLeft (Held ∷ marks) = ⊥
 AreOpenOrLeft (Left text ∷ marks) = AreOpenOrLeft marks
 AreOpenOrLeft (Finished ∷ marks) = ⊥
 
--- finished ones stand in front; of the others only the first may be held, and it is not left
+-- finished numbers come first; of the others only the first may be held, and no text waits for it
 abbrev pub AreInShape : List Mark → Type 0
 AreInShape [] = Unit {0}
 AreInShape (Open ∷ marks) = AreOpenOrLeft marks
@@ -60,12 +60,12 @@ is_any_held (Held ∷ marks) = true
 is_any_held (Left text ∷ marks) = is_any_held marks
 is_any_held (Finished ∷ marks) = is_any_held marks
 
--- the marks have their shape, and the item rests here exactly if no number is held
+-- the marks have their shape, and the item is stored here exactly if no number is held
 pub record IsInOrder {T : Type 0} (turns : TurnsState T) : Type 0 where
   pub shape : AreInShape turns.marks
   pub rests : is_some turns.resting ≡ not (is_any_held turns.marks)
 
--- what a call asks
+-- the step of a call
 pub data TurnStep : Type 0 where
   Issue : TurnStep
   Take : (number : ℕ) → TurnStep
@@ -73,22 +73,22 @@ pub data TurnStep : Type 0 where
   Finish : (number : ℕ) → TurnStep
   Leave : (number : ℕ) → (text : List ℕ) → TurnStep
 
--- what it is reported
+-- what a step reports
 pub data TurnAnswer : Type 0 where
   -- the number was issued
   Issued : (number : ℕ) → TurnAnswer
-  -- the number is held now, was held and is open now, or is finished now
+  -- the number is held now; was held and is open now; or is finished now
   Taken : TurnAnswer
   Opened : TurnAnswer
   Passed : TurnAnswer
   -- the text waits for the number's turn
   Waits : TurnAnswer
-  -- the number, which was left with this text, is held now
+  -- the number, for which this text was left, is held now
   Goes : (number : ℕ) → (text : List ℕ) → TurnAnswer
-  -- the number is in another state, its turn hasn't come, or it was never issued; nothing changed
+  -- the number is in another state, its turn hasn't come, or it was never issued; nothing has changed
   Strange : TurnAnswer
 
--- the marks after a step, with its answer
+-- what a step reports, and the marks after it
 abbrev pub TurnOutcome : Type 0
 TurnOutcome = TurnAnswer × List Mark
 
@@ -108,7 +108,7 @@ put_back_at (Some Held) k marks = (Opened, slice_set marks k Open)
 put_back_at (Some (Left text)) k marks = (Strange, marks)
 put_back_at (Some Finished) k marks = (Strange, marks)
 
--- a number that was left is held as its turn comes, and its text comes out
+-- when its turn comes, a number for which a text was left is held, and the text comes out
 abbrev pub pass_to : Option Mark → ℕ → List Mark → TurnOutcome
 pass_to None k marks = (Passed, marks)
 pass_to (Some Open) k marks = (Passed, marks)
@@ -116,7 +116,7 @@ pass_to (Some Held) k marks = (Passed, marks)
 pass_to (Some (Left text)) k marks = (Goes k text, slice_set marks k Held)
 pass_to (Some Finished) k marks = (Passed, marks)
 
--- what is reported of that
+-- the returned text is the one that this step reports
 abbrev pub ReportsPass : TurnAnswer → ℕ → Option (Vec ℕ) → Type 0
 ReportsPass (Goes number text) at (Some with) = (number ≡ at) × (with.items ≡ text)
 ReportsPass Passed at None = Unit {0}
@@ -130,7 +130,7 @@ finish_at (Some Held) k marks = pass_to (slice_get marks (suc k)) (suc k) (slice
 finish_at (Some (Left text)) k marks = (Strange, marks)
 finish_at (Some Finished) k marks = (Strange, marks)
 
--- an open number is left with a text, or is held where its turn has come
+-- a text is left for an open number, or the number is held if its turn has come
 abbrev pub leave_at : Option Mark → ℕ → List ℕ → List Mark → TurnOutcome
 leave_at None k text marks = (Strange, marks)
 leave_at (Some Open) k text marks =
@@ -140,7 +140,7 @@ leave_at (Some Held) k text marks = (Strange, marks)
 leave_at (Some (Left was)) k text marks = (Strange, marks)
 leave_at (Some Finished) k text marks = (Strange, marks)
 
--- one step
+-- what a step reports and changes
 abbrev pub turn_outcome : TurnStep → List Mark → TurnOutcome
 turn_outcome Issue marks = (Issued (length marks), marks ++ Open ∷ [])
 turn_outcome (Take k) marks = take_at (slice_get marks k) k marks

@@ -1,4 +1,4 @@
--- What the calls of `Turns` answer and leave, by the steps of `Turns`.
+-- What the calls of `Turns` return and change, by its steps.
 use Rattle.std.specs.Global.{Vec}
 use Rattle.std.specs.Prelude.{◌≡◌, ℕ, [], Option, Some, None, IsSome, Result, Ok, Err}
 use Rattle.tiny_http_turns.specs.Turns.{TurnsState, TurnAnswer, Taken, Opened, Passed, Waits, Goes, Strange}
@@ -10,7 +10,7 @@ use Rattle.tiny_http_turns.specs.declared.turns.Leaving.TheVariants.{Left as IsL
 use Rattle.tiny_http_turns.specs.declared.turns.Leaving.TheVariants.{Strange as LeaveStrange}
 
 module _ {T : Type 0} where
-  -- no number is issued, and the item rests here
+  -- no number is issued, and the item is stored here
   abbrev pub new_turns : T → TurnsState T
   new_turns item = record { marks = []; resting = Some item }
 
@@ -20,27 +20,27 @@ module _ {T : Type 0} where
   TakesTurn Strange old result new = (result ≡ None) × (new ≡ old)
   TakesTurn _ old result new = ⊥
 
-  -- the item rests here exactly if the number is open again; else it comes back
+  -- the item is stored here exactly if the number is open again; otherwise it is returned
   abbrev pub PutsBack : {U : Type 0} → TurnAnswer → T → Option T → Result U T → Option T → Type 0
   PutsBack Opened item old (Ok done) new = new ≡ Some item
   PutsBack Strange item old (Err back) new = (back ≡ item) × (new ≡ old)
   PutsBack _ item old result new = ⊥
 
-  -- the item rests here, or goes on with the text of the next number, or comes back
+  -- the item is stored here, passes to the next number with its text, or is returned
   abbrev pub Finishes : TurnAnswer → T → Option T → Finishing T → Option T → Type 0
   Finishes Passed item old IsPassed new = new ≡ Some item
   Finishes (Goes number text) item old (FinishGo on with) new = (on ≡ item) × (with.items ≡ text) × (new ≡ None)
   Finishes Strange item old (FinishStrange back) new = (back ≡ item) × (new ≡ old)
   Finishes _ item old result new = ⊥
 
-  -- the text stays, or comes back with the item where the turn has come, or comes back
+  -- the text waits, is returned with the item if the turn has come, or is returned alone
   abbrev pub LeavesTurn : TurnAnswer → Option T → Leaving T → Option T → Type 0
   LeavesTurn Waits old IsLeft new = new ≡ old
   LeavesTurn (Goes number text) old (LeaveGo item back) new = (old ≡ Some item) × (back.items ≡ text) × (new ≡ None)
   LeavesTurn Strange old (LeaveStrange back) new = new ≡ old
   LeavesTurn _ old result new = ⊥
 
-  -- a text that comes back is the one that was given
+  -- a returned text is the one that was given
   abbrev pub GivesBack : Leaving T → Vec ℕ → Type 0
   GivesBack IsLeft given = Unit {0}
   GivesBack (LeaveGo item back) given = back ≡ given

@@ -1,4 +1,4 @@
--- What every list of steps comes to.
+-- What holds after every list of steps.
 use Prim.Native.Nat.{zero, suc}
 use Rattle.std.specs.Prelude.{ℕ, List, [], ◌∷◌, ◌++◌, Option, Some, None, ◌==◌, if◌then◌else◌}
 use Rattle.std.specs.List.{list_any}
@@ -6,12 +6,12 @@ use Rattle.tiny_http_turns.specs.Turns.{Mark, Open, Held, Left, Finished, TurnSt
 use Rattle.tiny_http_turns.specs.Turns.{Leave, TurnAnswer, Issued, Taken, Opened, Passed, Waits, Goes, Strange}
 use Rattle.tiny_http_turns.specs.Turns.{turn_answer, marks_after_step}
 
--- the marks after these steps, one after another
+-- the marks after these steps, in order
 abbrev pub marks_after : List TurnStep → List Mark → List Mark
 marks_after [] marks = marks
 marks_after (step ∷ steps) marks = marks_after steps (marks_after_step step marks)
 
--- the numbers that are held, where the first mark is that of n
+-- the numbers that are held, if the first mark is that of n
 abbrev pub held_from : ℕ → List Mark → List ℕ
 held_from n [] = []
 held_from n (Open ∷ marks) = held_from (suc n) marks
@@ -19,7 +19,7 @@ held_from n (Held ∷ marks) = n ∷ held_from (suc n) marks
 held_from n (Left text ∷ marks) = held_from (suc n) marks
 held_from n (Finished ∷ marks) = held_from (suc n) marks
 
--- a list, and after it each of these numbers that is not in it yet
+-- a list, followed by each of these numbers that it doesn't contain yet
 abbrev pub with_new : List ℕ → List ℕ → List ℕ
 with_new seen [] = seen
 with_new seen (n ∷ ns) = with_new (if list_any (λ m. m == n) seen then seen else seen ++ n ∷ []) ns
@@ -35,7 +35,7 @@ abbrev pub numbers_below : ℕ → List ℕ
 numbers_below zero = []
 numbers_below (suc n) = numbers_below n ++ n ∷ []
 
--- the text that comes out for the number
+-- the text that comes out for the number in one step
 abbrev pub text_out : ℕ → TurnAnswer → List (List ℕ)
 text_out n (Issued k) = []
 text_out n Taken = []
@@ -45,13 +45,13 @@ text_out n Waits = []
 text_out n (Goes k text) = if k == n then text ∷ [] else []
 text_out n Strange = []
 
--- all of them, in order
+-- all texts that come out for the number, in order
 abbrev pub texts_out : ℕ → List TurnStep → List Mark → List (List ℕ)
 texts_out n [] marks = []
 texts_out n (step ∷ steps) marks =
     text_out n (turn_answer step marks) ++ texts_out n steps (marks_after_step step marks)
 
--- the text with which the number is left, if that is not refused
+-- the text left for the number in one step, unless it is refused
 abbrev pub text_left : ℕ → TurnStep → TurnAnswer → List (List ℕ)
 text_left n Issue texts = []
 text_left n (Take k) texts = []
@@ -65,7 +65,7 @@ text_left n (Leave k text) Waits = if k == n then text ∷ [] else []
 text_left n (Leave k text) (Goes j texts) = if k == n then text ∷ [] else []
 text_left n (Leave k text) Strange = []
 
--- all of them, in order
+-- all texts left for the number, in order
 abbrev pub texts_left : ℕ → List TurnStep → List Mark → List (List ℕ)
 texts_left n [] marks = []
 texts_left n (step ∷ steps) marks =

@@ -1,4 +1,4 @@
-//! Values under numbers. Nothing is kept of the numbers in front that have none.
+//! Values under consecutive numbers. Leading numbers without a value take no memory.
 ghost use Rattle.std.specs.Prelude.{◌≡◌, ◌+◌, ◌-◌, ◌^◌, ◌<◌, ◌↔◌, ◌++◌, ◌∷◌, [], length, Some, None, Err, OnOk};
 ghost use Rattle.std.specs.Prelude.{OnErr, IfSome, IfNone, slice_get, slice_set};
 ghost use Rattle.std.specs.Option.{option_to_list};
@@ -11,13 +11,13 @@ use std::collections::VecDeque;
 use std::marker::Model;
 use std::mem;
 
-/// A queue of optional values, numbered from 0. The numbers before the first value are only counted. A contract sees
-/// an entry for each number.
+/// A queue of optional values, numbered from 0. Numbers before the first value are only counted. A contract sees an
+/// entry for each number.
 #[derive(Drop)]
 pub struct ByNumber<T> {
-    // The numbers from `passed` on. The first of them has a value.
+    // The entries from `passed` on. The first one has a value.
     kept: VecDeque<Option<T>>,
-    // No number before this one has a value.
+    // No number below this one has a value.
     passed: u64,
 }
 
@@ -33,7 +33,7 @@ impl<T> Model for ByNumber<T> {
 }
 
 impl<T: Drop> ByNumber<T> {
-    /// There is no number.
+    /// Makes an empty queue.
     pub fn new(alloc: Global) -> ByNumber<T>
         ensures { result ≡ [] }
     {
@@ -43,14 +43,14 @@ impl<T: Drop> ByNumber<T> {
         }
     }
 
-    /// How many numbers there are.
+    /// Returns how many numbers there are.
     pub fn len(&self) -> u64
         ensures { result ≡ length self.now }
     {
         self.passed + self.kept.len() as u64
     }
 
-    /// The value under this number, if there is one.
+    /// Returns the value under this number, if there is one.
     #[inline(always)]
     pub fn get(&self, number: u64) -> Option<&T>
         ensures some { IfSome result (λ value. slice_get self.now number ≡ Some (Some value.now)) }
@@ -63,13 +63,13 @@ impl<T: Drop> ByNumber<T> {
         }
     }
 
-    /// Puts this under the next number. An error changes nothing: `Exhausted` where there are 2^64 - 1 numbers, and
-    /// only there; `Memory` where room for it was refused.
+    /// Adds an entry under the next number. An error changes nothing: `Exhausted` if, and only if, there are 2^64 - 1
+    /// numbers; `Memory` if memory is refused.
     #[inline(always)]
     pub fn push(&mut self, value: Option<T>) -> Result<(), TurnsError>
         ensures ok { OnOk result (self.new ≡ self.old ++ (value ∷ [])) }
         ensures err { OnErr result (self.new ≡ self.old) }
-        // The number after it fits.
+        // The next number fits in 64 bits.
         ensures bound { length self.new < 2 ^ 64 }
         ensures exhausted { (result ≡ Err Exhausted) ↔ (length self.old ≡ 2 ^ 64 - 1) }
     {
@@ -83,7 +83,7 @@ impl<T: Drop> ByNumber<T> {
         Ok(())
     }
 
-    /// Takes the last number back, with what is kept under it.
+    /// Removes the last number and returns its entry.
     pub fn pop(&mut self) -> Option<Option<T>>
         ensures last { self.old ≡ self.new ++ option_to_list result }
         ensures none { IfNone result (self.old ≡ []) }
@@ -95,8 +95,8 @@ impl<T: Drop> ByNumber<T> {
         Some(None)
     }
 
-    /// Puts this in the place of the value under a number, and gives that value. Where there is none nothing changes,
-    /// and what was handed in is dropped.
+    /// Replaces the value under a number and returns the old one. If there is none nothing changes, and the new value
+    /// is dropped.
     #[inline(always)]
     pub fn replace(&mut self, number: u64, value: Option<T>) -> Option<T>
         ensures some { IfSome result (λ was. (slice_get self.old number ≡ Some (Some was))
@@ -110,7 +110,7 @@ impl<T: Drop> ByNumber<T> {
     }
 }
 
-// Puts this in the place of the value that is kept here, and gives that value. Where there is none nothing changes.
+// Replaces the value at this index and returns the old one. If there is none nothing changes.
 #[inline(always)]
 fn exchange<T: Drop>(kept: &mut VecDeque<Option<T>>, at: usize, value: Option<T>) -> Option<T>
     ensures some { IfSome result (λ was. (slice_get kept.old.items at ≡ Some (Some was))
@@ -124,7 +124,7 @@ fn exchange<T: Drop>(kept: &mut VecDeque<Option<T>>, at: usize, value: Option<T>
     }
 }
 
-// Passes the numbers at the front that have no value.
+// Drops leading entries without a value and counts them.
 #[inline(always)]
 fn pass_empty<T: Drop>(kept: &mut VecDeque<Option<T>>, passed: &mut u64)
     requires bound { passed.old + length kept.old.items < 2 ^ 64 }

@@ -1,17 +1,16 @@
-//! The law of turns, the contract of a function that does nothing.
+//! The law of turns, stated as the contract of a function that does nothing.
 ghost use Rattle.std.specs.Prelude.{◌≡◌, ◌<◌, ◌++◌, ℕ, List, [], length, Some, slice_get};
 ghost use Rattle.tiny_http_turns.specs.Turns.{Held, Finished, TurnStep, Goes, turn_answer, marks_after_step};
 ghost use Rattle.tiny_http_turns.specs.TurnsLaw.{marks_after, first_held, numbers_below, texts_out, texts_left};
 ghost use Rattle.tiny_http_turns.specs.TurnsLaw.{text_waiting};
 
-/// What every list of steps of a `Turns` comes to, from a new one on.
+/// What holds for every list of steps of a new `Turns`.
 ///
 /// - `order`: numbers are first held in the order 0, 1, 2 and so on.
-/// - `one_at_a_time`: while a number isn't finished, no later one is held.
-/// - `once`: the texts that came out for a number, and the one that still waits, are those with which it was left, in
-///   their order.
-/// - `held`: a text comes out in a `Go` alone, that of the number which that step holds.
-/// - `in_turn`: once all numbers before it are finished, each text of a number has come out.
+/// - `one_at_a_time`: no number is held before every earlier one is finished.
+/// - `once`: the texts that came out for a number, then the one that still waits, are those left for it, in order.
+/// - `held`: a text comes out only in a `Go`, for the number that this step holds.
+/// - `in_turn`: once all earlier numbers are finished, each text of a number has come out.
 pub fn turns_pass_in_order()
     ensures order { (steps : List TurnStep) → let held = first_held [] steps [] in held ≡ numbers_below (length held) }
     ensures one_at_a_time { (steps : List TurnStep) (early late : ℕ)

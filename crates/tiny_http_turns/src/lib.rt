@@ -1,5 +1,5 @@
-//! One item that numbers have in turn, so that answers leave in order whoever makes them. It stands on the standard
-//! library alone; `tiny_http_core` names it again.
+//! Turns: one item passes from number to number, so that responses leave in order, whichever thread makes them. The
+//! crate depends on the standard library alone. `tiny_http_core` re-exports it.
 #![tactic(auto)]
 
 pub mod by_number;

@@ -1,4 +1,4 @@
-//! One item, and numbers that have it in turn.
+//! Turns: numbers that hold one item in order.
 ghost use Rattle.std.specs.Prelude.{◌≡◌, ◌+◌, ◌-◌, ◌^◌, ◌<◌, ◌↔◌, length, map, IfOk, OnOk, OnErr, IsSome, IsTrue};
 ghost use Rattle.std.specs.Prelude.{slice_get, slice_set, Some};
 ghost use Rattle.tiny_http_turns.specs.Turns.{Issue, Take, PutBack, Finish, Leave, Issued, Open, Held};
@@ -11,10 +11,10 @@ use std::marker::Model;
 use std::mem;
 use thiserror::Error;
 
-/// Why no number is issued.
+/// The reason why no number is issued.
 #[derive(Clone, Copy, Debug, PartialEq, Eq, Error)]
 pub enum TurnsError {
-    /// There is no memory for its mark.
+    /// Memory for its entry was refused.
     #[error("out of memory")]
     Memory,
     /// 2^64 - 1 numbers were issued.
@@ -22,44 +22,46 @@ pub enum TurnsError {
     Exhausted,
 }
 
-/// What became of a turn that was to be finished.
+/// The result of finishing a turn.
 #[derive(Drop)]
 pub enum Finishing<T> {
-    /// It is finished. The item rests here, for the next number that takes it.
+    /// The number is finished. The item is stored until the next number takes it.
     Passed,
-    /// It is finished, and the next number, which was left, is held: the item, and the text that it was left with,
-    /// which is to be written before that number is finished.
+    /// The number is finished, and the next one, for which a text was left, is held. The text is to be written with the
+    /// item before that number is finished.
     Go(T, Vec<u8>),
-    /// The number isn't held. The item comes back, and nothing has changed.
+    /// The number isn't held. The item is returned, and nothing has changed.
     Strange(T),
 }
 
-/// What became of a turn that was to be left.
+/// The result of leaving a text for a number's turn.
 #[derive(Drop)]
 pub enum Leaving<T> {
-    /// The text waits for the number's turn; who finishes the turn before gets it.
+    /// The text waits for the number's turn. Whoever finishes the previous turn gets it.
     Left,
-    /// The number's turn has come, and it is held: the item, and the text, which is to be written before the number is
+    /// The number's turn has come, and it is held. The text is to be written with the item before the number is
     /// finished.
     Go(T, Vec<u8>),
-    /// The number isn't open. The text comes back, and nothing has changed.
+    /// The number isn't open. The text is returned, and nothing has changed.
     Strange(Vec<u8>),
 }
 
-// What is known of one number that isn't finished.
+// The state of an unfinished number.
 #[derive(Drop)]
 enum Entry {
-    // It waits for its turn, or may take the item in it.
+    // It waits for its turn, or may take the item.
     Open,
-    // It has the item.
+    // It holds the item.
     Held,
-    // It is held in its turn by who finishes the turn before, and this text comes out.
+    // This text waits. Whoever finishes the previous turn holds the number then and gets the text.
     Left(Vec<u8>),
 }
 
-/// An item, as the output of a connection, that numbers from 0 on have in turn: each once all before it are finished.
-/// No call waits, and but for `issue` none takes memory. Nothing is kept of a finished number. A contract sees one
-/// mark a number, and the item where it rests.
+/// An item, such as the output of a connection, that numbers from 0 on hold in order, each once all earlier ones are
+/// finished.
+///
+/// No call blocks, and only `issue` takes memory. Finished numbers take none. A contract sees a mark for each number,
+/// and the item while no number holds it.
 #[derive(Drop)]
 pub struct Turns<T> {
     // The numbers from `turn` on; all before it are finished.
@@ -84,7 +86,7 @@ impl<T: Drop> Turns<T> {
     ghost use Rattle.tiny_http_turns.specs.Turns.{IsInOrder};
     ghost use Rattle.tiny_http_turns.specs.TurnsCalls.{new_turns, TakesTurn, PutsBack, Finishes, LeavesTurn, GivesBack};
 
-    /// No number is issued, and the item rests here.
+    /// Stores the item. No number is issued yet.
     pub fn new(alloc: Global, item: T) -> Turns<T>
         ensures in_order { IsInOrder result }
         ensures new { result ≡ new_turns item }
@@ -96,8 +98,8 @@ impl<T: Drop> Turns<T> {
         }
     }
 
-    /// Issues the next number, from 0. An error changes nothing: `Exhausted` where 2^64 - 1 numbers were issued, and
-    /// only there; `Memory` where room for the number's mark was refused.
+    /// Issues the next number, from 0. An error changes nothing: `Exhausted` if, and only if, 2^64 - 1 numbers were
+    /// issued; `Memory` if memory for the entry is refused.
     pub fn issue(&mut self) -> Result<u64, TurnsError>
         ensures in_order { IsInOrder self.new }
         ensures number { IfOk result (λ n. turn_answer Issue self.old.marks ≡ Issued n) }
@@ -116,8 +118,8 @@ impl<T: Drop> Turns<T> {
         }
     }
 
-    /// Holds the number, and gives the item, if the number is the first unfinished one and open. `None` else, and
-    /// nothing has changed.
+    /// Holds the number and returns the item, if the number is open and the first unfinished one. Otherwise returns
+    /// `None`, and nothing has changed.
     pub fn take(&mut self, number: u64) -> Option<T>
         ensures in_order { IsInOrder self.new }
         ensures marks { self.new.marks ≡ marks_after_step (Take number) self.old.marks }
@@ -133,8 +135,7 @@ impl<T: Drop> Turns<T> {
         }
     }
 
-    /// Opens a held number again, and takes the item back. For any other number the item comes back, and nothing has
-    /// changed.
+    /// Reopens a held number and stores the item. For any other number it returns the item, and nothing has changed.
     pub fn put_back(&mut self, number: u64, item: T) -> Result<(), T>
         ensures in_order { IsInOrder self.new }
         ensures marks { self.new.marks ≡ marks_after_step (PutBack number) self.old.marks }
@@ -149,20 +150,20 @@ impl<T: Drop> Turns<T> {
         Ok(())
     }
 
-    /// The first number that isn't finished, whose turn has come; where all are finished, the next to be issued.
+    /// Returns the first unfinished number, whose turn it is, or the next number to be issued if all are finished.
     pub fn first_unfinished(&self) -> u64
         ensures { result ≡ first_unfinished self.now.marks }
     {
         self.turn
     }
 
-    /// Finishes a held number. If the next one was left, that one is held, and its text comes out.
+    /// Finishes a held number. If a text was left for the next one, holds that number and returns the text.
     pub fn finish(&mut self, number: u64, item: T) -> Finishing<T>
         ensures in_order { IsInOrder self.new }
         ensures marks { self.new.marks ≡ marks_after_step (Finish number) self.old.marks }
         ensures item { Finishes (turn_answer (Finish number) self.old.marks) item self.old.resting result
             self.new.resting }
-        // The number after it fits.
+        // The next number fits in 64 bits.
         ensures bound { length self.new.marks < 2 ^ 64 }
     {
         if number != self.turn || !is_front_held(&self.entries) {
@@ -179,7 +180,7 @@ impl<T: Drop> Turns<T> {
         }
     }
 
-    /// Leaves an open number with a text; or holds it, and gives the text back with the item, where its turn has come.
+    /// Leaves a text for an open number; if its turn has come, holds it instead and returns the text with the item.
     pub fn leave(&mut self, number: u64, text: Vec<u8>) -> Leaving<T>
         ensures in_order { IsInOrder self.new }
         ensures marks { self.new.marks ≡ marks_after_step (Leave number text.items) self.old.marks }
@@ -207,7 +208,7 @@ impl<T: Drop> Turns<T> {
         }
     }
 
-    /// The item, if it rests here, that is, if no number is held.
+    /// Returns the item, or `None` while a number holds it.
     pub fn into_item(self) -> Option<T>
         ensures { result ≡ self.resting }
     {
@@ -220,21 +221,21 @@ impl<T: Drop> Turns<T> {
     }
 }
 
-// Whether the number that is kept at this place is open.
+// Returns whether the number at this index is open.
 fn is_open(entries: &VecDeque<Entry>, at: usize) -> bool
     ensures { IsTrue result ↔ (slice_get (map mark_of entries.now.items) at ≡ Some Open) }
 {
     matches!(entries.get(at), Some(Entry::Open))
 }
 
-// Whether the first unfinished number is held.
+// Returns whether the first unfinished number is held.
 fn is_front_held(entries: &VecDeque<Entry>) -> bool
     ensures { IsTrue result ↔ (slice_get (map mark_of entries.now.items) 0 ≡ Some Held) }
 {
     matches!(entries.front(), Some(Entry::Held))
 }
 
-// Keeps this of the number at this place, if there is one.
+// Replaces the entry at this index, if there is one.
 fn set_entry(entries: &mut VecDeque<Entry>, at: usize, entry: Entry)
     ensures { entries.new.items ≡ slice_set entries.old.items at entry }
 {
@@ -243,7 +244,7 @@ fn set_entry(entries: &mut VecDeque<Entry>, at: usize, entry: Entry)
     }
 }
 
-// Holds the first unfinished number, if it was left, and gives its text.
+// Holds the first unfinished number and returns its text, if one was left for it.
 fn hold_left(entries: &mut VecDeque<Entry>) -> Option<Vec<u8>>
     ensures marks { let old = map mark_of entries.old.items in
         map mark_of entries.new.items ≡ (pass_to (slice_get old 0) 0 old).1 }

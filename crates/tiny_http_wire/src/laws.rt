@@ -1,4 +1,4 @@
-//! Laws of the definitions, each the contract of a function that does nothing.
+//! Laws of the definitions. Each is the contract of a function that does nothing.
 pub use tiny_http_body::laws::one_chunked_body;
 pub use tiny_http_head::laws::{
     header_field_equality, header_from_its_text, http_version_order, lines_by_the_grammar,

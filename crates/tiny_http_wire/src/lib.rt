@@ -1,6 +1,6 @@
-//! The wire layer of a small HTTP server (HTTP/1.x, RFC 9110 and RFC 9112): what is read and written, the texts of a
-//! head, chunked bodies, and how answers are printed. It has no code of its own: it names the modules of
-//! `tiny_http_text`, `tiny_http_io`, `tiny_http_head`, `tiny_http_body` and `tiny_http_response` again.
+//! The wire layer of a small HTTP server (HTTP/1.x, RFC 9110 and RFC 9112): readers and writers, the texts of a head,
+//! chunked bodies, and how responses are printed. It has no code of its own: it reexports modules of `tiny_http_text`,
+//! `tiny_http_io`, `tiny_http_head`, `tiny_http_body` and `tiny_http_response`.
 #![tactic(auto)]
 
 pub mod laws;

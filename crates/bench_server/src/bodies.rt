@@ -1,0 +1,188 @@
+//! Reads the bodies of requests and sends long ones, without limits and by the lenient profile, as the Rust crate does. By
+//! `recv` four threads receive requests; by `serve` each connection's worker answers its own.
+//!
+//! A `PUT` or a `POST` is answered by the length of its body. `GET /identity` is answered by the bytes that the file
+//! had at the start, from memory, and `GET /chunked` by the same in chunks; `GET /file` and `GET /file/chunked` by
+//! those of the file. Any other request is answered 404.
+use crate::BenchFault;
+use std::alloc::{AllocError, Global};
+use std::fs::{File, Files};
+use std::io::{ErrorKind, Read, Write};
+use std::sync::{Arc, Wait};
+use std::time::Clock;
+use std::{io, thread};
+use tiny_http::common::{Method, StatusCode};
+use tiny_http::device::{Metered, ReadDevice};
+use tiny_http::response::Response;
+use tiny_http::server::{Server, ServerRequest, ServerRuntime, current_date};
+use tiny_http::serving::Handler;
+
+// Bytes that one read of a body asks for.
+const PIECE: usize = 8192;
+
+/// Opens a file to be sent. Any runtime with files does.
+pub trait DataFiles {
+    /// Opens the file of this name. The system's error if it can't.
+    fn open_data(&self, name: &str) -> io::Result<File>;
+}
+
+impl<R: Files<File = File>> DataFiles for R {
+    fn open_data(&self, name: &str) -> io::Result<File> {
+        File::open(self, name)
+    }
+}
+
+// Reads a body to its end, piece by piece, and gives its length.
+fn length_of<D: ReadDevice>(body: &mut D) -> io::Result<u64> {
+    let mut buf = [0u8; PIECE];
+    let mut count = 0u64;
+    for _ in 0..u64::MAX {
+        let n = body.read_in(&mut buf)?;
+        if n == 0 {
+            return Ok(count);
+        }
+        count = count.saturating_add(n as u64);
+    }
+    Err(ErrorKind::Other.into())
+}
+
+// Whether a body ended before the length that its head says: the end of the input is no fault there.
+fn is_cut(length: Option<usize>, count: u64) -> bool {
+    match length {
+        Some(length) => count < length as u64,
+        None => false,
+    }
+}
+
+// Answers a request by the length of its body. One whose body is cut or broken is dropped.
+fn answer_length<R: Clock + Wait + Drop>(
+    rt: &R,
+    alloc: Global,
+    mut request: ServerRequest<R>,
+) -> io::Result<()> {
+    let count = length_of(request.as_reader(current_date(rt)))?;
+    if is_cut(request.body_length(), count) {
+        return Err(ErrorKind::UnexpectedEof.into());
+    }
+    let text = format!(in alloc; "{count}")?;
+    let response = Response::from_string(alloc, text)?;
+    request.respond(response, current_date(rt))
+}
+
+/// A file that is sent, and its bytes.
+#[derive(Drop)]
+pub struct Data {
+    pub name: String,
+    pub bytes: Vec<u8>,
+}
+
+impl Data {
+    // Answers by the bytes in memory, in chunks if the threshold is at most their number.
+    fn answer_from_memory<R: Clock + Wait + Drop>(
+        &self,
+        rt: &R,
+        alloc: Global,
+        request: ServerRequest<R>,
+        threshold: usize,
+    ) -> io::Result<()> {
+        let data = Metered::new(self.bytes.as_slice());
+        let response = Response::empty(alloc, StatusCode(200))
+            .with_data(data, Some(self.bytes.len()))
+            .with_chunked_threshold(threshold);
+        request.respond(response, current_date(rt))
+    }
+
+    // The same, from the file.
+    fn answer_from_file<R: DataFiles + Clock + Wait + Drop>(
+        &self,
+        rt: &R,
+        alloc: Global,
+        request: ServerRequest<R>,
+        threshold: usize,
+    ) -> io::Result<()> {
+        let file = rt.open_data(self.name.as_str())?;
+        let response = Response::from_file(alloc, file).with_chunked_threshold(threshold);
+        request.respond(response, current_date(rt))
+    }
+}
+
+impl<R: DataFiles + Clock + Wait + Drop> Handler<R, ServerRequest<R>> for Data {
+    /// Answers the request. One whose body is cut or broken, or for whose answer there is no memory or no file, is
+    /// dropped.
+    fn handle(&self, rt: &R, alloc: Global, request: ServerRequest<R>) -> io::Result<()> {
+        match (request.method(), request.url()) {
+            (Method::Put | Method::Post, _) => answer_length(rt, alloc, request),
+            (Method::Get, "/identity") => self.answer_from_memory(rt, alloc, request, usize::MAX),
+            (Method::Get, "/chunked") => self.answer_from_memory(rt, alloc, request, 0),
+            (Method::Get, "/file") => self.answer_from_file(rt, alloc, request, usize::MAX),
+            (Method::Get, "/file/chunked") => self.answer_from_file(rt, alloc, request, 0),
+            _ => request.respond(Response::empty(alloc, StatusCode(404)), current_date(rt)),
+        }
+    }
+}
+
+// Answers requests until the server has no more, and then has another thread, if one waits, end too.
+fn answer_all<R: ServerRuntime + DataFiles>(
+    rt: &R,
+    alloc: Global,
+    server: &Server<R>,
+    data: &Data,
+) {
+    let mut requests = server.incoming_requests();
+    for _ in rt.forever() {
+        let Some(request) = requests.next() else {
+            let _ = server.unblock();
+            return;
+        };
+        let _ = data.handle(rt, alloc, request);
+    }
+}
+
+// Answers all requests of a server, by two threads.
+fn answer_by_two<R: ServerRuntime + DataFiles + Sync>(
+    rt: &R,
+    alloc: Global,
+    server: &Server<R>,
+    data: &Data,
+) {
+    thread::join(
+        rt,
+        || answer_all(rt, alloc, server, data),
+        || answer_all(rt, alloc, server, data),
+    );
+}
+
+// Answers all requests of a server, by four threads.
+fn answer_by_four<R: ServerRuntime + DataFiles + Sync>(
+    rt: &R,
+    alloc: Global,
+    server: &Server<R>,
+    data: &Data,
+) {
+    thread::join(
+        rt,
+        || answer_by_two(rt, alloc, server, data),
+        || answer_by_two(rt, alloc, server, data),
+    );
+}
+
+/// Listens at the address and prints where, then serves: `how` is `recv` or `serve`, and any other word is a usage
+/// error.
+pub fn serve_bodies<R: ServerRuntime + DataFiles + Sync, O: Write>(
+    rt: R,
+    alloc: Global,
+    how: &str,
+    address: &str,
+    data: Data,
+    out: &mut O,
+) -> Result<(), BenchFault> {
+    let server = Server::http(rt, alloc, address)?;
+    let _ = writeln!(out, "listening on {}", server.server_addr());
+    let _ = out.flush();
+    match how {
+        "recv" => answer_by_four(&rt, alloc, &server, &data),
+        "serve" => server.serve(alloc, &Arc::new(alloc, data).map_err(|_| AllocError)?)?,
+        _ => return Err(BenchFault::Usage),
+    }
+    Ok(())
+}

@@ -1,0 +1,339 @@
+//! The server of the benchmarks and of the trials by hand, on an open port.
+//!
+//! `bench_server [--lenient|--strict|--standard] ADDRESS` answers every request by `hello world`, by a handler: each
+//! connection's worker answers that connection's requests. Heads are read under the profile that is named, by default
+//! `Standard`, and clients have the default limits. Once a minute, and when it stops, it prints what it has counted;
+//! it serves on if nobody reads that. A line `stop` on standard input stops it: it waits for what is open, for at most
+//! 10 seconds. `bench_server --bodies recv|serve ADDRESS FILE` reads bodies and sends long ones (`bodies`).
+#![tactic(auto)]
+
+ghost use Rattle.std.specs.Prelude.{◌≡◌};
+
+mod bodies;
+
+use crate::bodies::{Data, serve_bodies};
+use std::alloc::{AllocError, Global};
+use std::io::{BufRead, ErrorKind, Input, Write};
+use std::process::ExitCode;
+use std::rt::Env;
+use std::sync::atomic::{AtomicBool, Ordering};
+use std::sync::{Arc, Wait};
+use std::time::{Clock, Duration};
+use std::{env, fs, io, thread};
+use thiserror::Error;
+use tiny_http::response::Response;
+use tiny_http::server::{
+    Server, ServerConfig, ServerError, ServerRequest, ServerRuntime, current_date,
+};
+use tiny_http::serving::Handler;
+use tiny_http::{ConfigListenAddr, Limits, Profile};
+
+// Seconds between two lines of what was counted.
+const REPORT_SECS: u64 = 60;
+
+// Seconds that a stop waits for what is open.
+const STOP_SECS: u64 = 10;
+
+// Tenths of a second that the end waits for the last line, which nobody may read.
+const PRINT_TENTHS: u32 = 30;
+
+/// Why nothing is served, or no longer.
+#[derive(Debug, Drop, Error)]
+pub enum BenchFault {
+    /// The words aren't those of the usage.
+    #[error("usage: bench_server [--lenient|--strict|--standard] ADDRESS, or bench_server --bodies recv|serve ADDRESS FILE")]
+    Usage,
+    /// It can't listen there.
+    #[error("cannot listen: {0}")]
+    CannotListen(ServerError),
+    /// Serving ended by this fault.
+    #[error("cannot serve: {0}")]
+    Serving(io::Error),
+    /// Memory was refused.
+    #[error("out of memory")]
+    OutOfMemory,
+}
+
+impl From<ServerError> for BenchFault {
+    ghost use Rattle.bench_server.specs.declared.BenchFault.TheVariants.{CannotListen};
+
+    ghost from_gives = { λ fault result. result ≡ CannotListen fault };
+
+    fn from(fault: ServerError) -> BenchFault {
+        BenchFault::CannotListen(fault)
+    }
+}
+
+impl From<io::Error> for BenchFault {
+    ghost use Rattle.bench_server.specs.declared.BenchFault.TheVariants.{Serving};
+
+    ghost from_gives = { λ fault result. result ≡ Serving fault };
+
+    fn from(fault: io::Error) -> BenchFault {
+        BenchFault::Serving(fault)
+    }
+}
+
+impl From<AllocError> for BenchFault {
+    ghost use Rattle.bench_server.specs.declared.BenchFault.TheVariants.{OutOfMemory};
+
+    ghost from_gives = { λ error result. result ≡ OutOfMemory };
+
+    fn from(_error: AllocError) -> BenchFault {
+        BenchFault::OutOfMemory
+    }
+}
+
+// Answers by `hello world`.
+#[derive(Drop)]
+struct Hello;
+
+impl<R: Wait + Clock + Drop> Handler<R, ServerRequest<R>> for Hello {
+    /// Answers the request. One for whose answer there is no memory is dropped.
+    fn handle(&self, rt: &R, alloc: Global, request: ServerRequest<R>) -> io::Result<()> {
+        let text = String::from_str(alloc, "hello world")?;
+        let response = Response::from_string(alloc, text)?;
+        request.respond(response, current_date(rt))
+    }
+}
+
+// The profile that a word names.
+fn profile_of(word: &str) -> Option<Profile> {
+    match word {
+        "--lenient" => Some(Profile::Lenient),
+        "--strict" => Some(Profile::Strict),
+        "--standard" => Some(Profile::Standard),
+        _ => None,
+    }
+}
+
+// The profile and the address that the words name: `Standard` where no profile is named.
+fn asked(words: &[String]) -> Result<(Profile, &str), BenchFault> {
+    match words {
+        [address] => Ok((Profile::Standard, address.as_str())),
+        [word, address] => match profile_of(word.as_str()) {
+            Some(profile) => Ok((profile, address.as_str())),
+            None => Err(BenchFault::Usage),
+        },
+        _ => Err(BenchFault::Usage),
+    }
+}
+
+// Listens at the address that the words name.
+fn listen<R: ServerRuntime>(
+    rt: R,
+    alloc: Global,
+    words: &[String],
+) -> Result<Arc<Server<R>>, BenchFault> {
+    let (profile, address) = asked(words)?;
+    let addr = ConfigListenAddr::from_socket_addrs(&rt, alloc, address).map_err(ServerError::from)?;
+    let config = ServerConfig { addr, ssl: None };
+    let server = Server::with(rt, alloc, config, profile, Limits::new())?;
+    Ok(Arc::new(alloc, server).map_err(|_| AllocError)?)
+}
+
+// Stops the server once a line `stop` comes. Where the input ends before it does nothing more.
+fn stop_when_told<R: ServerRuntime, I: BufRead + Drop>(
+    rt: &R,
+    alloc: Global,
+    server: &Server<R>,
+    mut input: I,
+) {
+    for _ in rt.forever() {
+        let mut line = String::new(alloc);
+        match input.read_line(&mut line) {
+            Ok(n) if n > 0 => {}
+            _ => return,
+        }
+        if line.as_str().trim_end() == "stop" {
+            let _ = server.stop(Duration::from_secs(STOP_SECS));
+            return;
+        }
+    }
+}
+
+// Prints what the server has counted.
+fn print_counts<R: ServerRuntime, O: Write>(server: &Server<R>, out: &mut O) {
+    let counts = server.counts();
+    let _ = writeln!(out, "{counts}");
+    let _ = out.flush();
+}
+
+// How far serving and its reports have come.
+#[derive(Drop)]
+struct Progress {
+    // No request is answered any more.
+    has_ended: AtomicBool,
+    // The last line was printed.
+    has_printed: AtomicBool,
+}
+
+// Prints where the server listens, then once a minute what it has counted, and once more when it has ended.
+fn report_progress<R: ServerRuntime, O: Write>(
+    rt: &R,
+    server: &Server<R>,
+    progress: &Progress,
+    out: &mut O,
+) {
+    let _ = writeln!(out, "listening on {}", server.server_addr());
+    let _ = out.flush();
+    let mut seconds = 0u64;
+    for _ in rt.forever() {
+        if progress.has_ended.load(Ordering::SeqCst) {
+            break;
+        }
+        thread::sleep(rt, Duration::from_secs(1));
+        seconds = seconds.saturating_add(1);
+        if seconds >= REPORT_SECS {
+            seconds = 0;
+            print_counts(server, out);
+        }
+    }
+    print_counts(server, out);
+    progress.has_printed.store(true, Ordering::SeqCst);
+}
+
+// Waits for the last line. Where nobody reads what is printed the thread that prints may wait for ever.
+fn wait_for_report<R: Wait + Clock>(rt: &R, progress: &Progress) {
+    for _ in 0..PRINT_TENTHS {
+        if progress.has_printed.load(Ordering::SeqCst) {
+            return;
+        }
+        thread::sleep(rt, Duration::from_millis(100));
+    }
+}
+
+// Answers all requests, until the server is stopped or fails.
+fn answer_all<R: ServerRuntime>(alloc: Global, server: &Server<R>) -> Result<(), BenchFault> {
+    let handler = Arc::new(alloc, Hello).map_err(|_| AllocError)?;
+    server.serve(alloc, &handler)?;
+    Ok(())
+}
+
+// Listens at the address that the words name, and answers all requests. Another thread prints. The input and the
+// output are values of their own: a thread can't be given a bound whose associated type isn't `Send`.
+fn serve<R, I, O>(
+    rt: R,
+    alloc: Global,
+    words: &[String],
+    input: I,
+    out: O,
+) -> Result<(), BenchFault>
+where
+    R: ServerRuntime + Sync,
+    I: BufRead + Send + Drop + 'static,
+    O: Write + Send + Drop + 'static,
+{
+    let server = listen(rt, alloc, words)?;
+    let mut out = out;
+    let (told, counted) = (Arc::try_clone(&server)?, Arc::try_clone(&server)?);
+    if thread::spawn(&rt, move || stop_when_told(&rt, alloc, &told, input)).is_err() {
+        return Err(BenchFault::OutOfMemory);
+    }
+    let progress = Progress {
+        has_ended: AtomicBool::new(false),
+        has_printed: AtomicBool::new(false),
+    };
+    let progress = Arc::new(alloc, progress).map_err(|_| AllocError)?;
+    let shown = Arc::try_clone(&progress)?;
+    if thread::spawn(
+        &rt,
+        move || report_progress(&rt, &counted, &shown, &mut out),
+    )
+    .is_err()
+    {
+        return Err(BenchFault::OutOfMemory);
+    }
+    let served = answer_all(alloc, &server);
+    progress.has_ended.store(true, Ordering::SeqCst);
+    wait_for_report(&rt, &progress);
+    served
+}
+
+// Reports a fault by a line, and gives the exit status: 2 for what was asked wrongly, and 1 for what the system
+// refused.
+fn report<E: Write>(fault: &BenchFault, err: &mut E) -> u8 {
+    let _ = writeln!(err, "bench_server: {fault}");
+    if matches!(fault, BenchFault::Usage) {
+        return 2;
+    }
+    1
+}
+
+/// Listens at the address that the words name, and answers every request by `hello world` until a line `stop` comes
+/// on `input`. Another thread prints on `out` where it listens and what is counted. Returns the exit status: 0; 2 if
+/// the words aren't `[--lenient|--strict|--standard] ADDRESS`; 1 if it can't listen there or serving ends by a fault.
+/// A line on `err` reports the error.
+pub fn serve_hello<R, I, O, E: Write>(
+    rt: R,
+    alloc: Global,
+    words: &[String],
+    input: I,
+    out: O,
+    err: &mut E,
+) -> u8
+where
+    R: ServerRuntime + Sync,
+    I: BufRead + Send + Drop + 'static,
+    O: Write + Send + Drop + 'static,
+{
+    match serve(rt, alloc, words, input, out) {
+        Ok(()) => 0,
+        Err(fault) => report(&fault, err),
+    }
+}
+
+// The words of the command line, the program's name first. One that isn't UTF-8 is no address.
+fn words<R: Env + AllocGlobal>(rt: &R) -> Result<Vec<String>, BenchFault> {
+    match env::args(rt) {
+        Ok(words) => Ok(words.collect(rt.alloc())?),
+        Err(fault) if fault.kind() == ErrorKind::OutOfMemory => Err(BenchFault::OutOfMemory),
+        Err(_) => Err(BenchFault::Usage),
+    }
+}
+
+// Reads the file whose bytes are sent.
+fn read_data(rt: HostRuntime, alloc: Global, name: &str) -> Result<Data, BenchFault> {
+    let bytes = fs::read(&rt, name)?;
+    let name = String::from_str(alloc, name)?;
+    Ok(Data { name, bytes })
+}
+
+fn main(rt: HostRuntime) -> ExitCode {
+    let mut err = rt.stderr();
+    let words = match words(&rt) {
+        Ok(words) => words,
+        Err(fault) => return ExitCode::from(report(&fault, &mut err)),
+    };
+    let words = words.as_slice().get(1..).unwrap_or(&[]);
+    let [flag, how, address, name] = words else {
+        return ExitCode::from(serve_hello(
+            rt,
+            rt.alloc(),
+            words,
+            rt.reader(),
+            rt.stdout(),
+            &mut err,
+        ));
+    };
+    if flag.as_str() != "--bodies" {
+        return ExitCode::from(report(&BenchFault::Usage, &mut err));
+    }
+    let served = match read_data(rt, rt.alloc(), name.as_str()) {
+        Ok(data) => {
+            serve_bodies(
+                rt,
+                rt.alloc(),
+                how.as_str(),
+                address.as_str(),
+                data,
+                &mut rt.stdout(),
+            )
+        }
+        Err(fault) => Err(fault),
+    };
+    match served {
+        Ok(()) => ExitCode::from(0),
+        Err(fault) => ExitCode::from(report(&fault, &mut err)),
+    }
+}

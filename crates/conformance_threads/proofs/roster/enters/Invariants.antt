@@ -1,5 +1,0 @@
-use Rattle.std.proofs.Common.{◌≡◌, ◌+◌, ◌≤◌}
-use Rattle.conformance_threads.proofs.roster.enters.Given as goal
-
-abbrev pub invariant-loop : goal.invariant-loop
-invariant-loop g l = (l.mine.parts ≡ l.fn.mine.parts) × (l.mine.amount ≡ l.fn.mine.amount + l.entered) × (l.entered ≤ l.counter)

@@ -1,4 +1,0 @@
-use Rattle.conformance_threads.proofs.roster.three_threads_enter_twice.Given as goal
-
-abbrev pub ghosts-three_threads : goal.ghosts-three_threads
-ghosts-three_threads g a = record { name = a.blank.name; parts = a.blank.parts }

@@ -1,0 +1,74 @@
+//! A server over a `Connection`: what it answers depends on what is asked. Its contract says that its answers are a
+//! conversation, so the connection theorem holds of a program that isn't a list of steps. It stands on
+//! `tiny_http_core` and `tiny_http_wire`.
+#![tactic(auto)]
+
+ghost use Rattle.std.specs.Prelude.{◌≡◌, Some};
+ghost use Rattle.tiny_http_wire.specs.Device.{Feed};
+ghost use Rattle.tiny_http_core.specs.Conversation.{IsFresh};
+ghost use Rattle.tiny_http_core.specs.Outlet.{outlet_writer, outlet_held, outlet_ended};
+ghost use Rattle.example_greeter.specs.Greeting.{IsStatus, Greets, GreetsClient};
+
+use httpdate::HttpDate;
+use std::alloc::Global;
+use std::io::ErrorKind;
+use tiny_http_core::driver::{Connection, Reply};
+use tiny_http_core::exchange::Head;
+use tiny_http_core::outlet::Outlet;
+use tiny_http_core::source::Source;
+use tiny_http_wire::common::StatusCode;
+use tiny_http_wire::device::{Budget, Canned, ReadDevice, WriteDevice};
+use tiny_http_wire::response::Response;
+
+// 200 for the root, 404 for any other path.
+fn status_of(head: &Head) -> StatusCode
+    ensures { IsStatus head.now.path result.0 }
+{
+    if head.path.as_str() == "/" {
+        return StatusCode(200);
+    }
+    StatusCode(404)
+}
+
+/// Answers each request by its path, 200 for the root and 404 for any other, each without a body and on this date,
+/// until none is handed out. What comes back is the reader and the writer within their buffers, and the reply by
+/// which the connection handed out no request: `Ended`, or `Memory` where there was none for a head; or none after
+/// 2^64 - 1 requests.
+pub fn serve<R: ReadDevice + Drop, W: WriteDevice + Drop>(
+    alloc: Global,
+    reader: R,
+    writer: W,
+    now: HttpDate,
+) -> (Source<R>, Outlet<W>, Option<Reply>)
+    ensures { (client : Feed) → R.feed reader ≡ Some client → IsFresh (W.sink writer)
+        → Greets client (W.sink writer) now (W.sink (outlet_writer result.1)) (outlet_held result.1)
+        (outlet_ended result.1) result.0.feed result.2 }
+{
+    let mut connection = Connection::new(alloc, reader, writer);
+    for _greeting in 0..u64::MAX {
+        match connection.ask(alloc, now) {
+            Reply::Handed(number, head) => {
+                let response = Response::empty(alloc, status_of(&head));
+                connection.respond(alloc, now, number, response);
+            }
+            last => {
+                let (source, outlet) = connection.into_parts();
+                return (source, outlet, Some(last));
+            }
+        }
+    }
+    let (source, outlet) = connection.into_parts();
+    (source, outlet, None)
+}
+
+/// The same in memory, for a client that sends these bytes and ends. Where there is no memory for the writer's bytes
+/// it fails.
+pub fn serve_bytes(alloc: Global, bytes: Vec<u8>, now: HttpDate) -> (Outlet<Budget>, Option<Reply>)
+    ensures { GreetsClient bytes.items now (outlet_writer result.0) (outlet_held result.0) (outlet_ended result.0)
+        result.1 }
+{
+    let reader = Canned::new(bytes, None);
+    let writer = Budget::new(alloc, usize::MAX, ErrorKind::OutOfMemory);
+    let (_, outlet, last) = serve(alloc, reader, writer, now);
+    (outlet, last)
+}

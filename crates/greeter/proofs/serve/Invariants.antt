@@ -1,8 +1,0 @@
-use Rattle.std.proofs.Common.{◌≡◌, Some}
-use Rattle.tiny_http_wire.specs.Device.{Feed}
-use Rattle.tiny_http_core.specs.Conversation.{IsFresh}
-use Rattle.greeter.proofs.GreetingLemmas.{Greeted}
-use Rattle.greeter.proofs.serve.Given as goal
-
-abbrev pub invariant-loop-greeting : goal.invariant-loop-greeting
-invariant-loop-greeting g l = (client : Feed) → g.R.ReadDevice.feed l.fn.reader ≡ Some client → IsFresh (g.W.WriteDevice.sink l.fn.writer) → Greeted client (g.W.WriteDevice.sink l.fn.writer) l.fn.now l.connection l._greeting

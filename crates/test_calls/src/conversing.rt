@@ -1,0 +1,237 @@
+//! Connections, and requests that are read without one, whose calls a row makes one after another.
+use crate::deeds::{Deed, WatchedAnswer};
+use crate::devices::{Below, Client, Taker, Watched};
+use crate::findings::{add, add_shown};
+use crate::replies::{add_outlet, add_reply, add_rest};
+use crate::row::{Finding, Input};
+use test_case_trials::replies::reply_line;
+use example_greeter::{serve, serve_bytes};
+use replay_script::line::text_in;
+use replay_script::script::{first_date, step_in};
+use replay_script::script_data::ScriptData;
+use std::alloc::{AllocError, Global};
+use tiny_http_core::driver::{Connection, Reply, Step, Timed};
+use tiny_http_core::framing::Profile;
+use tiny_http_core::outlet::Outlet;
+use tiny_http_core::source::Source;
+use tiny_http_wire::common::StatusCode;
+use tiny_http_wire::device::Metered;
+use tiny_http_wire::response::Response;
+
+/// The step that a line of a script names, if it names one.
+pub fn step_of(alloc: Global, line: &str) -> Result<Option<Step<ScriptData>>, AllocError> {
+    match text_in(line) {
+        Some(line) => step_in(alloc, &line),
+        None => Ok(None),
+    }
+}
+
+/// The answer 200 by these data, which are lent to it. Of a stated length it isn't sent in chunks.
+pub fn lent(alloc: Global, data: &mut Watched, length: Option<usize>) -> Response<&mut Watched> {
+    let answer = Response::empty(alloc, StatusCode(200)).with_data(data, length);
+    match length {
+        Some(_) => answer.with_chunked_threshold(usize::MAX),
+        None => answer,
+    }
+}
+
+type Connected = Connection<Client, Below>;
+
+// Adds a reply.
+fn add_line(alloc: Global, to: &mut Vec<Finding>, reply: &Reply) -> Result<(), AllocError> {
+    let line = reply_line(alloc, reply)?;
+    add_reply(alloc, to, line.as_slice())
+}
+
+// Answers a request by watched data.
+fn answer(
+    alloc: Global,
+    connection: &mut Connected,
+    answer: &WatchedAnswer,
+    to: &mut Vec<Finding>,
+) -> Result<(), AllocError> {
+    let mut data = Watched::new(alloc, answer.data.as_slice(), answer.fault)?;
+    let response = lent(alloc, &mut data, answer.length);
+    let reply = connection.respond(alloc, first_date(), answer.number, response);
+    add_line(alloc, to, &reply)?;
+    add(alloc, to, "reads", data.reads().as_bytes())
+}
+
+// Upgrades a request by an answer of watched data.
+fn upgrade(
+    alloc: Global,
+    connection: &mut Connected,
+    (number, protocol): (u64, &str),
+    to: &mut Vec<Finding>,
+) -> Result<(), AllocError> {
+    let mut data = Watched::new(alloc, b"hello", None)?;
+    let response = lent(alloc, &mut data, None);
+    let reply = connection.upgrade(alloc, first_date(), number, protocol, response);
+    add_line(alloc, to, &reply)?;
+    add(alloc, to, "reads", data.reads().as_bytes())
+}
+
+// Does a step.
+fn do_step(
+    alloc: Global,
+    connection: &mut Connected,
+    line: &str,
+    to: &mut Vec<Finding>,
+) -> Result<(), AllocError> {
+    let Some(step) = step_of(alloc, line)? else {
+        return add_reply(alloc, to, b"no step");
+    };
+    let now = first_date();
+    let reply = connection.step(alloc, Timed { now, step });
+    add_line(alloc, to, &reply)
+}
+
+/// A value of which a row makes calls, one after another.
+pub trait Callee {
+    /// Makes a call, and adds what comes of it.
+    fn call(&mut self, alloc: Global, deed: &Deed, to: &mut Vec<Finding>) -> Result<(), AllocError>;
+}
+
+impl Callee for Connected {
+    fn call(
+        &mut self,
+        alloc: Global,
+        deed: &Deed,
+        to: &mut Vec<Finding>,
+    ) -> Result<(), AllocError> {
+        match deed {
+            Deed::Script(line) => do_step(alloc, self, line.as_str(), to),
+            Deed::Answer(watched) => answer(alloc, self, watched, to),
+            Deed::Upgrade(number, protocol) => {
+                upgrade(alloc, self, (*number, protocol.as_str()), to)
+            }
+            Deed::IsOpen(number) => match self.is_open(*number) {
+                true => add_reply(alloc, to, b"open"),
+                false => add_reply(alloc, to, b"not open"),
+            },
+            Deed::NextNumber => {
+                let number = self.next_number();
+                let line = format!(in alloc; "number {number}")?;
+                add_reply(alloc, to, line.as_bytes())
+            }
+            _ => add_reply(alloc, to, b"no such call"),
+        }
+    }
+}
+
+// Adds how often the client was called, and what the writer has sent on.
+fn add_progress(
+    alloc: Global,
+    source: Source<Client>,
+    outlet: Outlet<Below>,
+    to: &mut Vec<Finding>,
+) -> Result<(), AllocError> {
+    let calls = source.into_inner().calls();
+    add_shown(alloc, to, "called", &calls)?;
+    let taker = outlet.into_inner().into_inner();
+    add(alloc, to, "sent", taker.sent())
+}
+
+// Adds what a source still gives, what an outlet holds, and what its writer took.
+fn add_parts(
+    alloc: Global,
+    mut source: Source<Client>,
+    outlet: Outlet<Below>,
+    to: &mut Vec<Finding>,
+) -> Result<(), AllocError> {
+    add_rest(alloc, &mut source, to)?;
+    add_outlet(alloc, outlet, to)
+}
+
+/// Adds what came of the last call, how often the client was called and what the writer has sent on; or what is left,
+/// after all calls.
+pub fn add_outcome(
+    alloc: Global,
+    last: Result<Vec<Finding>, AllocError>,
+    (source, outlet): (Source<Client>, Outlet<Below>),
+    is_past: bool,
+    to: &mut Vec<Finding>,
+) -> Result<(), AllocError> {
+    if is_past {
+        return add_parts(alloc, source, outlet, to);
+    }
+    for finding in last? {
+        to.push(finding).map_err(AllocError::from)?;
+    }
+    add_progress(alloc, source, outlet, to)
+}
+
+/// Makes calls one after another. What comes of the last.
+pub fn call_each<C: Callee>(
+    alloc: Global,
+    callee: &mut C,
+    deeds: &[Deed],
+) -> Result<Vec<Finding>, AllocError> {
+    let mut last = Vec::new(alloc);
+    for deed in deeds {
+        last = Vec::new(alloc);
+        callee.call(alloc, deed, &mut last)?;
+    }
+    Ok(last)
+}
+
+// Makes the first calls of a new connection. Adds what comes of the last, how often the client was called and what
+// the writer has sent on; or what is left, if there are fewer calls.
+fn call_front(
+    alloc: Global,
+    profile: Profile,
+    input: &Input,
+    (most, count): (usize, usize),
+    to: &mut Vec<Finding>,
+) -> Result<(), AllocError> {
+    let client = Client::new(alloc, input, most)?;
+    let writer = Metered::new(Taker::new(alloc, input));
+    let mut connection = Connection::new_with(alloc, profile, client, writer);
+    let deeds = input.deeds.as_slice();
+    let front = &deeds[..count.min(deeds.len())];
+    let last = call_each(alloc, &mut connection, front);
+    let (source, outlet) = connection.into_parts();
+    add_outcome(alloc, last, (source, outlet), count > deeds.len(), to)
+}
+
+/// What calls of a connection are answered, how often the client was called up to each and what was sent on; and what
+/// is left in the end. A connection doesn't show its reader and writer, so each call is made again after those
+/// before it.
+pub fn call_connections(
+    alloc: Global,
+    profile: Profile,
+    input: &Input,
+    most: usize,
+    to: &mut Vec<Finding>,
+) -> Result<(), AllocError> {
+    for count in 1..=input.deeds.len().saturating_add(1) {
+        call_front(alloc, profile, input, (most, count), to)?;
+    }
+    Ok(())
+}
+
+// Adds the reply by which a greeting ended.
+fn add_last(alloc: Global, last: Option<&Reply>, to: &mut Vec<Finding>) -> Result<(), AllocError> {
+    match last {
+        Some(reply) => add_line(alloc, to, reply),
+        None => add_reply(alloc, to, b"none"),
+    }
+}
+
+/// What a client is sent by the greeter, over a reader and over bytes.
+pub fn greet(
+    alloc: Global,
+    input: &Input,
+    most: usize,
+    to: &mut Vec<Finding>,
+) -> Result<(), AllocError> {
+    let client = Client::new(alloc, input, most)?;
+    let writer = Metered::new(Taker::new(alloc, input));
+    let (_, outlet, last) = serve(alloc, client, writer, first_date());
+    add_last(alloc, last.as_ref(), to)?;
+    add_outlet(alloc, outlet, to)?;
+    let bytes = input.bytes.as_slice().to_vec(alloc)?;
+    let (outlet, last) = serve_bytes(alloc, bytes, first_date());
+    add_last(alloc, last.as_ref(), to)?;
+    add(alloc, to, "output", outlet.into_inner().bytes())
+}

@@ -1,0 +1,226 @@
+//! The calls that a row makes one after another: `+ NAME WORDS`, by the names of the calls.
+use crate::row::Subject;
+use crate::words::{number, split, text};
+use test_data_files::fault::LineFault;
+use test_data_files::kinds::kind_of;
+use test_data_files::text::text_of;
+use replay_script::line::{ScriptLine, text_in};
+use std::alloc::Global;
+use std::io::ErrorKind;
+
+/// An answer 200 whose reads of its data are watched.
+#[derive(Drop)]
+pub struct WatchedAnswer {
+    /// The request's number.
+    pub number: u64,
+    /// The length that is stated of the data, if one is.
+    pub length: Option<usize>,
+    pub data: Vec<u8>,
+    /// The fault of the data in place of their end.
+    pub fault: Option<ErrorKind>,
+}
+
+/// A call.
+#[derive(Drop)]
+pub enum Deed {
+    /// `read_line` of a source.
+    ReadLine,
+    /// `read_line_within`, with its limit.
+    ReadLineWithin(usize),
+    /// `skip`.
+    Skip(usize),
+    /// `take_exactly`.
+    TakeExactly(usize),
+    /// `read` of a source, into so much room.
+    Read(usize),
+    /// `Read::read`, into so much room.
+    StdRead(usize),
+    /// `ReadDevice::read_in`, into so much room.
+    ReadIn(usize),
+    /// `write` of an outlet.
+    Write(Vec<u8>),
+    /// `Write::write`.
+    StdWrite(Vec<u8>),
+    /// `Write::write_all`.
+    WriteAll(Vec<u8>),
+    /// `WriteDevice::write_out`.
+    WriteOut(Vec<u8>),
+    /// `flush` of an outlet.
+    Flush,
+    /// `Write::flush`.
+    StdFlush,
+    /// `WriteDevice::flush_out`.
+    FlushOut,
+    /// `end` of an outlet.
+    End,
+    /// `abandon` of an outlet.
+    Abandon,
+    /// `issue` of turns.
+    Issue,
+    /// `take`.
+    Take(u64),
+    /// `put_back`, with an item.
+    PutBack(u64, u8),
+    /// `finish`, with an item.
+    Finish(u64, u8),
+    /// `leave`, with a text.
+    Leave(u64, Vec<u8>),
+    /// `issue`, `take` and `finish`, so often.
+    Pass(u64),
+    /// The call that a line of a script names.
+    Script(String),
+    /// A `read_body` of the request of this number, into so much room.
+    ReadBody(u64, usize),
+    /// Answers a request.
+    Answer(WatchedAnswer),
+    /// Upgrades the request of this number to this protocol, by an answer 200 whose data are watched.
+    Upgrade(u64, String),
+    /// `give_up` of the request of this number.
+    GiveUp(u64),
+    /// `is_open` of this number.
+    IsOpen(u64),
+    /// `next_number`.
+    NextNumber,
+}
+
+const NO_CALL: LineFault = LineFault::Bad("the row's value has no such call");
+
+// A number, and the words after it.
+fn number_before(words: &str) -> Result<(u64, &str), LineFault> {
+    let (digits, rest) = split(words);
+    Ok((number(digits)? as u64, rest))
+}
+
+// A number, and an item.
+fn number_and_item(words: &str) -> Result<(u64, u8), LineFault> {
+    let (number_of, rest) = number_before(words)?;
+    match u8::try_from(number(rest)?) {
+        Ok(item) => Ok((number_of, item)),
+        Err(_) => Err(LineFault::Bad("an item is below 256")),
+    }
+}
+
+// A call of a reader.
+fn reading(name: &str, words: &str) -> Result<Deed, LineFault> {
+    match name {
+        "read_line" if words.is_empty() => Ok(Deed::ReadLine),
+        "read_line_within" => Ok(Deed::ReadLineWithin(number(words)?)),
+        "skip" => Ok(Deed::Skip(number(words)?)),
+        "take_exactly" => Ok(Deed::TakeExactly(number(words)?)),
+        "read" => Ok(Deed::Read(number(words)?)),
+        "Read::read" => Ok(Deed::StdRead(number(words)?)),
+        "read_in" => Ok(Deed::ReadIn(number(words)?)),
+        _ => Err(NO_CALL),
+    }
+}
+
+// A call of a writer.
+fn writing(alloc: Global, name: &str, words: &str) -> Result<Deed, LineFault> {
+    let bytes = text_of(alloc, words)?;
+    match name {
+        "write" => Ok(Deed::Write(bytes)),
+        "Write::write" => Ok(Deed::StdWrite(bytes)),
+        "write_all" => Ok(Deed::WriteAll(bytes)),
+        "write_out" => Ok(Deed::WriteOut(bytes)),
+        "flush" => Ok(Deed::Flush),
+        "Write::flush" => Ok(Deed::StdFlush),
+        "flush_out" => Ok(Deed::FlushOut),
+        "end" => Ok(Deed::End),
+        "abandon" => Ok(Deed::Abandon),
+        _ => Err(NO_CALL),
+    }
+}
+
+// A call of a stream: of its reader or its writer.
+fn streaming(alloc: Global, name: &str, words: &str) -> Result<Deed, LineFault> {
+    match name {
+        "Read::read" | "read_in" => reading(name, words),
+        _ => writing(alloc, name, words),
+    }
+}
+
+// A call of turns.
+fn turning(alloc: Global, name: &str, words: &str) -> Result<Deed, LineFault> {
+    match name {
+        "issue" => Ok(Deed::Issue),
+        "take" => Ok(Deed::Take(number(words)? as u64)),
+        "put_back" => {
+            let (number, item) = number_and_item(words)?;
+            Ok(Deed::PutBack(number, item))
+        }
+        "finish" => {
+            let (number, item) = number_and_item(words)?;
+            Ok(Deed::Finish(number, item))
+        }
+        "leave" => {
+            let (number, text) = number_before(words)?;
+            Ok(Deed::Leave(number, text_of(alloc, text)?))
+        }
+        "pass" => Ok(Deed::Pass(number(words)? as u64)),
+        _ => Err(NO_CALL),
+    }
+}
+
+// An answer: its number, the length that is stated or `-`, the fault of the data or `-`, and the data.
+fn answer_in(alloc: Global, words: &str) -> Result<Deed, LineFault> {
+    let (number_of, words) = number_before(words)?;
+    let (length, words) = split(words);
+    let (fault, data) = split(words);
+    let length = match length {
+        "-" => None,
+        _ => Some(number(length)?),
+    };
+    if fault != "-" && kind_of(fault).is_none() {
+        return Err(LineFault::Bad("no such kind of fault"));
+    }
+    Ok(Deed::Answer(WatchedAnswer {
+        number: number_of,
+        length,
+        data: text_of(alloc, data)?,
+        fault: kind_of(fault),
+    }))
+}
+
+// A line of a script that has a reply.
+fn script_in(alloc: Global, part: &str) -> Result<Deed, LineFault> {
+    let line = text(alloc, part)?;
+    match text_in(line.as_str()) {
+        None | Some(ScriptLine::Blank | ScriptLine::Now(_)) => Err(NO_CALL),
+        Some(_) => Ok(Deed::Script(line)),
+    }
+}
+
+// A call of a connection, or of what was read without one.
+fn conversing(alloc: Global, part: &str) -> Result<Deed, LineFault> {
+    let (name, words) = split(part);
+    match name {
+        "answer" => answer_in(alloc, words),
+        "upgrade_to" => {
+            let (number, protocol) = number_before(words)?;
+            Ok(Deed::Upgrade(number, text(alloc, protocol)?))
+        }
+        "read_body" => {
+            let (number_of, room) = number_before(words)?;
+            Ok(Deed::ReadBody(number_of, number(room)?))
+        }
+        "give_up" => Ok(Deed::GiveUp(number(words)? as u64)),
+        "is_open" => Ok(Deed::IsOpen(number(words)? as u64)),
+        "next_number" => Ok(Deed::NextNumber),
+        _ => script_in(alloc, part),
+    }
+}
+
+/// The call of such a value that a part names.
+pub fn deed_in(alloc: Global, subject: Subject, part: &str) -> Result<Deed, LineFault> {
+    let (name, words) = split(part);
+    match subject {
+        Subject::Source | Subject::EqualReader(_) | Subject::FusedReader => reading(name, words),
+        Subject::Outlet => writing(alloc, name, words),
+        Subject::CustomStream => streaming(alloc, name, words),
+        Subject::Turns => turning(alloc, name, words),
+        Subject::Exchange(_) if name.starts_with("Outlet::") => {
+            writing(alloc, name.strip_prefix("Outlet::").unwrap_or(name), words)
+        }
+        Subject::Exchange(_) | Subject::Connection(_) => conversing(alloc, part),
+    }
+}

@@ -1,0 +1,54 @@
+//! Makes the calls of rows in files, and compares what comes of them with what the rows say: `calls FILE..`.
+//! docs/CASES.md describes the files.
+#![tactic(auto)]
+
+mod bodies;
+mod conversing;
+mod deeds;
+mod devices;
+mod exchanging;
+mod findings;
+mod headers;
+mod naming;
+mod numbers;
+mod outlets;
+mod parts;
+mod reading;
+mod replies;
+mod row;
+mod sources;
+mod standard;
+mod texts;
+mod trying;
+mod words;
+mod written;
+
+use crate::reading::files_of;
+use crate::trying::try_files;
+use test_data_files::fault::FilesFault;
+use test_data_files::program::{Checker, NamedFile, run_program};
+use std::alloc::Global;
+use std::io::Write;
+use std::process::ExitCode;
+
+// Makes the calls of rows.
+#[derive(Drop)]
+struct Calls;
+
+impl Checker for Calls {
+    fn check<'a, O: Write>(
+        &mut self,
+        alloc: Global,
+        files: &[NamedFile<'a>],
+        out: &mut O,
+    ) -> Result<bool, FilesFault<'a>> {
+        let files = files_of(alloc, files)?;
+        try_files(alloc, out, files.as_slice())
+    }
+}
+
+fn main(rt: HostRuntime) -> ExitCode {
+    let mut out = rt.stdout();
+    let mut err = rt.stderr();
+    ExitCode::from(run_program(&rt, "calls", &mut Calls, &mut out, &mut err))
+}

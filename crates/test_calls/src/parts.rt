@@ -1,0 +1,248 @@
+//! What goes into a call, part by part.
+use crate::deeds::deed_in;
+use crate::row::{Call, Failing, Input, Rooms};
+use crate::words::{add_series, header, header_line, number, numbers, split, text, version};
+use test_case_files::case::Room;
+use test_data_files::fault::LineFault;
+use test_data_files::kinds::kind_of;
+use test_data_files::text::{add_text, text_of};
+use std::alloc::{AllocError, Global};
+use std::io::ErrorKind;
+
+/// Nothing.
+pub fn empty_input(alloc: Global) -> Input {
+    Input {
+        bytes: Vec::new(alloc),
+        stop: None,
+        headers: Vec::new(alloc),
+        length: None,
+        threshold: None,
+        version: None,
+        request: Vec::new(alloc),
+        upgrade: None,
+        is_withheld: false,
+        has_flushes: false,
+        is_open: false,
+        room: None,
+        rooms: None,
+        pieces: Vec::new(alloc),
+        failing_read: None,
+        failing_write: None,
+        is_stuck: false,
+        deeds: Vec::new(alloc),
+    }
+}
+
+// The parts that a call takes.
+fn parts_of(call: &Call) -> &'static [&'static str] {
+    match call {
+        Call::Answers(_) | Call::AnswerHead => &["data", "series"],
+        Call::Decoder(_) => &["data", "series", "stop"],
+        Call::PutChunk => &["data", "series"],
+        Call::PutChunked => &["data", "series", "stop", "rooms"],
+        Call::Encoder(_) => &["data", "series", "flushes", "open", "rooms"],
+        Call::AskedCoding | Call::Validate(_, _) => &["request"],
+        Call::StandardRequestLine | Call::StandardFieldLine | Call::Host => &["data"],
+        Call::ReadHead(_) => &["data", "series"],
+        Call::RawPrint(_) => &[
+            "data",
+            "series",
+            "stop",
+            "header",
+            "length",
+            "threshold",
+            "version",
+            "request",
+            "upgrade",
+            "withheld",
+            "takes",
+            "rooms",
+        ],
+        Call::AddHeader => &["header"],
+        Call::Print(_) => &["data", "series", "length", "threshold"],
+        Call::Greeter => &["data", "series"],
+        Call::Each(_) => &[
+            "data",
+            "series",
+            "stop",
+            "takes",
+            "pieces",
+            "fails",
+            "writer-fails",
+            "stuck",
+        ],
+        _ => &[],
+    }
+}
+
+const TWICE: LineFault = LineFault::Bad("the row says so already");
+
+// Says what wasn't said before.
+fn put<T: Drop>(slot: &mut Option<T>, value: T) -> Result<(), LineFault> {
+    if slot.is_some() {
+        return Err(TWICE);
+    }
+    *slot = Some(value);
+    Ok(())
+}
+
+// Says that something is so, which wasn't said before and has no words.
+fn mark(slot: &mut bool, words: &str) -> Result<(), LineFault> {
+    if !words.is_empty() {
+        return Err(LineFault::Bad("this part takes no words"));
+    }
+    if *slot {
+        return Err(TWICE);
+    }
+    *slot = true;
+    Ok(())
+}
+
+// A kind of fault.
+fn kind(name: &str) -> Result<ErrorKind, LineFault> {
+    match kind_of(name) {
+        Some(kind) => Ok(kind),
+        None => Err(LineFault::Bad("no such kind of fault")),
+    }
+}
+
+// The size of a writer's room, and its fault.
+fn room(words: &str) -> Result<Room, LineFault> {
+    let (digits, name) = split(words);
+    Ok(Room {
+        bytes: number(digits)?,
+        fault: kind(name)?,
+    })
+}
+
+// The sizes of several writers' rooms.
+fn rooms(alloc: Global, words: &str) -> Result<Rooms, LineFault> {
+    if words == "each" {
+        return Ok(Rooms::Each);
+    }
+    Ok(Rooms::These(numbers(alloc, words)?))
+}
+
+// Adds a part of an answer and of its data.
+fn add_of_answer(
+    alloc: Global,
+    input: &mut Input,
+    word: &str,
+    words: &str,
+) -> Result<(), LineFault> {
+    match word {
+        "data" => Ok(add_text(alloc, words, &mut input.bytes)?),
+        "series" => add_series(words, &mut input.bytes),
+        "stop" => put(&mut input.stop, kind(words)?),
+        "length" => put(&mut input.length, number(words)?),
+        "threshold" => put(&mut input.threshold, number(words)?),
+        _ => {
+            let header = header(alloc, words)?;
+            input.headers.push(header).map_err(AllocError::from)?;
+            Ok(())
+        }
+    }
+}
+
+// Adds a part of a request.
+fn add_of_request(
+    alloc: Global,
+    input: &mut Input,
+    word: &str,
+    words: &str,
+) -> Result<(), LineFault> {
+    match word {
+        "version" => put(&mut input.version, version(words)?),
+        "upgrade" => put(&mut input.upgrade, text(alloc, words)?),
+        "withheld" => mark(&mut input.is_withheld, words),
+        _ => {
+            let header = header_line(alloc, words)?;
+            input.request.push(header).map_err(AllocError::from)?;
+            Ok(())
+        }
+    }
+}
+
+// Adds a part that says how is written.
+fn add_of_writing(
+    alloc: Global,
+    input: &mut Input,
+    word: &str,
+    words: &str,
+) -> Result<(), LineFault> {
+    match word {
+        "flushes" => mark(&mut input.has_flushes, words),
+        "open" => mark(&mut input.is_open, words),
+        "takes" => put(&mut input.room, room(words)?),
+        _ => put(&mut input.rooms, rooms(alloc, words)?),
+    }
+}
+
+// The call that fails, and its kind.
+fn failing(words: &str) -> Result<Failing, LineFault> {
+    let (digits, name) = split(words);
+    Ok(Failing {
+        call: number(digits)? as u64,
+        kind: kind(name)?,
+    })
+}
+
+// Adds a number of pieces of the same bytes.
+fn add_pieces(alloc: Global, words: &str, pieces: &mut Vec<Vec<u8>>) -> Result<(), LineFault> {
+    let (count, piece) = split(words);
+    let piece = text_of(alloc, piece)?;
+    for _ in 0..number(count)? {
+        pieces
+            .push(piece.as_slice().to_vec(alloc)?)
+            .map_err(AllocError::from)?;
+    }
+    Ok(())
+}
+
+// Adds a part that says of a reader or a writer how its calls go.
+fn add_of_devices(
+    alloc: Global,
+    input: &mut Input,
+    word: &str,
+    words: &str,
+) -> Result<(), LineFault> {
+    match word {
+        "pieces" => add_pieces(alloc, words, &mut input.pieces),
+        "fails" => put(&mut input.failing_read, failing(words)?),
+        "writer-fails" => put(&mut input.failing_write, failing(words)?),
+        _ => mark(&mut input.is_stuck, words),
+    }
+}
+
+// Adds one of the calls that a row makes one after another.
+fn add_deed(alloc: Global, call: &Call, input: &mut Input, part: &str) -> Result<(), LineFault> {
+    let Call::Each(subject) = call else {
+        return Err(LineFault::Bad("the call takes no such part"));
+    };
+    let deed = deed_in(alloc, *subject, part)?;
+    input.deeds.push(deed).map_err(AllocError::from)?;
+    Ok(())
+}
+
+/// Adds what a line says of a call's input.
+pub fn add_part(
+    alloc: Global,
+    call: &Call,
+    input: &mut Input,
+    part: &str,
+) -> Result<(), LineFault> {
+    let (word, words) = split(part);
+    if !parts_of(call).iter().any(|known| *known == word) {
+        return add_deed(alloc, call, input, part);
+    }
+    match word {
+        "version" | "upgrade" | "withheld" | "request" => {
+            add_of_request(alloc, input, word, words)
+        }
+        "flushes" | "open" | "takes" | "rooms" => add_of_writing(alloc, input, word, words),
+        "pieces" | "fails" | "writer-fails" | "stuck" => {
+            add_of_devices(alloc, input, word, words)
+        }
+        _ => add_of_answer(alloc, input, word, words),
+    }
+}

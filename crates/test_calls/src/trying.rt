@@ -1,0 +1,323 @@
+//! Tries the calls of rows, and reports those that differ.
+use crate::bodies::{decode, read_answers, read_head_alone};
+use crate::conversing::{call_connections, greet};
+use crate::exchanging::call_exchanges;
+use crate::findings::{add, add_shown, add_some};
+use crate::headers::add_to_answer;
+use crate::numbers::{call_turns, keep_numbers};
+use crate::outlets::{call_outlets, call_streams};
+use crate::reading::RowFile;
+use crate::row::{Call, Finding, Input, Rooms, Row, Subject, is_asked};
+use crate::sources::{call_sources, read_fused, read_parts};
+use crate::standard::{
+    read_field_line, read_first_head, read_request_line, validate_head, validate_host,
+};
+use crate::texts::{ask, choose_by, phrase, read_text, show, write_number};
+use crate::written::{encode, print, print_by_standard, write_chunk, write_chunked};
+use test_case_files::case::Room;
+use test_case_files::devices::PIECES;
+use test_data_files::fault::FilesFault;
+use test_data_files::text::shown;
+use std::alloc::{AllocError, Global};
+use std::io::{ErrorKind, Write};
+
+/// How a call is tried.
+#[derive(Clone, Copy, Debug, PartialEq, Eq)]
+struct Trial {
+    // How many bytes a call of a reader gives at most, or how many are written at a time.
+    piece: usize,
+    // Where the writer fails, if it doesn't take all.
+    room: Option<Room>,
+}
+
+/// Where a row differs: in which trial, what was found, and what the row says.
+#[derive(Drop)]
+struct Difference {
+    how: String,
+    found: String,
+    wanted: String,
+}
+
+// Makes the calls of a value, one after another.
+fn make_each(
+    alloc: Global,
+    subject: Subject,
+    input: &Input,
+    piece: usize,
+    to: &mut Vec<Finding>,
+) -> Result<(), AllocError> {
+    match subject {
+        Subject::Source => call_sources(alloc, input, piece, to),
+        Subject::EqualReader(size) => read_parts(alloc, input, (size, piece), to),
+        Subject::FusedReader => read_fused(alloc, input, piece, to),
+        Subject::Outlet => call_outlets(alloc, input, to),
+        Subject::CustomStream => call_streams(alloc, input, piece, to),
+        Subject::Turns => call_turns(alloc, input, to),
+        Subject::Exchange(profile) => call_exchanges(alloc, profile, input, piece, to),
+        Subject::Connection(profile) => call_connections(alloc, profile, input, piece, to),
+    }
+}
+
+// Makes the call of a row.
+fn make_call(
+    alloc: Global,
+    row: &Row,
+    trial: Trial,
+    to: &mut Vec<Finding>,
+) -> Result<(), AllocError> {
+    let input = &row.input;
+    let Trial { piece, room } = trial;
+    match &row.call {
+        Call::Text(call, text) => read_text(alloc, *call, text.as_str(), to),
+        Call::Answers(methods) => {
+            read_answers(alloc, methods.as_slice(), input.bytes.as_slice(), to)
+        }
+        Call::AnswerHead => read_head_alone(alloc, input.bytes.as_slice(), to),
+        Call::Decoder(rules) => decode(alloc, *rules, input, piece, to),
+        Call::PutChunk => write_chunk(alloc, input, to),
+        Call::PutChunked => write_chunked(alloc, input, room, to),
+        Call::Encoder(_) => encode(alloc, input, piece, room, to),
+        Call::AskedCoding => ask(alloc, input.request.as_slice(), to),
+        Call::Choose(choice) => choose_by(alloc, *choice, to),
+        Call::RawPrint(status) => print(alloc, *status, input, room.or(input.room), to),
+        Call::AddHeader => add_to_answer(alloc, input.headers.as_slice(), to),
+        Call::Phrase(status) => phrase(alloc, *status, to),
+        Call::Version(version) => show(alloc, *version, to),
+        Call::Numeral(number) => write_number(alloc, *number, to),
+        Call::StandardRequestLine => read_request_line(alloc, input.bytes.as_slice(), to),
+        Call::StandardFieldLine => read_field_line(alloc, input.bytes.as_slice(), to),
+        Call::ReadHead(limit) => read_first_head(alloc, *limit, input.bytes.as_slice(), to),
+        Call::Host => validate_host(alloc, input.bytes.as_slice(), to),
+        Call::Print(status) => print_by_standard(alloc, *status, input, to),
+        Call::Each(subject) => make_each(alloc, *subject, input, piece, to),
+        Call::Greeter => greet(alloc, input, piece, to),
+        Call::ByNumber(count) => keep_numbers(alloc, *count, to),
+        Call::UpgradeError(error) => add_shown(alloc, to, "phrase", error),
+        Call::TurnsError(error) => add_shown(alloc, to, "phrase", error),
+        Call::Validate(version, method) => {
+            validate_head(alloc, *version, method, input.request.as_slice(), to)
+        }
+    }
+}
+
+// Whether a row has to agree to something that comes.
+fn counts(finding: &Finding, wanted: &[Finding]) -> bool {
+    !is_asked(finding.word) || wanted.iter().any(|want| want.word == finding.word)
+}
+
+// Whether the two are the same.
+fn is_same(found: Option<&Finding>, want: Option<&Finding>) -> bool {
+    match (found, want) {
+        (Some(found), Some(want)) => found.word == want.word && found.text == want.text,
+        (None, None) => true,
+        _ => false,
+    }
+}
+
+// The first that differs of what was found and of what is wanted.
+fn first_pair<'a>(
+    found: &'a [Finding],
+    wanted: &'a [Finding],
+) -> Option<(Option<&'a Finding>, Option<&'a Finding>)> {
+    let mut place = 0usize;
+    for finding in found {
+        if counts(finding, wanted) {
+            let want = wanted.get(place);
+            place = place.saturating_add(1);
+            if !is_same(Some(finding), want) {
+                return Some((Some(finding), want));
+            }
+        }
+    }
+    match wanted.get(place) {
+        Some(want) => Some((None, Some(want))),
+        None => None,
+    }
+}
+
+// A finding as its line in a file.
+fn line_of(alloc: Global, finding: Option<&Finding>) -> Result<String, AllocError> {
+    let Some(finding) = finding else {
+        return String::from_str(alloc, "nothing");
+    };
+    let word = finding.word;
+    if finding.text.is_empty() {
+        return format!(in alloc; "[{word}]");
+    }
+    let text = shown(alloc, finding.text.as_slice())?;
+    let text = text.as_str();
+    format!(in alloc; "[{word} {text}]")
+}
+
+// How a call was tried, in words.
+fn how(alloc: Global, trial: Trial) -> Result<String, AllocError> {
+    match (trial.room, trial.piece) {
+        (Some(room), _) => {
+            let bytes = room.bytes;
+            format!(in alloc; ", a writer that takes {bytes} bytes")
+        }
+        (None, 0) => Ok(String::new(alloc)),
+        (None, piece) => format!(in alloc; ", {piece} bytes at a time"),
+    }
+}
+
+// Tries a call once.
+fn try_once(
+    alloc: Global,
+    row: &Row,
+    trial: Trial,
+    wanted: &[Finding],
+) -> Result<Option<Difference>, AllocError> {
+    let mut found = Vec::new(alloc);
+    make_call(alloc, row, trial, &mut found)?;
+    let Some((found, want)) = first_pair(found.as_slice(), wanted) else {
+        return Ok(None);
+    };
+    Ok(Some(Difference {
+        how: how(alloc, trial)?,
+        found: line_of(alloc, found)?,
+        wanted: line_of(alloc, want)?,
+    }))
+}
+
+// Tries a call by each number of bytes at a time that it is tried with.
+fn try_pieces(alloc: Global, row: &Row) -> Result<Option<Difference>, AllocError> {
+    let pieces = match &row.call {
+        Call::Decoder(_) | Call::Greeter => PIECES.as_slice(),
+        Call::Each(_) if !row.input.bytes.is_empty() => PIECES.as_slice(),
+        Call::Encoder(sizes) => sizes.as_slice(),
+        _ => &[0],
+    };
+    for piece in pieces {
+        let trial = Trial {
+            piece: *piece,
+            room: None,
+        };
+        if let Some(difference) = try_once(alloc, row, trial, row.wanted.as_slice())? {
+            return Ok(Some(difference));
+        }
+    }
+    Ok(None)
+}
+
+// The output that has to come of a row's call.
+fn output_of(row: &Row) -> &[u8] {
+    for want in &row.wanted {
+        if want.word == "output" {
+            return want.text.as_slice();
+        }
+    }
+    b""
+}
+
+// Tries a call with a writer that takes so many bytes, and then fails: it is given the front of the output, and no
+// more.
+fn try_room(alloc: Global, row: &Row, bytes: usize) -> Result<Option<Difference>, AllocError> {
+    let output = output_of(row);
+    let mut wanted = Vec::new(alloc);
+    add_some(
+        alloc,
+        &mut wanted,
+        "output",
+        output.get(..bytes).unwrap_or(output),
+    )?;
+    add(alloc, &mut wanted, "fault", b"TimedOut")?;
+    add(alloc, &mut wanted, "failed", b"1")?;
+    let fault = ErrorKind::TimedOut;
+    let trial = Trial {
+        piece: output.len(),
+        room: Some(Room { bytes, fault }),
+    };
+    try_once(alloc, row, trial, wanted.as_slice())
+}
+
+// How many bytes the writers take that a call is tried with.
+fn rooms_of(alloc: Global, row: &Row) -> Result<Vec<usize>, AllocError> {
+    match &row.input.rooms {
+        None => Ok(Vec::new(alloc)),
+        Some(Rooms::These(rooms)) => rooms.as_slice().to_vec(alloc),
+        Some(Rooms::Each) => (0..output_of(row).len()).collect(alloc),
+    }
+}
+
+// Tries a call with each writer that its row says.
+fn try_rooms(alloc: Global, row: &Row) -> Result<Option<Difference>, AllocError> {
+    for bytes in rooms_of(alloc, row)? {
+        if let Some(difference) = try_room(alloc, row, bytes)? {
+            return Ok(Some(difference));
+        }
+    }
+    Ok(None)
+}
+
+// Tries a call in all ways that its row says. The first difference.
+fn try_row(alloc: Global, row: &Row) -> Result<Option<Difference>, AllocError> {
+    match try_pieces(alloc, row)? {
+        Some(difference) => Ok(Some(difference)),
+        None => try_rooms(alloc, row),
+    }
+}
+
+// Reports a row that differs by a line.
+fn report<'a, O: Write>(
+    out: &mut O,
+    name: &str,
+    line: usize,
+    difference: &Difference,
+) -> Result<(), FilesFault<'a>> {
+    let how = difference.how.as_str();
+    let found = difference.found.as_str();
+    let wanted = difference.wanted.as_str();
+    match writeln!(out, "{name}:{line}{how}: {found} and not {wanted}") {
+        Ok(()) => Ok(()),
+        Err(_) => Err(FilesFault::CannotWrite),
+    }
+}
+
+// Tries the rows of a file, and gives how many differ. Each that does is reported by a line.
+fn try_rows<'a, O: Write>(
+    alloc: Global,
+    out: &mut O,
+    file: &RowFile<'a>,
+) -> Result<u64, FilesFault<'a>> {
+    let mut differing = 0u64;
+    for row in &file.rows {
+        if let Some(difference) = try_row(alloc, row)? {
+            differing = differing.saturating_add(1);
+            report(out, file.name, row.line, &difference)?;
+        }
+    }
+    Ok(differing)
+}
+
+// Tries the rows of a file, reports it by a line, and gives whether no row differed.
+fn try_file<'a, O: Write>(
+    alloc: Global,
+    out: &mut O,
+    file: &RowFile<'a>,
+) -> Result<bool, FilesFault<'a>> {
+    let differing = try_rows(alloc, out, file)?;
+    let name = file.name;
+    let count = file.rows.len();
+    match writeln!(out, "{name}: {count} rows, {differing} differ") {
+        Ok(()) => Ok(differing == 0),
+        Err(_) => Err(FilesFault::CannotWrite),
+    }
+}
+
+/// Tries the rows of all files, and reports each row that differs and each file by a line. Whether no row differed.
+pub fn try_files<'a, O: Write>(
+    alloc: Global,
+    out: &mut O,
+    files: &[RowFile<'a>],
+) -> Result<bool, FilesFault<'a>> {
+    let mut is_same = true;
+    for file in files {
+        let is_same_there = try_file(alloc, out, file)?;
+        is_same = is_same && is_same_there;
+    }
+    match out.flush() {
+        Ok(()) => Ok(is_same),
+        Err(_) => Err(FilesFault::CannotWrite),
+    }
+}

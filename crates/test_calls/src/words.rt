@@ -1,0 +1,111 @@
+//! The words of a line: numbers, versions, codings, texts.
+use test_data_files::fault::LineFault;
+use test_data_files::text::{number_in, text_of};
+use std::alloc::{AllocError, Global};
+use tiny_http_wire::coding::Coding;
+use tiny_http_wire::common::{HTTPVersion, Header, ParseError, StatusCode};
+
+/// The first word of a line, and what stands behind the space after it.
+pub fn split(line: &str) -> (&str, &str) {
+    match line.split_once(' ') {
+        Some(parts) => parts,
+        None => (line, ""),
+    }
+}
+
+/// A number.
+pub fn number(word: &str) -> Result<usize, LineFault> {
+    match number_in(word) {
+        Some(number) => Ok(number),
+        None => Err(LineFault::Bad("no number stands where one has to")),
+    }
+}
+
+/// Numbers, with a space between them; at least one.
+pub fn numbers(alloc: Global, words: &str) -> Result<Vec<usize>, LineFault> {
+    let mut list = Vec::new(alloc);
+    for word in words.split(' ') {
+        let number = number(word)?;
+        list.push(number).map_err(AllocError::from)?;
+    }
+    Ok(list)
+}
+
+/// A number, or `-` for none.
+pub fn number_or_none(word: &str) -> Result<Option<usize>, LineFault> {
+    if word == "-" {
+        return Ok(None);
+    }
+    Ok(Some(number(word)?))
+}
+
+/// A status.
+pub fn status(word: &str) -> Result<StatusCode, LineFault> {
+    match u16::try_from(number(word)?) {
+        Ok(status) => Ok(StatusCode(status)),
+        Err(_) => Err(LineFault::Bad("a status is below 65536")),
+    }
+}
+
+/// A version: two numbers below 256 with a point between them.
+pub fn version(word: &str) -> Result<HTTPVersion, LineFault> {
+    let (major, minor) = word.split_once('.').unwrap_or((word, ""));
+    match (u8::try_from(number(major)?), u8::try_from(number(minor)?)) {
+        (Ok(major), Ok(minor)) => Ok(HTTPVersion(major, minor)),
+        _ => Err(LineFault::Bad("a version has numbers below 256")),
+    }
+}
+
+/// A coding, or `-` for none.
+pub fn coding(word: &str) -> Result<Option<Coding>, LineFault> {
+    match word {
+        "-" => Ok(None),
+        "chunked" => Ok(Some(Coding::Chunked)),
+        "identity" => Ok(Some(Coding::Identity)),
+        _ => Err(LineFault::Bad("no such coding")),
+    }
+}
+
+/// A text, its escapes replaced.
+pub fn text(alloc: Global, words: &str) -> Result<String, LineFault> {
+    match String::from_utf8(text_of(alloc, words)?) {
+        Ok(text) => Ok(text),
+        Err(_) => Err(LineFault::Bad("a text is UTF-8")),
+    }
+}
+
+/// A header as its line is read.
+pub fn header_line(alloc: Global, words: &str) -> Result<Header, LineFault> {
+    let line = text(alloc, words)?;
+    match Header::from_str(alloc, line.as_str()) {
+        Ok(header) => Ok(header),
+        Err(ParseError::Refused) => Err(LineFault::Bad("no such header line")),
+        Err(ParseError::Memory) => Err(LineFault::OutOfMemory),
+    }
+}
+
+/// A header of a name and a value, which `: ` stands between.
+pub fn header(alloc: Global, words: &str) -> Result<Header, LineFault> {
+    let line = text(alloc, words)?;
+    let Some((name, value)) = line.as_str().split_once(": ") else {
+        return Err(LineFault::Bad("a header is NAME: VALUE"));
+    };
+    let name = name.as_bytes().to_vec(alloc)?;
+    match Header::from_bytes(name, value.as_bytes().to_vec(alloc)?) {
+        Ok(header) => Ok(header),
+        Err(()) => Err(LineFault::Bad("a header is ASCII")),
+    }
+}
+
+/// Adds bytes of the series 0, 1, .. 250, 0, 1, ..: from which place on, and how many.
+pub fn add_series(words: &str, to: &mut Vec<u8>) -> Result<(), LineFault> {
+    let (from, count) = split(words);
+    let (from, count) = (number(from)?, number(count)?);
+    let Some(end) = from.checked_add(count) else {
+        return Err(LineFault::Bad("the series has fewer places"));
+    };
+    for place in from..end {
+        to.push((place % 251) as u8).map_err(AllocError::from)?;
+    }
+    Ok(())
+}

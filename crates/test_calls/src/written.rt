@@ -1,0 +1,205 @@
+//! Answers and bodies that are written.
+use crate::bodies::{add_left, data_of};
+use crate::devices::Watched;
+use crate::findings::{add, add_kind, add_shown, add_some};
+use crate::row::{Finding, Input};
+use test_case_files::case::Room;
+use test_case_files::devices::Trier;
+use replay_script::script::first_date;
+use std::alloc::{AllocError, Global};
+use std::io;
+use std::io::{ErrorKind, Write};
+use tiny_http_body::chunks::{put_chunk, put_chunked};
+use tiny_http_wire::common::{HTTPVersion, StatusCode};
+use tiny_http_wire::device::{Canned, Metered, WriteDevice};
+use tiny_http_wire::encoder::Encoder;
+use tiny_http_wire::response::Response;
+use tiny_http_wire::response_context::{Persistence, ResponseContext};
+
+// A writer of this room, or of ample room.
+fn writer_of(alloc: Global, room: Option<Room>) -> Metered<Trier> {
+    match room {
+        Some(room) => Metered::new(Trier::with_room(alloc, room.bytes, room.fault)),
+        None => Metered::new(Trier::with_room(alloc, usize::MAX, ErrorKind::Other)),
+    }
+}
+
+// A count that is above 0.
+fn add_count(
+    alloc: Global,
+    to: &mut Vec<Finding>,
+    word: &'static str,
+    count: u64,
+) -> Result<(), AllocError> {
+    if count == 0 {
+        return Ok(());
+    }
+    add_shown(alloc, to, word, &count)
+}
+
+// What was written, the fault that was reported, how often the writer failed, and how often it was called after that.
+fn add_written(
+    alloc: Global,
+    to: &mut Vec<Finding>,
+    writer: Metered<Trier>,
+    outcome: io::Result<()>,
+) -> Result<(), AllocError> {
+    let failures = writer.failures();
+    let writer = writer.into_inner();
+    add_some(alloc, to, "output", writer.taken())?;
+    if let Err(fault) = outcome {
+        add_kind(alloc, to, "fault", fault.kind())?;
+    }
+    add_count(alloc, to, "failed", failures)?;
+    add_count(alloc, to, "later", writer.later())
+}
+
+/// What comes of some bytes as one chunk; nothing of none.
+pub fn write_chunk(alloc: Global, input: &Input, to: &mut Vec<Finding>) -> Result<(), AllocError> {
+    let bytes = input.bytes.as_slice();
+    if bytes.is_empty() {
+        return Ok(());
+    }
+    let mut writer = writer_of(alloc, None);
+    let outcome = put_chunk(&mut writer, bytes);
+    add_written(alloc, to, writer, outcome)
+}
+
+/// What comes of data in chunks.
+pub fn write_chunked(
+    alloc: Global,
+    input: &Input,
+    room: Option<Room>,
+    to: &mut Vec<Finding>,
+) -> Result<(), AllocError> {
+    let mut data = data_of(alloc, input)?;
+    let mut writer = writer_of(alloc, room);
+    let outcome = put_chunked(&mut data, &mut writer);
+    add_written(alloc, to, writer, outcome)
+}
+
+// Writes bytes, and then flushes and writes nothing if that is said.
+fn write_piece<W: Write>(writer: &mut W, piece: &[u8], has_flushes: bool) -> io::Result<()> {
+    writer.write_all(piece)?;
+    if has_flushes {
+        writer.flush()?;
+        writer.write(b"")?;
+    }
+    Ok(())
+}
+
+// Writes the bytes, so many at a time.
+fn write_pieces<W: Write>(writer: &mut W, input: &Input, piece: usize) -> io::Result<()> {
+    let mut rest = input.bytes.as_slice();
+    for _ in 0..input.bytes.len() {
+        if rest.is_empty() {
+            break;
+        }
+        let (front, behind) = rest.split_at(piece.min(rest.len()));
+        write_piece(writer, front, input.has_flushes)?;
+        rest = behind;
+    }
+    Ok(())
+}
+
+// Gives the bytes to an encoder over the writer, and ends the body unless it is to be left open.
+fn give(writer: &mut Metered<Trier>, input: &Input, piece: usize) -> io::Result<()> {
+    let mut encoder = Encoder::new(writer);
+    write_pieces(&mut encoder, input, piece)?;
+    if !input.is_open {
+        let _writer = encoder.finish()?;
+    }
+    Ok(())
+}
+
+/// What comes of bytes that are given to an encoder, so many at a time.
+pub fn encode(
+    alloc: Global,
+    input: &Input,
+    piece: usize,
+    room: Option<Room>,
+    to: &mut Vec<Finding>,
+) -> Result<(), AllocError> {
+    let mut writer = writer_of(alloc, room);
+    let outcome = give(&mut writer, input, piece);
+    add_written(alloc, to, writer, outcome)
+}
+
+// The answer of this status with these data. Its headers are added to it one by one.
+fn answer<'a, D>(
+    alloc: Global,
+    status: StatusCode,
+    input: &Input,
+    data: &'a mut D,
+) -> Result<Response<&'a mut D>, AllocError> {
+    let mut answer = Response::empty(alloc, status).with_data(data, input.length);
+    for header in &input.headers {
+        if answer.add_header(header.try_clone()?).is_err() {
+            return Err(AllocError);
+        }
+    }
+    match input.threshold {
+        Some(threshold) => Ok(answer.with_chunked_threshold(threshold)),
+        None => Ok(answer),
+    }
+}
+
+// Prints an answer.
+fn print_to(
+    alloc: Global,
+    answer: Response<&mut Canned>,
+    input: &Input,
+    writer: &mut Metered<Trier>,
+) -> io::Result<()> {
+    let upgrade = match &input.upgrade {
+        Some(protocol) => Some(protocol.as_str()),
+        None => None,
+    };
+    answer.raw_print(
+        alloc,
+        writer,
+        input.version.unwrap_or(HTTPVersion(1, 1)),
+        input.request.as_slice(),
+        input.is_withheld,
+        upgrade,
+        first_date(),
+    )
+}
+
+/// What comes of an answer that is printed, and what is left of its data.
+pub fn print(
+    alloc: Global,
+    status: StatusCode,
+    input: &Input,
+    room: Option<Room>,
+    to: &mut Vec<Finding>,
+) -> Result<(), AllocError> {
+    let mut data = data_of(alloc, input)?;
+    let mut writer = writer_of(alloc, room);
+    let answer = answer(alloc, status, input, &mut data)?;
+    let outcome = print_to(alloc, answer, input, &mut writer);
+    add_written(alloc, to, writer, outcome)?;
+    add_left(alloc, &mut data, to)
+}
+
+const BY_THE_STANDARD: ResponseContext = ResponseContext {
+    version: HTTPVersion(1, 1),
+    asked_coding: None,
+    no_body: false,
+    persistence: Some(Persistence::Persistent),
+};
+
+/// What comes of an answer that is printed by the standard, and how much is read of its data.
+pub fn print_by_standard(
+    alloc: Global,
+    status: StatusCode,
+    input: &Input,
+    to: &mut Vec<Finding>,
+) -> Result<(), AllocError> {
+    let mut data = Watched::new(alloc, input.bytes.as_slice(), None)?;
+    let mut writer = writer_of(alloc, None);
+    let answer = answer(alloc, status, input, &mut data)?;
+    let outcome = answer.print(alloc, &mut writer, BY_THE_STANDARD, None, first_date());
+    add_written(alloc, to, writer, outcome)?;
+    add(alloc, to, "reads", data.reads().as_bytes())
+}

@@ -1,0 +1,281 @@
+//! Reads a file of cases, line by line.
+use crate::case::{Answer, Case, CaseStep, Deed, Room};
+use test_data_files::fault::{FilesFault, LineFault, line_text};
+use test_data_files::kinds::kind_of;
+use test_data_files::text::{add_text, number_in, text_of};
+use replay_script::line::{ScriptLine, text_in};
+use std::alloc::{AllocError, Global};
+use tiny_http_core::framing::Profile;
+use tiny_http_wire::ascii::AsciiString;
+use tiny_http_wire::common::{Header, ParseError};
+
+const NO_KIND: LineFault = LineFault::Bad("no such kind of fault");
+
+const NO_HEADER: LineFault = LineFault::Bad("no such header line");
+
+const NO_NUMBER: LineFault = LineFault::Bad("no number stands where one has to");
+
+// Begins a case of this name.
+fn begin(alloc: Global, cases: &mut Vec<Case>, name: &str) -> Result<(), LineFault> {
+    if name.is_empty() || name.contains(' ') {
+        return Err(LineFault::Bad("a case has a name of one word"));
+    }
+    if cases.iter().any(|case| case.name.as_str() == name) {
+        return Err(LineFault::Bad("an earlier case has this name"));
+    }
+    let case = Case {
+        name: String::from_str(alloc, name)?,
+        profile: Profile::Lenient,
+        client: Vec::new(alloc),
+        stop: None,
+        room: None,
+        is_uncut: false,
+        varied: None,
+        steps: Vec::new(alloc),
+        output: Vec::new(alloc),
+        end: None,
+    };
+    cases.push(case).map_err(AllocError::from)?;
+    Ok(())
+}
+
+// Why the last case isn't whole, if it isn't.
+fn lack_of(cases: &[Case]) -> Option<&'static str> {
+    let case = cases.last()?;
+    let Some(step) = case.steps.last() else {
+        return Some("the case in front has no step");
+    };
+    if case.steps.iter().all(CaseStep::is_date) {
+        return Some("the case in front has no step");
+    }
+    if !step.is_answered {
+        return Some("the last step of the case in front has no reply");
+    }
+    if case.varied.is_some_and(|count| count > case.client.len()) {
+        return Some("the case in front varies more bytes than its client sends");
+    }
+    if case.varied.is_some() && case.profile == Profile::Strict {
+        return Some("the case in front varies bytes, and the strict profile has no plain reading");
+    }
+    None
+}
+
+// The size of a writer's room and its fault.
+fn room_in(words: &str) -> Result<Room, LineFault> {
+    let Some((digits, name)) = words.split_once(' ') else {
+        return Err(LineFault::Bad("a writer's room is a number and a kind"));
+    };
+    let Some(bytes) = number_in(digits) else {
+        return Err(NO_NUMBER);
+    };
+    match kind_of(name) {
+        Some(fault) => Ok(Room { bytes, fault }),
+        None => Err(NO_KIND),
+    }
+}
+
+// Adds a step that has no reply yet.
+fn add_step(case: &mut Case, deed: Deed, reply: Vec<u8>, is_date: bool) -> Result<(), LineFault> {
+    if let Some(step) = case.steps.last()
+        && !step.is_answered
+    {
+        return Err(LineFault::Bad("the step in front has no reply"));
+    }
+    let step = CaseStep {
+        deed,
+        reply,
+        is_answered: is_date,
+    };
+    case.steps.push(step).map_err(AllocError::from)?;
+    Ok(())
+}
+
+// The number and the status of an answer.
+fn answer_in(alloc: Global, words: &str) -> Result<Answer, LineFault> {
+    let Some((number, status)) = words.split_once(' ') else {
+        return Err(LineFault::Bad("an answer has a number and a status"));
+    };
+    let (Some(number), Some(status)) = (number_in(number), number_in(status)) else {
+        return Err(NO_NUMBER);
+    };
+    let Ok(status) = u16::try_from(status) else {
+        return Err(LineFault::Bad("a status is below 65536"));
+    };
+    Ok(Answer {
+        number: number as u64,
+        status,
+        headers: Vec::new(alloc),
+        length: None,
+        threshold: None,
+        closes: false,
+        offer: None,
+        data: Vec::new(alloc),
+        fault: None,
+    })
+}
+
+// A line of a script, its escapes replaced; whether it is a date.
+fn script_in(alloc: Global, text: &str) -> Result<(String, bool), LineFault> {
+    let Ok(line) = String::from_utf8(text_of(alloc, text)?) else {
+        return Err(LineFault::Bad("a step is UTF-8"));
+    };
+    match text_in(line.as_str()) {
+        None | Some(ScriptLine::Blank) => Err(LineFault::Bad("no such line")),
+        Some(ScriptLine::Now(_)) => Ok((line, true)),
+        Some(_) => Ok((line, false)),
+    }
+}
+
+// A header line that can be read as one.
+fn header_in(alloc: Global, text: &str) -> Result<String, LineFault> {
+    let Ok(line) = String::from_utf8(text_of(alloc, text)?) else {
+        return Err(NO_HEADER);
+    };
+    match Header::from_str(alloc, line.as_str()) {
+        Ok(_) => Ok(line),
+        Err(ParseError::Refused) => Err(NO_HEADER),
+        Err(ParseError::Memory) => Err(LineFault::OutOfMemory),
+    }
+}
+
+// Adds what a line says of an answer.
+fn add_part(alloc: Global, answer: &mut Answer, text: &str) -> Result<(), LineFault> {
+    let (word, words) = text.split_once(' ').unwrap_or((text, ""));
+    match word {
+        "data" => add_text(alloc, words, &mut answer.data)?,
+        "header" => {
+            let header = header_in(alloc, words)?;
+            answer.headers.push(header).map_err(AllocError::from)?;
+        }
+        "length" if answer.length.is_none() => match number_in(words) {
+            Some(length) => answer.length = Some(length),
+            None => return Err(NO_NUMBER),
+        },
+        "threshold" if answer.threshold.is_none() => match number_in(words) {
+            Some(threshold) => answer.threshold = Some(threshold),
+            None => return Err(NO_NUMBER),
+        },
+        "close" if !answer.closes => answer.closes = true,
+        "offer" if answer.offer.is_none() => {
+            match AsciiString::from_ascii(text_of(alloc, words)?) {
+                Ok(offer) => answer.offer = Some(offer),
+                Err(_) => return Err(LineFault::Bad("an offer is ASCII")),
+            }
+        }
+        "fault" if answer.fault.is_none() => match kind_of(words) {
+            Some(kind) => answer.fault = Some(kind),
+            None => return Err(NO_KIND),
+        },
+        _ => return Err(LineFault::Bad("an answer has no such part, or has it already")),
+    }
+    Ok(())
+}
+
+// The answer that a part belongs to: that of the last step, as long as this has no reply.
+fn open_answer(case: &mut Case) -> Result<&mut Answer, LineFault> {
+    if let Some(step) = case.steps.last_mut()
+        && !step.is_answered
+        && let Deed::Answer(answer) = &mut step.deed
+    {
+        return Ok(answer);
+    }
+    Err(LineFault::Bad("no answer stands in front of this part"))
+}
+
+// Adds the reply of the last step.
+fn add_reply(alloc: Global, case: &mut Case, text: &str) -> Result<(), LineFault> {
+    let Some(step) = case.steps.last_mut() else {
+        return Err(LineFault::Bad("no step stands in front of this reply"));
+    };
+    if step.is_answered {
+        return Err(LineFault::Bad("the step in front has a reply already"));
+    }
+    add_text(alloc, text, &mut step.reply)?;
+    step.is_answered = true;
+    Ok(())
+}
+
+// Adds what a line says of a case that is begun.
+fn add_line(alloc: Global, case: &mut Case, text: &str) -> Result<(), LineFault> {
+    if let Some(text) = text.strip_prefix("  ") {
+        return add_reply(alloc, case, text);
+    }
+    if let Some(part) = text.strip_prefix("+ ") {
+        return add_part(alloc, open_answer(case)?, part);
+    }
+    let (word, words) = text.split_once(' ').unwrap_or((text, ""));
+    match word {
+        "profile" if case.profile == Profile::Lenient => match words {
+            "strict" => case.profile = Profile::Strict,
+            "standard" => case.profile = Profile::Standard,
+            _ => return Err(LineFault::Bad("a case names no profile but strict and standard")),
+        },
+        "client" => add_text(alloc, words, &mut case.client)?,
+        "output" => add_text(alloc, words, &mut case.output)?,
+        "stop" if case.stop.is_none() => match kind_of(words) {
+            Some(kind) => case.stop = Some(kind),
+            None => return Err(NO_KIND),
+        },
+        "takes" if case.room.is_none() => case.room = Some(room_in(words)?),
+        "uncut" if text != "uncut" => return Err(LineFault::Bad("nothing stands behind uncut")),
+        "uncut" if !case.is_uncut => case.is_uncut = true,
+        "vary" if case.varied.is_none() => match number_in(words) {
+            Some(count) => case.varied = Some(count),
+            None => return Err(NO_NUMBER),
+        },
+        "end" if case.end.is_none() => case.end = Some(text_of(alloc, words)?),
+        "profile" | "stop" | "takes" | "uncut" | "vary" | "end" => return Err(LineFault::Bad(
+            "the case says so already",
+        )),
+        "answer" => {
+            let answer = answer_in(alloc, words)?;
+            add_step(case, Deed::Answer(answer), Vec::new(alloc), false)?;
+        }
+        _ => {
+            let (line, is_date) = script_in(alloc, text)?;
+            add_step(case, Deed::Script(line), Vec::new(alloc), is_date)?;
+        }
+    }
+    Ok(())
+}
+
+// Reads one line: passed over, the beginning of a case, or a line of the last case.
+fn read_line(alloc: Global, cases: &mut Vec<Case>, line: &[u8]) -> Result<(), LineFault> {
+    let Some(text) = line_text(line)? else {
+        return Ok(());
+    };
+    if let Some(name) = text.strip_prefix("case ") {
+        if let Some(why) = lack_of(cases.as_slice()) {
+            return Err(LineFault::Bad(why));
+        }
+        return begin(alloc, cases, name);
+    }
+    match cases.last_mut() {
+        Some(case) => add_line(alloc, case, text),
+        None => Err(LineFault::Bad("no case has begun")),
+    }
+}
+
+/// The cases of a file of this name and these bytes; or its first line that isn't of the format, and why. A file
+/// without a case isn't of the format.
+pub fn read_cases<'a>(
+    alloc: Global,
+    name: &'a str,
+    bytes: &[u8],
+) -> Result<Vec<Case>, FilesFault<'a>> {
+    let mut cases = Vec::new(alloc);
+    let mut number = 0usize;
+    for line in bytes.split(|byte| *byte == b'\n') {
+        number = number.saturating_add(1);
+        if let Err(fault) = read_line(alloc, &mut cases, line) {
+            return Err(FilesFault::at_line(name, number, fault));
+        }
+    }
+    if cases.is_empty() {
+        return Err(FilesFault::BadLine(name, number, "there is no case"));
+    }
+    match lack_of(cases.as_slice()) {
+        Some(why) => Err(FilesFault::BadLine(name, number, why)),
+        None => Ok(cases),
+    }
+}

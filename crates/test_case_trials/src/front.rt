@@ -1,0 +1,263 @@
+//! Cases whose client's bytes are cut, or one of them is another: what comes of them.
+use crate::outcome::{Difference, Outcome, count_differs, differing, output_differs};
+use test_case_files::case::{Case, CaseStep, Deed};
+use test_plain_reading::lenient::plain_lines;
+use test_plain_reading::standard::standard_lines;
+use std::alloc::{AllocError, Global};
+use std::io::ErrorKind;
+use tiny_http_core::framing::Profile;
+
+// The lines of the requests that were handed out in a trial.
+fn handed_in<'a>(alloc: Global, outcome: &'a Outcome) -> Result<Vec<&'a [u8]>, AllocError> {
+    let mut handed = Vec::new(alloc);
+    for reply in &outcome.replies {
+        if reply.starts_with(b"handed ") {
+            handed.push(reply.as_slice()).map_err(AllocError::from)?;
+        }
+    }
+    Ok(handed)
+}
+
+// The lines of the requests that a case hands out.
+fn handed_of<'a>(alloc: Global, case: &'a Case) -> Result<Vec<&'a [u8]>, AllocError> {
+    let mut handed = Vec::new(alloc);
+    for step in &case.steps {
+        if step.reply.starts_with(b"handed ") {
+            handed
+                .push(step.reply.as_slice())
+                .map_err(AllocError::from)?;
+        }
+    }
+    Ok(handed)
+}
+
+// The first request that was handed out and is not the one that is wanted there.
+fn handed_differ(
+    alloc: Global,
+    found: &[&[u8]],
+    wanted: &[&[u8]],
+) -> Result<Option<Difference>, AllocError> {
+    for (place, line) in found.iter().enumerate() {
+        let there = wanted.get(place).copied().unwrap_or_default();
+        if *line != there {
+            let what = format!(in alloc; "request {place} that is handed out")?;
+            return differing(alloc, what, line, there);
+        }
+    }
+    Ok(None)
+}
+
+// The number of the request that a step reads, as its line has it.
+fn read_number(step: &CaseStep) -> Option<&str> {
+    match &step.deed {
+        Deed::Script(line) => {
+            let (number, _) = line.as_str().strip_prefix("read ")?.split_once(' ')?;
+            Some(number)
+        }
+        Deed::Answer(_) => None,
+    }
+}
+
+// The bytes that a reply gives.
+fn given_in(reply: &[u8]) -> &[u8] {
+    reply.strip_prefix(b"given ").unwrap_or_default()
+}
+
+// What the reads of the request of this number gave, in the trial and in the case.
+fn given_of(
+    alloc: Global,
+    case: &Case,
+    outcome: &Outcome,
+    number: &str,
+) -> Result<(Vec<u8>, Vec<u8>), AllocError> {
+    let mut found = Vec::new(alloc);
+    let mut wanted = Vec::new(alloc);
+    let steps = case.steps.iter().filter(|step| !step.is_date());
+    for (step, reply) in steps.zip(outcome.replies.iter()) {
+        if read_number(step) == Some(number) {
+            found.extend_from_slice(given_in(reply.as_slice()))?;
+            wanted.extend_from_slice(given_in(step.reply.as_slice()))?;
+        }
+    }
+    Ok((found, wanted))
+}
+
+// The first request whose reads gave what is no front of what they give in the case.
+fn given_differs(
+    alloc: Global,
+    case: &Case,
+    outcome: &Outcome,
+) -> Result<Option<Difference>, AllocError> {
+    for number in case.steps.iter().filter_map(read_number) {
+        let (found, wanted) = given_of(alloc, case, outcome, number)?;
+        if !wanted.starts_with(found.as_slice()) {
+            let what = format!(in alloc; "the body of request {number}")?;
+            return differing(alloc, what, found.as_slice(), wanted.as_slice());
+        }
+    }
+    Ok(None)
+}
+
+// The first reply that differs and isn't that of an `ask` or a `read`, by which alone the client is read; or a reply
+// that is missing.
+fn first_reply_differs(
+    alloc: Global,
+    case: &Case,
+    outcome: &Outcome,
+) -> Result<Option<Difference>, AllocError> {
+    let count = case.steps.iter().filter(|step| !step.is_date()).count();
+    let found = outcome.replies.len() as u64;
+    if let Some(difference) = count_differs(alloc, "replies", found, count as u64)? {
+        return Ok(Some(difference));
+    }
+    let steps = case.steps.iter().filter(|step| !step.is_date());
+    for (step, reply) in steps.zip(outcome.replies.iter()) {
+        if reply.as_slice() == step.reply.as_slice() {
+            continue;
+        }
+        if step.is_ask() || read_number(step).is_some() {
+            return Ok(None);
+        }
+        let what = String::from_str(alloc, "the first other reply")?;
+        return differing(alloc, what, reply.as_slice(), step.reply.as_slice());
+    }
+    Ok(None)
+}
+
+// Whether what is left of an output begins with an answer, so that the answers in front of it are whole.
+fn is_answer_or_none(rest: &[u8]) -> bool {
+    rest.is_empty() || rest.starts_with(b"HTTP/")
+}
+
+// Whether only whole answers are sent in a case: by no step a request gets a raw writer.
+fn has_whole_answers(case: &Case) -> bool {
+    case.steps.iter().all(|step| match &step.deed {
+        Deed::Script(line) => !line.starts_with("writer ") && !line.starts_with("upgrade "),
+        Deed::Answer(_) => true,
+    })
+}
+
+// An answer that was cut: what was sent ends where no answer of the case does.
+fn answer_is_cut(
+    alloc: Global,
+    case: &Case,
+    output: &[u8],
+) -> Result<Option<Difference>, AllocError> {
+    let rest = case.output.get(output.len()..).unwrap_or_default();
+    if is_answer_or_none(rest) || !has_whole_answers(case) {
+        return Ok(None);
+    }
+    let what = String::from_str(alloc, "the output, which is cut in an answer,")?;
+    differing(alloc, what, output, case.output.as_slice())
+}
+
+// The bytes of a date.
+const DATE: usize = 29;
+
+// An output without the 408 at its end, which says by the standard that the connection ends.
+fn before_408(profile: Profile, output: &[u8]) -> Option<&[u8]> {
+    let dated = output.strip_suffix(b"\r\nContent-Length: 0\r\n\r\n")?;
+    let front = match profile {
+        Profile::Standard => dated.strip_suffix(b"\r\nConnection: close")?,
+        Profile::Lenient | Profile::Strict => dated,
+    };
+    let dated = front.get(..front.len().checked_sub(DATE)?)?;
+    dated.strip_suffix(b"HTTP/1.1 408 Request Timeout\r\nServer: tiny-http (Rust)\r\nDate: ")
+}
+
+// What an output has in front of the 408 that a time-out may have led to, where the case has none there.
+fn without_408<'a>(case: &Case, output: &'a [u8], stop: Option<ErrorKind>) -> &'a [u8] {
+    if stop != Some(ErrorKind::TimedOut) || case.output.starts_with(output) {
+        return output;
+    }
+    before_408(case.profile, output).unwrap_or(output)
+}
+
+const CLOSE: &[u8] = b"Connection: close\r\n";
+
+// Where an output says for the last time that the connection ends.
+fn last_close(output: &[u8]) -> Option<usize> {
+    (0..output.len()).rev().find(|place| output
+        .get(*place..)
+        .unwrap_or_default()
+        .starts_with(CLOSE))
+}
+
+// An output without what its last answer says by the standard of a body that was cut: that the connection ends, which
+// the case doesn't say there. None where it says nothing else than the case.
+fn without_close(alloc: Global, case: &Case, output: &[u8]) -> Result<Option<Vec<u8>>, AllocError> {
+    if case.profile != Profile::Standard || case.output.starts_with(output) {
+        return Ok(None);
+    }
+    let Some(place) = last_close(output) else {
+        return Ok(None);
+    };
+    let mut front = Vec::new(alloc);
+    front.extend_from_slice(output.get(..place).unwrap_or_default())?;
+    let behind = place.saturating_add(CLOSE.len());
+    front.extend_from_slice(output.get(behind..).unwrap_or_default())?;
+    Ok(Some(front))
+}
+
+/// Where an outcome is no prefix of its case, whose client's bytes were cut, with this fault of the reader or an end
+/// behind them. The requests that are handed out are the first of the case's. What their bodies give is a prefix of
+/// what they give there. The first reply that is another one is that of an `ask` or a `read`. The output is whole
+/// answers, a prefix of the case's, behind which a 408 may stand where a time-out cut the bytes, and whose last
+/// answer may say by the standard that the connection ends. The writer doesn't fail.
+pub fn cut_difference(
+    alloc: Global,
+    case: &Case,
+    outcome: &Outcome,
+    stop: Option<ErrorKind>,
+) -> Result<Option<Difference>, AllocError> {
+    let handed = handed_in(alloc, outcome)?;
+    let wanted = handed_of(alloc, case)?;
+    if let Some(found) = handed_differ(alloc, handed.as_slice(), wanted.as_slice())? {
+        return Ok(Some(found));
+    }
+    if let Some(found) = given_differs(alloc, case, outcome)? {
+        return Ok(Some(found));
+    }
+    if let Some(found) = first_reply_differs(alloc, case, outcome)? {
+        return Ok(Some(found));
+    }
+    let output = without_408(case, outcome.output.as_slice(), stop);
+    let front = without_close(alloc, case, output)?;
+    let output = front.as_ref().map_or(output, Vec::as_slice);
+    if let Some(found) = output_differs(alloc, output, case.output.as_slice(), true)? {
+        return Ok(Some(found));
+    }
+    if let Some(found) = answer_is_cut(alloc, case, output)? {
+        return Ok(Some(found));
+    }
+    count_differs(alloc, "failures", outcome.failures, 0)
+}
+
+/// Where the requests that are handed out of these bytes are not those that a plain reading of them finds, by the
+/// case's profile. The strict profile has none: no case of it has its bytes replaced.
+pub fn plain_difference(
+    alloc: Global,
+    case: &Case,
+    outcome: &Outcome,
+    client: &[u8],
+) -> Result<Option<Difference>, AllocError> {
+    let asks = case.steps.iter().filter(|step| step.is_ask()).count();
+    let lines = match case.profile {
+        Profile::Standard => standard_lines(alloc, client, asks)?,
+        Profile::Lenient | Profile::Strict => plain_lines(alloc, client, asks)?,
+    };
+    let mut wanted = Vec::new(alloc);
+    for line in &lines {
+        wanted.push(line.as_slice()).map_err(AllocError::from)?;
+    }
+    let handed = handed_in(alloc, outcome)?;
+    if let Some(found) = handed_differ(alloc, handed.as_slice(), wanted.as_slice())? {
+        return Ok(Some(found));
+    }
+    count_differs(
+        alloc,
+        "requests that are handed out",
+        handed.len() as u64,
+        wanted.len() as u64,
+    )
+}

@@ -1,0 +1,230 @@
+//! What comes of a trial of a case, and where it differs from what the case says.
+use test_case_files::case::{Case, CaseStep};
+use test_data_files::text::shown;
+use std::alloc::{AllocError, Global};
+
+/// What came of a trial.
+#[derive(Drop)]
+pub struct Outcome {
+    /// The line of each step's reply.
+    pub replies: Vec<Vec<u8>>,
+    /// What the writer took, and what was held back.
+    pub output: Vec<u8>,
+    /// Whether a call of the writer failed.
+    pub has_failed: bool,
+    /// How many failures were counted.
+    pub failures: u64,
+    /// How many calls came after one that failed.
+    pub later: u64,
+    /// Why no further request comes, if that can be known.
+    pub end: Option<Vec<u8>>,
+}
+
+/// Where an outcome first differs from its case: what differs, what was found, and what the case says.
+#[derive(Drop)]
+pub struct Difference {
+    pub what: String,
+    pub found: String,
+    pub wanted: String,
+}
+
+/// Such a difference, of bytes.
+pub fn differing(
+    alloc: Global,
+    what: String,
+    found: &[u8],
+    wanted: &[u8],
+) -> Result<Option<Difference>, AllocError> {
+    Ok(Some(Difference {
+        what,
+        found: shown(alloc, found)?,
+        wanted: shown(alloc, wanted)?,
+    }))
+}
+
+// Whether a reply is one that a failing writer leads to in place of the case's: the answer's data were not read, as
+// the output had ended, so that their fault wasn't met.
+fn is_unmet(step: &CaseStep, found: &[u8]) -> bool {
+    step.is_answer() && found == b"done".as_slice() && step.reply.starts_with(b"fault ")
+}
+
+// Whether the reply reports the fault of the call that was made to fail.
+fn is_reported(step: &CaseStep, found: &[u8]) -> bool {
+    step.may_report() && found == b"fault Interrupted".as_slice()
+}
+
+// The first reply that differs, of the steps that have replies. Where a call was made to fail, one of them may report
+// that.
+fn replies_differ(
+    alloc: Global,
+    case: &Case,
+    outcome: &Outcome,
+    is_failing: bool,
+) -> Result<Option<Difference>, AllocError> {
+    let mut found = outcome.replies.iter();
+    let mut number = 0usize;
+    let mut may_report = is_failing;
+    for step in case.steps.iter().filter(|step| !step.is_date()) {
+        number = number.saturating_add(1);
+        let reply = match found.next() {
+            Some(reply) => reply.as_slice(),
+            None => b"",
+        };
+        if reply == step.reply.as_slice() || (is_failing && is_unmet(step, reply)) {
+            continue;
+        }
+        if may_report && is_reported(step, reply) {
+            may_report = false;
+            continue;
+        }
+        let what = format!(in alloc; "reply {number}")?;
+        return differing(alloc, what, reply, step.reply.as_slice());
+    }
+    match found.next() {
+        Some(reply) => {
+            let what = String::from_str(alloc, "a reply too many")?;
+            differing(alloc, what, reply.as_slice(), b"")
+        }
+        None => Ok(None),
+    }
+}
+
+/// A count that differs.
+pub fn count_differs(
+    alloc: Global,
+    what: &str,
+    found: u64,
+    wanted: u64,
+) -> Result<Option<Difference>, AllocError> {
+    if found == wanted {
+        return Ok(None);
+    }
+    Ok(Some(Difference {
+        what: String::from_str(alloc, what)?,
+        found: format!(in alloc; "{found}")?,
+        wanted: format!(in alloc; "{wanted}")?,
+    }))
+}
+
+// The place of the first byte that differs.
+fn first_place(found: &[u8], wanted: &[u8]) -> usize {
+    found
+        .iter()
+        .zip(wanted.iter())
+        .position(|(one, other)| one != other)
+        .unwrap_or(found.len().min(wanted.len()))
+}
+
+/// The output, where it differs: from where on, and both texts from there. A front may be enough.
+pub fn output_differs(
+    alloc: Global,
+    found: &[u8],
+    wanted: &[u8],
+    is_front: bool,
+) -> Result<Option<Difference>, AllocError> {
+    if found == wanted || (is_front && wanted.starts_with(found)) {
+        return Ok(None);
+    }
+    let place = first_place(found, wanted);
+    let what = format!(in alloc; "output from byte {place}")?;
+    let found = found.get(place..).unwrap_or_default();
+    let wanted = wanted.get(place..).unwrap_or_default();
+    differing(alloc, what, found, wanted)
+}
+
+// The first reply that differs from another outcome's.
+fn reply_differs(
+    alloc: Global,
+    found: &Outcome,
+    wanted: &Outcome,
+) -> Result<Option<Difference>, AllocError> {
+    let pairs = found.replies.iter().zip(wanted.replies.iter());
+    for (place, (one, other)) in pairs.enumerate() {
+        if one.as_slice() != other.as_slice() {
+            let number = place.saturating_add(1);
+            let what = format!(in alloc; "reply {number}")?;
+            return differing(alloc, what, one.as_slice(), other.as_slice());
+        }
+    }
+    let (count, whole) = (found.replies.len(), wanted.replies.len());
+    count_differs(alloc, "replies", count as u64, whole as u64)
+}
+
+// Why no further request comes, as bytes; none where it isn't known.
+fn end_known(outcome: &Outcome) -> &[u8] {
+    match &outcome.end {
+        Some(end) => end.as_slice(),
+        None => b"",
+    }
+}
+
+/// Where an outcome first differs from another one: in a reply, the output, the count of failures, or the end.
+pub fn outcomes_differ(
+    alloc: Global,
+    found: &Outcome,
+    wanted: &Outcome,
+) -> Result<Option<Difference>, AllocError> {
+    if let Some(difference) = reply_differs(alloc, found, wanted)? {
+        return Ok(Some(difference));
+    }
+    let (output, whole) = (found.output.as_slice(), wanted.output.as_slice());
+    if let Some(difference) = output_differs(alloc, output, whole, false)? {
+        return Ok(Some(difference));
+    }
+    let (count, other) = (found.failures, wanted.failures);
+    if let Some(difference) = count_differs(alloc, "failures", count, other)? {
+        return Ok(Some(difference));
+    }
+    let (end, other) = (end_known(found), end_known(wanted));
+    if end == other {
+        return Ok(None);
+    }
+    let what = String::from_str(alloc, "the end")?;
+    differing(alloc, what, end, other)
+}
+
+// Why no further request comes, where the case says so, it is known, and it differs.
+fn end_differs(
+    alloc: Global,
+    case: &Case,
+    outcome: &Outcome,
+) -> Result<Option<Difference>, AllocError> {
+    let (Some(wanted), Some(found)) = (&case.end, &outcome.end) else {
+        return Ok(None);
+    };
+    if found.as_slice() == wanted.as_slice() {
+        return Ok(None);
+    }
+    let what = String::from_str(alloc, "the end")?;
+    differing(alloc, what, found.as_slice(), wanted.as_slice())
+}
+
+/// Where the outcome of a trial first differs from what its case says, if it does. Where a call of the writer failed
+/// that was made to, the output is a front of the case's, one failure is counted, and the replies are those of the
+/// case but for one that reports it, and for faults of data that were not read after it. After a failure the writer
+/// is never called again.
+pub fn first_difference(
+    alloc: Global,
+    case: &Case,
+    outcome: &Outcome,
+    is_made_to_fail: bool,
+) -> Result<Option<Difference>, AllocError> {
+    let is_failing = is_made_to_fail && outcome.has_failed;
+    if let Some(found) = replies_differ(alloc, case, outcome, is_failing)? {
+        return Ok(Some(found));
+    }
+    if let Some(found) = end_differs(alloc, case, outcome)? {
+        return Ok(Some(found));
+    }
+    let output = outcome.output.as_slice();
+    if let Some(found) = output_differs(alloc, output, case.output.as_slice(), is_failing)? {
+        return Ok(Some(found));
+    }
+    if case.room.is_none() || is_failing {
+        let failures = u64::from(is_failing);
+        if let Some(found) = count_differs(alloc, "failures", outcome.failures, failures)? {
+            return Ok(Some(found));
+        }
+    }
+    count_differs(alloc, "calls after a failure", outcome.later, 0)
+}

@@ -1,0 +1,101 @@
+//! How a case is tried.
+use test_case_files::case::Case;
+use test_case_files::devices::{Reader, Trier};
+use std::alloc::{AllocError, Global};
+use std::fmt;
+use std::io::ErrorKind;
+use tiny_http_wire::device::{ByPieces, Canned, FailsAt};
+
+/// What is done to a case in a trial.
+#[derive(Clone, Copy, Debug, PartialEq, Eq)]
+pub enum Harm {
+    /// This call of the writer, counted from 1, fails.
+    Call(u64),
+    /// So many of the client's bytes come. Then the reader fails by this kind, or ends.
+    Cut(usize, Option<ErrorKind>),
+    /// The reader's call behind so many of the client's bytes fails once, by this kind. The reader gives one byte a
+    /// call.
+    Once(usize, ErrorKind),
+    /// The client's byte at this place is this one.
+    Byte(usize, u8),
+}
+
+/// How a case is tried.
+#[derive(Clone, Copy, Debug, PartialEq, Eq)]
+pub struct Trial {
+    /// The most bytes that a call of the reader gives.
+    pub piece: usize,
+    /// What is done to it, if anything is.
+    pub harm: Option<Harm>,
+}
+
+/// The kind by which a call of the writer is made to fail: that by which much code tries again.
+pub const FAILING: ErrorKind = ErrorKind::Interrupted;
+
+impl Trial {
+    /// A trial in which this is done to a case.
+    pub fn harmed(harm: Harm) -> Trial {
+        let piece = match harm {
+            Harm::Once(..) => 1,
+            Harm::Call(_) | Harm::Cut(..) | Harm::Byte(..) => 1024,
+        };
+        let harm = Some(harm);
+        Trial { piece, harm }
+    }
+
+    /// What the client sends in this trial.
+    pub fn client(&self, alloc: Global, case: &Case) -> Result<Vec<u8>, AllocError> {
+        let whole = case.client.as_slice();
+        match self.harm {
+            Some(Harm::Cut(count, _)) => whole.get(..count).unwrap_or(whole).to_vec(alloc),
+            Some(Harm::Byte(place, byte)) => {
+                let mut bytes = whole.to_vec(alloc)?;
+                if let Some(at) = bytes.get_mut(place) {
+                    *at = byte;
+                }
+                Ok(bytes)
+            }
+            Some(Harm::Call(_) | Harm::Once(..)) | None => whole.to_vec(alloc),
+        }
+    }
+
+    /// The reader of this trial.
+    pub fn reader(&self, alloc: Global, case: &Case) -> Result<Reader, AllocError> {
+        let stop = match self.harm {
+            Some(Harm::Cut(_, stop)) => stop,
+            _ => case.stop,
+        };
+        let client = Canned::new(self.client(alloc, case)?, stop);
+        let pieces = ByPieces::new(client, self.piece);
+        Ok(match self.harm {
+            Some(Harm::Once(count, kind)) => {
+                FailsAt::new(pieces, (count as u64).saturating_add(1), kind)
+            }
+            _ => FailsAt::new(pieces, 0, ErrorKind::Other),
+        })
+    }
+
+    /// The writer of this trial.
+    pub fn writer(&self, alloc: Global, case: &Case) -> Trier {
+        match (self.harm, case.room) {
+            (Some(Harm::Call(call)), _) => Trier::failing_at(alloc, call, FAILING),
+            (_, Some(room)) => Trier::with_room(alloc, room.bytes, room.fault),
+            (_, None) => Trier::with_room(alloc, usize::MAX, ErrorKind::Other),
+        }
+    }
+}
+
+impl fmt::Display for Trial {
+    fn fmt<W: fmt::Write>(&self, f: &mut fmt::Formatter<W>) -> fmt::Result {
+        let piece = self.piece;
+        write!(f, "{piece} bytes a read")?;
+        match self.harm {
+            None => Ok(()),
+            Some(Harm::Call(call)) => write!(f, ", call {call} failing"),
+            Some(Harm::Cut(count, None)) => write!(f, ", cut at {count}"),
+            Some(Harm::Cut(count, Some(kind))) => write!(f, ", cut at {count} by {kind:?}"),
+            Some(Harm::Once(count, kind)) => write!(f, ", {kind:?} once behind {count}"),
+            Some(Harm::Byte(place, byte)) => write!(f, ", byte {place} being {byte}"),
+        }
+    }
+}

@@ -1,0 +1,77 @@
+//! The cases by `run_with`.
+use test_case_files::case::Case;
+use test_case_trials::outcome::Outcome;
+use test_case_trials::replies::{end_words, reply_line};
+use test_case_trials::report::Runner;
+use test_case_trials::steps::{StepsFault, steps_of};
+use test_case_trials::trial::Trial;
+use std::alloc::{AllocError, Global};
+use tiny_http_core::driver::{Connection, Reply, run_with};
+use tiny_http_wire::device::{Metered, WriteDevice};
+
+/// Runs steps by `run_with`.
+#[derive(Drop)]
+pub(crate) struct ByRun;
+
+// The lines of the replies.
+fn lines_of(alloc: Global, replies: &[Reply]) -> Result<Vec<Vec<u8>>, AllocError> {
+    let mut lines = Vec::new(alloc);
+    for reply in replies {
+        lines.push(reply_line(alloc, reply)?)?;
+    }
+    Ok(lines)
+}
+
+// Why no further request comes after the steps, if the case says so: no reply does.
+fn end_of(alloc: Global, case: &Case, trial: Trial) -> Result<Option<Vec<u8>>, StepsFault> {
+    if case.end.is_none() {
+        return Ok(None);
+    }
+    let reader = trial.reader(alloc, case)?;
+    let writer = Metered::new(trial.writer(alloc, case));
+    let mut connection = Connection::new_with(alloc, case.profile, reader, writer);
+    for timed in steps_of(alloc, case)? {
+        drop(connection.step(alloc, timed));
+    }
+    Ok(Some(end_words(alloc, connection.end_of_requests())?))
+}
+
+impl Runner for ByRun {
+    fn how(&self) -> &'static str {
+        ""
+    }
+
+    fn knows_numbers(&self) -> bool {
+        true
+    }
+
+    /// A run takes all steps.
+    fn takes(&self, _case: &Case) -> bool {
+        true
+    }
+
+    /// Runs the steps. The output is what the writer took, and what was held back.
+    fn run(&mut self, alloc: Global, case: &Case, trial: Trial) -> Result<Outcome, StepsFault> {
+        let reader = trial.reader(alloc, case)?;
+        let writer = Metered::new(trial.writer(alloc, case));
+        let steps = steps_of(alloc, case)?;
+        let Ok(record) = run_with(alloc, case.profile, reader, writer, steps) else {
+            return Err(StepsFault::OutOfMemory);
+        };
+        let replies = lines_of(alloc, record.replies.as_slice())?;
+        let held = record.outlet.held().to_vec(alloc)?;
+        let writer = record.outlet.into_inner();
+        let failures = writer.failures();
+        let writer = writer.into_inner();
+        let mut output = writer.taken().to_vec(alloc)?;
+        output.extend_from_slice(held.as_slice())?;
+        Ok(Outcome {
+            replies,
+            output,
+            has_failed: writer.failures() > 0,
+            failures,
+            later: writer.later(),
+            end: end_of(alloc, case, trial)?,
+        })
+    }
+}

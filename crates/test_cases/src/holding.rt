@@ -1,0 +1,117 @@
+//! A connection, and what the program holds of its requests.
+use crate::shared::TrialSocket;
+use test_case_files::devices::Reader;
+use httpdate::HttpDate;
+use std::alloc::{AllocError, Global};
+use std::io::Write;
+use std::sync::{Arc, Wait};
+use tiny_http_core::custom_stream::CustomStream;
+use tiny_http_core::outlet::Outlet;
+use tiny_http_request::client::ClientConnection;
+use tiny_http_request::request::{Body, Request};
+use tiny_http_request::sequential::SequentialWriter;
+use tiny_http_socket::cork::{Cork, CorkedWriter, FlushingReader};
+
+/// The writer below a connection's outlet.
+pub(crate) type Below<R> = CorkedWriter<TrialSocket<R>, R>;
+
+/// The reader below a connection's input.
+pub(crate) type Input<R> = FlushingReader<Reader, TrialSocket<R>>;
+
+/// A connection.
+pub(crate) type Connected<R> = ClientConnection<Input<R>, Below<R>, R>;
+
+/// A request of these connections.
+pub(crate) type Asked<R> = Request<Input<R>, Below<R>, R>;
+
+/// A raw writer of these connections.
+pub(crate) type RawWriter<R> = SequentialWriter<Outlet<Below<R>>, R>;
+
+/// The stream of an upgrade.
+pub(crate) type Stream<R> = CustomStream<Body<Input<R>, R>, RawWriter<R>>;
+
+/// What is held under a number.
+#[derive(Drop)]
+pub(crate) enum Held<R: Wait + Copy> {
+    Request(Asked<R>),
+    Writer(RawWriter<R>),
+    Stream(Stream<R>),
+}
+
+/// What is held, its number, and whether it has written what may not have been sent yet.
+#[derive(Drop)]
+struct Numbered<R: Wait + Copy> {
+    number: u64,
+    held: Held<R>,
+    has_written: bool,
+}
+
+/// A connection, and what is held of its requests.
+#[derive(Drop)]
+pub(crate) struct Holding<R: Wait + Copy> {
+    client: Connected<R>,
+    cork: Arc<Cork<TrialSocket<R>>>,
+    items: Vec<Numbered<R>>,
+}
+
+impl<R: Wait + Copy> Holding<R> {
+    /// Holds nothing of this connection, whose halves share this cork.
+    pub(crate) fn new(
+        alloc: Global,
+        client: Connected<R>,
+        cork: Arc<Cork<TrialSocket<R>>>,
+    ) -> Holding<R> {
+        Holding {
+            client,
+            cork,
+            items: Vec::new(alloc),
+        }
+    }
+
+    /// Goes to the next request. Answers that were left are sent before it, unless its answer may leave with them.
+    pub(crate) fn next(&mut self, now: HttpDate) -> Result<Option<Asked<R>>, AllocError> {
+        let next = self.client.next(now);
+        self.cork.send_unless_leaving();
+        next
+    }
+
+    /// Takes out what is held under a number, and whether it has written what may not have been sent yet.
+    pub(crate) fn take(&mut self, number: u64) -> Option<(Held<R>, bool)> {
+        let place = self.items.iter().position(|item| item.number == number)?;
+        let Numbered {
+            number: _,
+            held,
+            has_written,
+        } = self.items.remove(place);
+        Some((held, has_written))
+    }
+
+    /// Holds this under a number.
+    pub(crate) fn put(
+        &mut self,
+        number: u64,
+        held: Held<R>,
+        has_written: bool,
+    ) -> Result<(), AllocError> {
+        let item = Numbered {
+            number,
+            held,
+            has_written,
+        };
+        self.items.push(item).map_err(AllocError::from)
+    }
+
+    /// Sends what raw writers and streams have written, and the answers that were left.
+    pub(crate) fn send_held(&mut self) {
+        for item in self.items.iter_mut() {
+            if item.has_written {
+                match &mut item.held {
+                    Held::Request(_) => {}
+                    Held::Writer(writer) => drop(writer.flush()),
+                    Held::Stream(stream) => drop(stream.flush()),
+                }
+            }
+        }
+        self.cork.send();
+    }
+}

@@ -1,0 +1,53 @@
+//! Runs the cases of files: `cases FILE..`. Each case is run by `run_with`, and by requests behind locks in one
+//! thread if no call would have to wait there: with answers that leave one by one, and with answers that leave
+//! together. It is tried by four readers, and with each call of its writer failing. docs/CASES.md describes the
+//! files.
+#![tactic(auto)]
+
+mod by_requests;
+mod by_run;
+mod holding;
+mod shared;
+mod treating;
+
+use crate::by_requests::{ByRequests, Leaving};
+use crate::by_run::ByRun;
+use test_case_trials::report::{files_of, try_files};
+use test_data_files::fault::FilesFault;
+use test_data_files::program::{Checker, NamedFile, run_program};
+use std::alloc::{AllocError, Global};
+use std::io::Write;
+use std::process::ExitCode;
+use std::sync::Wait;
+
+// Tries the cases of files in the three ways.
+#[derive(Drop)]
+struct EachWay<R> {
+    rt: R,
+}
+
+impl<R: Wait + Copy> Checker for EachWay<R> {
+    fn check<'a, O: Write>(
+        &mut self,
+        alloc: Global,
+        files: &[NamedFile<'a>],
+        out: &mut O,
+    ) -> Result<bool, FilesFault<'a>> {
+        let files = files_of(alloc, files)?;
+        let mut by_requests = Vec::new(alloc);
+        for leaving in [Leaving::Alone, Leaving::Together] {
+            by_requests
+                .push(ByRequests::new(self.rt, leaving))
+                .map_err(AllocError::from)?;
+        }
+        let ways = (&mut ByRun, by_requests.as_mut_slice());
+        try_files(alloc, ways, out, files.as_slice())
+    }
+}
+
+fn main(rt: HostRuntime) -> ExitCode {
+    let mut out = rt.stdout();
+    let mut err = rt.stderr();
+    let mut each_way = EachWay { rt };
+    ExitCode::from(run_program(&rt, "cases", &mut each_way, &mut out, &mut err))
+}

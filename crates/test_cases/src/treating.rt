@@ -1,0 +1,263 @@
+//! The calls that steps name.
+use crate::holding::{Asked, Held, Holding};
+use test_case_trials::replies::{fault_line, given_line, handed_line};
+use test_case_trials::steps::StepsFault;
+use httpdate::HttpDate;
+use replay_script::script_data::ScriptData;
+use std::alloc::{AllocError, Global};
+use std::io;
+use std::io::{ErrorKind, Read, Write};
+use std::sync::Wait;
+use tiny_http_core::driver::{Step, Timed};
+use tiny_http_wire::response::Response;
+
+// A line of one word.
+fn word(alloc: Global, word: &str) -> Result<Vec<u8>, AllocError> {
+    word.as_bytes().to_vec(alloc)
+}
+
+// The line that reports a call.
+fn line_of(alloc: Global, outcome: io::Result<()>) -> Result<Vec<u8>, AllocError> {
+    match outcome {
+        Ok(()) => word(alloc, "done"),
+        Err(fault) => fault_line(alloc, fault.kind()),
+    }
+}
+
+// The number in the case's own reply to an `ask`: a request doesn't say its number.
+fn number_of(reply: &[u8]) -> Option<&str> {
+    let words = reply.strip_prefix(b"handed ")?;
+    let number = words.split(|byte| *byte == b' ').next()?;
+    str::from_utf8(number).ok()
+}
+
+// Takes the next request, and holds it under the number that the case says.
+fn ask<R: Wait + Copy>(
+    alloc: Global,
+    holding: &mut Holding<R>,
+    now: HttpDate,
+    wanted: &[u8],
+) -> Result<Vec<u8>, AllocError> {
+    let Ok(next) = holding.next(now) else {
+        return word(alloc, "memory");
+    };
+    let Some(request) = next else {
+        return word(alloc, "ended");
+    };
+    let number = number_of(wanted).unwrap_or("?");
+    let line = handed_line(
+        alloc,
+        (number, request.method()),
+        (request.url(), *request.http_version()),
+        request.headers(),
+        request.body_length(),
+    )?;
+    if let Ok(number) = number.parse::<u64>() {
+        holding.put(number, Held::Request(request), false)?;
+    }
+    Ok(line)
+}
+
+// Reads at least once, until so many bytes are there, the end is reported, or a fault. The bytes, or the fault where
+// there are none.
+fn read_up_to<B: Read>(alloc: Global, body: &mut B, count: u16) -> Result<Vec<u8>, AllocError> {
+    let mut bytes = Vec::new(alloc);
+    let mut buf = [0u8; 1024];
+    let mut left = usize::from(count);
+    for _ in 0..=count {
+        let room = left.min(buf.len());
+        match body.read(&mut buf[..room]) {
+            Ok(0) => break,
+            Ok(n) => bytes.extend_from_slice(buf.get(..n).unwrap_or_default())?,
+            Err(fault) if bytes.is_empty() => return fault_line(alloc, fault.kind()),
+            Err(_) => break,
+        }
+        left = usize::from(count).saturating_sub(bytes.len());
+        if left == 0 {
+            break;
+        }
+    }
+    given_line(alloc, bytes.as_slice())
+}
+
+// Writes all bytes, by at least one call, and tries none again.
+fn write_through<W: Write>(writer: &mut W, bytes: &[u8]) -> io::Result<()> {
+    let mut rest = bytes;
+    for _ in 0..=bytes.len() {
+        let n = writer.write(rest)?;
+        rest = rest.get(n..).unwrap_or_default();
+        if rest.is_empty() {
+            break;
+        }
+    }
+    Ok(())
+}
+
+// Reads the body of what is held.
+fn read<R: Wait + Copy>(
+    alloc: Global,
+    held: &mut Held<R>,
+    count: u16,
+    now: HttpDate,
+) -> Result<Vec<u8>, AllocError> {
+    match held {
+        Held::Request(request) => read_up_to(alloc, request.as_reader(now), count),
+        Held::Stream(stream) => read_up_to(alloc, stream, count),
+        Held::Writer(_) => word(alloc, "nosuch"),
+    }
+}
+
+// Writes by what is held.
+fn write<R: Wait + Copy>(
+    alloc: Global,
+    held: &mut Held<R>,
+    bytes: &[u8],
+) -> Result<Vec<u8>, AllocError> {
+    match held {
+        Held::Request(_) => word(alloc, "nosuch"),
+        Held::Stream(stream) => line_of(alloc, write_through(stream, bytes)),
+        Held::Writer(writer) => line_of(alloc, write_through(writer, bytes)),
+    }
+}
+
+// Sends what was written by what is held.
+fn flush<R: Wait + Copy>(alloc: Global, held: &mut Held<R>) -> Result<Vec<u8>, AllocError> {
+    match held {
+        Held::Request(_) => word(alloc, "nosuch"),
+        Held::Stream(stream) => line_of(alloc, stream.flush()),
+        Held::Writer(writer) => line_of(alloc, writer.flush()),
+    }
+}
+
+// Upgrades a request, and holds its stream.
+fn upgrade<R: Wait + Copy>(
+    alloc: Global,
+    holding: &mut Holding<R>,
+    (number, request): (u64, Asked<R>),
+    (protocol, response): (&str, Response<ScriptData>),
+    now: HttpDate,
+) -> Result<Vec<u8>, AllocError> {
+    match request.upgrade(protocol, response, now) {
+        Ok(stream) => {
+            holding.put(number, Held::Stream(stream), true)?;
+            word(alloc, "done")
+        }
+        Err(_) => word(alloc, "refused"),
+    }
+}
+
+// The steps that a request takes, and that end it as one.
+fn treat_request<R: Wait + Copy>(
+    alloc: Global,
+    holding: &mut Holding<R>,
+    (number, request): (u64, Asked<R>),
+    step: Step<ScriptData>,
+    now: HttpDate,
+) -> Result<Vec<u8>, AllocError> {
+    match step {
+        Step::Respond(_, response) => match request.respond(response, now) {
+            Err(fault) if fault.kind() == ErrorKind::InvalidInput => word(alloc, "refused"),
+            done => line_of(alloc, done),
+        },
+        Step::IntoWriter(_) => {
+            holding.put(number, Held::Writer(request.into_writer()), false)?;
+            word(alloc, "done")
+        }
+        Step::Upgrade(_, protocol, response) => {
+            let stream = (protocol.as_str(), response);
+            upgrade(alloc, holding, (number, request), stream, now)
+        }
+        Step::Drop(_) => {
+            request.abandon();
+            word(alloc, "done")
+        }
+        _ => {
+            holding.put(number, Held::Request(request), false)?;
+            word(alloc, "nosuch")
+        }
+    }
+}
+
+// The steps that leave what is held where it is.
+fn treat_held<R: Wait + Copy>(
+    alloc: Global,
+    holding: &mut Holding<R>,
+    (number, mut held): (u64, Held<R>),
+    mut has_written: bool,
+    step: Step<ScriptData>,
+    now: HttpDate,
+) -> Result<Vec<u8>, AllocError> {
+    let line = match step {
+        Step::AsReader(_) => {
+            if let Held::Request(request) = &mut held {
+                let _ = request.as_reader(now);
+            }
+            word(alloc, "done")?
+        }
+        Step::Read(_, count) => read(alloc, &mut held, count, now)?,
+        Step::Write(_, bytes) => {
+            has_written = true;
+            write(alloc, &mut held, bytes.as_slice())?
+        }
+        Step::Flush(_) => {
+            has_written = false;
+            flush(alloc, &mut held)?
+        }
+        _ => word(alloc, "nosuch")?,
+    };
+    holding.put(number, held, has_written)?;
+    Ok(line)
+}
+
+// The number of the request that a step is for.
+fn number_in(step: &Step<ScriptData>) -> Option<u64> {
+    match step {
+        Step::Ask => None,
+        Step::AsReader(number)
+        | Step::Read(number, _)
+        | Step::Respond(number, _)
+        | Step::IntoWriter(number)
+        | Step::Write(number, _)
+        | Step::Flush(number)
+        | Step::Upgrade(number, _, _)
+        | Step::Finish(number)
+        | Step::Drop(number) => Some(*number),
+    }
+}
+
+/// Makes the call that a step names, and gives the line that reports it. `wanted` is the case's own reply: it says
+/// under which number a request is held, and that no call fits a step, as where a request is read that expects a 100
+/// first.
+pub(crate) fn treat<R: Wait + Copy>(
+    alloc: Global,
+    holding: &mut Holding<R>,
+    timed: Timed<ScriptData>,
+    wanted: &[u8],
+) -> Result<Vec<u8>, StepsFault> {
+    let Timed { now, step } = timed;
+    let Some(number) = number_in(&step) else {
+        return Ok(ask(alloc, holding, now, wanted)?);
+    };
+    if wanted == b"nosuch".as_slice() {
+        return Ok(word(alloc, "nosuch")?);
+    }
+    let Some((held, has_written)) = holding.take(number) else {
+        return Ok(word(alloc, "nosuch")?);
+    };
+    let line = match (held, step) {
+        (Held::Writer(writer), Step::Finish(_)) => {
+            drop(writer);
+            word(alloc, "done")?
+        }
+        (Held::Stream(stream), Step::Finish(_)) => {
+            drop(stream);
+            word(alloc, "done")?
+        }
+        (
+            Held::Request(request),
+            step @ (Step::Respond(..) | Step::IntoWriter(_) | Step::Upgrade(..) | Step::Drop(_)),
+        ) => { treat_request(alloc, holding, (number, request), step, now)? }
+        (held, step) => treat_held(alloc, holding, (number, held), has_written, step, now)?,
+    };
+    Ok(line)
+}

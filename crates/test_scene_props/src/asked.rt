@@ -1,0 +1,56 @@
+//! Requests of one kind of connection, and the outputs that they gave.
+use crate::named::{Named, add_all, part_of};
+use test_scene_files::scene::Line;
+use std::alloc::{AllocError, Global};
+use std::sync::Wait;
+use tiny_http_io::custom_stream::CustomStream;
+use tiny_http_io::device::{ReadDevice, WriteDevice};
+use tiny_http_io::outlet::Outlet;
+use tiny_http_request::request::{Body, Request, StreamedBody};
+use tiny_http_threads::sequential::SequentialWriter;
+
+/// What an answer is written to, piece by piece.
+#[derive(Drop)]
+pub enum Output<D: ReadDevice + Drop, W: WriteDevice + Drop, R: Wait + Drop> {
+    Raw(SequentialWriter<Outlet<W>, R>),
+    Growing(StreamedBody<W, R>),
+    Upgraded(CustomStream<Body<D, R>, SequentialWriter<Outlet<W>, R>>),
+}
+
+/// Requests of one kind of connection, and the outputs that they gave.
+#[derive(Drop)]
+pub struct Asked<D: ReadDevice + Drop, W: WriteDevice + Drop, R: Wait + Drop> {
+    pub requests: Vec<Named<Request<D, W, R>>>,
+    pub outputs: Vec<Named<Output<D, W, R>>>,
+}
+
+impl<D: ReadDevice + Drop, W: WriteDevice + Drop, R: Wait + Drop> Asked<D, W, R> {
+    /// No requests.
+    pub fn none(alloc: Global) -> Asked<D, W, R> {
+        Asked {
+            requests: Vec::new(alloc),
+            outputs: Vec::new(alloc),
+        }
+    }
+
+    /// Takes those that the lines name.
+    pub fn part(&mut self, alloc: Global, lines: &[Line]) -> Result<Asked<D, W, R>, AllocError> {
+        Ok(Asked {
+            requests: part_of(alloc, &mut self.requests, lines)?,
+            outputs: part_of(alloc, &mut self.outputs, lines)?,
+        })
+    }
+
+    /// Adds all of a part.
+    pub fn join(&mut self, part: Asked<D, W, R>) -> Result<(), AllocError> {
+        let Asked { requests, outputs } = part;
+        add_all(&mut self.requests, requests)?;
+        add_all(&mut self.outputs, outputs)
+    }
+
+    /// Drops all of them.
+    pub fn clear(&mut self) {
+        self.requests.clear();
+        self.outputs.clear();
+    }
+}

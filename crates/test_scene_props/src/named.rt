@@ -1,0 +1,90 @@
+//! Values that lines of a scene name.
+use test_scene_files::mishap::Mishap;
+use test_scene_files::scene::Line;
+use std::alloc::{AllocError, Global};
+use std::mem;
+
+/// What is known by a name.
+#[derive(Drop)]
+pub struct Named<T> {
+    pub name: String,
+    pub value: T,
+}
+
+// The place of a name. Of two that have it the later one.
+fn place_of<T>(all: &[Named<T>], name: &str) -> Option<usize> {
+    all.iter().rposition(|named| named.name.as_str() == name)
+}
+
+/// Adds this value under this name.
+pub fn add<T: Drop>(
+    alloc: Global,
+    all: &mut Vec<Named<T>>,
+    name: &str,
+    value: T,
+) -> Result<(), Mishap> {
+    let name = String::from_str(alloc, name)?;
+    match all.push(Named { name, value }) {
+        Ok(()) => Ok(()),
+        Err(_) => Err(Mishap::OutOfMemory),
+    }
+}
+
+/// Takes what has this name.
+pub fn take<T: Drop>(all: &mut Vec<Named<T>>, name: &str) -> Result<T, Mishap> {
+    let place = place_of(all.as_slice(), name).unwrap_or(usize::MAX);
+    if place >= all.len() {
+        return Err(Mishap::Unplayable("there is none of this name"));
+    }
+    let Named { name: _, value } = all.remove(place);
+    Ok(value)
+}
+
+/// What has this name.
+pub fn get<'a, T>(all: &'a mut Vec<Named<T>>, name: &str) -> Result<&'a mut T, Mishap> {
+    let place = place_of(all.as_slice(), name).unwrap_or(usize::MAX);
+    match all.get_mut(place) {
+        Some(named) => Ok(&mut named.value),
+        None => Err(Mishap::Unplayable("there is none of this name")),
+    }
+}
+
+/// Whether one of the lines has this name in it.
+pub fn is_named(lines: &[Line], name: &str) -> bool {
+    lines.iter().any(|line| {
+        let text = line.text.as_str();
+        text.split(' ').any(|word| word == name)
+    })
+}
+
+/// Takes those that the lines name.
+pub fn part_of<T: Drop>(
+    alloc: Global,
+    all: &mut Vec<Named<T>>,
+    lines: &[Line],
+) -> Result<Vec<Named<T>>, AllocError> {
+    let mut theirs = Vec::new(alloc);
+    let mut ours = Vec::new(alloc);
+    for named in mem::replace(all, Vec::new(alloc)) {
+        if is_named(lines, named.name.as_str()) {
+            theirs.push(named)?;
+        } else {
+            ours.push(named)?;
+        }
+    }
+    *all = ours;
+    Ok(theirs)
+}
+
+/// Adds all of these.
+pub fn add_all<T: Drop>(all: &mut Vec<Named<T>>, more: Vec<Named<T>>) -> Result<(), AllocError> {
+    for named in more {
+        all.push(named)?;
+    }
+    Ok(())
+}
+
+/// Whether something has this name.
+pub fn has<T>(all: &[Named<T>], name: &str) -> bool {
+    place_of(all, name).is_some()
+}

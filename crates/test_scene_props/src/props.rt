@@ -1,0 +1,122 @@
+//! What a scene has at hand besides its server.
+use crate::asked::Asked;
+use crate::in_turn::{InTurn, Turns};
+use crate::memory::{Memory, Remembered};
+use crate::named::{Named, add_all, part_of};
+use test_scene_files::client::Client;
+use test_scene_files::mishap::Mishap;
+use test_scene_files::scene::{Line, Over};
+use std::alloc::{AllocError, Global};
+use std::sync::{Arc, Wait};
+use std::time::Instant;
+use tiny_http_threads::messages_queue::MessagesQueue;
+
+// How many values the queue of a scene has room for at first.
+const QUEUE_ROOM: usize = 8;
+
+/// What is at hand besides a server.
+#[derive(Drop)]
+pub struct Props<R: Wait + Drop> {
+    pub clients: Vec<Named<Client>>,
+    pub memory: Option<Memory<R>>,
+    pub remembered: Remembered<R>,
+    pub queue: Option<Arc<MessagesQueue<u64>>>,
+    pub turns: Option<Turns<R>>,
+    pub in_turn: Vec<Named<InTurn<R>>>,
+    pub clock: Option<Instant>,
+    /// How many milliseconds the shortest lap took, if there was one.
+    pub shortest: Option<u64>,
+}
+
+/// A value that is shared.
+pub fn shared<T: Drop>(alloc: Global, value: T) -> Result<Arc<T>, Mishap> {
+    match Arc::new(alloc, value) {
+        Ok(shared) => Ok(shared),
+        Err(_) => Err(Mishap::OutOfMemory),
+    }
+}
+
+// The queue of a scene, without a value.
+fn queue_of(alloc: Global) -> Result<Arc<MessagesQueue<u64>>, Mishap> {
+    match MessagesQueue::with_capacity(alloc, QUEUE_ROOM) {
+        Ok(queue) => Ok(queue),
+        Err(_) => Err(Mishap::OutOfMemory),
+    }
+}
+
+impl<R: Wait + Copy> Props<R> {
+    /// What is at hand as a scene over this begins.
+    pub fn over(rt: &R, alloc: Global, over: Over) -> Result<Props<R>, Mishap> {
+        let mut props = Props::none(alloc);
+        match over {
+            Over::Queue | Over::Pool => props.queue = Some(queue_of(alloc)?),
+            Over::Memory => props.memory = Some(Memory::new(rt, alloc)?),
+            _ => {}
+        }
+        Ok(props)
+    }
+}
+
+impl<R: Wait + Drop> Props<R> {
+    /// Nothing.
+    pub fn none(alloc: Global) -> Props<R> {
+        Props {
+            clients: Vec::new(alloc),
+            memory: None,
+            remembered: Asked::none(alloc),
+            queue: None,
+            turns: None,
+            in_turn: Vec::new(alloc),
+            clock: None,
+            shortest: None,
+        }
+    }
+
+    /// What is over memory.
+    pub fn memory(&mut self) -> Result<&mut Memory<R>, Mishap> {
+        match &mut self.memory {
+            Some(memory) => Ok(memory),
+            None => Err(Mishap::Unplayable("nothing is over memory")),
+        }
+    }
+
+    /// The queue.
+    pub fn queue(&self) -> Result<&MessagesQueue<u64>, Mishap> {
+        match &self.queue {
+            Some(queue) => Ok(queue),
+            None => Err(Mishap::Unplayable("there is no queue")),
+        }
+    }
+
+    /// What these lines need: who and what they name, and the queue.
+    pub fn part(&mut self, alloc: Global, lines: &[Line]) -> Result<Props<R>, AllocError> {
+        let mut theirs = Props::none(alloc);
+        if let Some(queue) = &self.queue {
+            theirs.queue = Some(Arc::try_clone(queue)?);
+        }
+        theirs.clients = part_of(alloc, &mut self.clients, lines)?;
+        theirs.remembered = self.remembered.part(alloc, lines)?;
+        theirs.in_turn = part_of(alloc, &mut self.in_turn, lines)?;
+        Ok(theirs)
+    }
+
+    /// Takes back what is left of a part.
+    pub fn join(&mut self, part: Props<R>) -> Result<(), AllocError> {
+        let Props {
+            clients,
+            remembered,
+            in_turn,
+            ..
+        } = part;
+        add_all(&mut self.clients, clients)?;
+        self.remembered.join(remembered)?;
+        add_all(&mut self.in_turn, in_turn)
+    }
+
+    /// Drops whoever waits for another: requests and outputs, readers and writers, and then clients.
+    pub fn clear(&mut self) {
+        self.remembered.clear();
+        self.in_turn.clear();
+        self.clients.clear();
+    }
+}

@@ -1,0 +1,82 @@
+//! The queue of a scene.
+use test_scene_files::grounds::{Popped, QueueDeed};
+use test_scene_files::mishap::{Mishap, differs};
+use std::alloc::Global;
+use std::sync::Wait;
+use std::time::{Clock, Duration};
+use tiny_http_threads::messages_queue::MessagesQueue;
+
+// How often a value that doesn't count may come.
+const MOST_PASSED: u32 = 1_000;
+
+// A pop gave what the line says.
+fn demand_popped(alloc: Global, wanted: Popped, came: Option<u64>) -> Result<(), Mishap> {
+    let holds = match wanted {
+        Popped::Value(value) => came == Some(value),
+        Popped::Something => came.is_some(),
+        Popped::Nothing => came.is_none(),
+        Popped::Anything => true,
+    };
+    if holds {
+        return Ok(());
+    }
+    let wanted = match wanted {
+        Popped::Value(value) => format!(in alloc; "{value}")?,
+        Popped::Nothing => String::from_str(alloc, "nothing")?,
+        Popped::Something | Popped::Anything => String::from_str(alloc, "something")?,
+    };
+    let came = format!(in alloc; "{came:?}")?;
+    Err(differs(alloc, wanted.as_str(), came.as_str()))
+}
+
+// Pops until another value comes than this, or none. Each wait is for this time, if there is one.
+fn pop_past<R: Wait + Clock>(
+    rt: &R,
+    queue: &MessagesQueue<u64>,
+    passed: u64,
+    most: Option<Duration>,
+) -> Option<u64> {
+    for _ in 0..MOST_PASSED {
+        let came = match most {
+            Some(most) => queue.pop_timeout(rt, most),
+            None => queue.pop(rt),
+        };
+        if came != Some(passed) {
+            return came;
+        }
+    }
+    Some(passed)
+}
+
+/// A call of the queue.
+pub fn act_queue<R: Wait + Clock>(
+    rt: &R,
+    alloc: Global,
+    queue: &MessagesQueue<u64>,
+    deed: QueueDeed,
+) -> Result<(), Mishap> {
+    let (wanted, came) = match deed {
+        QueueDeed::Push(value) => {
+            return match queue.push(rt, value) {
+                Ok(()) => Ok(()),
+                Err(_) => Err(Mishap::OutOfMemory),
+            };
+        }
+        QueueDeed::Unblock => return Ok(queue.unblock(rt)?),
+        QueueDeed::Clear => {
+            queue.clear(rt);
+            return Ok(());
+        }
+        QueueDeed::Pop(wanted) => (wanted, queue.pop(rt)),
+        QueueDeed::PopPast(passed, wanted) => (wanted, pop_past(rt, queue, passed, None)),
+        QueueDeed::PopTimeout(millis, wanted) => {
+            (wanted, queue.pop_timeout(rt, Duration::from_millis(millis)))
+        }
+        QueueDeed::PopTimeoutPast(millis, passed, wanted) => {
+            let most = Duration::from_millis(millis);
+            (wanted, pop_past(rt, queue, passed, Some(most)))
+        }
+        QueueDeed::TryPop(wanted) => (wanted, queue.try_pop(rt)),
+    };
+    demand_popped(alloc, wanted, came)
+}

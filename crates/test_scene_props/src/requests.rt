@@ -1,0 +1,600 @@
+//! What is done with the requests of a scene, and with the outputs that they give.
+use crate::asked::{Asked, Output};
+use crate::named::{add, get, take};
+use test_data_files::text::text_of;
+use httpdate::HttpDate;
+use test_scene_files::deed::{Data, Kept, OutputDeed, RequestDeed, Whole};
+use test_scene_files::mishap::{
+    Mishap, demand, demand_bytes, demand_fault, demand_number, demand_text, differs,
+};
+use std::alloc::Global;
+use std::io;
+use std::io::{Cursor, ErrorKind, Read, Write};
+use std::net::SocketAddr;
+use std::sync::Wait;
+use std::time::Clock;
+use tiny_http_open_request::upgrading::UpgradeError;
+use tiny_http_request::request::{BodyError, RefusedUpgrade, Request};
+use tiny_http_wire::common::{Header, Method, StatusCode};
+use tiny_http_wire::device::{Metered, ReadDevice, WriteDevice};
+use tiny_http_wire::response::Response;
+
+// How many reads of a body there are at most.
+const READS: u32 = 100_000;
+
+/// The date by the clock, as a server says it: that of second 0 where the clock can't be read.
+pub fn date_now<R: Clock>(rt: &R) -> HttpDate {
+    let seconds = rt.since_1970().map_or(0, |time| time.as_secs());
+    match HttpDate::from_unix_secs(seconds) {
+        Ok(date) => date,
+        Err(_) => epoch(),
+    }
+}
+
+// The date of second 0.
+fn epoch() -> HttpDate {
+    match HttpDate::from_unix_secs(0) {
+        Ok(date) => date,
+        Err(_) => unreachable!(),
+    }
+}
+
+/// An answer of this text.
+pub fn text_answer(alloc: Global, text: &str) -> io::Result<Response<Cursor<Vec<u8>>>> {
+    Ok(Response::from_string(alloc, String::from_str(alloc, text)?)?)
+}
+
+// The kind of the fault of a call, if it failed.
+fn kind_of_fault<T: Drop>(outcome: io::Result<T>) -> Option<ErrorKind> {
+    outcome.err().map(|fault| fault.kind())
+}
+
+// Answers by a text.
+fn respond_text<D: ReadDevice + Drop, W: WriteDevice + Drop, R: Wait + Clock + Drop>(
+    rt: &R,
+    alloc: Global,
+    request: Request<D, W, R>,
+    (status, text): (u16, &str),
+) -> Result<io::Result<()>, Mishap> {
+    let bytes = text_of(alloc, text)?;
+    let Ok(text) = String::from_utf8(bytes) else {
+        return Err(Mishap::Unplayable("the text isn't UTF-8"));
+    };
+    let response = Response::from_string(alloc, text)?.with_status_code(StatusCode(status));
+    Ok(request.respond(response, date_now(rt)))
+}
+
+// Answers by JSON.
+fn respond_json<D: ReadDevice + Drop, W: WriteDevice + Drop, R: Wait + Clock + Drop>(
+    rt: &R,
+    alloc: Global,
+    request: Request<D, W, R>,
+    (status, text): (u16, &str),
+) -> Result<io::Result<()>, Mishap> {
+    let Ok(header) = Header::from_str(alloc, "Content-Type: application/json") else {
+        return Err(Mishap::OutOfMemory);
+    };
+    let Ok(response) = text_answer(alloc, text) else {
+        return Err(Mishap::OutOfMemory);
+    };
+    let Ok(response) = response
+        .with_status_code(StatusCode(status))
+        .with_header(header)
+    else {
+        return Err(Mishap::OutOfMemory);
+    };
+    Ok(request.respond(response, date_now(rt)))
+}
+
+// Answers by no data.
+fn respond_empty<D: ReadDevice + Drop, W: WriteDevice + Drop, R: Wait + Clock + Drop>(
+    rt: &R,
+    alloc: Global,
+    request: Request<D, W, R>,
+    (status, is_last): (u16, bool),
+) -> io::Result<()> {
+    let response = Response::empty(alloc, StatusCode(status));
+    if is_last {
+        return request.respond(response.with_close(), date_now(rt));
+    }
+    request.respond(response, date_now(rt))
+}
+
+// Answers by `count` bytes, whose length is stated, and then not in chunks, or left open.
+fn respond_bytes<D: ReadDevice + Drop, W: WriteDevice + Drop, R: Wait + Clock + Drop>(
+    rt: &R,
+    alloc: Global,
+    request: Request<D, W, R>,
+    (status, count, is_sized): (u16, usize, bool),
+) -> io::Result<()> {
+    let data = Metered::new(io::repeat(b'x').take(count as u64));
+    let length = if is_sized { Some(count) } else { None };
+    let response = Response::empty(alloc, StatusCode(status)).with_data(data, length);
+    let response = if is_sized {
+        response.with_chunked_threshold(usize::MAX)
+    } else {
+        response
+    };
+    request.respond(response, date_now(rt))
+}
+
+// Answers a request.
+fn respond<D: ReadDevice + Drop, W: WriteDevice + Drop, R: Wait + Clock + Drop>(
+    rt: &R,
+    alloc: Global,
+    request: Request<D, W, R>,
+    (status, data): (u16, Data<'_>),
+) -> Result<io::Result<()>, Mishap> {
+    match data {
+        Data::Text(text) => respond_text(rt, alloc, request, (status, text)),
+        Data::Json(text) => respond_json(rt, alloc, request, (status, text)),
+        Data::Empty => Ok(respond_empty(rt, alloc, request, (status, false))),
+        Data::Closing => Ok(respond_empty(rt, alloc, request, (status, true))),
+        Data::Bytes(count) => Ok(respond_bytes(rt, alloc, request, (status, count, true))),
+        Data::Unsized(count) => Ok(respond_bytes(rt, alloc, request, (status, count, false))),
+        Data::Short(stated, text) => {
+            let answer = short_answer(alloc, status, (stated, text_of(alloc, text)?));
+            Ok(request.respond(answer, date_now(rt)))
+        }
+    }
+}
+
+/// An answer whose head states a length, and these data.
+pub fn short_answer(
+    alloc: Global,
+    status: u16,
+    (stated, data): (usize, Vec<u8>),
+) -> Response<Cursor<Vec<u8>>> {
+    Response::empty(alloc, StatusCode(status)).with_data(Cursor::new(data), Some(stated))
+}
+
+// The whole body of a request is these bytes.
+fn demand_body<D: ReadDevice + Drop, W: WriteDevice + Drop, R: Wait + Clock + Drop>(
+    rt: &R,
+    alloc: Global,
+    request: &mut Request<D, W, R>,
+    wanted: &[u8],
+) -> Result<(), Mishap> {
+    let mut body = Vec::new(alloc);
+    let read = request.as_reader(date_now(rt)).read_to_end(&mut body);
+    demand_fault(alloc, None, kind_of_fault(read))?;
+    demand_bytes(alloc, wanted, body.as_slice())
+}
+
+// The fault that ends the reads of a request's body, if one does.
+fn fault_of_body<D: ReadDevice + Drop, W: WriteDevice + Drop, R: Wait + Clock + Drop>(
+    rt: &R,
+    request: &mut Request<D, W, R>,
+) -> Option<ErrorKind> {
+    let mut piece = [0u8; 8];
+    let body = request.as_reader(date_now(rt));
+    for _ in 0..READS {
+        match body.read(&mut piece) {
+            Ok(0) => return None,
+            Ok(_) => {}
+            Err(fault) => return Some(fault.kind()),
+        }
+    }
+    None
+}
+
+// The next bytes of a request's body are these.
+fn demand_next<D: ReadDevice + Drop, W: WriteDevice + Drop, R: Wait + Clock + Drop>(
+    rt: &R,
+    alloc: Global,
+    request: &mut Request<D, W, R>,
+    wanted: &[u8],
+) -> Result<(), Mishap> {
+    let mut came = vec![in alloc; 0u8; wanted.len()]?;
+    let read = request.as_reader(date_now(rt)).read_exact(&mut came);
+    demand_fault(alloc, None, kind_of_fault(read))?;
+    demand_bytes(alloc, wanted, came.as_slice())
+}
+
+// A read of exactly `count` bytes of a request's body fails so.
+fn demand_unread<D: ReadDevice + Drop, W: WriteDevice + Drop, R: Wait + Clock + Drop>(
+    rt: &R,
+    alloc: Global,
+    request: &mut Request<D, W, R>,
+    (count, kind): (usize, ErrorKind),
+) -> Result<(), Mishap> {
+    let mut came = vec![in alloc; 0u8; count]?;
+    let read = request.as_reader(date_now(rt)).read_exact(&mut came);
+    demand_fault(alloc, Some(kind), kind_of_fault(read))
+}
+
+// What comes of a body that is read whole, in words.
+fn words_of(whole: &Result<Vec<u8>, BodyError>) -> &'static str {
+    match whole {
+        Ok(_) => "a whole body",
+        Err(BodyError::TooLong) => "TooLong",
+        Err(BodyError::Cut) => "Cut",
+        Err(BodyError::Broken) => "Broken",
+        Err(BodyError::Io(_)) => "a fault of the reader",
+        Err(BodyError::Memory) => "out of memory",
+    }
+}
+
+// A request's body, of at most `most` bytes, is read whole.
+fn demand_whole<D: ReadDevice + Drop, W: WriteDevice + Drop, R: Wait + Clock + Drop>(
+    rt: &R,
+    alloc: Global,
+    request: &mut Request<D, W, R>,
+    (most, wanted): (usize, Whole<'_>),
+) -> Result<(), Mishap> {
+    let came = request.read_body(alloc, most, date_now(rt));
+    let words = words_of(&came);
+    match (wanted, came) {
+        (Whole::Text(text), Ok(came)) => {
+            demand_bytes(alloc, text_of(alloc, text)?.as_slice(), came.as_slice())
+        }
+        (Whole::Fault(kind), Err(BodyError::Io(fault))) => {
+            demand_fault(alloc, Some(kind), Some(fault.kind()))
+        }
+        (Whole::TooLong, _) => demand_text(alloc, "TooLong", words),
+        (Whole::Cut, _) => demand_text(alloc, "Cut", words),
+        (Whole::Broken, _) => demand_text(alloc, "Broken", words),
+        (Whole::Text(_), _) => Err(differs(alloc, "a whole body", words)),
+        (Whole::Fault(_), _) => Err(differs(alloc, "a fault of the reader", words)),
+    }
+}
+
+// Two texts are the same, or there is none.
+fn demand_option(alloc: Global, wanted: Option<&str>, came: Option<&str>) -> Result<(), Mishap> {
+    match (wanted, came) {
+        (None, None) => Ok(()),
+        (Some(wanted), Some(came)) => demand_text(alloc, wanted, came),
+        (wanted, came) => Err(differs(alloc, wanted.unwrap_or("none"), came.unwrap_or("none"))),
+    }
+}
+
+// Something is so or isn't, as wanted: the words for each.
+fn demand_property(
+    alloc: Global,
+    (words, words_if_not): (&str, &str),
+    (wanted, came): (bool, bool),
+) -> Result<(), Mishap> {
+    let words = if wanted { words } else { words_if_not };
+    demand(alloc, words, came == wanted)
+}
+
+// What is seen of a request's head.
+fn look<D: ReadDevice + Drop, W: WriteDevice + Drop, R: Wait + Clock + Drop>(
+    alloc: Global,
+    request: &Request<D, W, R>,
+    deed: RequestDeed<'_>,
+) -> Result<(), Mishap> {
+    match deed {
+        RequestDeed::Header(name, wanted) => demand_option(alloc, wanted, request.header(name)),
+        RequestDeed::Lists(name, token, wanted) => {
+            let words = ("it is listed", "it isn't listed");
+            demand_property(alloc, words, (wanted, request.header_lists(name, token)))
+        }
+        RequestDeed::Path(wanted) => demand_text(alloc, wanted, request.path()),
+        RequestDeed::Query(wanted) => demand_option(alloc, wanted, request.query()),
+        RequestDeed::AsksUpgrade(wanted) => {
+            let words = ("it asks for an upgrade", "it asks for none");
+            demand_property(alloc, words, (wanted, request.is_upgrade()))
+        }
+        RequestDeed::IsLost(wanted) => {
+            let words = ("its answer would be lost", "its answer would be sent");
+            demand_property(alloc, words, (wanted, request.is_lost()))
+        }
+        RequestDeed::IsSecure(wanted) => {
+            let words = ("it came with TLS", "it came without TLS");
+            demand_property(alloc, words, (wanted, request.secure()))
+        }
+        _ => look_whole(alloc, request, deed),
+    }
+}
+
+// What is seen of a request as a whole.
+fn look_whole<D: ReadDevice + Drop, W: WriteDevice + Drop, R: Wait + Clock + Drop>(
+    alloc: Global,
+    request: &Request<D, W, R>,
+    deed: RequestDeed<'_>,
+) -> Result<(), Mishap> {
+    match deed {
+        RequestDeed::Version(wanted) => {
+            let version = format!(in alloc; "{}", request.http_version())?;
+            demand_text(alloc, wanted, version.as_str())
+        }
+        RequestDeed::Length(wanted) => {
+            let length = request.body_length().map(|length| length as u64);
+            demand(alloc, "its body has this length", length == wanted)
+        }
+        RequestDeed::Headers(count) => {
+            demand_number(alloc, count, request.headers().len() as u64)
+        }
+        RequestDeed::Shown(wanted) => {
+            let shown = format!(in alloc; "{request:?}")?;
+            demand_text(alloc, wanted, shown.as_str())
+        }
+        _ => Err(Mishap::Unplayable("a request can't do that")),
+    }
+}
+
+// Its head and its body are lent together: its path, and what is left of its body.
+fn demand_parts<D: ReadDevice + Drop, W: WriteDevice + Drop, R: Wait + Clock + Drop>(
+    rt: &R,
+    alloc: Global,
+    request: &mut Request<D, W, R>,
+    (path, wanted): (&str, &[u8]),
+) -> Result<(), Mishap> {
+    let (head, body) = request.parts(date_now(rt));
+    let mut came = Vec::new(alloc);
+    let read = body.read_to_end(&mut came);
+    demand_fault(alloc, None, kind_of_fault(read))?;
+    demand_text(alloc, path, head.target_path())?;
+    demand_bytes(alloc, wanted, came.as_slice())
+}
+
+/// The request is a `GET` without TLS, from this address.
+pub fn demand_plain<D: ReadDevice + Drop, W: WriteDevice + Drop, R: Wait + Clock + Drop>(
+    alloc: Global,
+    request: &Request<D, W, R>,
+    addr: Option<SocketAddr>,
+) -> Result<(), Mishap> {
+    demand(alloc, "it is a GET", request.method() == &Method::Get)?;
+    demand(alloc, "it comes without TLS", !request.secure())?;
+    let is_from = request.remote_addr().copied() == addr;
+    demand(alloc, "it is of this client's address", is_from)
+}
+
+/// What is done with the request of this name.
+pub fn act_asked<D: ReadDevice + Drop, W: WriteDevice + Drop, R: Wait + Clock + Drop>(
+    rt: &R,
+    alloc: Global,
+    asked: &mut Asked<D, W, R>,
+    name: &str,
+    deed: RequestDeed<'_>,
+) -> Result<(), Mishap> {
+    match deed {
+        RequestDeed::Respond(status, data, wanted) => {
+            let request = take(&mut asked.requests, name)?;
+            let sent = respond(rt, alloc, request, (status, data))?;
+            demand_fault(alloc, wanted, kind_of_fault(sent))
+        }
+        RequestDeed::Drop => {
+            drop(take(&mut asked.requests, name)?);
+            Ok(())
+        }
+        RequestDeed::IntoWriter(output) => into_writer(alloc, asked, name, output),
+        RequestDeed::Streams(status, output, is_last) => {
+            respond_streaming(rt, alloc, asked, name, (status, output, is_last))
+        }
+        RequestDeed::StreamsNot(status, kind) => {
+            let (request, head) = begin_answer(alloc, asked, name, status)?;
+            let begun = request.respond_streaming(head, date_now(rt));
+            demand_fault(alloc, Some(kind), kind_of_fault(begun))
+        }
+        RequestDeed::Upgrades(protocol, output) => {
+            upgrade(rt, alloc, asked, name, (protocol, output, false))
+        }
+        RequestDeed::TriesUpgrade(protocol, output) => {
+            upgrade(rt, alloc, asked, name, (protocol, output, true))
+        }
+        RequestDeed::KeepsUpgrade(protocol, why) => {
+            keep_upgrade(rt, alloc, asked, name, (protocol, why))
+        }
+        _ => read_request(rt, alloc, get(&mut asked.requests, name)?, deed),
+    }
+}
+
+// What is read of a request, or seen of its head.
+fn read_request<D: ReadDevice + Drop, W: WriteDevice + Drop, R: Wait + Clock + Drop>(
+    rt: &R,
+    alloc: Global,
+    request: &mut Request<D, W, R>,
+    deed: RequestDeed<'_>,
+) -> Result<(), Mishap> {
+    match deed {
+        RequestDeed::Body(text) => {
+            demand_body(rt, alloc, request, text_of(alloc, text)?.as_slice())
+        }
+        RequestDeed::Reads(text) => {
+            demand_next(rt, alloc, request, text_of(alloc, text)?.as_slice())
+        }
+        RequestDeed::ReadFails(kind) => {
+            demand_fault(alloc, Some(kind), fault_of_body(rt, request))
+        }
+        RequestDeed::ReadExactly(count, kind) => demand_unread(rt, alloc, request, (count, kind)),
+        RequestDeed::ReadBody(most, wanted) => demand_whole(rt, alloc, request, (most, wanted)),
+        RequestDeed::Lends(path, text) => {
+            demand_parts(rt, alloc, request, (path, text_of(alloc, text)?.as_slice()))
+        }
+        RequestDeed::AsReader => {
+            let _ = request.as_reader(date_now(rt));
+            Ok(())
+        }
+        _ => look(alloc, request, deed),
+    }
+}
+
+// Takes the request of this name, which is to be answered by this status. The request, and the head of the answer.
+fn begin_answer<D: ReadDevice + Drop, W: WriteDevice + Drop, R: Wait + Drop>(
+    alloc: Global,
+    asked: &mut Asked<D, W, R>,
+    name: &str,
+    status: u16,
+) -> Result<(Request<D, W, R>, Response<io::Empty>), Mishap> {
+    let request = take(&mut asked.requests, name)?;
+    Ok((request, Response::empty(alloc, StatusCode(status))))
+}
+
+// A request that may not be upgraded to the protocol is handed back.
+fn keep_upgrade<D: ReadDevice + Drop, W: WriteDevice + Drop, R: Wait + Clock + Drop>(
+    rt: &R,
+    alloc: Global,
+    asked: &mut Asked<D, W, R>,
+    name: &str,
+    (protocol, why): (&str, Kept),
+) -> Result<(), Mishap> {
+    let (request, head) = begin_answer(alloc, asked, name, 101)?;
+    match request.try_upgrade(protocol, head, date_now(rt)) {
+        Ok(_) => Err(differs(alloc, "no upgrade", "an upgrade")),
+        Err(RefusedUpgrade { request, error }) => {
+            let wanted = match why {
+                Kept::NotAsked => UpgradeError::NotAsked,
+                Kept::UnfinishedBody => UpgradeError::UnfinishedBody,
+                Kept::TooMany => UpgradeError::TooMany,
+            };
+            let holds = error == wanted;
+            add(alloc, &mut asked.requests, name, request)?;
+            demand(alloc, "it is refused so", holds)
+        }
+    }
+}
+
+// Takes the raw writer of a request.
+fn into_writer<D: ReadDevice + Drop, W: WriteDevice + Drop, R: Wait + Clock + Drop>(
+    alloc: Global,
+    asked: &mut Asked<D, W, R>,
+    name: &str,
+    output: &str,
+) -> Result<(), Mishap> {
+    let writer = take(&mut asked.requests, name)?.into_writer();
+    add(alloc, &mut asked.outputs, output, Output::Raw(writer))
+}
+
+// Begins an answer that grows.
+fn respond_streaming<D: ReadDevice + Drop, W: WriteDevice + Drop, R: Wait + Clock + Drop>(
+    rt: &R,
+    alloc: Global,
+    asked: &mut Asked<D, W, R>,
+    name: &str,
+    (status, output, is_last): (u16, &str, bool),
+) -> Result<(), Mishap> {
+    let (request, head) = begin_answer(alloc, asked, name, status)?;
+    let head = if is_last { head.with_close() } else { head };
+    match request.respond_streaming(head, date_now(rt)) {
+        Ok(body) => add(alloc, &mut asked.outputs, output, Output::Growing(body)),
+        Err(fault) => demand_fault(alloc, None, Some(fault.kind())),
+    }
+}
+
+// Upgrades a request, and that by `try_upgrade` where it is tried.
+fn upgrade<D: ReadDevice + Drop, W: WriteDevice + Drop, R: Wait + Clock + Drop>(
+    rt: &R,
+    alloc: Global,
+    asked: &mut Asked<D, W, R>,
+    name: &str,
+    (protocol, output, is_tried): (&str, &str, bool),
+) -> Result<(), Mishap> {
+    let (request, head) = begin_answer(alloc, asked, name, 101)?;
+    let now = date_now(rt);
+    let stream = if is_tried {
+        request.try_upgrade(protocol, head, now).ok()
+    } else {
+        request.upgrade(protocol, head, now).ok()
+    };
+    match stream {
+        Some(stream) => add(alloc, &mut asked.outputs, output, Output::Upgraded(stream)),
+        None => Err(differs(alloc, "an upgrade", "it is refused")),
+    }
+}
+
+// Writes all these bytes.
+fn write_to<D: ReadDevice + Drop, W: WriteDevice + Drop, R: Wait + Clock + Drop>(
+    output: &mut Output<D, W, R>,
+    bytes: &[u8],
+) -> io::Result<()> {
+    match output {
+        Output::Raw(writer) => writer.write_all(bytes),
+        Output::Growing(body) => body.write_all(bytes),
+        Output::Upgraded(stream) => stream.write_all(bytes),
+    }
+}
+
+// Flushes what was written.
+fn flush<D: ReadDevice + Drop, W: WriteDevice + Drop, R: Wait + Clock + Drop>(
+    output: &mut Output<D, W, R>,
+) -> io::Result<()> {
+    match output {
+        Output::Raw(writer) => writer.flush(),
+        Output::Growing(body) => body.flush(),
+        Output::Upgraded(stream) => stream.flush(),
+    }
+}
+
+// Ends what is written.
+fn close<D: ReadDevice + Drop, W: WriteDevice + Drop, R: Wait + Clock + Drop>(
+    output: Output<D, W, R>,
+) -> io::Result<()> {
+    match output {
+        Output::Raw(writer) => writer.close(),
+        Output::Growing(body) => body.finish(),
+        Output::Upgraded(_) => Ok(()),
+    }
+}
+
+// The next bytes that an upgraded stream reads are these.
+fn demand_read<D: ReadDevice + Drop, W: WriteDevice + Drop, R: Wait + Clock + Drop>(
+    alloc: Global,
+    output: &mut Output<D, W, R>,
+    wanted: &[u8],
+) -> Result<(), Mishap> {
+    let Output::Upgraded(stream) = output else {
+        return Err(Mishap::Unplayable("only an upgraded stream is read"));
+    };
+    let mut came = vec![in alloc; 0u8; wanted.len()]?;
+    let read = stream.read_exact(&mut came);
+    demand_fault(alloc, None, kind_of_fault(read))?;
+    demand_bytes(alloc, wanted, came.as_slice())
+}
+
+// A read of an upgraded stream fails so.
+fn demand_stopped<D: ReadDevice + Drop, W: WriteDevice + Drop, R: Wait + Clock + Drop>(
+    alloc: Global,
+    output: &mut Output<D, W, R>,
+    wanted: ErrorKind,
+) -> Result<(), Mishap> {
+    let Output::Upgraded(stream) = output else {
+        return Err(Mishap::Unplayable("only an upgraded stream is read"));
+    };
+    let mut came = [0u8; 1];
+    let read = stream.read(&mut came);
+    demand_fault(alloc, Some(wanted), kind_of_fault(read))
+}
+
+/// What is written to the output of this name.
+pub fn write_asked<D: ReadDevice + Drop, W: WriteDevice + Drop, R: Wait + Clock + Drop>(
+    alloc: Global,
+    asked: &mut Asked<D, W, R>,
+    name: &str,
+    deed: OutputDeed<'_>,
+) -> Result<(), Mishap> {
+    match deed {
+        OutputDeed::Write(text, wanted) => {
+            let bytes = text_of(alloc, text)?;
+            let written = write_to(get(&mut asked.outputs, name)?, bytes.as_slice());
+            demand_fault(alloc, wanted, kind_of_fault(written))
+        }
+        OutputDeed::Flush(wanted) => {
+            let flushed = flush(get(&mut asked.outputs, name)?);
+            demand_fault(alloc, wanted, kind_of_fault(flushed))
+        }
+        OutputDeed::Close(wanted) => {
+            let closed = close(take(&mut asked.outputs, name)?);
+            demand_fault(alloc, wanted, kind_of_fault(closed))
+        }
+        OutputDeed::Read(text) => {
+            let wanted = text_of(alloc, text)?;
+            demand_read(alloc, get(&mut asked.outputs, name)?, wanted.as_slice())
+        }
+        OutputDeed::ReadFails(wanted) => {
+            demand_stopped(alloc, get(&mut asked.outputs, name)?, wanted)
+        }
+        OutputDeed::Form(wanted) => {
+            let Output::Growing(body) = get(&mut asked.outputs, name)? else {
+                return Err(Mishap::Unplayable("only an answer that grows has a form"));
+            };
+            let came = format!(in alloc; "{:?}", body.form())?;
+            demand_text(alloc, wanted, came.as_str())
+        }
+        OutputDeed::Discard => {
+            drop(take(&mut asked.outputs, name)?);
+            Ok(())
+        }
+    }
+}

@@ -1,0 +1,144 @@
+//! The handler of a scene's server.
+use test_scene_props::requests::{short_answer, text_answer};
+use std::alloc::Global;
+use std::io::{ErrorKind, Read, Write};
+use std::sync::atomic::{AtomicBool, Ordering};
+use std::sync::{Arc, Wait};
+use std::time::{Clock, Duration};
+use std::{io, thread};
+use tiny_http::common::StatusCode;
+use tiny_http::messages_queue::MessagesQueue;
+use tiny_http::response::Response;
+use tiny_http::server::{ServerRequest, current_date};
+use tiny_http::serving::Handler;
+
+// How many milliseconds a handler waits at its gate at most.
+const LONGEST: u32 = 10_000;
+
+// How many bytes `/long` is answered by, in one write.
+const LONG: usize = 20_000;
+
+/// Answers by the path of a request.
+#[derive(Drop)]
+pub(crate) struct ByPath<R: Wait + Clock + Drop> {
+    /// The requests that it keeps: all, or those for `/keep`.
+    pub kept: Arc<MessagesQueue<ServerRequest<R>>>,
+    pub keeps_all: Arc<AtomicBool>,
+    /// Whether it may go on that waits.
+    pub gate: Arc<AtomicBool>,
+}
+
+// Answers by the path itself; whether the connection is to end.
+fn answer_path<R: Wait + Clock + Drop>(
+    rt: &R,
+    alloc: Global,
+    request: ServerRequest<R>,
+    is_last: bool,
+) -> io::Result<()> {
+    let response = text_answer(alloc, request.url())?;
+    if is_last {
+        return request.respond(response.with_close(), current_date(rt));
+    }
+    request.respond(response, current_date(rt))
+}
+
+// Answers by the body of the request.
+fn echo<R: Wait + Clock + Drop>(
+    rt: &R,
+    alloc: Global,
+    request: ServerRequest<R>,
+) -> io::Result<()> {
+    let mut request = request;
+    let mut body = Vec::new(alloc);
+    request.as_reader(current_date(rt)).read_to_end(&mut body)?;
+    request.respond(Response::from_data(alloc, body), current_date(rt))
+}
+
+// Upgrades to a protocol that sends `hello` and no more.
+fn greet<R: Wait + Clock + Drop>(
+    rt: &R,
+    alloc: Global,
+    request: ServerRequest<R>,
+) -> io::Result<()> {
+    let response = Response::empty(alloc, StatusCode(101));
+    let Ok(mut stream) = request.upgrade("greet", response, current_date(rt)) else {
+        return Ok(());
+    };
+    stream.write_all(b"hello")?;
+    stream.flush()
+}
+
+// Waits until the gate is open.
+fn wait_at<R: Clock>(rt: &R, gate: &AtomicBool) {
+    for _ in 0..LONGEST {
+        if gate.load(Ordering::SeqCst) {
+            return;
+        }
+        thread::sleep(rt, Duration::from_millis(1));
+    }
+}
+
+// Answers by `a`, which is flushed, and by `b` once the gate is open.
+fn grow<R: Wait + Clock + Drop>(
+    rt: &R,
+    alloc: Global,
+    request: ServerRequest<R>,
+    gate: &AtomicBool,
+) -> io::Result<()> {
+    let response = Response::empty(alloc, StatusCode(200));
+    let mut body = request.respond_streaming(response, current_date(rt))?;
+    body.write_all(b"a")?;
+    body.flush()?;
+    wait_at(rt, gate);
+    body.write_all(b"b")?;
+    body.finish()
+}
+
+// Answers by many bytes that one call writes.
+fn write_long<R: Wait + Clock + Drop>(
+    rt: &R,
+    alloc: Global,
+    request: ServerRequest<R>,
+) -> io::Result<()> {
+    let text = vec![in alloc; b'x'; LONG]?;
+    let response = Response::empty(alloc, StatusCode(200));
+    let mut body = request.respond_streaming(response, current_date(rt))?;
+    body.write_all(text.as_slice())?;
+    body.finish()
+}
+
+impl<R: Wait + Clock + Drop> Handler<R, ServerRequest<R>> for ByPath<R> {
+    /// Keeps a request for `/keep`, and each where it keeps all; drops one for `/drop`; answers one for `/echo` by
+    /// its body, `/grow` by pieces, `/long` by many bytes, `/short` by three of ten; upgrades one for `/greet`; and
+    /// answers each other one by its path, `/wait` once the gate is open. After the answer to `/close` the connection
+    /// is to end, and for `/err` and `/drop-err` it fails.
+    fn handle(&self, rt: &R, alloc: Global, request: ServerRequest<R>) -> io::Result<()> {
+        let path = request.url();
+        if self.keeps_all.load(Ordering::SeqCst) || path == "/keep" {
+            let _ = self.kept.push(rt, request);
+            return Ok(());
+        }
+        match path {
+            "/drop" => Ok(()),
+            "/drop-err" => Err(ErrorKind::Other.into()),
+            "/err" => {
+                answer_path(rt, alloc, request, false)?;
+                Err(ErrorKind::Other.into())
+            }
+            "/echo" => echo(rt, alloc, request),
+            "/grow" => grow(rt, alloc, request, &self.gate),
+            "/long" => write_long(rt, alloc, request),
+            "/greet" => greet(rt, alloc, request),
+            "/short" => {
+                let answer = short_answer(alloc, 200, (10, b"abc".to_vec(alloc)?));
+                request.respond(answer, current_date(rt))
+            }
+            "/close" => answer_path(rt, alloc, request, true),
+            "/wait" => {
+                wait_at(rt, &self.gate);
+                answer_path(rt, alloc, request, false)
+            }
+            _ => answer_path(rt, alloc, request, false),
+        }
+    }
+}

@@ -1,0 +1,90 @@
+//! What the one who acts has at hand: the server and its requests, and what needs no server, by their names.
+use crate::handler::ByPath;
+use test_scene_files::mishap::Mishap;
+use test_scene_files::scene::{Line, Way};
+use test_scene_props::asked::Asked;
+use test_scene_props::named::is_named;
+use test_scene_props::props::Props;
+use std::alloc::{AllocError, Global};
+use std::net::Net;
+use std::os::fd::OwnedFd;
+use std::sync::{Arc, Wait};
+use std::time::Clock;
+use tiny_http::connection::{ListenAddr, SocketFiles};
+use tiny_http::server::{Server, ServerReader, ServerWriter};
+
+/// The requests of the server, and their outputs.
+pub(crate) type Served<R> = Asked<ServerReader<R>, ServerWriter<R>, R>;
+
+/// What is at hand.
+#[derive(Drop)]
+pub(crate) struct Hands<R: Net + SocketFiles + Wait + Clock + Drop> {
+    pub server: Option<Arc<Server<R>>>,
+    pub addr: Option<ListenAddr>,
+    pub handler: Arc<ByPath<R>>,
+    pub way: Way,
+    pub served: Served<R>,
+    /// What needs no server.
+    pub props: Props<R>,
+    /// Descriptors that nobody else can have meanwhile.
+    pub taken: Vec<OwnedFd>,
+}
+
+impl<R: Net + SocketFiles + Wait + Clock + Drop> Hands<R> {
+    /// A handler, and what needs no server.
+    pub(crate) fn new(
+        alloc: Global,
+        (handler, way): (Arc<ByPath<R>>, Way),
+        props: Props<R>,
+    ) -> Hands<R> {
+        Hands {
+            server: None,
+            addr: None,
+            handler,
+            way,
+            served: Asked::none(alloc),
+            props,
+            taken: Vec::new(alloc),
+        }
+    }
+
+    /// The server.
+    pub(crate) fn server(&self) -> Result<&Server<R>, Mishap> {
+        match &self.server {
+            Some(server) => Ok(server),
+            None => Err(Mishap::Unplayable("there is no server")),
+        }
+    }
+
+    /// The address of the server, also once that has gone.
+    pub(crate) fn addr(&self) -> Result<&ListenAddr, Mishap> {
+        match &self.addr {
+            Some(addr) => Ok(addr),
+            None => Err(Mishap::Unplayable("there is no server")),
+        }
+    }
+
+    /// What these lines need: who and what they name, and the server where they name it.
+    pub(crate) fn part(&mut self, alloc: Global, lines: &[Line]) -> Result<Hands<R>, AllocError> {
+        let props = self.props.part(alloc, lines)?;
+        let handler = Arc::try_clone(&self.handler)?;
+        let mut theirs = Hands::new(alloc, (handler, self.way), props);
+        if let Some(server) = &self.server
+            && is_named(lines, "server")
+        {
+            theirs.server = Some(Arc::try_clone(server)?);
+        }
+        if let Some(addr) = &self.addr {
+            theirs.addr = addr.clone().ok();
+        }
+        theirs.served = self.served.part(alloc, lines)?;
+        Ok(theirs)
+    }
+
+    /// Takes back what is left of a part.
+    pub(crate) fn join(&mut self, part: Hands<R>) -> Result<(), AllocError> {
+        let Hands { served, props, .. } = part;
+        self.served.join(served)?;
+        self.props.join(props)
+    }
+}

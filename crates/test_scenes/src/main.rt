@@ -1,0 +1,157 @@
+//! Plays the scenes of files: `scenes FILE..`. A scene is what a server and its clients do one after another, line by
+//! line, and what each sees. Some are played side by side. docs/CASES.md describes the files.
+#![tactic(auto)]
+
+mod besides;
+mod handler;
+mod hands;
+mod links;
+mod playing;
+mod rivals;
+mod serving;
+
+use crate::links::Host;
+use crate::playing::play;
+use test_data_files::fault::FilesFault;
+use test_data_files::program::{Checker, NamedFile, run_program};
+use test_scene_files::scene::{Scene, SceneFile, read_scenes};
+use test_scene_props::jobs::Failure;
+use std::alloc::{AllocError, Global};
+use std::io::Write;
+use std::process::ExitCode;
+use std::{io, thread};
+
+// How many scenes are played side by side.
+const BESIDE: usize = 8;
+
+// The files that the command line names.
+#[derive(Drop)]
+struct SceneFiles {
+    files: Vec<SceneFile>,
+}
+
+impl Checker for SceneFiles {
+    /// Reads the scenes of each of these files. They are played once all are read.
+    fn check<'a, O: Write>(
+        &mut self,
+        alloc: Global,
+        files: &[NamedFile<'a>],
+        _out: &mut O,
+    ) -> Result<bool, FilesFault<'a>> {
+        for NamedFile { name, bytes } in files {
+            let scenes = read_scenes(alloc, name, bytes.as_slice())?;
+            let name = String::from_str(alloc, name)?;
+            self.files
+                .push(SceneFile { name, scenes })
+                .map_err(AllocError::from)?;
+        }
+        Ok(true)
+    }
+}
+
+// Plays a scene. Its Unix socket has the number of the process and its own in its path.
+fn play_at<R: Host>(
+    rt: &R,
+    alloc: Global,
+    (scene, process, number): (&Scene, u32, usize),
+) -> Option<Failure> {
+    let path = match format!(in alloc; "/tmp/scene-{process}-{number}.sock") {
+        Ok(path) => path,
+        Err(_) => String::new(alloc),
+    };
+    play(rt, alloc, scene, path.as_str())
+}
+
+// Reports a scene that failed.
+fn report<O: Write>(
+    out: &mut O,
+    (file, scene): (&str, &Scene),
+    failure: &Failure,
+) -> io::Result<()> {
+    let name = scene.name.as_str();
+    let (number, line, mishap) = (failure.number, failure.line.as_str(), &failure.mishap);
+    writeln!(out, "{file}:{number}: {name}: {line}:{mishap}")
+}
+
+// Plays scenes side by side, and reports those that fail. How many did, of those that have to fail how many didn't.
+fn play_group<R: Host, O: Write>(
+    rt: &R,
+    alloc: Global,
+    (file, scenes, process): (&str, &[Scene], u32),
+    out: &mut O,
+) -> io::Result<usize> {
+    let played = thread::map_indices(
+        rt,
+        alloc,
+        scenes.len(),
+        &|number| {
+            let scene = scenes.get(number)?;
+            play_at(rt, alloc, (scene, process, number))
+        },
+    )?;
+    let mut failed = 0usize;
+    for (scene, failure) in scenes.iter().zip(played.as_slice()) {
+        if let Some(failure) = failure {
+            report(out, (file, scene), failure)?;
+        }
+        if failure.is_some() != scene.ground.has_to_fail {
+            failed = failed.saturating_add(1);
+        }
+    }
+    Ok(failed)
+}
+
+// Plays the scenes of a file, and says how many failed: whether none did.
+fn play_file<R: Host, O: Write>(
+    rt: &R,
+    alloc: Global,
+    (file, process): (&SceneFile, u32),
+    out: &mut O,
+) -> io::Result<bool> {
+    let (name, count) = (file.name.as_str(), file.scenes.len());
+    let mut failed = 0usize;
+    let scenes = file.scenes.as_slice();
+    for part in scenes.chunk_by(|one, next| !one.ground.is_alone && !next.ground.is_alone) {
+        for group in part.chunks(BESIDE) {
+            let more = play_group(rt, alloc, (name, group, process), out)?;
+            failed = failed.saturating_add(more);
+        }
+    }
+    writeln!(out, "{name}: {count} scenes, {failed} failed")?;
+    Ok(failed == 0)
+}
+
+// Plays the scenes of all files, and gives the exit status: 0 where all hold, 3 where one fails, and 1 where `out`
+// can't be written or memory is refused.
+fn play_files<R: Host, O: Write>(
+    rt: &R,
+    alloc: Global,
+    (files, process): (&[SceneFile], u32),
+    out: &mut O,
+) -> u8 {
+    let mut status = 0;
+    for file in files {
+        match play_file(rt, alloc, (file, process), out) {
+            Ok(true) => {}
+            Ok(false) => status = 3,
+            Err(_) => return 1,
+        }
+    }
+    status
+}
+
+fn main(rt: HostRuntime) -> ExitCode {
+    let mut out = rt.stdout();
+    let mut err = rt.stderr();
+    let alloc = rt.alloc();
+    let mut read = SceneFiles {
+        files: Vec::new(alloc),
+    };
+    let status = run_program(&rt, "scenes", &mut read, &mut out, &mut err);
+    if status != 0 {
+        return ExitCode::from(status);
+    }
+    let process = std::process::id(rt.process());
+    let files = read.files.as_slice();
+    ExitCode::from(play_files(&rt, alloc, (files, process), &mut out))
+}

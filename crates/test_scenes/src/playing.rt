@@ -1,0 +1,253 @@
+//! Plays a scene: line after line, and what is beside on threads of its own.
+use crate::besides::{Beside, begin, end, spawn_job, wait};
+use crate::hands::Hands;
+use crate::links::Host;
+use crate::serving::{act_server, connect, first_hands, place_of, take_descriptors};
+use test_scene_files::deed::{ClientDeed, Deed, OutputDeed, RequestDeed, deed_in};
+use test_scene_files::mishap::{Mishap, demand};
+use test_scene_files::scene::{Line, Scene, Way};
+use test_scene_props::acting::act_without_server;
+use test_scene_props::jobs::{Failure, Pool, failure_at, inner_lines, pool_of};
+use test_scene_props::named::{get, has};
+use test_scene_props::requests::{act_asked, demand_plain, write_asked};
+use std::alloc::Global;
+use std::net::Net;
+use std::sync::{Arc, Wait};
+use std::thread;
+use std::thread::JoinHandle;
+use std::time::Clock;
+use tiny_http::connection::SocketFiles;
+
+/// A scene that is played: what is at hand, the threads and jobs, the pool, and the thread that serves.
+#[derive(Drop)]
+pub(crate) struct Stage<R: Net + SocketFiles + Wait + Clock + Drop> {
+    pub hands: Hands<R>,
+    pub besides: Vec<Beside<R>>,
+    pub pool: Option<Pool<R>>,
+    serving: Option<JoinHandle<bool>>,
+}
+
+// What is done with the request of this name, over memory or of the server.
+fn act_request<R: Host>(
+    rt: &R,
+    alloc: Global,
+    hands: &mut Hands<R>,
+    (name, deed): (&str, RequestDeed<'_>),
+) -> Result<(), Mishap> {
+    if let RequestDeed::IsPlainOf(client) = deed {
+        let addr = get(&mut hands.props.clients, client)?.local_addr();
+        return demand_plain(alloc, get(&mut hands.served.requests, name)?, addr);
+    }
+    if has(hands.props.remembered.requests.as_slice(), name) {
+        return act_asked(rt, alloc, &mut hands.props.remembered, name, deed);
+    }
+    act_asked(rt, alloc, &mut hands.served, name, deed)
+}
+
+// What is done with the output of this name, over memory or of the server.
+fn act_output<R: Host>(
+    alloc: Global,
+    hands: &mut Hands<R>,
+    (name, deed): (&str, OutputDeed<'_>),
+) -> Result<(), Mishap> {
+    if has(hands.props.remembered.outputs.as_slice(), name) {
+        return write_asked(alloc, &mut hands.props.remembered, name, deed);
+    }
+    write_asked(alloc, &mut hands.served, name, deed)
+}
+
+// What a line says, where it is about no thread.
+fn act<R: Host>(rt: &R, alloc: Global, hands: &mut Hands<R>, deed: Deed<'_>) -> Result<(), Mishap> {
+    match deed {
+        Deed::Client(name, ClientDeed::Connects) => connect(rt, alloc, hands, name),
+        Deed::Server(deed) => act_server(rt, alloc, hands, deed),
+        Deed::Request(name, deed) => act_request(rt, alloc, hands, (name, deed)),
+        Deed::Output(name, deed) => act_output(alloc, hands, (name, deed)),
+        Deed::Descriptors(Some(left)) => take_descriptors(rt, hands, left),
+        Deed::Descriptors(None) => {
+            hands.taken.clear();
+            Ok(())
+        }
+        Deed::Beside(_) | Deed::Job(_) | Deed::Ends(..) | Deed::Waits(_) => {
+            Err(Mishap::Unplayable("a thread begins no other"))
+        }
+        _ => act_without_server(rt, alloc, &mut hands.props, deed),
+    }
+}
+
+/// Plays the lines of a thread: the line at which it failed, if it did.
+pub(crate) fn play_lines<R: Host>(
+    rt: &R,
+    alloc: Global,
+    hands: &mut Hands<R>,
+    lines: &[Line],
+) -> Option<Failure> {
+    for line in lines {
+        let Some(deed) = deed_in(line.text.as_str()) else {
+            return Some(failure_at(alloc, line, Mishap::Unplayable("no line of a scene")));
+        };
+        if let Err(mishap) = act(rt, alloc, hands, deed) {
+            return Some(failure_at(alloc, line, mishap));
+        }
+    }
+    None
+}
+
+// One line of a scene, with those below it.
+fn play_line<R: Host>(
+    rt: &R,
+    alloc: Global,
+    stage: &mut Stage<R>,
+    (line, below): (&Line, &[Line]),
+) -> Option<Failure> {
+    let Some(deed) = deed_in(line.text.as_str()) else {
+        return Some(failure_at(alloc, line, Mishap::Unplayable("no line of a scene")));
+    };
+    let played = match deed {
+        Deed::Beside(name) => begin(rt, alloc, stage, (name, inner_lines(below))),
+        Deed::Job(name) => spawn_job(rt, alloc, stage, (name, inner_lines(below))),
+        Deed::Waits(name) => wait(rt, alloc, stage, name),
+        Deed::Ends(name, millis) => match end(rt, alloc, stage, (name, millis)) {
+            Ok(None) => Ok(()),
+            Ok(Some(failure)) => return Some(failure),
+            Err(mishap) => Err(mishap),
+        },
+        _ => act(rt, alloc, &mut stage.hands, deed),
+    };
+    match played {
+        Ok(()) => None,
+        Err(mishap) => Some(failure_at(alloc, line, mishap)),
+    }
+}
+
+// All lines of a scene.
+fn play_all<R: Host>(
+    rt: &R,
+    alloc: Global,
+    stage: &mut Stage<R>,
+    lines: &[Line],
+) -> Option<Failure> {
+    let mut rest = lines;
+    for _ in 0..lines.len() {
+        let Some((line, below)) = rest.split_first() else {
+            break;
+        };
+        rest = below;
+        if line.is_inner {
+            continue;
+        }
+        if let Some(failure) = play_line(rt, alloc, stage, (line, below)) {
+            return Some(failure);
+        }
+    }
+    None
+}
+
+// Has a thread serve by the handler that keeps all, until the server is unblocked.
+fn begin_to_serve<R: Host>(rt: &R, alloc: Global, stage: &mut Stage<R>) -> Result<(), Mishap> {
+    let Some(server) = &stage.hands.server else {
+        return Err(Mishap::Unplayable("there is no server"));
+    };
+    let server = Arc::try_clone(server)?;
+    let handler = Arc::try_clone(&stage.hands.handler)?;
+    let Ok(serving) = thread::spawn(rt, move || server.serve(alloc, &handler).is_ok()) else {
+        return Err(Mishap::Unplayable("there is no thread"));
+    };
+    stage.serving = Some(serving);
+    wait_until_served(rt, alloc, &mut stage.hands)
+}
+
+// The lines by which a scene waits until its server serves: a client's request is handed to the handler.
+const UNTIL_SERVED: [&str; 6] = [
+    "someone connects",
+    "someone sends GET /keep HTTP/1.1\\r\\nHost: h\\r\\nConnection: close\\r\\n\\r\\n",
+    "server keeps /keep as something",
+    "something respond 200 empty",
+    "someone leaves",
+    "server num_connections = 0",
+];
+
+// Waits until the server serves.
+fn wait_until_served<R: Host>(rt: &R, alloc: Global, hands: &mut Hands<R>) -> Result<(), Mishap> {
+    for line in UNTIL_SERVED {
+        if let Some(deed) = deed_in(line) {
+            act(rt, alloc, hands, deed)?;
+        }
+    }
+    Ok(())
+}
+
+// Ends a scene: requests, outputs and clients go first, so that nobody waits for them. Whoever serves is unblocked, and
+// ends without a fault. Each thread has ended by a line.
+fn clear<R: Host>(rt: &R, alloc: Global, stage: &mut Stage<R>) -> Result<(), Mishap> {
+    stage.hands.served.clear();
+    stage.hands.props.clear();
+    if let Some(serving) = stage.serving.take()
+        && let Some(server) = stage.hands.server.take()
+    {
+        let _ = server.unblock();
+        demand(alloc, "serve ends without a fault", serving.join(rt))?;
+    }
+    demand(
+        alloc,
+        "each thread ends by a line",
+        stage.besides.is_empty(),
+    )
+}
+
+// Plays a scene once.
+fn play_once<R: Host>(
+    rt: &R,
+    alloc: Global,
+    scene: &Scene,
+    (way, path): (Way, &str),
+) -> Option<Failure> {
+    let Some(first) = scene.lines.first() else {
+        return None;
+    };
+    let place = place_of(scene.ground.over, path);
+    let hands = match first_hands(rt, alloc, (scene.ground, way), place) {
+        Ok(hands) => hands,
+        Err(mishap) => return Some(failure_at(alloc, first, mishap)),
+    };
+    let pool = match pool_of(rt, alloc, scene.ground.over) {
+        Ok(pool) => pool,
+        Err(mishap) => return Some(failure_at(alloc, first, mishap)),
+    };
+    let mut stage = Stage {
+        hands,
+        besides: Vec::new(alloc),
+        pool,
+        serving: None,
+    };
+    if way == Way::Handler
+        && let Err(mishap) = begin_to_serve(rt, alloc, &mut stage)
+    {
+        return Some(failure_at(alloc, first, mishap));
+    }
+    let failure = play_all(rt, alloc, &mut stage, scene.lines.as_slice());
+    match (failure, clear(rt, alloc, &mut stage)) {
+        (None, Err(mishap)) => {
+            let last = scene.lines.last().unwrap_or(first);
+            Some(failure_at(alloc, last, mishap))
+        }
+        (failure, _) => failure,
+    }
+}
+
+/// Plays a scene as often as it says, and in each way that it names: its failure, if it fails. A Unix socket is made
+/// at this path.
+pub(crate) fn play<R: Host>(rt: &R, alloc: Global, scene: &Scene, path: &str) -> Option<Failure> {
+    let ground = scene.ground;
+    for _ in 0..ground.repeats {
+        if let Some(failure) = play_once(rt, alloc, scene, (Way::Recv, path)) {
+            return Some(failure);
+        }
+        if ground.is_both
+            && let Some(failure) = play_once(rt, alloc, scene, (Way::Handler, path))
+        {
+            return Some(failure);
+        }
+    }
+    None
+}

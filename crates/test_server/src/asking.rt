@@ -1,0 +1,80 @@
+//! One thread has what waits sent while another one writes.
+use crate::fixture::Host;
+use crate::leaving::{Ends, HalfWriter, ends_of};
+use std::alloc::Global;
+use std::io::Read;
+use std::os::unix::net::UnixStream;
+use std::process::Abort;
+use std::sync::{Arc, Barrier, Wait};
+use std::thread;
+use std::time::Duration;
+use tiny_http::cork::Cork;
+use tiny_http::device::{WriteDevice, put};
+use tiny_http::refined_tcp_stream::RefinedTcpStream;
+
+// So often both threads begin at once.
+const ROUNDS: usize = 1_000;
+
+// So many bytes the second piece has.
+const LENGTH: usize = 8_000;
+
+// Writes a byte, which is left, and a long piece while the other thread has the byte sent. Then all is sent. In every
+// other round a flush leaves the byte too.
+fn write_rounds<R: Host>(rt: &R, mut writer: HalfWriter<R>, barrier: &Barrier) {
+    let piece = [b'b'; LENGTH];
+    for round in 0..ROUNDS {
+        barrier.wait(rt);
+        let _ = put(&mut writer, b"a");
+        if round % 2 == 0 {
+            let _ = writer.flush_out();
+        }
+        barrier.wait(rt);
+        let _ = put(&mut writer, &piece);
+        barrier.wait(rt);
+        barrier.wait(rt);
+        let _ = writer.flush_out();
+    }
+}
+
+// What was left comes once both calls are done, and the rest at the flush.
+fn assert_round<R: Host>(
+    rt: &R,
+    peer: &mut UnixStream,
+    cork: &Cork<RefinedTcpStream>,
+    barrier: &Barrier,
+) {
+    cork.flush_policy().leave_at_flush();
+    barrier.wait(rt);
+    barrier.wait(rt);
+    cork.send();
+    barrier.wait(rt);
+    peer.read_exact(&mut [0u8; 1]).expect(rt, "what was left");
+    barrier.wait(rt);
+    peer.read_exact(&mut [0u8; LENGTH]).expect(rt, "the rest");
+}
+
+// A byte that was left isn't forgotten, whichever thread has the lock.
+fn assert_sends_what_is_left<R: Host>(rt: &R, alloc: Global) {
+    let Ends {
+        mut peer,
+        cork,
+        reader,
+        writer,
+    } = ends_of(rt, alloc, Duration::from_secs(5));
+    let barrier = Arc::new(alloc, Barrier::new(2)).ok();
+    let barrier = barrier.expect(rt, "memory");
+    let theirs = Arc::try_clone(&barrier).ok().expect(rt, "memory");
+    let runtime = *rt;
+    let handle = thread::spawn(rt, move || write_rounds(&runtime, writer, &theirs));
+    let handle = handle.ok().expect(rt, "a thread");
+    for _ in 0..ROUNDS {
+        assert_round(rt, &mut peer, &cork, &barrier);
+    }
+    handle.join(rt);
+    drop(reader);
+}
+
+#[test]
+fn what_is_left_is_sent_while_another_thread_writes(rt: HostRuntime) {
+    assert_sends_what_is_left(&rt, rt.alloc());
+}

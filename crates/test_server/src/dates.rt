@@ -1,0 +1,51 @@
+//! The date of a clock.
+use crate::same::{assert_holds, assert_same};
+use httpdate::HttpDate;
+use std::io;
+use std::io::ErrorKind;
+use std::process::Abort;
+use std::time::{Clock, Duration};
+use tiny_http::server::current_date;
+
+// A clock that stands at a time since 1970, or can't be read.
+#[derive(Drop)]
+struct FixedClock(Option<u64>);
+
+impl Clock for FixedClock {
+    fn monotonic(&self) -> io::Result<Duration> {
+        Err(ErrorKind::Unsupported.into())
+    }
+
+    fn since_1970(&self) -> io::Result<Duration> {
+        match self.0 {
+            Some(millis) => Ok(Duration::from_millis(millis)),
+            None => Err(ErrorKind::InvalidData.into()),
+        }
+    }
+}
+
+// A clock at `millis` milliseconds gives the date of `wanted` seconds.
+fn assert_seconds(rt: &impl Abort, millis: Option<u64>, wanted: u64) {
+    let found = current_date(&FixedClock(millis));
+    let wanted = HttpDate::from_unix_secs(wanted).expect(rt, "a date");
+    assert_same(rt, (millis, found), (millis, wanted));
+}
+
+// Times of a clock in milliseconds, and the seconds of its date.
+const TIMES: [(Option<u64>, u64); 6] = [
+    (Some(0), 0),
+    (Some(999), 0),
+    (Some(420_895_020_999), 420_895_020),
+    (Some(253_402_300_799_999), 253_402_300_799),
+    (Some(253_402_300_800_000), 0),
+    (None, 0),
+];
+
+#[test]
+fn whole_seconds_of_a_clock(rt: HostRuntime) {
+    for (millis, wanted) in TIMES {
+        assert_seconds(&rt, millis, wanted);
+    }
+    let now = current_date(&rt).unix_secs();
+    assert_holds(&rt, "the clock goes on", now > 1_700_000_000);
+}

@@ -1,0 +1,34 @@
+//! Tests of what no scene reaches: requests over memory, halves of connections, queues and counts shared by threads,
+//! and servers with clocks of their own.
+#![tactic(auto)]
+
+#[cfg(test)]
+mod asking;
+#[cfg(test)]
+mod bodies;
+#[cfg(test)]
+mod corked;
+#[cfg(test)]
+mod dates;
+#[cfg(test)]
+mod entering;
+#[cfg(test)]
+mod fixture;
+#[cfg(test)]
+mod halves;
+#[cfg(test)]
+mod headcount;
+#[cfg(test)]
+mod leaving;
+#[cfg(test)]
+mod memory_fixture;
+#[cfg(test)]
+mod messages_queue;
+#[cfg(test)]
+mod named;
+#[cfg(test)]
+mod roster;
+#[cfg(test)]
+mod same;
+#[cfg(test)]
+mod storm;
