@@ -1,4 +1,4 @@
-// `bodies_server ADDRESS FILE`: answers as the program `bodies` does, by the Rust crate and four threads, for benches/compare. To build
+// `bodies_server ADDRESS FILE`: answers as `bench_server --bodies` does, by the Rust crate and four threads, for benches/compare. To build
 // it, a package needs this file as its `src/main.rs`, and `tiny_http = "0.12"` as its one dependency.
 use std::fs::File;
 use std::io::Read;

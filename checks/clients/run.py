@@ -1,12 +1,12 @@
 #!/usr/bin/env python3
-"""run.py GUARDED [NAME]: tries clients on the program `guarded` under each profile, and compares what they meet with what is known.
+"""run.py PROGRAM [NAME]: tries clients on the program `bench_server` under each profile, and compares what they meet with what is known.
 
 A cell is what the client met: the statuses that it was answered, or `hangs` after eight seconds, or `fails` with its exit status.
 Where it ends by `on N`, they went over N connections. What is known is a pattern, since a race decides some cells. `run.py` ends
 by 1 where a cell doesn't fit it. A client that isn't installed is left out. With NAME only those are tried in whose name it stands,
 and what goes over the wire is printed.
 
-`guarded` reads no body. A program that does would wait for the rest of the stream under the lenient and the strict profile
+`bench_server` reads no body. A program that does would wait for the rest of the stream under the lenient and the strict profile
 where a client offers an upgrade, as Java's and `curl --http2 -d` do. A body of 100,000 bytes is one of which so much is left
 unread that the standard profile closes the connection.
 """
@@ -100,7 +100,7 @@ def tried(program, profile, run, tapped):
 
 def main():
     if len(sys.argv) not in (2, 3):
-        sys.exit("usage: run.py GUARDED [NAME]")
+        sys.exit("usage: run.py PROGRAM [NAME]")
     wanted = sys.argv[2:]
     differing = 0
     for name, needs, run, known in CLIENTS:

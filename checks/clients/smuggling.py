@@ -1,8 +1,8 @@
 #!/usr/bin/env python3
-"""smuggling.py GUARDED CASES..: sends the heads on which servers differ through proxies to the program `guarded`, under the strict and the
+"""smuggling.py PROGRAM CASES..: sends the heads on which servers differ through proxies to the program `bench_server`, under the strict and the
 standard profile, and looks whether proxy and server agree where each request ends.
 
-CASES are files such as `crates/cases/data/smuggling_standard.cases`, of whose cases the client's bytes are sent. Each proxy puts a mark of its own
+CASES are files such as `crates/test_cases/data/smuggling_standard.cases`, of whose cases the client's bytes are sent. Each proxy puts a mark of its own
 into each head that it passes on, so a request that it takes for a part of a body has none. The server answers each head
 that it finds, and the first that it refuses is its last. So on a connection between the two there may be no more answers than marks; and
 where there are fewer, the server has to end the connection. `smuggling.py` ends by 1 where that isn't so.
@@ -147,7 +147,7 @@ def two_servers(program):
 
 def main():
     if len(sys.argv) < 3:
-        sys.exit("usage: smuggling.py GUARDED CASES..")
+        sys.exit("usage: smuggling.py PROGRAM CASES..")
     program, files = sys.argv[1], sys.argv[2:]
     faults = 0
     for name in PROXIES:

@@ -2,7 +2,7 @@
 """Clients that hurt a server, tried on a program that serves under limits: run.py PROGRAM [NAME..]
 
 PROGRAM is called as PROGRAM ADDRESS, with 1,024 descriptors, and is told to stop by a line `stop` on its standard input: the program
-`guarded`. Each trial prints one line. The default limits are taken for granted, so that all trials together take two and a half
+`bench_server`. Each trial prints one line. The default limits are taken for granted, so that all trials together take two and a half
 minutes. With names it makes those trials alone."""
 import os, re, resource, socket, subprocess, sys, threading, time
 

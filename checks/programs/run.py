@@ -1,7 +1,7 @@
 #!/usr/bin/env python3
 """The programs of the repository, tried from outside over loopback: run.py NAME=PROGRAM [NAME=PROGRAM..]
 
-NAME is router, files, gateway, testserver or websocket_echo, and PROGRAM is the built program. It is called with an address, and with a
+NAME is one of the crates example_router, _files, _gateway, _test_server and _websocket_echo, and PROGRAM is the built program. It is called with an address, and with a
 folder or another server's address where it needs one. Each trial prints one line; all together take a few seconds. `checks/tests` makes the
 same trials of the programs before they are proved."""
 import base64, hashlib, http.client, os, random, re, signal, socket, subprocess, sys, tempfile, threading, time, urllib.parse
@@ -329,11 +329,11 @@ def none(_folder):
 
 
 TRIALS = {
-    'router': (none, try_router),
-    'files': (filled(make_folder), try_files),
-    'gateway': (backend_address, try_gateway),
-    'testserver': (filled(record), try_testserver),
-    'websocket_echo': (none, try_websocket_echo),
+    'example_router': (none, try_router),
+    'example_files': (filled(make_folder), try_files),
+    'example_gateway': (backend_address, try_gateway),
+    'example_test_server': (filled(record), try_testserver),
+    'example_websocket_echo': (none, try_websocket_echo),
 }
 
 

@@ -1,9 +1,9 @@
-//! Reads the bodies of requests and sends long ones, without limits and by the lenient profile, as the Rust crate does. By
-//! `recv` four threads receive requests; by `serve` each connection's worker answers its own.
+//! Reads the bodies of requests and sends long ones, without limits and under `Lenient`, as the Rust crate does. With
+//! `recv` four threads receive requests; with `serve` each connection's worker answers its own.
 //!
-//! A `PUT` or a `POST` is answered by the length of its body. `GET /identity` is answered by the bytes that the file
-//! had at the start, from memory, and `GET /chunked` by the same in chunks; `GET /file` and `GET /file/chunked` by
-//! those of the file. Any other request is answered 404.
+//! A `PUT` or a `POST` is answered by the length of its body. `GET /identity` sends the bytes that the file had at the
+//! start, from memory, and `GET /chunked` the same in chunks; `GET /file` and `GET /file/chunked` send the file itself.
+//! Any other request is answered 404.
 use crate::BenchFault;
 use std::alloc::{AllocError, Global};
 use std::fs::{File, Files};
@@ -32,7 +32,7 @@ impl<R: Files<File = File>> DataFiles for R {
     }
 }
 
-// Reads a body to its end, piece by piece, and gives its length.
+// Reads a body to its end, and returns its length.
 fn length_of<D: ReadDevice>(body: &mut D) -> io::Result<u64> {
     let mut buf = [0u8; PIECE];
     let mut count = 0u64;
@@ -46,7 +46,7 @@ fn length_of<D: ReadDevice>(body: &mut D) -> io::Result<u64> {
     Err(ErrorKind::Other.into())
 }
 
-// Whether a body ended before the length that its head says: the end of the input is no fault there.
+// Whether a body ended before its `Content-Length`, which under `Lenient` is not an error.
 fn is_cut(length: Option<usize>, count: u64) -> bool {
     match length {
         Some(length) => count < length as u64,
@@ -54,7 +54,7 @@ fn is_cut(length: Option<usize>, count: u64) -> bool {
     }
 }
 
-// Answers a request by the length of its body. One whose body is cut or broken is dropped.
+// Answers a request by the length of its body. Fails if the body is cut or broken.
 fn answer_length<R: Clock + Wait + Drop>(
     rt: &R,
     alloc: Global,
@@ -69,7 +69,7 @@ fn answer_length<R: Clock + Wait + Drop>(
     request.respond(response, current_date(rt))
 }
 
-/// A file that is sent, and its bytes.
+/// A file to send, and its bytes.
 #[derive(Drop)]
 pub struct Data {
     pub name: String,
@@ -77,7 +77,7 @@ pub struct Data {
 }
 
 impl Data {
-    // Answers by the bytes in memory, in chunks if the threshold is at most their number.
+    // Sends the bytes in memory, in chunks if there are at least `threshold`.
     fn answer_from_memory<R: Clock + Wait + Drop>(
         &self,
         rt: &R,
@@ -92,7 +92,7 @@ impl Data {
         request.respond(response, current_date(rt))
     }
 
-    // The same, from the file.
+    // Sends the file, in chunks if it has at least `threshold` bytes.
     fn answer_from_file<R: DataFiles + Clock + Wait + Drop>(
         &self,
         rt: &R,
@@ -107,8 +107,8 @@ impl Data {
 }
 
 impl<R: DataFiles + Clock + Wait + Drop> Handler<R, ServerRequest<R>> for Data {
-    /// Answers the request. One whose body is cut or broken, or for whose answer there is no memory or no file, is
-    /// dropped.
+    /// Answers the request. Drops one whose body is cut or broken, or for whose response memory or the file is
+    /// refused.
     fn handle(&self, rt: &R, alloc: Global, request: ServerRequest<R>) -> io::Result<()> {
         match (request.method(), request.url()) {
             (Method::Put | Method::Post, _) => answer_length(rt, alloc, request),
@@ -121,7 +121,7 @@ impl<R: DataFiles + Clock + Wait + Drop> Handler<R, ServerRequest<R>> for Data {
     }
 }
 
-// Answers requests until the server has no more, and then has another thread, if one waits, end too.
+// Answers requests until the server has no more, then unblocks another waiting thread.
 fn answer_all<R: ServerRuntime + DataFiles>(
     rt: &R,
     alloc: Global,
@@ -138,7 +138,7 @@ fn answer_all<R: ServerRuntime + DataFiles>(
     }
 }
 
-// Answers all requests of a server, by two threads.
+// Answers all requests of a server on two threads.
 fn answer_by_two<R: ServerRuntime + DataFiles + Sync>(
     rt: &R,
     alloc: Global,
@@ -152,7 +152,7 @@ fn answer_by_two<R: ServerRuntime + DataFiles + Sync>(
     );
 }
 
-// Answers all requests of a server, by four threads.
+// Answers all requests of a server on four threads.
 fn answer_by_four<R: ServerRuntime + DataFiles + Sync>(
     rt: &R,
     alloc: Global,
@@ -166,8 +166,7 @@ fn answer_by_four<R: ServerRuntime + DataFiles + Sync>(
     );
 }
 
-/// Listens at the address and prints where, then serves: `how` is `recv` or `serve`, and any other word is a usage
-/// error.
+/// Listens at the address, prints it, and serves by `how`: `recv` or `serve`. Any other word is a usage error.
 pub fn serve_bodies<R: ServerRuntime + DataFiles + Sync, O: Write>(
     rt: R,
     alloc: Global,

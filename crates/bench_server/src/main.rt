@@ -37,16 +37,16 @@ const STOP_SECS: u64 = 10;
 // Tenths of a second that the end waits for the last line, which nobody may read.
 const PRINT_TENTHS: u32 = 30;
 
-/// Why nothing is served, or no longer.
+/// Why the program can't serve, or stopped serving.
 #[derive(Debug, Drop, Error)]
 pub enum BenchFault {
-    /// The words aren't those of the usage.
-    #[error("usage: bench_server [--lenient|--strict|--standard] ADDRESS, or bench_server --bodies recv|serve ADDRESS FILE")]
+    /// The arguments aren't those of the usage.
+    #[error("usage: bench_server [--lenient|--strict|--standard] ADDRESS | --bodies recv|serve ADDRESS FILE")]
     Usage,
     /// It can't listen there.
     #[error("cannot listen: {0}")]
     CannotListen(ServerError),
-    /// Serving ended by this fault.
+    /// Serving failed.
     #[error("cannot serve: {0}")]
     Serving(io::Error),
     /// Memory was refused.
@@ -84,12 +84,12 @@ impl From<AllocError> for BenchFault {
     }
 }
 
-// Answers by `hello world`.
+// Answers every request by `hello world`.
 #[derive(Drop)]
 struct Hello;
 
 impl<R: Wait + Clock + Drop> Handler<R, ServerRequest<R>> for Hello {
-    /// Answers the request. One for whose answer there is no memory is dropped.
+    /// Answers the request, or drops it if memory for the response is refused.
     fn handle(&self, rt: &R, alloc: Global, request: ServerRequest<R>) -> io::Result<()> {
         let text = String::from_str(alloc, "hello world")?;
         let response = Response::from_string(alloc, text)?;
@@ -97,7 +97,7 @@ impl<R: Wait + Clock + Drop> Handler<R, ServerRequest<R>> for Hello {
     }
 }
 
-// The profile that a word names.
+// Parses the name of a profile.
 fn profile_of(word: &str) -> Option<Profile> {
     match word {
         "--lenient" => Some(Profile::Lenient),
@@ -107,7 +107,7 @@ fn profile_of(word: &str) -> Option<Profile> {
     }
 }
 
-// The profile and the address that the words name: `Standard` where no profile is named.
+// Parses the profile, by default `Standard`, and the address.
 fn asked(words: &[String]) -> Result<(Profile, &str), BenchFault> {
     match words {
         [address] => Ok((Profile::Standard, address.as_str())),
@@ -119,7 +119,7 @@ fn asked(words: &[String]) -> Result<(Profile, &str), BenchFault> {
     }
 }
 
-// Listens at the address that the words name.
+// Listens at the address of the arguments.
 fn listen<R: ServerRuntime>(
     rt: R,
     alloc: Global,
@@ -132,7 +132,7 @@ fn listen<R: ServerRuntime>(
     Ok(Arc::new(alloc, server).map_err(|_| AllocError)?)
 }
 
-// Stops the server once a line `stop` comes. Where the input ends before it does nothing more.
+// Stops the server once a line `stop` comes. Returns if the input ends before.
 fn stop_when_told<R: ServerRuntime, I: BufRead + Drop>(
     rt: &R,
     alloc: Global,
@@ -159,10 +159,10 @@ fn print_counts<R: ServerRuntime, O: Write>(server: &Server<R>, out: &mut O) {
     let _ = out.flush();
 }
 
-// How far serving and its reports have come.
+// How far serving and reporting have come.
 #[derive(Drop)]
 struct Progress {
-    // No request is answered any more.
+    // Serving has ended.
     has_ended: AtomicBool,
     // The last line was printed.
     has_printed: AtomicBool,
@@ -193,7 +193,7 @@ fn report_progress<R: ServerRuntime, O: Write>(
     progress.has_printed.store(true, Ordering::SeqCst);
 }
 
-// Waits for the last line. Where nobody reads what is printed the thread that prints may wait for ever.
+// Waits for the last line, at most `PRINT_TENTHS`: the thread that prints may block for ever if nobody reads.
 fn wait_for_report<R: Wait + Clock>(rt: &R, progress: &Progress) {
     for _ in 0..PRINT_TENTHS {
         if progress.has_printed.load(Ordering::SeqCst) {
@@ -203,15 +203,15 @@ fn wait_for_report<R: Wait + Clock>(rt: &R, progress: &Progress) {
     }
 }
 
-// Answers all requests, until the server is stopped or fails.
+// Answers all requests until the server is stopped or fails.
 fn answer_all<R: ServerRuntime>(alloc: Global, server: &Server<R>) -> Result<(), BenchFault> {
     let handler = Arc::new(alloc, Hello).map_err(|_| AllocError)?;
     server.serve(alloc, &handler)?;
     Ok(())
 }
 
-// Listens at the address that the words name, and answers all requests. Another thread prints. The input and the
-// output are values of their own: a thread can't be given a bound whose associated type isn't `Send`.
+// Listens at the address of the arguments, and answers all requests. Another thread prints. Input and output are
+// type parameters, since a thread can't take a bound whose associated type isn't `Send`.
 fn serve<R, I, O>(
     rt: R,
     alloc: Global,
@@ -250,8 +250,7 @@ where
     served
 }
 
-// Reports a fault by a line, and gives the exit status: 2 for what was asked wrongly, and 1 for what the system
-// refused.
+// Reports an error by a line, and returns the exit status: 2 for a usage error, 1 for what the system refused.
 fn report<E: Write>(fault: &BenchFault, err: &mut E) -> u8 {
     let _ = writeln!(err, "bench_server: {fault}");
     if matches!(fault, BenchFault::Usage) {
@@ -260,10 +259,10 @@ fn report<E: Write>(fault: &BenchFault, err: &mut E) -> u8 {
     1
 }
 
-/// Listens at the address that the words name, and answers every request by `hello world` until a line `stop` comes
-/// on `input`. Another thread prints on `out` where it listens and what is counted. Returns the exit status: 0; 2 if
-/// the words aren't `[--lenient|--strict|--standard] ADDRESS`; 1 if it can't listen there or serving ends by a fault.
-/// A line on `err` reports the error.
+/// Listens at the address of the arguments, and answers every request by `hello world` until a line `stop` comes on
+/// `input`. Another thread prints on `out` where it listens and what is counted. Returns the exit status: 0; 2 if the
+/// arguments aren't `[--lenient|--strict|--standard] ADDRESS`; 1 if it can't listen there or serving fails. A line on
+/// `err` reports the error.
 pub fn serve_hello<R, I, O, E: Write>(
     rt: R,
     alloc: Global,
@@ -283,7 +282,7 @@ where
     }
 }
 
-// The words of the command line, the program's name first. One that isn't UTF-8 is no address.
+// Returns the command line, the program's name first. An argument that isn't UTF-8 is a usage error.
 fn words<R: Env + AllocGlobal>(rt: &R) -> Result<Vec<String>, BenchFault> {
     match env::args(rt) {
         Ok(words) => Ok(words.collect(rt.alloc())?),

@@ -1,5 +1,5 @@
-//! What reading a folder needs of the machine. It is a trait of its own, since code that is generic over `Files`
-//! can't be shared among threads.
+//! What serving a folder needs of the system: a trait of its own, since code that is generic over `Files` can't be
+//! shared among threads.
 use std::alloc::{AllocGlobal, Global};
 use std::fs::{File, Files, OpenFile};
 use std::time::SystemTime;
@@ -14,16 +14,16 @@ pub(crate) enum Kind {
 }
 
 pub(crate) trait Disk {
-    /// A file, and when it was modified.
+    /// Opens a file, and returns it with its modification time.
     fn open_file(&self, path: &str) -> io::Result<(File, SystemTime)>;
 
-    /// What the path names, which there has to be.
+    /// Returns what an existing path names.
     fn kind_of(&self, path: &str) -> io::Result<Kind>;
 
-    /// The path without links, if it is a text.
+    /// Returns the path with its links resolved, if it is UTF-8.
     fn real_path(&self, alloc: Global, path: &str) -> io::Result<Option<String>>;
 
-    /// The names in a folder that are texts.
+    /// Returns the names in a folder that are UTF-8.
     fn names_in(&self, alloc: Global, path: &str) -> io::Result<Vec<String>>;
 }
 

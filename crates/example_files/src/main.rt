@@ -1,10 +1,11 @@
-//! Serves the files of a folder: `files ADDRESS FOLDER`.
+//! Serves the files of a folder: `example_files ADDRESS FOLDER`.
 //!
-//! `GET` and `HEAD` alone. A folder is answered by its `index.html`, or else by a list of its files. The program
-//! shows a path that stays within the folder (`below_folder`), a file that is sent with its length however long it is
-//! (`with_chunked_threshold`), a 304 without content (`contentless`), and headers that are added by `with`. A file
-//! that shrinks while it is sent breaks the answer off: its length was said. What can't be read, or is no file or
-//! folder, is a 404. Where memory is refused the request is dropped, and answered by an empty 500.
+//! It takes `GET` and `HEAD`. A folder is answered by its `index.html`, or by a list of its files. What can't be read,
+//! or is neither a file nor a folder, is a 404. A file that shrinks while it is sent ends its connection, since its
+//! length was sent. If memory is refused, the request is dropped, which answers it by an empty 500.
+//!
+//! The program shows a path that stays within the folder (`below_folder`), a file of any length that isn't sent in
+//! chunks (`with_chunked_threshold`), a 304 without content (`contentless`), and headers added by `with`.
 #![tactic(auto)]
 
 mod disk;
@@ -29,13 +30,13 @@ use tiny_http_files::dates::is_not_modified;
 use tiny_http_files::paths::below_folder;
 use tiny_http_files::types::type_of;
 
-/// The folder whose files are served, by its real path.
+/// The served folder, by its real path.
 #[derive(Drop)]
 struct Folder {
     path: String,
 }
 
-// Answers by a code and its phrase.
+// Answers by a status code and its reason phrase.
 fn send_status<R: ReadDevice + Drop, W: WriteDevice + Drop, Rt: Clock + Wait + Drop>(
     rt: &Rt,
     alloc: Global,
@@ -45,7 +46,7 @@ fn send_status<R: ReadDevice + Drop, W: WriteDevice + Drop, Rt: Clock + Wait + D
     request.respond(Response::status(alloc, StatusCode(code))?, current_date(rt))
 }
 
-// Sends a file, unless the client has it already.
+// Sends a file, or a 304 if the client has it already.
 fn send_file<R: ReadDevice + Drop, W: WriteDevice + Drop, Rt: Disk + Clock + Wait + Drop>(
     rt: &Rt,
     alloc: Global,
@@ -56,17 +57,17 @@ fn send_file<R: ReadDevice + Drop, W: WriteDevice + Drop, Rt: Disk + Clock + Wai
         return send_status(rt, alloc, request, 404);
     };
     let now = current_date(rt);
-    // No date that is said is later than that of the answer (RFC 9110, section 8.8.2.1).
+    // `Last-Modified` is never later than `Date` (RFC 9110, section 8.8.2.1).
     let modified = HttpDate::try_from(modified).unwrap_or(now);
     let modified = if modified > now { now } else { modified };
     let date = format!(in alloc; "{modified}")?;
-    // A client that names what it has by tags isn't judged by a date (RFC 9110, section 13.1.3).
+    // `If-Modified-Since` is ignored beside `If-None-Match` (RFC 9110, section 13.1.3).
     let has_tags = request.header("If-None-Match").is_some();
     if !has_tags && is_not_modified(request.header("If-Modified-Since"), modified) {
         let answer = Response::contentless(alloc, StatusCode(304));
         return request.respond(answer.with(alloc, "Last-Modified", date.as_str())?, now);
     }
-    // By its length, and not in chunks.
+    // With its length, never in chunks.
     let answer = Response::from_file(alloc, file)
         .with_chunked_threshold(usize::MAX)
         .with(alloc, "Content-Type", type_of(path))?
@@ -74,7 +75,7 @@ fn send_file<R: ReadDevice + Drop, W: WriteDevice + Drop, Rt: Disk + Clock + Wai
     request.respond(answer, now)
 }
 
-// Sends the list of a folder.
+// Sends the listing of a folder.
 fn send_list<R: ReadDevice + Drop, W: WriteDevice + Drop, Rt: Disk + Clock + Wait + Drop>(
     rt: &Rt,
     alloc: Global,
@@ -91,7 +92,7 @@ fn send_list<R: ReadDevice + Drop, W: WriteDevice + Drop, Rt: Disk + Clock + Wai
 }
 
 impl Folder {
-    // The real path of what the request's path names, if it is in the folder.
+    // Returns the real path of what the request's path names, if it is in the folder.
     fn find<Rt: Disk>(&self, rt: &Rt, alloc: Global, path: &str) -> io::Result<Option<String>> {
         let Ok(decoded) = percent_decode_str(path).decode_utf8(alloc) else {
             return Ok(None);
@@ -112,7 +113,7 @@ impl<R: ReadDevice + Drop, W: WriteDevice + Drop, Rt: Disk + Clock + Wait + Drop
     Rt,
     Request<R, W, Rt>,
 > for Folder {
-    /// Answers by a file, an index or a list.
+    /// Answers by a file, an index or a listing.
     fn handle(&self, rt: &Rt, alloc: Global, request: Request<R, W, Rt>) -> io::Result<()> {
         if !matches!(request.method(), Method::Get | Method::Head) {
             let answer = Response::status(alloc, StatusCode(405))?;
@@ -124,11 +125,11 @@ impl<R: ReadDevice + Drop, W: WriteDevice + Drop, Rt: Disk + Clock + Wait + Drop
         match rt.kind_of(found.as_str()) {
             Ok(Kind::Folder) => {}
             Ok(Kind::File) => return send_file(rt, alloc, request, found.as_str()),
-            // To open a pipe may take for ever.
+            // Opening a pipe may block for ever.
             _ => return send_status(rt, alloc, request, 404),
         }
         if !request.path().ends_with('/') {
-            // By its last part: two slashes in front would name a host.
+            // Relative to the last segment: a target that begins with two slashes would name a host.
             let Some((_, part)) = request.path().rsplit_once('/') else {
                 return send_status(rt, alloc, request, 404);
             };
@@ -145,7 +146,7 @@ impl<R: ReadDevice + Drop, W: WriteDevice + Drop, Rt: Disk + Clock + Wait + Drop
     }
 }
 
-// Listens at this address, and answers by the folder.
+// Listens at this address, and serves the folder.
 fn serve<Rt: Host + Disk, O: Write>(
     rt: Rt,
     alloc: Global,
@@ -161,7 +162,7 @@ fn serve<Rt: Host + Disk, O: Write>(
     let server = Server::with(rt, alloc, config, Profile::Standard, Limits::new())?;
     writeln!(out, "listening on {}", server.server_addr())?;
     out.flush()?;
-    // On a fixed number of threads a few clients would hold all of them, for as long as their files take.
+    // `serve`, and not `serve_by`: a few slow clients would block a fixed number of threads.
     server.serve(alloc, &handler)
 }
 

@@ -1,4 +1,4 @@
-//! A connection to the backend: the request is sent, and the answer looked for, side by side.
+//! A connection to the backend, which sends the request and looks for the response at the same time.
 use std::alloc::Global;
 use std::io;
 use std::io::{Chain, Cursor, ErrorKind, Read, Write};
@@ -6,35 +6,35 @@ use std::net::{Net, TcpStream};
 use std::time::{Clock, Duration, Instant};
 use tiny_http_client::answer_head::{AnswerHead, read_answer_head};
 
-/// How many bytes are handed on at once.
+/// Bytes that are forwarded at once.
 pub(crate) const PIECE: usize = 8192;
 
-// How many bytes the heads of an answer may have, the interim ones in front of it included.
+// Maximum length in bytes of a response's head, with the interim heads before it.
 const LONGEST_HEADS: usize = 65_536;
 
-// How many seconds the backend may take neither bytes nor an answer.
+// Seconds after which a backend that neither takes bytes nor responds has timed out.
 const PATIENCE: u64 = 10;
 
-// How many milliseconds a write waits before the answer is looked for.
+// Milliseconds that a write waits before it looks for the response.
 const WRITE_WAIT: u64 = 250;
 
-/// What an answer's body is read from: what came with its head, and then the connection.
+/// Reads a response's body: first what came with its head, then the connection.
 pub(crate) type Rest = Chain<Cursor<Vec<u8>>, TcpStream>;
 
-/// A connection to the backend. Written to, it looks for the answer before each write.
+/// A connection to the backend. It looks for the response before each write.
 #[derive(Drop)]
 pub(crate) struct Backend<'a, Rt: Clock> {
     rt: &'a Rt,
     alloc: Global,
     stream: TcpStream,
-    // What came, without the interim heads.
+    // The bytes that came, without interim heads.
     front: Vec<u8>,
-    // How many bytes of interim heads came.
+    // Bytes of interim heads that came.
     passed: usize,
     head: Option<AnswerHead>,
 }
 
-// The place after the first empty line.
+// Returns the position after the first empty line.
 fn end_of_head(bytes: &[u8]) -> Option<usize> {
     let mut line_is_empty = false;
     for (at, byte) in bytes.iter().enumerate() {
@@ -48,7 +48,7 @@ fn end_of_head(bytes: &[u8]) -> Option<usize> {
     None
 }
 
-// The bytes of a head, those from 128 on as percent signs and two digits. `Standard` hands out a request's so, too.
+// Returns the bytes of a head, those from 128 on percent-encoded, as `Standard` hands out a request's target.
 fn encoded(alloc: Global, head: &[u8]) -> io::Result<Vec<u8>> {
     let mut bytes = Vec::new(alloc);
     for byte in head {
@@ -62,7 +62,7 @@ fn encoded(alloc: Global, head: &[u8]) -> io::Result<Vec<u8>> {
 }
 
 impl<'a, Rt: Net<Stream = TcpStream> + Clock> Backend<'a, Rt> {
-    /// A connection to the backend at this address.
+    /// Connects to the backend at this address.
     pub(crate) fn connect(rt: &'a Rt, alloc: Global, address: &str) -> io::Result<Backend<'a, Rt>> {
         let stream = TcpStream::connect(rt, address)?;
         stream.set_write_timeout(Some(Duration::from_millis(WRITE_WAIT)))?;
@@ -78,12 +78,12 @@ impl<'a, Rt: Net<Stream = TcpStream> + Clock> Backend<'a, Rt> {
 }
 
 impl<Rt: Clock> Backend<'_, Rt> {
-    /// Whether the head of the answer has come.
+    /// Whether the response's head has come.
     pub(crate) fn is_answered(&self) -> bool {
         self.head.is_some()
     }
 
-    // The head at the front of what came, if it is whole, and how many bytes it has.
+    // Returns the first head if it has come whole, and its length in bytes.
     fn next_head(&self) -> io::Result<Option<(AnswerHead, usize)>> {
         let front = self.front.as_slice();
         if let Ok(found) = read_answer_head(self.alloc, front) {
@@ -99,7 +99,7 @@ impl<Rt: Clock> Backend<'_, Rt> {
         }
     }
 
-    // Reads the heads that came whole, up to the first that isn't interim.
+    // Reads the heads that have come whole, up to the first that isn't interim.
     fn read_heads(&mut self) -> io::Result<()> {
         for _ in 0..LONGEST_HEADS {
             let Some((head, length)) = self.next_head()? else {
@@ -113,7 +113,7 @@ impl<Rt: Clock> Backend<'_, Rt> {
                     self.head = Some(head);
                     return Ok(());
                 }
-                // No upgrade was asked for.
+                // The request asked for no upgrade.
                 101 => return Err(ErrorKind::InvalidData.into()),
                 _ => {}
             }
@@ -124,7 +124,7 @@ impl<Rt: Clock> Backend<'_, Rt> {
         Ok(())
     }
 
-    // Reads once, and then the heads that are whole. How many bytes came.
+    // Reads once, then the heads that are whole. Returns the number of bytes read.
     fn receive(&mut self) -> io::Result<usize> {
         let mut piece = [0u8; PIECE];
         let mut stream = &self.stream;
@@ -137,7 +137,7 @@ impl<Rt: Clock> Backend<'_, Rt> {
         Ok(count)
     }
 
-    // Reads what has come, up to the answer's head, and waits for nothing.
+    // Reads what has come, up to the response's head, without waiting.
     fn look(&mut self) -> io::Result<()> {
         self.stream.set_nonblocking(true)?;
         let mut looked = Ok(1);
@@ -154,7 +154,7 @@ impl<Rt: Clock> Backend<'_, Rt> {
         }
     }
 
-    // Waits for the head of the answer, for ten seconds at most.
+    // Waits for the response's head, at most ten seconds.
     fn wait(&mut self) -> io::Result<()> {
         let begun = Instant::now(self.rt)?;
         let patience = Duration::from_secs(PATIENCE);
@@ -176,7 +176,7 @@ impl<Rt: Clock> Backend<'_, Rt> {
         Err(ErrorKind::TimedOut.into())
     }
 
-    /// The head of the answer, and what its body is read from.
+    /// Returns the response's head and the reader of its body.
     pub(crate) fn into_answer(mut self) -> io::Result<(AnswerHead, Rest)> {
         self.wait()?;
         self.stream
@@ -194,7 +194,7 @@ impl<Rt: Clock> Backend<'_, Rt> {
     }
 }
 
-// Whether a call of this fault may be made again.
+// Whether a call that failed by this error may be repeated.
 fn is_wait(kind: ErrorKind) -> bool {
     matches!(
         kind,
@@ -203,8 +203,8 @@ fn is_wait(kind: ErrorKind) -> bool {
 }
 
 impl<Rt: Clock> Write for Backend<'_, Rt> {
-    /// Looks for the answer, and writes once. A fault of kind `BrokenPipe` where the answer has come: no more is asked
-    /// for. One of kind `TimedOut` where the backend takes nothing for ten seconds.
+    /// Looks for the response, and writes once. Fails with `BrokenPipe` if the response has come, since the backend
+    /// needs no more, and with `TimedOut` if the backend takes nothing for ten seconds.
     fn write(&mut self, buf: &[u8]) -> io::Result<usize> {
         for _ in 0..PATIENCE * 1_000 / WRITE_WAIT {
             self.look()?;

@@ -1,4 +1,4 @@
-//! What is handed on of the heads of requests and answers.
+//! What is forwarded of the heads of requests and responses.
 use std::alloc::Global;
 use std::io;
 use std::io::{ErrorKind, Write};
@@ -8,7 +8,7 @@ use tiny_http::{Header, HeaderField, Request, Response};
 use tiny_http_client::answer_head::AnswerHead;
 use tiny_http_standard_head::lists::has_element;
 
-// The headers of one connection alone, and those that are written anew.
+// The headers that apply to one connection only, and those that the gateway writes itself.
 const HOP: [&str; 9] = [
     "Connection",
     "Content-Length",
@@ -21,7 +21,7 @@ const HOP: [&str; 9] = [
     "Upgrade",
 ];
 
-// Whether a header has this name, `_` taken for `-`: a backend may take both for one.
+// Whether a header has this name, with `_` equal to `-`, since a backend may not tell them apart.
 fn is_like(field: &HeaderField, name: &str) -> bool {
     let field = field.as_str().as_str();
     let mut pairs = field.bytes().zip(name.bytes());
@@ -31,7 +31,7 @@ fn is_like(field: &HeaderField, name: &str) -> bool {
         })
 }
 
-// Whether a header isn't handed on: it is one of these, or `Connection` names it. The host always is.
+// Whether a header isn't forwarded: it is one of `HOP`, or `Connection` names it. The host always is.
 fn is_hop(header: &Header, headers: &[Header]) -> bool {
     if header.field.equiv("Host") {
         return false;
@@ -40,7 +40,7 @@ fn is_hop(header: &Header, headers: &[Header]) -> bool {
         || has_element(headers, "Connection", header.field.as_str().as_str())
 }
 
-// The host in an absolute target, which by the standard is one (RFC 9112, section 3.2.2).
+// Returns the host in a target in absolute form, which takes precedence over `Host` (RFC 9112, section 3.2.2).
 fn host_in(target: &str) -> Option<&str> {
     let (scheme, rest) = target.split_once("://")?;
     if scheme.is_empty() || !scheme.bytes().all(|b| b.is_ascii_alphanumeric()) {
@@ -53,7 +53,7 @@ fn host_in(target: &str) -> Option<&str> {
 // The name of this gateway in `Via`.
 const NAME: &str = "tiny-http-gateway";
 
-// Adds the headers that a gateway writes: the host, whom the request is from, and which way it came (RFC 9110,
+// Adds the headers that a gateway writes: the host, the client's address, and the route of the request (RFC 9110,
 // sections 7.2 and 7.6.3).
 fn add_own<R: ReadDevice + Drop, W: WriteDevice + Drop, Rt: Wait + Drop>(
     head: &mut String,
@@ -76,7 +76,7 @@ fn add_own<R: ReadDevice + Drop, W: WriteDevice + Drop, Rt: Wait + Drop>(
     Ok(())
 }
 
-/// The head that the backend is sent. Where the client names no host, it is the backend's address.
+/// Returns the head for the backend. Its host is the client's, or the backend's address if the client names none.
 pub(crate) fn head_of<R: ReadDevice + Drop, W: WriteDevice + Drop, Rt: Wait + Drop>(
     alloc: Global,
     request: &Request<R, W, Rt>,
@@ -105,7 +105,7 @@ pub(crate) fn head_of<R: ReadDevice + Drop, W: WriteDevice + Drop, Rt: Wait + Dr
     Ok(head)
 }
 
-/// How the body of a backend's answer ends (RFC 9112, section 6.3).
+/// How the body of a backend's response ends (RFC 9112, section 6.3).
 #[derive(Clone, Copy, PartialEq, Eq)]
 pub(crate) enum Ending {
     Length(usize),
@@ -113,7 +113,7 @@ pub(crate) enum Ending {
     Close,
 }
 
-/// How the body ends behind these headers; none where they say more than one thing, or what isn't understood.
+/// Returns how the body after these headers ends, or `None` if they conflict or aren't understood.
 pub(crate) fn ending_of(headers: &[Header]) -> Option<Ending> {
     let mut codings = headers
         .iter()
@@ -140,7 +140,7 @@ pub(crate) fn ending_of(headers: &[Header]) -> Option<Ending> {
     Some(ending)
 }
 
-/// An answer with the backend's headers, over these data.
+/// Returns a response with the backend's headers, over these data.
 pub(crate) fn answer_with<D: Drop>(
     head: AnswerHead,
     data: D,

@@ -1,12 +1,12 @@
-//! Hands each request to another HTTP server, and its answer back: `gateway ADDRESS BACKEND`.
+//! Forwards each request to another HTTP server, and its response back: `example_gateway ADDRESS BACKEND`.
 //!
-//! The answer is 502 where the request can't be handed on, or the backend's answer isn't one that is understood, and
-//! 504 where the backend takes or gives nothing for ten seconds. An answer that comes before the request was sent whole
-//! is handed back, too (module `backend`). `CONNECT` is answered 501. The program shows a head that is looked at while
-//! its body is read (`parts`), the head of an answer (`read_answer_head`), a body of known length that is handed on
-//! (`Response::of`), and one that is sent as it comes (`respond_streaming`). Each message is framed anew, so that a
-//! body is never taken for a request behind it. The headers of one connection, and those that its `Connection` names,
-//! aren't handed on (RFC 9110, section 7.6.1).
+//! A request that can't be forwarded, or a response that isn't understood, is answered 502; a backend that takes or
+//! gives nothing for ten seconds 504; `CONNECT` 501. A response that comes before the whole request was sent is
+//! forwarded too (module `backend`). Each message is framed anew, so a body is never taken for the next request. The
+//! headers of one connection, and those that its `Connection` names, aren't forwarded (RFC 9110, section 7.6.1).
+//!
+//! The program shows a head that is read beside its body (`parts`), the head of a response (`read_answer_head`), a
+//! body of known length (`Response::of`), and one that is sent as it comes (`respond_streaming`).
 #![tactic(auto)]
 
 mod backend;
@@ -29,13 +29,13 @@ use tiny_http::{
 };
 use tiny_http_client::answer_head::AnswerHead;
 
-/// Answers by another server.
+/// A gateway to one backend.
 #[derive(Drop)]
 struct Gateway {
     backend: String,
 }
 
-// Hands on all that a reader gives, piece by piece.
+// Forwards all that a reader gives, piece by piece.
 fn pipe<F: Read, T: Write>(from: &mut F, to: &mut T) -> io::Result<()> {
     let mut piece = [0u8; PIECE];
     for _ in 0..u64::MAX {
@@ -49,7 +49,7 @@ fn pipe<F: Read, T: Write>(from: &mut F, to: &mut T) -> io::Result<()> {
     Ok(())
 }
 
-// Sends the backend a request with its body. By the standard a body that is cut is a fault.
+// Sends the backend a request and its body. Under `Standard` a cut body is an error.
 fn send_request<R: ReadDevice + Drop, W: WriteDevice + Drop, Rt: Clock + Wait + Drop>(
     rt: &Rt,
     backend: &mut Backend<'_, Rt>,
@@ -67,7 +67,7 @@ fn send_request<R: ReadDevice + Drop, W: WriteDevice + Drop, Rt: Clock + Wait + 
     pipe(body, backend)
 }
 
-// Hands on an answer whose length isn't said, as it comes. One without content is finished at once.
+// Forwards a response of unknown length as it comes. One without content is finished at once.
 fn stream<D: Read + Drop, R, W, Rt>(
     rt: &Rt,
     alloc: Global,
@@ -92,7 +92,7 @@ where
 }
 
 impl Gateway {
-    // Asks the backend, and reads the head of its answer, which may come before the whole request was sent.
+    // Sends the request, and reads the head of the response, which may come before the whole request was sent.
     fn ask<R: ReadDevice + Drop, W: WriteDevice + Drop, Rt>(
         &self,
         rt: &Rt,
@@ -122,7 +122,7 @@ where
     W: WriteDevice + Drop,
     Rt: Net<Stream = TcpStream> + Clock + Wait + Drop,
 {
-    /// Answers by what the backend answers.
+    /// Answers by the backend's response.
     fn handle(&self, rt: &Rt, alloc: Global, request: Request<R, W, Rt>) -> io::Result<()> {
         let mut request = request;
         if request.method() == &Method::Connect {
@@ -148,7 +148,7 @@ where
     }
 }
 
-// Listens at this address, and answers by the backend.
+// Listens at this address, and serves the gateway.
 fn serve<Rt: Host, O: Write>(
     rt: Rt,
     alloc: Global,

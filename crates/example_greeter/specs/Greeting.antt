@@ -1,4 +1,4 @@
--- Greetings: each request that is handed out is answered at once, by its path.
+-- Greetings: each request that is handed out gets a response at once, by its path.
 use Rattle.std.specs.Prelude.{◌≡◌, ℕ, List, [], ◌∷◌, ◌++◌, map, length, ◌-◌, ◌^◌, Option, Some, None, Bool, true, false}
 use Rattle.httpdate.specs.declared.date.HttpDate.{HttpDate}
 use Rattle.tiny_http_wire.specs.Device.{Feed, Sink, whole_feed}
@@ -13,30 +13,30 @@ use Rattle.tiny_http_core.specs.ResponseValue.{response_of}
 use Rattle.tiny_http_core.specs.Steps.{Ask, Respond, ReplyValue, Handed, TimedValue}
 use Rattle.tiny_http_core.specs.Conversation.{IsConversation}
 
--- the root is found, and nothing else
+-- the status is 200 for the root, and 404 for any other path
 pub record IsStatus (path : List ℕ) (status : ℕ) : Type 0 where
   pub root : path ≡ 47 ∷ [] → status ≡ 200
   pub other : (path ≡ 47 ∷ [] → ⊥) → status ≡ 404
 
--- a request that was handed out, the status by which it was answered, and what the connection replied to that
+-- a request that was handed out, the status of its response, and the connection's reply to the Respond
 pub record Greeting : Type 0 where
   pub number : ℕ
   pub head : Head
   pub status : ℕ
   pub reply : ReplyValue
 
--- each is answered by the status of its path
+-- each response has the status of its path
 abbrev pub AreByPath : List Greeting → Type 0
 AreByPath [] = Unit {0}
 AreByPath (g ∷ greetings) = IsStatus g.head.path g.status × AreByPath greetings
 
--- the steps of these greetings: an Ask and a Respond each, by an empty response of this status
+-- the steps of these greetings: for each an Ask, and a Respond with an empty response of this status
 abbrev pub steps_of : HttpDate → List Greeting → List TimedValue
 steps_of now [] = []
 steps_of now (g ∷ greetings) =
     (now, Ask) ∷ (now, Respond g.number (response_of g.status [] [])) ∷ steps_of now greetings
 
--- and their replies
+-- the replies to these steps
 abbrev pub replies_of : List Greeting → List ReplyValue
 replies_of [] = []
 replies_of (g ∷ greetings) =
@@ -51,13 +51,13 @@ abbrev pub last_reply : Option Reply → List ReplyValue
 last_reply None = []
 last_reply (Some r) = seen r ∷ []
 
--- That Ask hands out no request. There is none only where the greetings are as many as are ever counted.
+-- That Ask hands out no request. There is none only after 2^64 - 1 greetings.
 abbrev pub EndsGreetings : List Greeting → Option Reply → Type 0
 EndsGreetings greetings None = length greetings ≡ 2 ^ 64 - 1
 EndsGreetings greetings (Some r) = is_handed (seen r) ≡ false
 
--- Some greetings by the path, and after them an Ask with this reply, are a conversation with this client: the writer
--- took what is its output, but for what is held.
+-- Some greetings by the path, then an Ask with this reply, are a conversation with this client. Its output is what the
+-- writer took and what is held.
 pub record Greets (client : Feed) (before : Sink) (now : HttpDate) (after : Sink) (held : List ℕ) (ended : Bool)
     (unread : Option Feed) (last : Option Reply) : Type 0 where
   pub greetings : List Greeting

@@ -1,5 +1,5 @@
-//! A server over a `Connection`: what it answers depends on what is asked. Its contract says that its answers are a
-//! conversation, so the connection theorem holds of a program that isn't a list of steps. It stands on
+//! A server over a `Connection` whose responses depend on the requests. Its contract states that its responses are a
+//! conversation, so the connection theorem also holds for a program that isn't a list of steps. The crate is built on
 //! `tiny_http_core` and `tiny_http_wire`.
 #![tactic(auto)]
 
@@ -20,7 +20,7 @@ use tiny_http_wire::common::StatusCode;
 use tiny_http_wire::device::{Budget, Canned, ReadDevice, WriteDevice};
 use tiny_http_wire::response::Response;
 
-// 200 for the root, 404 for any other path.
+// Returns 200 for the root, and 404 for any other path.
 fn status_of(head: &Head) -> StatusCode
     ensures { IsStatus head.now.path result.0 }
 {
@@ -30,10 +30,11 @@ fn status_of(head: &Head) -> StatusCode
     StatusCode(404)
 }
 
-/// Answers each request by its path, 200 for the root and 404 for any other, each without a body and on this date,
-/// until none is handed out. What comes back is the reader and the writer within their buffers, and the reply by
-/// which the connection handed out no request: `Ended`, or `Memory` where there was none for a head; or none after
-/// 2^64 - 1 requests.
+/// Responds to each request by its path, with 200 for the root and 404 for any other, without a body and on this date,
+/// until none is handed out.
+///
+/// Returns the reader and the writer with their buffers, and the reply by which the connection handed out no request:
+/// `Ended`, or `Memory` if memory for a head was refused. There is no such reply after 2^64 - 1 requests.
 pub fn serve<R: ReadDevice + Drop, W: WriteDevice + Drop>(
     alloc: Global,
     reader: R,
@@ -61,8 +62,7 @@ pub fn serve<R: ReadDevice + Drop, W: WriteDevice + Drop>(
     (source, outlet, None)
 }
 
-/// The same in memory, for a client that sends these bytes and ends. Where there is no memory for the writer's bytes
-/// it fails.
+/// Serves a client in memory that sends these bytes and ends. The writer fails if memory for its bytes is refused.
 pub fn serve_bytes(alloc: Global, bytes: Vec<u8>, now: HttpDate) -> (Outlet<Budget>, Option<Reply>)
     ensures { GreetsClient bytes.items now (outlet_writer result.0) (outlet_held result.0) (outlet_ended result.0)
         result.1 }

@@ -1,4 +1,4 @@
-//! Answers each request by the path that it asks for: `quick_server ADDRESS`.
+//! Answers each request by its path: `example_quick_start ADDRESS`.
 #![tactic(auto)]
 
 #[cfg(test)]
@@ -14,13 +14,13 @@ use tiny_http::{
     current_date,
 };
 
-/// Answers a request by its path. The request may be a server's, or a test's.
+/// Answers a request by its path. The request may come from a server or from a test.
 #[derive(Drop)]
 struct ByPath;
 
 impl<R: ReadDevice + Drop, W: WriteDevice + Drop, Rt: Host> Handler<Rt, Request<R, W, Rt>>
     for ByPath {
-    /// Answers by the path.
+    /// Sends the path as the response's body.
     fn handle(&self, rt: &Rt, alloc: Global, request: Request<R, W, Rt>) -> io::Result<()> {
         let path = String::from_str(alloc, request.path())?;
         request.respond(Response::from_string(alloc, path)?, current_date(rt))

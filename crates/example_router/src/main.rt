@@ -1,10 +1,10 @@
-//! Notes in memory, as JSON: `router ADDRESS`.
+//! Notes in memory, as JSON: `example_router ADDRESS`.
 //!
-//! `GET /notes` lists them, `POST /notes` adds one of `{"text": ..}`, and `GET` and `DELETE` of `/notes/{id}` read
+//! `GET /notes` lists them, `POST /notes` adds one from `{"text": ..}`, and `GET` and `DELETE` of `/notes/{id}` read
 //! and remove one. `GET /events` sends them as server-sent events. The program shows routes by `matchit`, JSON by
-//! `serde_json`, state that threads share, a body that is read whole (`read_body`), one that grows while it is sent
-//! (`respond_streaming`), and a handler of any `Request`. What is wrong with a request is said by JSON. Where memory is
-//! refused, or the body's reader fails otherwise, the request is dropped, and answered by an empty 500.
+//! `serde_json`, state shared by threads, a body read whole (`read_body`), a body that grows while it is sent
+//! (`respond_streaming`), and a handler of any `Request`. Errors of a request are reported as JSON. If memory is
+//! refused, or reading the body fails otherwise, the request is dropped, which answers it by an empty 500.
 #![tactic(auto)]
 
 mod notes;
@@ -21,11 +21,11 @@ use tiny_http::{
     ServerConfig, StatusCode, current_date,
 };
 
-// So many bytes a body may have.
+// Maximum length of a body in bytes.
 const MOST: usize = 1 << 16;
 
 impl Notebook {
-    // Sends the notes as server-sent events, one after another. The lock isn't held while the client is waited for.
+    // Sends the notes as server-sent events. The lock isn't held while the client is waited for.
     fn send_events<R: ReadDevice + Drop, W: WriteDevice + Drop, Rt: Clock + Wait + Drop>(
         &self,
         rt: &Rt,
@@ -37,7 +37,7 @@ impl Notebook {
         let head = head.with(alloc, "Content-Type", "text/event-stream")?;
         let mut body = request.respond_streaming(head, current_date(rt))?;
         for value in values.iter() {
-            // JSON has no line ends of its own, so that each note is one event.
+            // `serde_json` writes no line ends, so each note is one event.
             write!(body, "data: {value}\n\n")?;
             body.flush()?;
         }
@@ -49,7 +49,7 @@ impl<R: ReadDevice + Drop, W: WriteDevice + Drop, Rt: Clock + Wait + Drop> Handl
     Rt,
     Request<R, W, Rt>,
 > for Notebook {
-    /// Answers by the notebook.
+    /// Answers from the notebook.
     fn handle(&self, rt: &Rt, alloc: Global, request: Request<R, W, Rt>) -> io::Result<()> {
         let mut request = request;
         let is_read = matches!(request.method(), Method::Get | Method::Head);
@@ -66,7 +66,7 @@ impl<R: ReadDevice + Drop, W: WriteDevice + Drop, Rt: Clock + Wait + Drop> Handl
     }
 }
 
-// Listens at this address, and answers by the notebook.
+// Listens at this address, and serves the notebook.
 fn serve<Rt: Host, O: Write>(rt: Rt, alloc: Global, address: &str, out: &mut O) -> io::Result<()> {
     let Ok(notebook) = Notebook::new(alloc) else {
         return Err(ErrorKind::OutOfMemory.into());
@@ -76,7 +76,7 @@ fn serve<Rt: Host, O: Write>(rt: Rt, alloc: Global, address: &str, out: &mut O) 
     };
     let addr = ConfigListenAddr::from_socket_addrs(&rt, alloc, address)?;
     let config = ServerConfig { addr, ssl: None };
-    // By the standard a body that is refused unread ends its connection.
+    // Under `Standard` a body that is refused unread ends its connection.
     let server = Server::with(rt, alloc, config, Profile::Standard, Limits::new())?;
     writeln!(out, "listening on {}", server.server_addr())?;
     out.flush()?;

@@ -1,4 +1,4 @@
-//! The notes, and what is answered of them.
+//! The notes, and the responses about them.
 use matchit::{InsertError, Router};
 use serde_json::{Value, json};
 use std::alloc::Global;
@@ -8,10 +8,10 @@ use std::io::{Cursor, ErrorKind};
 use std::sync::{Mutex, Wait};
 use tiny_http::{Method, Response, StatusCode};
 
-// So many notes are kept.
+// Maximum number of notes.
 const MOST_NOTES: usize = 1000;
 
-/// The answers of this program: all have bytes as their data.
+/// The responses of this program, whose data are bytes in memory.
 pub(crate) type Answer = Response<Cursor<Vec<u8>>>;
 
 /// What a path names.
@@ -35,26 +35,26 @@ pub(crate) struct Notebook {
     notes: Mutex<Notes>,
 }
 
-// A JSON answer.
+// A response of JSON.
 fn json_answer(alloc: Global, status: u16, value: &Value) -> io::Result<Answer> {
     let answer = Response::from_data(alloc, value.to_string(alloc)?.into_bytes());
     let answer = answer.with(alloc, "Content-Type", "application/json")?;
     Ok(answer.with_status_code(StatusCode(status)))
 }
 
-/// A JSON answer that says what is wrong.
+/// A response of JSON that names an error.
 pub(crate) fn fault(alloc: Global, status: u16, word: &str) -> io::Result<Answer> {
     json_answer(alloc, status, &json!(in alloc; {"error": word})?)
 }
 
-// The answer for a path that takes these methods alone.
+// The 405 of a path that allows only these methods.
 fn not_allowed(alloc: Global, methods: &str) -> io::Result<Answer> {
     let answer = fault(alloc, 405, "method not allowed")?;
     Ok(answer.with(alloc, "Allow", methods)?)
 }
 
 impl Notebook {
-    /// Without a note.
+    /// Creates an empty notebook.
     pub(crate) fn new(alloc: Global) -> Result<Notebook, InsertError> {
         let mut routes = Router::new(alloc);
         routes.insert("/notes", Route::Notes)?;
@@ -69,7 +69,7 @@ impl Notebook {
         })
     }
 
-    /// The notes as they are now, each as JSON.
+    /// Returns the current notes, each as JSON.
     pub(crate) fn values<Rt: Wait>(&self, rt: &Rt, alloc: Global) -> io::Result<Vec<Value>> {
         let mut values = Vec::new(alloc);
         for (id, text) in self.notes.lock(rt).by_id.iter() {
@@ -79,7 +79,7 @@ impl Notebook {
         Ok(values)
     }
 
-    // Adds the note that a body says.
+    // Adds the note of a body.
     fn add<Rt: Wait>(&self, rt: &Rt, alloc: Global, body: &[u8]) -> io::Result<Answer> {
         let value = match Value::from_slice(alloc, body) {
             Ok(value) => value,
@@ -142,7 +142,7 @@ impl Notebook {
         }
     }
 
-    /// What a request of this method, path and body is answered.
+    /// Returns the response to a request with this method, path and body.
     pub(crate) fn answer<Rt: Wait>(
         &self,
         rt: &Rt,

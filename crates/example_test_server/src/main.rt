@@ -1,14 +1,12 @@
-//! Gives recorded answers to recorded requests, for the tests of HTTP clients: `testserver ADDRESS FOLDER`.
+//! Sends recorded responses to recorded requests, for the tests of HTTP clients: `example_test_server ADDRESS FOLDER`.
 //!
-//! The folder has pairs of files: `NAME.request` with the bytes that a client sends, and `NAME.response` with those
-//! that it is to get, which may be no HTTP at all. A request is a recorded one if its method, its target and its body
-//! are. Each answer is given once, in the order of the names; a request that isn't there is answered 501, and one
-//! whose body isn't read, or has more than 2^20 bytes, 413. `GET /unused` lists the names that are left. Requests are
-//! read by the standard, recorded ones too.
+//! The folder has pairs of files: `NAME.request` with the bytes that a client sends, and `NAME.response` with the bytes
+//! that it gets, which needn't be HTTP. A request matches by method, target and body. Each response is sent once, in
+//! the order of the names. An unknown request is answered 501; one whose body can't be read, or is longer than 2^20
+//! bytes, 413. `GET /unused` lists the names that are left. All requests are read under `Standard`.
 //!
-//! The program shows requests that are read from bytes (`ClientConnection`), raw answers (`into_writer`), and how one
-//! that states no length ends with its connection (`close`). The connection is closed, too, behind an answer that
-//! `read_answer` doesn't read whole.
+//! The program shows requests read from bytes (`ClientConnection`), raw responses (`into_writer`), and a response
+//! without a length, which ends with its connection (`close`), as does one that `read_answer` can't read whole.
 #![tactic(auto)]
 
 use std::alloc::{AllocGlobal, Global};
@@ -26,13 +24,13 @@ use tiny_http::{
     ServerConfig, StatusCode, current_date,
 };
 
-// So many threads answer.
+// Number of threads that answer.
 const THREADS: usize = 4;
 
-// So many bytes a body may have.
+// Maximum length of a body in bytes.
 const MOST: usize = 1 << 20;
 
-/// What a request asks for.
+/// What a request is matched by.
 #[derive(Drop, PartialEq, Eq)]
 struct Asked {
     method: Method,
@@ -40,7 +38,7 @@ struct Asked {
     body: Vec<u8>,
 }
 
-/// A recorded request and its answer.
+/// A recorded request and its response.
 #[derive(Drop)]
 struct Exchange {
     name: String,
@@ -49,13 +47,13 @@ struct Exchange {
     is_used: bool,
 }
 
-/// The exchanges, in the order of their names.
+/// The recorded exchanges, in the order of their names.
 #[derive(Drop)]
 struct Recorded {
     exchanges: Mutex<Vec<Exchange>>,
 }
 
-// What a request asks for.
+// Returns what a request is matched by.
 fn asked_of<R: ReadDevice + Drop, W: WriteDevice + Drop, Rt: Clock + Wait + Drop>(
     rt: &Rt,
     alloc: Global,
@@ -69,7 +67,7 @@ fn asked_of<R: ReadDevice + Drop, W: WriteDevice + Drop, Rt: Clock + Wait + Drop
     })
 }
 
-// The exchange of a request's and an answer's bytes.
+// Reads an exchange from the bytes of a request and of a response.
 fn exchange_of<Rt: Clock + Wait + Copy>(
     rt: Rt,
     alloc: Global,
@@ -93,7 +91,7 @@ fn exchange_of<Rt: Clock + Wait + Copy>(
     })
 }
 
-// The exchanges of a folder, in the order of their names.
+// Reads the exchanges of a folder, in the order of their names.
 fn read_folder<Rt: Files + AllocGlobal + Clock + Wait + Copy>(
     rt: Rt,
     alloc: Global,
@@ -120,7 +118,7 @@ fn read_folder<Rt: Files + AllocGlobal + Clock + Wait + Copy>(
 }
 
 impl Recorded {
-    // The next answer to this request, if one is left.
+    // Returns the next response to this request, if one is left.
     fn take<Rt: Wait>(&self, rt: &Rt, asked: &Asked) -> io::Result<Option<Vec<u8>>> {
         for exchange in self.exchanges.lock(rt).as_mut_slice() {
             if !exchange.is_used && exchange.asked == *asked {
@@ -132,7 +130,7 @@ impl Recorded {
         Ok(None)
     }
 
-    // The names of the exchanges that weren't asked for.
+    // Returns the names of the exchanges that are left.
     fn unused<Rt: Wait>(&self, rt: &Rt, alloc: Global) -> io::Result<String> {
         let mut text = String::new(alloc);
         for exchange in self.exchanges.lock(rt).as_slice() {
@@ -149,7 +147,7 @@ impl<R: ReadDevice + Drop, W: WriteDevice + Drop, Rt: Clock + Wait + Drop> Handl
     Rt,
     Request<R, W, Rt>,
 > for Recorded {
-    /// Gives the recorded answer.
+    /// Sends the recorded response.
     fn handle(&self, rt: &Rt, alloc: Global, request: Request<R, W, Rt>) -> io::Result<()> {
         let mut request = request;
         let asked = match asked_of(rt, alloc, &mut request) {
@@ -164,7 +162,7 @@ impl<R: ReadDevice + Drop, W: WriteDevice + Drop, Rt: Clock + Wait + Drop> Handl
             let is_whole = matches!(read, Ok(Some((_, length))) if length == answer.len());
             let mut writer = request.into_writer();
             writer.write_all(answer.as_slice())?;
-            // Without a length the connection's end ends the answer.
+            // Without a length the response ends with its connection.
             return if is_whole {
                 writer.flush()
             } else {
@@ -179,7 +177,7 @@ impl<R: ReadDevice + Drop, W: WriteDevice + Drop, Rt: Clock + Wait + Drop> Handl
     }
 }
 
-// Listens at this address, and gives the recorded answers.
+// Listens at this address, and sends the recorded responses.
 fn serve<Rt: Host, O: Write>(
     rt: Rt,
     alloc: Global,

@@ -1,7 +1,7 @@
-//! Sends each WebSocket message back: `websocket_echo ADDRESS`. Any other request is answered 426.
+//! Sends each WebSocket message back: `example_websocket_echo ADDRESS`. Any other request is answered 426.
 //!
-//! The program shows an upgrade by `tiny_http_websocket`, frames by `tungstenite`, and `serve`, by which each
-//! connection has a thread: a WebSocket keeps its thread as long as it is open.
+//! The program shows an upgrade by `tiny_http_websocket`, frames by `tungstenite`, and `serve`, which gives each
+//! connection a thread: an open WebSocket keeps its thread.
 #![tactic(auto)]
 
 use std::alloc::Global;
@@ -18,11 +18,11 @@ use tungstenite::{
     CloseCode, CloseFrame, Error, NoMask, Role, Utf8Bytes, WebSocket, WebSocketConfig,
 };
 
-// So many bytes a message may have.
+// Maximum length of a message in bytes.
 const MOST: usize = 1 << 20;
 
-// The code by which a WebSocket is closed that its client broke so (RFC 6455, sections 7.1.7 and 7.4.1): a frame that
-// breaks the protocol, a text that isn't UTF-8, or a message that is too long. None for any other fault.
+// Returns the Close code for an error of the client (RFC 6455, sections 7.1.7 and 7.4.1): a frame that breaks the
+// protocol, a text that isn't UTF-8, or a message that is too long. `None` for any other error.
 fn close_code(fault: &Error) -> Option<CloseCode> {
     match fault {
         Error::Protocol(_) => Some(CloseCode::Protocol),
@@ -32,7 +32,7 @@ fn close_code(fault: &Error) -> Option<CloseCode> {
     }
 }
 
-// Sends each message back, until the client closes.
+// Sends each message back until the client closes.
 fn send_back<S: Read + Write + Drop>(socket: &mut WebSocket<S, NoMask>) -> Result<(), Error> {
     for _ in 0..u64::MAX {
         match socket.read() {
@@ -45,7 +45,7 @@ fn send_back<S: Read + Write + Drop>(socket: &mut WebSocket<S, NoMask>) -> Resul
     Ok(())
 }
 
-// Sends each message back. A client that breaks the WebSocket is told so by a Close frame.
+// Sends each message back. A client that breaks the protocol gets a Close frame.
 fn talk<S: Read + Write + Drop>(alloc: Global, stream: S) -> Result<(), Error> {
     let config = WebSocketConfig::default()
         .max_message_size(Some(MOST))
@@ -61,7 +61,7 @@ fn talk<S: Read + Write + Drop>(alloc: Global, stream: S) -> Result<(), Error> {
     Err(fault)
 }
 
-/// Echoes on each WebSocket.
+/// Echoes the messages of each WebSocket.
 #[derive(Drop)]
 struct Echo;
 
@@ -69,7 +69,7 @@ impl<R: ReadDevice + Drop, W: WriteDevice + Drop, Rt: Clock + Wait + Drop> Handl
     Rt,
     Request<R, W, Rt>,
 > for Echo {
-    /// Echoes until the client closes. That it breaks its WebSocket is passed over.
+    /// Echoes until the client closes. A broken WebSocket is not an error.
     fn handle(&self, rt: &Rt, alloc: Global, request: Request<R, W, Rt>) -> io::Result<()> {
         match accept(alloc, request, current_date(rt))? {
             Handshake::Accepted(stream) => {

@@ -1,13 +1,13 @@
-//! Why nothing is served, as one line and an exit status.
+//! Why the program can't serve, as one line and an exit status.
 ghost use Rattle.std.specs.Prelude.{◌≡◌, ◌<◌, ◌≤◌};
 
 use std::fmt;
 
-/// Why nothing is served.
+/// Why the program can't serve.
 #[derive(Clone, Copy, Debug, PartialEq, Eq)]
 pub(crate) enum HelloFault<'a> {
     Usage,
-    /// At this address.
+    /// It can't listen at this address.
     CannotListen(&'a str),
     OutOfMemory,
 }
@@ -15,7 +15,7 @@ pub(crate) enum HelloFault<'a> {
 impl HelloFault<'_> {
     ghost use Rattle.hello.specs.HelloFault.{exit_status};
 
-    /// The exit status that reports it: 2 for what was asked wrongly, and 1 for what the system refused.
+    /// Returns the exit status: 2 for a usage error, 1 for what the system refused.
     pub(crate) fn status(&self) -> u8
         ensures { result ≡ exit_status self.now }
     {

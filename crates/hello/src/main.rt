@@ -1,4 +1,4 @@
-//! Answers every request by `hello world`: `hello ADDRESS`. It stands on `tiny_http`.
+//! Answers every request by `hello world`: `hello ADDRESS`.
 #![tactic(auto)]
 
 ghost use Rattle.std.specs.Prelude.{◌≡◌, ◌≤◌, ◌<◌, ◌⊎◌, length};
@@ -22,23 +22,23 @@ use tiny_http::response::Response;
 use tiny_http::server::{Host, Server, ServerRequest, current_date};
 use tiny_http::serving::Handler;
 
-/// Answers each request by the same text.
+/// Answers every request by the same text.
 struct HelloWorld;
 
 impl<R: Clock + Wait + Drop> Handler<R, ServerRequest<R>> for HelloWorld {
-    /// One for whose answer there is no memory is dropped. That the client doesn't take its answer is passed over.
+    /// Drops a request if memory for its response is refused. A disconnected client is not an error.
     fn handle(&self, rt: &R, alloc: Global, request: ServerRequest<R>) -> io::Result<()> {
         let text = String::from_str(alloc, "hello world")?;
         request.respond(Response::from_string(alloc, text)?, current_date(rt))
     }
 }
 
-// Answers all requests of a server, on four threads. That accepting ended by a fault is passed over.
+// Answers all requests of a server on four threads. An error of accepting only ends it.
 fn answer_all<R: Host>(alloc: Global, server: &Server<R>) {
     let _ = server.serve_by(alloc, 4, &HelloWorld);
 }
 
-// Listens at the address that the one word names, and answers all requests.
+// Listens at the address of the one argument, and answers all requests.
 fn hello<'a, R: Host, O: Write>(
     rt: R,
     alloc: Global,
@@ -59,7 +59,7 @@ fn hello<'a, R: Host, O: Write>(
     Ok(())
 }
 
-// Reports a fault by a line, and gives the exit status that reports it.
+// Reports an error by a line, and returns its exit status.
 fn report<E: Write>(fault: &HelloFault<'_>, err: &mut E) -> u8
     ensures { result ≡ exit_status fault.now }
 {
@@ -67,9 +67,9 @@ fn report<E: Write>(fault: &HelloFault<'_>, err: &mut E) -> u8
     fault.status()
 }
 
-/// Listens at the address that the one word names, says so on `out`, and answers every request by `hello world` until
-/// there are no more. Gives the exit status: 0; or 2 where there isn't one word, and 1 where it can't listen there,
-/// which a line on `err` says.
+/// Listens at the address of the one argument, prints it on `out`, and answers every request by `hello world` until
+/// there are no more. Returns the exit status: 0; 2 if there isn't one argument; 1 if it can't listen there. A line on
+/// `err` reports the error.
 pub fn hello_on<R: Host, O: Write, E: Write>(
     rt: R,
     alloc: Global,
@@ -83,7 +83,7 @@ pub fn hello_on<R: Host, O: Write, E: Write>(
     }
 }
 
-// The words of the command line, the program's name first. One that isn't UTF-8 is no address.
+// Returns the command line, the program's name first. An argument that isn't UTF-8 is a usage error.
 fn words<R: Env + AllocGlobal>(rt: &R) -> Result<Vec<String>, HelloFault<'static>> {
     match env::args(rt) {
         Ok(words) => match words.collect(rt.alloc()) {

@@ -1,13 +1,13 @@
-//! Assertions as calls: a function that calls them is cheaper to prove than one that asserts in place.
+//! Assertions as functions: a test that calls them is cheaper to prove than one that asserts in place.
 use std::fmt::Debug;
 use std::process::Abort;
 
-/// The two are equal.
+/// Asserts that the two are equal.
 pub fn assert_same<T: PartialEq + Debug + Drop>(rt: &impl Abort, found: T, wanted: T) {
     assert_eq!(rt; found, wanted);
 }
 
-/// It holds that, in these words.
+/// Asserts a condition, described by these words.
 pub fn assert_holds(rt: &impl Abort, words: &str, holds: bool) {
     assert!(rt; holds, "not so: {words}");
 }

@@ -1,15 +1,15 @@
-//! Why a run is not made or not reported, as one line and an exit status.
+//! Why a run can't be made or reported, as one line and an exit status.
 ghost use Rattle.std.specs.Prelude.{◌≡◌, ◌<◌, ◌≤◌};
 
 use std::fmt;
 
-/// Why a run is not made or not reported.
+/// Why a run can't be made or reported.
 #[derive(Clone, Copy, Debug, PartialEq, Eq)]
 pub(crate) enum ReplayFault<'a> {
     Usage,
-    /// The file of this name.
+    /// It can't read the file of this name.
     CannotRead(&'a str),
-    /// The first line of the script that says nothing known, counted from 1 over all lines.
+    /// The script's first invalid line, counted from 1 over all lines.
     BadLine(usize),
     OutOfMemory,
     CannotWrite,
@@ -18,7 +18,7 @@ pub(crate) enum ReplayFault<'a> {
 impl ReplayFault<'_> {
     ghost use Rattle.replay.specs.ReplayFault.{exit_status};
 
-    /// The exit status that reports it: 2 for what was asked wrongly, and 1 for what the system refused.
+    /// Returns the exit status: 2 for a usage error, 1 for what the system refused.
     pub(crate) fn status(&self) -> u8
         ensures value { result ≡ exit_status self.now }
         ensures some { 0 < result }

@@ -1,7 +1,7 @@
-//! Runs the steps of a script over a client's bytes: `replay [--strict | --standard] BYTES SCRIPT`. The output of the
-//! connection goes to standard output, a line for each step's reply to standard error. `--strict` and `--standard`
-//! have heads read under these profiles. The program stands on `replay_script`, which reads the script, on
-//! `tiny_http_core`, whose `run_with` it calls, and on `tiny_http_wire`.
+//! Runs the steps of a script over a client's bytes: `replay [--strict | --standard] BYTES SCRIPT`. The connection's
+//! output goes to standard output, and a line for each step's reply to standard error. `--strict` and `--standard`
+//! name the profile under which heads are read. `replay_script` reads the script, and `run_with` of `tiny_http_core`
+//! runs it.
 #![tactic(auto)]
 
 ghost use Rattle.std.specs.Prelude.{◌≡◌, ◌<◌, ◌≤◌, ◌⊎◌, ℕ, ◌++◌, map, Err, IsErrAnd, IfOk, IfErr, OnOk};
@@ -32,7 +32,7 @@ use tiny_http_core::driver::{Reply, Timed, run_with};
 use tiny_http_core::framing::Profile;
 use tiny_http_wire::device::{Budget, Canned, WriteDevice};
 
-/// What a run left: the writer with what it took, what was held back, and what the steps were answered.
+/// What a run left: the writer with what it took, the bytes held back, and the replies of the steps.
 #[derive(Drop)]
 struct Replayed {
     writer: Budget,
@@ -40,8 +40,8 @@ struct Replayed {
     replies: Vec<Reply>,
 }
 
-// Runs the steps over the client's bytes, which then end. The writer is in memory, so only lack of memory makes it
-// fail.
+// Runs the steps over the client's bytes, which then end. The writer is in memory, so it fails only if memory is
+// refused.
 fn run_steps(
     alloc: Global,
     profile: Profile,
@@ -71,7 +71,7 @@ fn run_steps(
     })
 }
 
-// Writes the output to the one, and a line for each reply to the other.
+// Writes the output to `out`, and a line for each reply to `err`.
 #[tactic(auto, using(replay_script::proofs::ReplyLemmas::line_more))]
 fn write_outcome<O: Write, E: Write>(
     outcome: &Replayed,
@@ -92,7 +92,7 @@ fn write_outcome<O: Write, E: Write>(
     err.flush()
 }
 
-// Runs a script and writes what came of it.
+// Runs a script, and writes its output and replies.
 fn replay<O: Write, E: Write>(
     alloc: Global,
     profile: Profile,
@@ -103,7 +103,7 @@ fn replay<O: Write, E: Write>(
 ) -> Result<(), ReplayFault<'static>>
     ensures runs { OnOk result (WritesReplay profile bytes.items script.now (O.contents out.old) (O.contents out.new)
         (E.contents err.old) (E.contents err.new)) }
-    // After a bad line nothing is run.
+    // A script with an invalid line isn't run.
     ensures refused { (n : ℕ) → IsFirstBadLine (script_lines script.now) n
         → IsErrAnd result (λ fault. (exit_status fault ≡ 2) ⊎ (fault ≡ ReplayFault.OutOfMemory)) × (out.new ≡ out.old) }
     ensures bad { (n : ℕ) → result ≡ Err (ReplayFault.BadLine n) → IsFirstBadLine (script_lines script.now) n }
@@ -121,7 +121,7 @@ fn replay<O: Write, E: Write>(
     }
 }
 
-// Reports a fault by a line, and gives the exit status that reports it.
+// Reports an error by a line, and returns its exit status.
 fn report<E: Write>(fault: &ReplayFault<'_>, err: &mut E) -> u8
     ensures some { 0 < result }
     ensures bound { result ≤ 2 }
@@ -134,8 +134,8 @@ fn report<E: Write>(fault: &ReplayFault<'_>, err: &mut E) -> u8
 }
 
 /// Runs the steps of a script over a client's bytes, whose heads are read under this profile. Writes the output to
-/// `out`, then a line for each reply to `err`, and gives the exit status: 0, or that of a fault, which is reported by
-/// a line on `err`. After a bad line of the script nothing is run.
+/// `out`, then a line for each reply to `err`, and returns the exit status: 0, or that of an error, which a line on
+/// `err` reports. A script with an invalid line isn't run.
 pub fn replay_on<O: Write, E: Write>(
     alloc: Global,
     profile: Profile,
@@ -147,7 +147,7 @@ pub fn replay_on<O: Write, E: Write>(
     ensures runs { result ≡ 0 → WritesReplay profile bytes.items script.now (O.contents out.old) (O.contents out.new)
         (E.contents err.old) (E.contents err.new) }
     ensures bound { result ≤ 2 }
-    // After a bad line nothing is run.
+    // A script with an invalid line isn't run.
     ensures refused { (n : ℕ) → IsFirstBadLine (script_lines script.now) n → (0 < result) × (out.new ≡ out.old) }
     ensures two { result ≡ 2 → (n : ℕ) × IsFirstBadLine (script_lines script.now) n }
 {
@@ -157,8 +157,8 @@ pub fn replay_on<O: Write, E: Write>(
     }
 }
 
-// All bytes of a file. There is room for them at once where the system knows its length, and for one more, so that
-// its end is met without room for others.
+// Reads a whole file. If the system knows its length, room for it and one byte more is taken at once, so that the end
+// of the file is found without growing.
 fn read_whole<R: Files + AllocGlobal>(rt: &R, name: &str) -> io::Result<Vec<u8>> {
     let mut file = fs::open(rt, name)?;
     let length = file.metadata().map_or(0, |of| of.len());
@@ -167,7 +167,7 @@ fn read_whole<R: Files + AllocGlobal>(rt: &R, name: &str) -> io::Result<Vec<u8>>
     Ok(bytes)
 }
 
-// The same, with the fault that is reported.
+// Reads a whole file, or returns the error to report.
 fn read_file<'a, R: Files + AllocGlobal>(
     rt: &R,
     name: &'a str,
@@ -179,7 +179,7 @@ fn read_file<'a, R: Files + AllocGlobal>(
     }
 }
 
-// The profile and the names of the two files that the words say. A word that begins with two hyphens names no file.
+// Parses the arguments: the profile and the names of the two files. A name can't begin with two hyphens.
 fn call_in(words: &[String]) -> Option<(Profile, &str, &str)> {
     let (profile, bytes, script) = match words {
         [_, bytes, script] => (Profile::Lenient, bytes, script),
@@ -197,7 +197,7 @@ fn call_in(words: &[String]) -> Option<(Profile, &str, &str)> {
     Some((profile, bytes.as_str(), script.as_str()))
 }
 
-// The profile that the words say, and the bytes of the two files that they name.
+// Parses the arguments, and reads the two files.
 fn read_call<'a, R: Files + AllocGlobal>(
     rt: &R,
     words: &'a [String],
@@ -210,7 +210,7 @@ fn read_call<'a, R: Files + AllocGlobal>(
     Ok((profile, bytes, script))
 }
 
-// The words of the command line, the program's name first. One that isn't UTF-8 can't name a file here.
+// Returns the command line, the program's name first. An argument that isn't UTF-8 is a usage error.
 fn words<R: Env + AllocGlobal>(rt: &R) -> Result<Vec<String>, ReplayFault<'static>> {
     match env::args(rt) {
         Ok(words) => match words.collect(rt.alloc()) {
@@ -222,7 +222,7 @@ fn words<R: Env + AllocGlobal>(rt: &R) -> Result<Vec<String>, ReplayFault<'stati
     }
 }
 
-// Runs the steps of the script over the bytes that the command line names, and gives the exit status.
+// Runs the script over the bytes that the command line names, and returns the exit status.
 fn run_call<R: Env + Files + AllocGlobal, O: Write, E: Write>(
     rt: &R,
     out: &mut O,
@@ -239,7 +239,7 @@ fn run_call<R: Env + Files + AllocGlobal, O: Write, E: Write>(
     replay_on(rt.alloc(), profile, bytes, script.as_slice(), out, err)
 }
 
-// What goes to standard error is gathered, since it comes in many small pieces.
+// Standard error is buffered, since it is written in many small pieces.
 fn main(rt: HostRuntime) -> ExitCode {
     let Ok(mut err) = BufWriter::new(rt.alloc(), rt.stderr()) else {
         return ExitCode::from(report(&ReplayFault::OutOfMemory, &mut rt.stderr()));

@@ -1,4 +1,4 @@
--- The lines that report what the steps were answered.
+-- The lines that report the replies.
 use Rattle.std.specs.Prelude.{ℕ, ◌/◌, ◌%◌, List, [], ◌∷◌, ◌++◌, length, get_or, flat_map, Option, Some, None, codes}
 use Rattle.std.specs.Prelude.{decimal}
 use Rattle.std.specs.declared.io.ErrorKind.{ErrorKind}
@@ -14,7 +14,7 @@ kind_name UnexpectedEof = codes "UnexpectedEof"
 kind_name OutOfMemory = codes "OutOfMemory"
 kind_name _ = codes "Other"
 
--- what Content-Length says, or -
+-- the content length, or -
 abbrev pub length_text : Option ℕ → List ℕ
 length_text None = codes "-"
 length_text (Some n) = decimal n
@@ -30,7 +30,7 @@ handed_text k m said =
 abbrev pub hex_byte : ℕ → List ℕ
 hex_byte b = get_or (codes "0123456789abcdef") (b / 16) 0 ∷ get_or (codes "0123456789abcdef") (b % 16) 0 ∷ []
 
--- a space and the bytes; nothing where there are none
+-- a space and the bytes; nothing if there are none
 abbrev pub bytes_text : List ℕ → List ℕ
 bytes_text [] = []
 bytes_text (b ∷ bytes) = codes " " ++ flat_map hex_byte (b ∷ bytes)

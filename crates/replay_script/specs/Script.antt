@@ -30,17 +30,17 @@ use Rattle.replay_script.specs.declared.line.Content.{Content}
 use Rattle.replay_script.specs.declared.line.Content.TheVariants.{Text, Empty, Stream, Broken}
 use Rattle.replay_script.specs.declared.script_data.ScriptData.{ScriptData}
 
--- a LF ends a line, and so does the end
+-- the lines of a script, split at each LF
 abbrev pub script_lines : List ℕ → List (List ℕ)
 script_lines script = slice_split (λ b. b == 10) script
 
--- the n-th line, counted from 1, is the first that says nothing
+-- line n, counted from 1, is the first that isn't in the grammar
 abbrev pub IsFirstBadLine : List (List ℕ) → ℕ → Type 0
 IsFirstBadLine lines n =
     (front : List (List ℕ)) × (bad : List ℕ) × (rest : List (List ℕ))
     × (lines ≡ front ++ bad ∷ rest) × (length front + 1 ≡ n) × AllByRecursion IsGood front × ¬ (IsGood bad)
 
--- an answer without headers, whose data are so many bytes `x` and this stop, of this length, if it is known
+-- a response without headers, with `count` bytes `x`, this stop, and this length, if it is known
 abbrev pub xs_response : ℕ → ℕ → Stop → Option ℕ → ResponseValue
 xs_response status count stop length =
     record {
@@ -56,7 +56,7 @@ xs_response status count stop length =
       content = xs count stop;
     }
 
--- the answer by a code with this content
+-- the response with this status code and content
 abbrev pub response_with : ℕ → Content → ResponseValue
 response_with status (Text text) = response_of status (text_plain ∷ []) text.now
 response_with status Empty = response_of status [] []
@@ -104,7 +104,7 @@ steps_from now [] = []
 steps_from now (line ∷ lines) =
     on_date (date_behind now line) (said_step line) ++ steps_from (date_behind now line) lines
 
--- these are the steps of a script; until a date is set it is second 420895020
+-- these are the steps of a script; before any line `now` the date is second 420895020
 abbrev pub IsScript : List ℕ → List TimedValue → Type 0
 IsScript script steps =
     (lines : List ScriptLine) × (first : HttpDate)
@@ -127,6 +127,6 @@ step_value (UpgradeStep number protocol response) = Upgrade number (string_bytes
 step_value (FinishStep number) = Finish number
 step_value (DropStep number) = Drop number
 
--- the same on its date
+-- a step and its date as a value
 abbrev pub timed_value : Timed ScriptData → TimedValue
 timed_value timed = (timed.now, step_value timed.step)

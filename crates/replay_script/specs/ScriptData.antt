@@ -1,11 +1,11 @@
--- What the data of a script's answers give.
+-- The feeds of the data of a script's responses.
 use Rattle.std.specs.Prelude.{ℕ, replicate}
 use Rattle.tiny_http_wire.specs.Device.{Feed}
 use Rattle.tiny_http_wire.specs.declared.device.Stop.{Stop}
 use Rattle.replay_script.specs.declared.script_data.ScriptData.{ScriptData}
 use Rattle.replay_script.specs.declared.script_data.ScriptData.TheVariants.{Given, Xs}
 
--- so many bytes `x`, which is 120, and then this stop
+-- `count` bytes `x`, which is 120, then this stop
 abbrev pub xs : ℕ → Stop → Feed
 xs count stop = record { bytes = replicate count 120; stop = stop }
 

@@ -1,4 +1,4 @@
--- What the lines of a script say.
+-- The grammar of a script's lines.
 use Rattle.std.specs.Prelude.{◌≡◌, ◌⊎◌, ◌<◌, ◌^◌, ℕ, List, [], ◌∷◌, ◌++◌, codes, IsAscii}
 use Rattle.std.specs.Str.Parse.{IsNumeral, digits_value}
 use Rattle.httpdate.specs.Date.{unix_secs}
@@ -9,7 +9,7 @@ use Rattle.replay_script.specs.declared.line.ScriptLine.TheVariants.{Write, Flus
 use Rattle.replay_script.specs.declared.line.Content.{Content}
 use Rattle.replay_script.specs.declared.line.Content.TheVariants.{Text, Empty, Stream, Broken}
 
--- the text is one decimal digit or more, and they write this number
+-- the text is at least one decimal digit, and they write this number
 abbrev pub WritesNumber : List ℕ → ℕ → Type 0
 WritesNumber digits n = IsNumeral 10 digits × (digits_value 10 digits ≡ n)
 
@@ -17,7 +17,7 @@ WritesNumber digits n = IsNumeral 10 digits × (digits_value 10 digits ≡ n)
 abbrev pub BeginsByNumber : List ℕ → ℕ → List ℕ → Type 0
 BeginsByNumber text n rest = (digits : List ℕ) × (text ≡ digits ++ 32 ∷ rest) × WritesNumber digits n
 
--- the text is a number of 64 bits, a space, a code of 16 bits, a space, and the rest
+-- the text is a number of 64 bits, a space, a status code of 16 bits, a space, and the rest
 abbrev pub BeginsByNumbers : List ℕ → ℕ → ℕ → List ℕ → Type 0
 BeginsByNumbers text number status rest =
     (behind : List ℕ)
@@ -38,7 +38,7 @@ IsDate text = (date : HttpDate) × WritesDate text date
 abbrev pub WritesCount : List ℕ → ℕ → Type 0
 WritesCount digits count = WritesNumber digits count × (count < 2 ^ 16)
 
--- the grammar of what stands after the code of an answer
+-- the grammar of the content of a response
 abbrev pub WritesContent : List ℕ → Content → Type 0
 WritesContent text (Text rest) = text ≡ codes "text " ++ rest.now
 WritesContent text Empty = text ≡ codes "empty"
@@ -49,21 +49,21 @@ WritesContent text (Broken count) = (digits : List ℕ) × (text ≡ codes "brok
 abbrev pub IsContent : List ℕ → Type 0
 IsContent text = (content : Content) × WritesContent text content
 
--- the grammar of what stands after `respond`: a number, a code, and the content
+-- the grammar of what follows `respond`: a number, a status code, and the content
 abbrev pub WritesAnswer : List ℕ → ℕ → ℕ → Content → Type 0
 WritesAnswer words number status content =
     (text : List ℕ) × BeginsByNumbers words number status text × WritesContent text content
 
--- the words are some answer
+-- the words are some response
 abbrev pub IsAnswer : List ℕ → Type 0
 IsAnswer words = (number : ℕ) × (status : ℕ) × (content : Content) × WritesAnswer words number status content
 
--- the grammar of what stands after `read`: a number of 64 bits, a space, and one of 16 bits
+-- the grammar of what follows `read`: a number of 64 bits, a space, and one of 16 bits
 abbrev pub WritesRead : List ℕ → ℕ → ℕ → Type 0
 WritesRead words number count =
     (digits : List ℕ) × BeginsByNumber words number digits × (number < 2 ^ 64) × WritesCount digits count
 
--- the grammar of a line: which text says what
+-- the grammar of a line, and what it means
 abbrev pub SaysLine : List ℕ → ScriptLine → Type 0
 SaysLine text Blank = (text ≡ []) ⊎ ((comment : List ℕ) × (text ≡ codes "#" ++ comment))
 SaysLine text (Now date) = (digits : List ℕ) × (text ≡ codes "now " ++ digits) × WritesDate digits date
@@ -86,14 +86,14 @@ SaysLine text (Finish number) =
 SaysLine text (Drop number) =
     (digits : List ℕ) × (text ≡ codes "drop " ++ digits) × WritesNumber digits number × (number < 2 ^ 64)
 
--- the text says something
+-- the text is some line
 abbrev pub SaysSome : List ℕ → Type 0
 SaysSome text = (line : ScriptLine) × SaysLine text line
 
--- the line is ASCII and says this
+-- the line is ASCII and means this
 abbrev pub IsLine : List ℕ → ScriptLine → Type 0
 IsLine bytes line = IsAscii bytes × SaysLine bytes line
 
--- the line is ASCII and says something
+-- the line is ASCII and in the grammar
 abbrev pub IsGood : List ℕ → Type 0
 IsGood bytes = IsAscii bytes × SaysSome bytes

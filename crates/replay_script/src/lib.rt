@@ -1,5 +1,5 @@
-//! The script of `replay`: what its lines say, the steps of a connection that they name, and the lines that report
-//! what the steps were answered. It stands on `tiny_http_core` and `tiny_http_wire`.
+//! The script of `replay`: the grammar of its lines, the steps of a connection that they name, and the lines that
+//! report the replies. The crate is built on `tiny_http_core` and `tiny_http_wire`.
 #![tactic(auto)]
 
 pub mod line;

@@ -1,4 +1,4 @@
-//! What a line of a script says.
+//! Parser of a script's lines.
 ghost use Rattle.std.specs.Prelude.{◌≡◌, ◌<◌, ◌^◌, ℕ, List, ◌↔◌, IfSome, IsSomeAnd, IsSome};
 ghost use Rattle.std.specs.Option.{SomeIff};
 ghost use Rattle.std.specs.Str.Parse.{IsNumeral, digits_value};
@@ -8,20 +8,20 @@ ghost use Rattle.replay_script.specs.ScriptLine.{IsLine, IsGood};
 
 use httpdate::HttpDate;
 
-/// What a line says.
+/// A parsed line of a script.
 #[derive(Clone, Copy, Debug)]
 pub enum ScriptLine<'a> {
-    /// Nothing: it is empty, or a comment.
+    /// An empty line or a comment.
     Blank,
-    /// The date of all the steps after it.
+    /// The date of all later steps.
     Now(HttpDate),
     /// Asks for the next request.
     Ask,
     /// Sends the 100 that the request of this number expects.
     AsReader(u64),
-    /// Reads the body of the request of this number, up to so many bytes.
+    /// Reads the body of the request of this number, at most this many bytes.
     Read(u64, u16),
-    /// Answers the request of this number by this code and content.
+    /// Responds to the request of this number with this status code and content.
     Respond(u64, u16, Content<'a>),
     /// Takes the raw writer of the request of this number.
     Writer(u64),
@@ -29,7 +29,7 @@ pub enum ScriptLine<'a> {
     Write(u64, &'a str),
     /// Sends what was written under this number.
     Flush(u64),
-    /// Upgrades the request of this number by this code to this protocol.
+    /// Upgrades the request of this number with this status code to this protocol.
     Upgrade(u64, u16, &'a str),
     /// Ends the raw writer of this number, or the stream of its upgrade.
     Finish(u64),
@@ -37,20 +37,20 @@ pub enum ScriptLine<'a> {
     Drop(u64),
 }
 
-/// What an answer consists of, after its code.
+/// The content of a response.
 #[derive(Clone, Copy, Debug)]
 pub enum Content<'a> {
     /// This text.
     Text(&'a str),
     /// No data.
     Empty,
-    /// So many bytes `x`, whose number isn't said.
+    /// This many bytes `x`, of unstated length.
     Stream(u16),
-    /// The same, and a fault in place of the end.
+    /// This many bytes `x`, of unstated length, then a fault in place of the end.
     Broken(u16),
 }
 
-// The number that decimal digits write, if it is below 2^64. `parse` takes a plus before them; a script doesn't.
+// Parses a decimal number below 2^64. `parse` accepts a leading plus; a script doesn't.
 fn number_in(digits: &str) -> Option<u64>
     ensures { SomeIff result (IsNumeral 10 digits.now × (digits_value 10 digits.now < 2 ^ 64))
         (digits_value 10 digits.now) }
@@ -61,7 +61,7 @@ fn number_in(digits: &str) -> Option<u64>
     digits.parse::<u64>().ok()
 }
 
-// The number that stands before the first space, and what stands after it.
+// Splits at the first space, and parses the number before it.
 fn number_before(text: &str) -> Option<(u64, &str)>
     ensures some { IfSome result (λ r. BeginsByNumber text.now r.0 r.1.now) }
     ensures found { (n : ℕ) → (rest : List ℕ) → n < 2 ^ 64 → BeginsByNumber text.now n rest
@@ -71,7 +71,7 @@ fn number_before(text: &str) -> Option<(u64, &str)>
     Some((number_in(digits)?, rest))
 }
 
-// The date so many seconds after the beginning of 1970, up to the end of the year 9999.
+// Parses a date: the seconds since the beginning of 1970, up to the end of the year 9999.
 fn date_in(seconds: &str) -> Option<HttpDate>
     ensures some { IfSome result (λ date. WritesDate seconds.now date) }
     ensures found { IsDate seconds.now → IsSome result }
@@ -79,7 +79,7 @@ fn date_in(seconds: &str) -> Option<HttpDate>
     HttpDate::from_unix_secs(number_in(seconds)?).ok()
 }
 
-// The number that decimal digits write, if it is below 2^16.
+// Parses a decimal number below 2^16.
 fn count_in(digits: &str) -> Option<u16>
     ensures { SomeIff result (IsNumeral 10 digits.now × (digits_value 10 digits.now < 2 ^ 16))
         (digits_value 10 digits.now) }
@@ -87,7 +87,7 @@ fn count_in(digits: &str) -> Option<u16>
     u16::try_from(number_in(digits)?).ok()
 }
 
-// What stands after the code of an answer: `empty`, or `text` and the text, or `stream` or `broken` and a number.
+// Parses the content of a response: `empty`, or `text` and the text, or `stream` or `broken` and a number.
 fn content_in(text: &str) -> Option<Content<'_>>
     ensures some { IfSome result (λ content. WritesContent text.now content) }
     ensures found { IsContent text.now → IsSome result }
@@ -105,7 +105,7 @@ fn content_in(text: &str) -> Option<Content<'_>>
     Some(Content::Broken(count_in(digits)?))
 }
 
-// The number and the code that stand before the first two spaces, and what stands after them.
+// Splits at the first two spaces, and parses the number and the status code before them.
 fn numbers_before(text: &str) -> Option<(u64, u16, &str)>
     ensures some { IfSome result (λ r. BeginsByNumbers text.now r.0 r.1 r.2.now) }
     ensures found { (n : ℕ) → (status : ℕ) → (rest : List ℕ) → BeginsByNumbers text.now n status rest
@@ -117,7 +117,7 @@ fn numbers_before(text: &str) -> Option<(u64, u16, &str)>
     Some((number, status, rest))
 }
 
-// What stands after `respond`: a number, a code, and the content.
+// Parses what follows `respond`: a number, a status code, and the content.
 fn answer_in(words: &str) -> Option<(u64, u16, Content<'_>)>
     ensures some { IfSome result (λ r. WritesAnswer words.now r.0 r.1 r.2) }
     ensures found { IsAnswer words.now → IsSome result }
@@ -126,7 +126,7 @@ fn answer_in(words: &str) -> Option<(u64, u16, Content<'_>)>
     Some((number, status, content_in(text)?))
 }
 
-// What stands after `read`: a number, and how many bytes are read.
+// Parses what follows `read`: a number, and a number of bytes.
 fn read_in(words: &str) -> Option<(u64, u16)>
     ensures some { IfSome result (λ r. WritesRead words.now r.0 r.1) }
     ensures found { (n : ℕ) → (count : ℕ) → WritesRead words.now n count → IsSome result }
@@ -135,7 +135,7 @@ fn read_in(words: &str) -> Option<(u64, u16)>
     Some((number, count_in(digits)?))
 }
 
-/// What a text says, whatever its characters are; None where it says nothing known.
+/// Parses a line of any characters. Returns `None` if it isn't in the grammar.
 pub fn text_in(text: &str) -> Option<ScriptLine<'_>>
     ensures some { IfSome result (λ line. SaysLine text.now line) }
     ensures found { SaysSome text.now → IsSome result }
@@ -181,7 +181,7 @@ pub fn text_in(text: &str) -> Option<ScriptLine<'_>>
     Some(ScriptLine::Read(number, count))
 }
 
-/// What a line says; None for a line that says nothing known, or that has a byte from 128 on.
+/// Parses a line. Returns `None` if it isn't in the grammar, or has a byte from 128 on.
 pub fn line_in(bytes: &[u8]) -> Option<ScriptLine<'_>>
     ensures says { IfSome result (λ line. IsLine bytes.now line) }
     ensures good { IsSome result ↔ IsGood bytes.now }

@@ -1,4 +1,4 @@
-//! The lines that report what the steps were answered.
+//! The lines that report the replies.
 ghost use Rattle.std.specs.Prelude.{◌≡◌, Some, ◌++◌, codes};
 ghost use Rattle.replay_script.specs.Reply.{kind_name, length_text, handed_text, bytes_text, reply_text};
 ghost use Rattle.tiny_http_core.specs.HeadReads.{head_message};
@@ -13,7 +13,7 @@ use tiny_http_core::exchange::Head;
 #[derive(Drop)]
 pub struct ReplyLine<'a>(pub &'a Reply);
 
-/// A body's length, printed behind a space as a number, or as `-` where the head says none.
+/// The length of a body, printed after a space as a number, or as `-` if the head states none.
 #[derive(Drop)]
 struct Length(Option<usize>);
 
@@ -50,7 +50,7 @@ impl fmt::Display for Handed<'_> {
     }
 }
 
-/// Bytes of a body, printed as a space and two hexadecimal digits a byte; nothing where there are none.
+/// Bytes of a body, printed as a space and two hexadecimal digits per byte, or as nothing if empty.
 #[derive(Drop)]
 struct Bytes<'a>(&'a [u8]);
 
@@ -71,7 +71,7 @@ impl fmt::Display for Bytes<'_> {
     }
 }
 
-// The kinds of fault that the replies report apart.
+// Returns the name of a kind of fault that the replies distinguish, else `Other`.
 fn name_of(kind: ErrorKind) -> &'static str
     ensures { result.now ≡ kind_name kind }
 {

@@ -20,15 +20,15 @@ use tiny_http_wire::common::StatusCode;
 use tiny_http_wire::device::Stop;
 use tiny_http_wire::response::Response;
 
-/// Why a script names no steps.
+/// An error of reading a script.
 #[derive(Clone, Copy, Debug, PartialEq, Eq)]
 pub enum ScriptFault {
-    /// The first line that says nothing known, counted from 1 over all lines.
+    /// The first line that isn't in the grammar, counted from 1 over all lines.
     BadLine(usize),
     OutOfMemory,
 }
 
-/// The date of the steps before any line `now`: Wed, 04 May 1983 11:17:00 GMT.
+/// Returns the date of the steps before any line `now`: Wed, 04 May 1983 11:17:00 GMT.
 pub fn first_date() -> HttpDate
     ensures { unix_secs result ≡ 420_895_020 }
 {
@@ -38,14 +38,14 @@ pub fn first_date() -> HttpDate
     }
 }
 
-// The lines of a script: a LF ends a line, and so does the end.
+// Splits a script at each LF. The end ends the last line, too.
 fn split_lines(alloc: Global, script: &[u8]) -> Result<Vec<&[u8]>, AllocError>
     ensures { IfOk result (λ lines. map (λ line. line.now) lines.items ≡ script_lines script.now) }
 {
     script.split(|b| *b == b'\n').collect(alloc)
 }
 
-// What the lines say; or the first one that says nothing.
+// Parses the lines. Fails at the first one that isn't in the grammar.
 fn read_lines<'a>(alloc: Global, lines: &[&'a [u8]]) -> Result<Vec<ScriptLine<'a>>, ScriptFault>
     ensures says { IfOk result (λ said. AllZip IsLine (map (λ line. line.now) lines.now) said.items) }
     ensures bad { (n : ℕ) → result ≡ Err (ScriptFault.BadLine n)
@@ -63,7 +63,7 @@ fn read_lines<'a>(alloc: Global, lines: &[&'a [u8]]) -> Result<Vec<ScriptLine<'a
     Ok(said)
 }
 
-// An answer by this code with a text.
+// Returns a response with this status code and a text.
 fn text_response(
     alloc: Global,
     status: StatusCode,
@@ -77,7 +77,7 @@ fn text_response(
     Ok(response.with_data(data, Some(text.len())))
 }
 
-// An answer by this code with so many bytes `x` and this stop, of this length, if it is known.
+// Returns a response with this status code, `count` bytes `x`, this stop, and this length, if it is known.
 fn xs_response(
     alloc: Global,
     status: StatusCode,
@@ -90,7 +90,7 @@ fn xs_response(
     Response::empty(alloc, status).with_data(ScriptData::xs(count, stop), length)
 }
 
-// The answer by this code with this content.
+// Returns the response with this status code and content.
 fn response_with(
     alloc: Global,
     status: StatusCode,
@@ -109,7 +109,7 @@ fn response_with(
     }
 }
 
-/// The step that a line names, if it names one. It takes memory for a response and for the bytes of a `write`.
+/// Returns the step that a line names, if it names one. It takes memory for a response and for the bytes of a `write`.
 pub fn step_in(alloc: Global, line: &ScriptLine<'_>) -> Result<Option<Step<ScriptData>>, AllocError>
     ensures { IfOk result (λ step. option_map step_value step ≡ said_step line.now) }
 {
@@ -138,7 +138,7 @@ pub fn step_in(alloc: Global, line: &ScriptLine<'_>) -> Result<Option<Step<Scrip
     }
 }
 
-// The date from a line on.
+// Returns the date of the steps from a line on.
 fn date_from(now: HttpDate, line: &ScriptLine<'_>) -> HttpDate
     ensures { result ≡ date_behind now line.now }
 {
@@ -148,7 +148,7 @@ fn date_from(now: HttpDate, line: &ScriptLine<'_>) -> HttpDate
     }
 }
 
-// Adds the step that a line names, if it names one, on this date.
+// Appends the step that a line names, if it names one, on this date.
 fn add_step(
     alloc: Global,
     steps: &mut Vec<Timed<ScriptData>>,
@@ -164,7 +164,7 @@ fn add_step(
     Ok(())
 }
 
-// The steps of these lines, from a date on.
+// Returns the steps of these lines, from a date on.
 fn read_steps(
     alloc: Global,
     first: HttpDate,
@@ -181,7 +181,7 @@ fn read_steps(
     Ok(steps)
 }
 
-/// The steps that a script names, each with its date; or its first bad line.
+/// Returns the steps that a script names, each with its date. Fails at its first bad line, or if memory is refused.
 pub fn read_script(alloc: Global, script: &[u8]) -> Result<Vec<Timed<ScriptData>>, ScriptFault>
     ensures steps { IfOk result (λ steps. IsScript script.now (map timed_value steps.items)) }
     ensures bad { (n : ℕ) → result ≡ Err (ScriptFault.BadLine n) → IsFirstBadLine (script_lines script.now) n }

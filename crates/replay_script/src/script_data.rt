@@ -1,4 +1,4 @@
-//! The data of a script's answers.
+//! The data of a script's responses.
 ghost use Rattle.std.specs.Prelude.{◌≡◌, ◌<◌, ◌^◌, min, length, take, replicate, string_bytes};
 ghost use Rattle.tiny_http_wire.specs.Device.{whole_feed, stop_of};
 
@@ -6,34 +6,34 @@ use std::io;
 use std::io::ErrorKind;
 use tiny_http_wire::device::{Canned, ReadDevice, Stop};
 
-/// The data of a script's answer.
+/// The data of a response.
 #[derive(Drop)]
 pub enum ScriptData {
-    /// Bytes in memory, and then an end or a fault.
+    /// Bytes in memory, then an end or a fault.
     Given(Given),
-    /// Bytes `x`, and then an end or a fault.
+    /// Bytes `x`, then an end or a fault.
     Xs(Xs),
 }
 
-/// Bytes in memory, and then an end or a fault.
+/// Bytes in memory, then an end or a fault.
 #[derive(Drop)]
 pub struct Given {
     canned: Canned,
-    // They lie in memory.
+    // They are in memory.
     ghost few: { length canned.bytes < 2 ^ 63 },
 }
 
-/// So many bytes `x`, and then an end or a fault. They take no memory.
+/// A number of bytes `x`, then an end or a fault. They take no memory.
 #[derive(Drop)]
 pub struct Xs {
-    // How many are still to be given.
+    // How many bytes are left.
     left: usize,
     stop: Stop,
     // A number of 16 bits counts them.
     ghost few: { left < 2 ^ 16 },
 }
 
-// Writes `x` to the front of `to`, at most `count` times, and says how often.
+// Writes `x` to the front of `to`, at most `count` times, and returns how often.
 fn write_xs(count: usize, to: &mut [u8]) -> usize
     ensures count { result ≡ min count (length to.old) }
     ensures len { length to.new ≡ length to.old }
@@ -47,14 +47,14 @@ fn write_xs(count: usize, to: &mut [u8]) -> usize
 impl ScriptData {
     ghost use Rattle.replay_script.specs.ScriptData.{data_feed, xs};
 
-    /// The bytes of a text, and then the end.
+    /// Returns the bytes of a text, then the end.
     pub fn from_text(text: String) -> ScriptData
         ensures { data_feed result ≡ whole_feed (string_bytes text) }
     {
         ScriptData::from_bytes(text.into_bytes(), None)
     }
 
-    /// These bytes, and then the end; or a fault of this kind in its place.
+    /// Returns these bytes, then the end, or a fault of this kind in its place.
     pub fn from_bytes(bytes: Vec<u8>, fault: Option<ErrorKind>) -> ScriptData
         ensures { data_feed result ≡ record { bytes = bytes.items; stop = stop_of fault } }
     {
@@ -62,7 +62,7 @@ impl ScriptData {
         ScriptData::Given(Given { canned })
     }
 
-    /// So many bytes `x`, and then this stop.
+    /// Returns `count` bytes `x`, then this stop.
     pub fn xs(count: u16, stop: Stop) -> ScriptData
         ensures { data_feed result ≡ xs count stop }
     {
@@ -90,7 +90,7 @@ impl ReadDevice for Xs {
 
     ghost feed = { λ s. Some (xs s.left s.stop) };
 
-    /// Fills the front of the buffer, and answers the stop once no byte is left.
+    /// Fills the front of the buffer. Reports the stop once no byte is left.
     fn read_in(&mut self, buf: &mut [u8]) -> Result<usize, io::Error> {
         if buf.is_empty() {
             return Ok(0);

@@ -1,4 +1,4 @@
-//! Makes the calls of rows in files, and compares what comes of them with what the rows say: `calls FILE..`.
+//! Makes the calls of rows in files, and compares what comes of them with what the rows say: `test_calls FILE..`.
 //! docs/CASES.md describes the files.
 #![tactic(auto)]
 

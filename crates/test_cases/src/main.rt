@@ -1,4 +1,4 @@
-//! Runs the cases of files: `cases FILE..`. Each case is run by `run_with`, and by requests behind locks in one
+//! Runs the cases of files: `test_cases FILE..`. Each case is run by `run_with`, and by requests behind locks in one
 //! thread if no call would have to wait there: with answers that leave one by one, and with answers that leave
 //! together. It is tried by four readers, and with each call of its writer failing. docs/CASES.md describes the
 //! files.

@@ -1,4 +1,4 @@
-//! Plays the scenes of files: `scenes FILE..`. A scene is what a server and its clients do one after another, line by
+//! Plays the scenes of files: `test_scenes FILE..`. A scene is what a server and its clients do one after another, line by
 //! line, and what each sees. Some are played side by side. docs/CASES.md describes the files.
 #![tactic(auto)]
 

@@ -8,9 +8,9 @@ use std::process::Abort;
 use std::sync::{Arc, Barrier, Wait};
 use std::thread;
 use std::time::Duration;
-use tiny_http::cork::Cork;
 use tiny_http::device::{WriteDevice, put};
 use tiny_http::refined_tcp_stream::RefinedTcpStream;
+use tiny_http_socket::cork::Cork;
 
 // So often both threads begin at once.
 const ROUNDS: usize = 1_000;

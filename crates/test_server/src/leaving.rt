@@ -10,11 +10,11 @@ use std::time::Duration;
 use tiny_http::client::ClientConnection;
 use tiny_http::common::StatusCode;
 use tiny_http::connection::Connection;
-use tiny_http::cork::{Cork, CorkedWriter, FlushingReader, halves};
 use tiny_http::refined_tcp_stream::RefinedTcpStream;
 use tiny_http::request::Request;
 use tiny_http::response::Response;
 use tiny_http::server::current_date;
+use tiny_http_socket::cork::{Cork, CorkedWriter, FlushingReader, halves};
 
 // What such a connection is read by.
 pub type HalfReader = FlushingReader<RefinedTcpStream, RefinedTcpStream>;

@@ -25,8 +25,6 @@ mod memory_fixture;
 #[cfg(test)]
 mod messages_queue;
 #[cfg(test)]
-mod named;
-#[cfg(test)]
 mod roster;
 #[cfg(test)]
 mod same;

@@ -1,9 +1,9 @@
--- What a date takes of the machine's clock.
+-- How a date is made from the system clock.
 use Rattle.std.specs.Prelude.{ℕ, ◌/◌, Option, Some, None, nat_lt, if◌then◌else◌}
 use Rattle.std.specs.Duration.{as_nanos}
 use Rattle.std.specs.declared.time.Duration.{Duration}
 
--- the whole seconds of a time since 1970 before the year 10000; else 0
+-- the whole seconds of a time since 1970, if before the year 10000; else 0
 abbrev pub seconds_of : Option Duration → ℕ
 seconds_of None = 0
 seconds_of (Some time) =

@@ -1,4 +1,4 @@
--- What a server reports of what its queue has.
+-- What a server reports of its queue.
 use Rattle.std.specs.Prelude.{Option, Some, None, Result, Ok, Err}
 use Rattle.std.specs.declared.io.Error.{Error as IoError}
 use Rattle.tiny_http_socket.specs.declared.refined_tcp_stream.RefinedTcpStream.{RefinedTcpStream}
@@ -10,7 +10,7 @@ use Rattle.tiny_http_request.specs.declared.request.Request.{Request}
 use Rattle.tiny_http.specs.declared.accepting.Message.{Message}
 use Rattle.tiny_http.specs.declared.accepting.Message.TheVariants.{Error, NewRequest, NewClient}
 
--- the request or the fault that was popped; nothing of a mark, of an empty queue, or of a client that is to be served
+-- the request or the error that was popped; nothing for a mark, an empty queue, or a client that is to be served
 abbrev pub received : {R : Type 0} → Option (Message R)
     → Result
     (Option (Request (TimedReader (FlushingReader RefinedTcpStream (TimedWriter R)) R)

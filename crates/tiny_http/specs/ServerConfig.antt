@@ -9,14 +9,14 @@ pub record IsSslCopy (old copy : SslConfig) : Type 0 where
   pub certificate : copy.certificate.items ≡ old.certificate.items
   pub private_key : copy.private_key.items ≡ old.private_key.items
 
--- neither is there, or the second is a copy of the first
+-- both are absent, or the second is a copy of the first
 abbrev pub IsSslCopyIf : Option SslConfig → Option SslConfig → Type 0
 IsSslCopyIf None None = ⊤
 IsSslCopyIf None (Some copy) = ⊥
 IsSslCopyIf (Some old) None = ⊥
 IsSslCopyIf (Some old) (Some copy) = IsSslCopy old copy
 
--- the two listen at the same place, with the same TLS settings
+-- the two have the same address and the same TLS settings
 pub record IsConfigCopy (old copy : ServerConfig) : Type 0 where
   pub addr : IsCopyOf old.addr copy.addr
   pub ssl : IsSslCopyIf old.ssl copy.ssl

@@ -1,4 +1,4 @@
--- Which error of a server a fault of the system is.
+-- The conversions between errors of a server and of the system.
 use Rattle.std.specs.Prelude.{◌≡◌}
 use Rattle.std.specs.IoError.{error_kind}
 use Rattle.std.specs.declared.io.Error.{Error}
@@ -6,13 +6,13 @@ use Rattle.std.specs.declared.io.ErrorKind.TheVariants.{InvalidInput, OutOfMemor
 use Rattle.tiny_http.specs.declared.server.ServerError.{ServerError}
 use Rattle.tiny_http.specs.declared.server.ServerError.TheVariants.{Io, Ssl, Memory}
 
--- a fault of kind OutOfMemory is that memory was refused; each other one is told as it is
+-- a fault of kind OutOfMemory is out of memory; each other one is kept
 abbrev pub IsServerErrorOf : Error → ServerError → Type 0
 IsServerErrorOf fault (Io same) = (same ≡ fault) × (¬ (error_kind fault ≡ OutOfMemory))
 IsServerErrorOf fault Ssl = ⊥
 IsServerErrorOf fault Memory = error_kind fault ≡ OutOfMemory
 
--- which fault an error of a server becomes
+-- the fault for an error of a server
 abbrev pub IsFaultOf : ServerError → Error → Type 0
 IsFaultOf (Io same) fault = fault ≡ same
 IsFaultOf Ssl fault = error_kind fault ≡ InvalidInput

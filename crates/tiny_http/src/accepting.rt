@@ -1,6 +1,5 @@
-//! Accepting of clients. Each is a job of the pool of workers, which reads its requests and puts them into the
-//! server's queue. Once the server serves by a handler, clients go into the queue themselves, and `serve` takes them
-//! out.
+//! Accepting clients. Each is a job of the worker pool, which reads its requests and puts them into the server's queue.
+//! Once the server serves by a handler, the clients themselves go into the queue, and `serve` takes them out.
 ghost use Rattle.std.specs.Prelude.{◌≡◌};
 ghost use Rattle.tiny_http.specs.Message.{received};
 
@@ -30,21 +29,21 @@ use tiny_http_socket::timed_writer::TimedWriter;
 use tiny_http_threads::messages_queue::MessagesQueue;
 use tiny_http_threads::task_pool::{Job, TaskPool};
 
-// So many milliseconds a read waits for a client that was sent the end of the answers.
+// Timeout of a read while a closing connection is drained, in milliseconds.
 const LINGER_MILLIS: u64 = 500;
 
-// So many seconds such reads go on at most, where the connection has limits.
+// Maximum time to drain a closing connection under limits, in seconds.
 const LINGER_SECS: u64 = 5;
 
-// So many bytes one such read asks for, and so many reads there are at most: 64 MiB in all.
+// Size of a read while a closing connection is drained, and the maximum number of such reads: 64 MiB in all.
 const LINGER_PIECE: usize = 16_384;
 
 const LINGER_READS: u32 = 4_096;
 
-/// What waits in a server's queue.
+/// A message in a server's queue.
 #[derive(Drop)]
 pub(crate) enum Message<R: Wait + Clock + Drop> {
-    /// The fault by which accepting ended.
+    /// The error by which accepting ended.
     Error(io::Error),
     /// A request that was read.
     NewRequest(ServerRequest<R>),
@@ -53,9 +52,9 @@ pub(crate) enum Message<R: Wait + Clock + Drop> {
 }
 
 impl<R: Wait + Clock + Drop> Message<R> {
-    /// What a pop of the queue is reported as: the request, or the fault. None where nothing but a mark was popped. A
-    /// client that is to be served goes back into the queue, and there is no request either; it is closed where the
-    /// queue has no room.
+    /// Converts a queue message to a request or an error, or to `None` if only a mark was popped. A client that is to
+    /// be served goes back into the queue, and the result is `None`, too; the client is closed if the queue has no
+    /// room.
     pub fn received(
         messages: &Messages<R>,
         rt: &R,
@@ -78,8 +77,8 @@ impl<R: Wait + Clock + Drop> Message<R> {
 /// The queue of a server.
 pub(crate) type Messages<R> = MessagesQueue<Message<R>>;
 
-// Drops what waits in the queue of a closed server. Once that was stopped a mark stays there, so that each call that
-// waits returns.
+// Drops what is in the queue of a closed server. Once the server was stopped a mark stays there, so that each waiting
+// call returns.
 fn drop_waiting<R: Wait + Clock + Drop>(rt: &R, messages: &Messages<R>, ending: &Ending) {
     messages.clear(rt);
     if ending.has_stopped() {
@@ -87,9 +86,9 @@ fn drop_waiting<R: Wait + Clock + Drop>(rt: &R, messages: &Messages<R>, ending: 
     }
 }
 
-// Closes a connection in stages, once all is answered (RFC 9112, section 9.6): sends the end, and then reads away
-// what the client still sends, until it closes, waits for too long or sends too much; under limits for 5 seconds at
-// most. A connection that is closed while bytes are unread is reset, and the client may lose the last answer.
+// Closes a connection in stages, once all is answered (RFC 9112, section 9.6): shuts down writing, then discards what
+// the client still sends, until it closes, is silent for too long or sends too much; under limits for 5 seconds at
+// most. A connection that is closed with unread bytes is reset, and the client may lose the last response.
 fn close_in_stages<R: Clock>(rt: &R, socket: &Connection, has_limits: bool) {
     let begun = time_of(rt);
     let most = Duration::from_secs(LINGER_SECS);
@@ -110,25 +109,25 @@ fn close_in_stages<R: Clock>(rt: &R, socket: &Connection, has_limits: bool) {
     }
 }
 
-/// A client that was accepted. It is closed where it is dropped, but for the requests that are held.
+/// A client that was accepted. Its connection is closed when this is dropped, except for requests that are held.
 #[derive(Drop)]
 pub(crate) struct Client<R: Wait + Clock + Drop> {
     rt: R,
     ending: Arc<Ending>,
     connection: ClientConnection<ServerReader<R>, ServerWriter<R>, R>,
-    // What its two halves share.
+    // Shared by its two halves.
     cork: Arc<Cork<TimedWriter<R>>>,
-    // To close it by.
+    // Used to close it.
     socket: Arc<Connection>,
     has_limits: bool,
-    // It counts until the connection is let go.
+    // Counts the client as connected until it is dropped.
     guard: ConnectionGuard<R>,
 }
 
 impl<R: Wait + Clock + Copy> Client<R> {
-    // Puts its requests into the queue, until it has no further one, or the server serves: then the request that came
-    // is given. One for which the queue has no room is dropped. Once the server was closed nobody takes them, so
-    // whoever puts one there then empties the queue.
+    // Puts its requests into the queue until it has no further one. If the server begins to serve, it returns the
+    // request that came then. A request is dropped if the queue has no room for it. After the server was closed nothing
+    // takes requests from the queue, so a thread that adds one then empties the queue.
     fn read_requests(
         &mut self,
         messages: &Messages<R>,
@@ -152,8 +151,8 @@ impl<R: Wait + Clock + Copy> Client<R> {
         None
     }
 
-    // Hands its requests to a handler, until it has no further one. Answers leave together. Once the server was
-    // closed the next request is dropped, and is the last.
+    // Hands its requests to a handler until it has no further one. Responses leave together. Once the server was
+    // closed, the next request is dropped and is the last.
     fn answer_requests<H: Handler<R, ServerRequest<R>>>(&mut self, alloc: Global, handler: &H) {
         let Ok(flush_policy) = Arc::try_clone(self.cork.flush_policy()) else {
             return;
@@ -190,7 +189,7 @@ pub(crate) struct Arrival<R: Wait + Clock + Drop> {
 }
 
 impl<R: Wait + Clock + Copy> Arrival<R> {
-    // Puts it into the queue. Once the server was closed nobody takes it, and the queue is emptied then.
+    // Puts it into the queue. Once the server was closed nothing takes it, and the queue is emptied.
     fn put(self, rt: &R, messages: &Messages<R>, ending: &Ending) {
         let _ = messages.push(rt, Message::NewClient(self));
         if ending.is_closed() {
@@ -199,11 +198,11 @@ impl<R: Wait + Clock + Copy> Arrival<R> {
     }
 
     /// Hands its requests to a handler, waits until all are answered, and closes the connection. Once the server was
-    /// closed the next request is dropped, and is the last.
+    /// closed, the next request is dropped and is the last.
     pub fn answer_by<H: Handler<R, ServerRequest<R>>>(&mut self, alloc: Global, handler: &H) {
         let next = self.next.take();
         if self.client.ending.is_closed() {
-            // A request that is held would be waited for.
+            // `close` would wait for a request that is held.
             drop(next);
         } else {
             if let Some(request) = next
@@ -220,15 +219,15 @@ impl<R: Wait + Clock + Copy> Arrival<R> {
 /// A client whose requests are put into the queue.
 #[derive(Drop)]
 pub(crate) struct Reading<R: Wait + Clock + Drop> {
-    // None once that is done.
+    // `None` once the job is done.
     client: Option<Client<R>>,
     messages: Arc<Messages<R>>,
     serving: Arc<AtomicBool>,
 }
 
 impl<R: Wait + Clock + Copy> Job for Reading<R> {
-    /// Puts the client's requests into the queue, waits until all are answered, and closes the connection. Where the
-    /// server serves by then the client is put there itself, to be served.
+    /// Puts the client's requests into the queue, waits until all are answered, and closes the connection. If the
+    /// server serves by then, it puts the client itself into the queue, to be served.
     fn run(&mut self) {
         let Some(mut client) = self.client.take() else {
             return;
@@ -245,7 +244,7 @@ impl<R: Wait + Clock + Copy> Job for Reading<R> {
     }
 }
 
-/// What the accepting thread has.
+/// The state of the accepting thread.
 #[derive(Drop)]
 pub(crate) struct Accepting<R: Wait + Clock + Drop> {
     pub rt: R,
@@ -254,7 +253,7 @@ pub(crate) struct Accepting<R: Wait + Clock + Drop> {
     pub limits: Option<Limits>,
     pub listener: Listener,
     pub ending: Arc<Ending>,
-    // Set once the server serves.
+    // Set once the server serves by a handler.
     pub serving: Arc<AtomicBool>,
     pub messages: Arc<Messages<R>>,
     pub registry: Arc<ConnectionRegistry>,
@@ -262,13 +261,13 @@ pub(crate) struct Accepting<R: Wait + Clock + Drop> {
 }
 
 impl<R: Wait + Clock + Threads + Copy + Send + 'static> Accepting<R> {
-    /// Accepts clients until the server is closed, or there is a fault, which is put into the queue.
+    /// Accepts clients until the server is closed or accepting fails. The error is put into the queue.
     pub fn run(self) {
         self.accept_all();
         self.ending.end_accepting();
     }
 
-    // The same. Under limits it waits while as many clients are connected as may be, and after a fault that passes.
+    // Accepts clients, as `run` does. Under limits it waits at the limit of connections, and after a temporary error.
     fn accept_all(&self) {
         let mut backoff = Backoff::new();
         for _ in self.rt.forever() {
@@ -297,7 +296,7 @@ impl<R: Wait + Clock + Threads + Copy + Send + 'static> Accepting<R> {
         }
     }
 
-    // Has a worker read this client's requests, or has it served. Where that can't be, the client is closed.
+    // Has a worker read this client's requests, or queues it to be served. If that fails, the client is closed.
     fn begin(&self, connection: Connection, remote_addr: Option<SocketAddr>) {
         let Some(client) = self.client(connection, remote_addr) else {
             return;
@@ -321,8 +320,8 @@ impl<R: Wait + Clock + Threads + Copy + Send + 'static> Accepting<R> {
         }
     }
 
-    // The client of this connection. None where memory was refused, or as many of its address are connected as may
-    // be. That its small answers are sent at once (TCP_NODELAY) is asked for, but not needed.
+    // Returns the client of this connection, or `None` if memory is refused or the limit of its address is reached. It
+    // sets TCP_NODELAY, so that small responses are sent at once, and ignores a failure of that.
     fn client(&self, connection: Connection, remote_addr: Option<SocketAddr>) -> Option<Client<R>> {
         let _ = connection.set_nodelay(true);
         let (rt, alloc) = (self.rt, self.alloc);
@@ -333,7 +332,7 @@ impl<R: Wait + Clock + Threads + Copy + Send + 'static> Accepting<R> {
         let timers = ConnectionTimers::new(alloc, self.limits, upgraded).ok()?;
         let guard = self.enter(remote_addr, &socket, &timers)?;
         if self.ending.is_closed() {
-            // The server was stopped before the client was there.
+            // The server was stopped before the client was registered.
             return None;
         }
         let secure = reader.secure();
@@ -362,7 +361,7 @@ impl<R: Wait + Clock + Threads + Copy + Send + 'static> Accepting<R> {
         })
     }
 
-    // Reader and writer over the halves of this socket, which keep the times that its clients have.
+    // Returns a timed reader and writer over the halves of this socket.
     fn timed_halves(
         &self,
         reader: RefinedTcpStream,
@@ -378,7 +377,7 @@ impl<R: Wait + Clock + Threads + Copy + Send + 'static> Accepting<R> {
         Some((TimedReader::new(rt, reader, socket, timers), writer))
     }
 
-    // Has a client of this address count as connected. None where it may not be.
+    // Counts a client of this address as connected. Returns `None` if a limit refuses it.
     fn enter(
         &self,
         remote_addr: Option<SocketAddr>,

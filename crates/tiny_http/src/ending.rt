@@ -1,10 +1,10 @@
-//! How far a server has come to its end.
+//! The stages of a server's end.
 use std::sync::atomic::{AtomicBool, Ordering};
 
-/// What the threads of a server share of its end.
+/// The stage of a server's end, which its threads share.
 #[derive(Drop)]
 pub(crate) struct Ending {
-    // No further client is to be accepted.
+    // No further client is accepted.
     is_closed: AtomicBool,
     // The accepting thread is past its last client.
     has_accepted_all: AtomicBool,
@@ -13,7 +13,7 @@ pub(crate) struct Ending {
 }
 
 impl Ending {
-    /// Nothing has ended.
+    /// Returns the state of a server that runs.
     pub fn new() -> Ending {
         Ending {
             is_closed: AtomicBool::new(false),
@@ -22,32 +22,32 @@ impl Ending {
         }
     }
 
-    /// No further client is to be accepted from now on. Whether this call is the first.
+    /// Ends accepting from now on. Returns whether this call is the first.
     pub fn close(&self) -> bool {
         !self.is_closed.swap(true, Ordering::SeqCst)
     }
 
-    /// Whether no further client is to be accepted.
+    /// Returns whether no further client is accepted.
     pub fn is_closed(&self) -> bool {
         self.is_closed.load(Ordering::SeqCst)
     }
 
-    /// The accepting thread accepts nobody any more.
+    /// Notes that the accepting thread accepts no further client.
     pub fn end_accepting(&self) {
         self.has_accepted_all.store(true, Ordering::SeqCst);
     }
 
-    /// Whether the accepting thread accepts nobody any more.
+    /// Returns whether the accepting thread accepts no further client.
     pub fn has_accepted_all(&self) -> bool {
         self.has_accepted_all.load(Ordering::SeqCst)
     }
 
-    /// A call of `stop` has waited.
+    /// Notes that a call of `stop` has waited.
     pub fn stop(&self) {
         self.has_stopped.store(true, Ordering::SeqCst);
     }
 
-    /// Whether a call of `stop` has waited.
+    /// Returns whether a call of `stop` has waited.
     pub fn has_stopped(&self) -> bool {
         self.has_stopped.load(Ordering::SeqCst)
     }

@@ -1,15 +1,15 @@
-//! Which faults of accepting pass.
+//! Temporary errors of accepting.
 use std::io;
 
-// The numbers by which Linux reports what passes: a rule of a firewall (EPERM), a signal (EINTR), no memory (ENOMEM),
-// no descriptor in the system (ENFILE) or the process (EMFILE), what a connection failed by before it was accepted
+// Linux's numbers of temporary errors: a firewall rule (EPERM), a signal (EINTR), out of memory (ENOMEM), out of
+// descriptors in the system (ENFILE) or the process (EMFILE), and errors of a connection before it was accepted
 // (ENONET, EPROTO, ENOPROTOOPT, EOPNOTSUPP, ENETDOWN, ENETUNREACH, ECONNABORTED, ECONNRESET, ENOBUFS, ETIMEDOUT,
 // EHOSTDOWN, EHOSTUNREACH).
 const PASSING: [i32; 17] = [
     1, 4, 12, 23, 24, 64, 71, 92, 95, 100, 101, 103, 104, 105, 110, 112, 113,
 ];
 
-/// Whether accepting may go on after this fault.
+/// Returns whether accepting may continue after this error.
 pub(crate) fn passes(fault: &io::Error) -> bool {
     match fault.raw_os_error() {
         Some(number) => PASSING.contains(&number),

@@ -1,8 +1,8 @@
-//! A small HTTP server: it accepts clients, and hands out their requests, which any thread may read and answer.
+//! A small HTTP server: it accepts clients and hands out their requests, which any thread may read and respond to.
 //!
-//! `Server::http` listens at an address. `recv` waits for a request, and `respond` answers it. Answers leave in the
-//! order of the requests of their connection, so `respond` waits until those before are answered; a request that is
-//! dropped is answered by an empty 500. Threads may share a server, and each may ask for requests. A loop over
+//! `Server::http` listens at an address, `recv` waits for a request, and `respond` sends a response. Responses leave in
+//! the order of the requests of their connection, so `respond` waits until those before are answered. A request that is
+//! dropped gets an empty 500. Threads may share a server, and each may receive requests. A loop over
 //! `incoming_requests` is a whole program:
 //!
 //! ```text
@@ -15,15 +15,24 @@
 //! }
 //! ```
 //!
-//! `Request::respond_streaming` begins an answer whose body grows while it is sent, as that of server-sent events.
+//! `Request::respond_streaming` begins a response whose body grows while it is sent, such as server-sent events.
 //!
-//! `Server::serve_by` is this loop on some threads, with a `Handler`. `Server::serve` has the worker of each
-//! connection answer that connection's requests itself.
+//! `Server::serve_by` runs this loop on several threads, with a `Handler`. `Server::serve` has the worker of each
+//! connection respond to that connection's requests itself.
 //!
-//! Calls are passed the runtime, which locks, waits and opens sockets, and the allocator: none is taken silently. The
-//! crate names the modules of the crates beneath again, so a program lists this crate; `httpdate` where it makes
-//! dates of its own; and where `?` makes an `io::Error` the crate of the error: `tiny_http_head` for a `ParseError`,
-//! as behind `Response::with`, and `tiny_http_request` for a `BodyError`.
+//! Each call gets the runtime, which locks, waits and opens sockets, and the allocator as arguments: none is implicit.
+//! `httpdate` makes dates of a program's own. If `?` converts an error to an `io::Error`, the program lists the crate of
+//! that error: `tiny_http_head` for a `ParseError`, as after `Response::with`, `tiny_http_request` for a `BodyError`.
+//!
+//! What a program needs, by module:
+//!
+//! - Servers: `server`, `serving` (handlers), `limits`, `counts`, `connection` (addresses), `framing` (profiles).
+//! - Requests and responses: `request`, `client` (a connection's requests), `common` (methods, headers, codes),
+//!   `response`, `streamed`, `upgrading`; `device` (readers and writers), `chunked` and `encoder`, `coding`, `target`.
+//! - Without threads: `driver`, `exchange`, `source`, `outlet`, `turns`.
+//! - In tests: `test`, `answer` (reads a response). And `laws`, what the contracts say in short.
+//!
+//! The other modules are parts of the Rust crate that few programs need.
 #![tactic(auto)]
 
 mod accepting;
@@ -46,17 +55,14 @@ pub use tiny_http_core::{
     turns, upgrading,
 };
 pub use tiny_http_limits::limits::Limits;
-pub use tiny_http_limits::{backoff, connection_table, counts, headcount, limits, times};
+pub use tiny_http_limits::{counts, headcount, limits};
 pub use tiny_http_request::request::{
     BodyError, ReadWrite, RefusedUpgrade, Request, StreamedBody, StreamedForm,
 };
 pub use tiny_http_request::test::{Recorder, TestRequest};
 pub use tiny_http_request::{client, request, test};
 pub use tiny_http_socket::connection::{ConfigListenAddr, ListenAddr, Listener};
-pub use tiny_http_socket::{
-    connection, connection_timers, cork, corked, read_ahead, refined_tcp_stream, timed_reader,
-    timed_writer, write_both,
-};
+pub use tiny_http_socket::{connection, refined_tcp_stream};
 pub use tiny_http_threads::{messages_queue, roster, sequential, task_pool};
 pub use tiny_http_wire::common::{HTTPVersion, Header, HeaderField, Method, StatusCode};
 pub use tiny_http_wire::response::{Response, ResponseBox};

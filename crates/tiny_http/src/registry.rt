@@ -1,4 +1,4 @@
-//! Who is connected to a server, under one lock, and what the server has counted.
+//! The registry of a server's open connections, under one lock, and what the server has counted.
 use crate::ending::Ending;
 use std::alloc::{AllocError, Global};
 use std::net::{Shutdown, SocketAddr};
@@ -12,32 +12,32 @@ use tiny_http_limits::times::time_left;
 use tiny_http_socket::connection::Connection;
 use tiny_http_socket::connection_timers::ConnectionTimers;
 
-/// What a server knows of a client that is connected.
+/// A connection handle: what a server keeps of an open connection.
 #[derive(Drop)]
 pub(crate) struct ConnectionHandle {
     pub socket: Arc<Connection>,
     pub timers: Arc<ConnectionTimers>,
 }
 
-// The clients, and what was counted of those that have gone.
+// The open connections, and the counts of those that are closed.
 #[derive(Drop)]
 struct Connections {
     table: ConnectionTable<ConnectionHandle>,
     counts: Counts,
 }
 
-/// The clients of a server, which its threads share.
+/// The connections of a server, which its threads share.
 #[derive(Drop)]
 pub(crate) struct ConnectionRegistry {
     connections: Mutex<Connections>,
-    // A client has gone, or the server is closed.
+    // A connection is closed, or the server is.
     changed: Condvar,
-    // How many connections are upgraded.
+    // The count of upgraded connections.
     upgraded: Arc<AtomicU64>,
 }
 
 impl ConnectionRegistry {
-    /// Nobody is connected. An error where memory was refused.
+    /// Returns an empty registry. Fails if memory is refused.
     pub fn new(
         alloc: Global,
         limits: Option<&Limits>,
@@ -58,17 +58,17 @@ impl ConnectionRegistry {
         Ok(Arc::new(alloc, registry)?)
     }
 
-    /// Where the connections are counted that are upgraded.
+    /// Returns the counter of upgraded connections.
     pub fn upgraded(&self) -> &Arc<AtomicU64> {
         &self.upgraded
     }
 
-    /// How many clients are connected.
+    /// Returns how many clients are connected.
     pub fn count<R: Wait>(&self, rt: &R) -> usize {
         self.connections.lock(rt).table.count()
     }
 
-    /// What was counted, also of the clients that are connected.
+    /// Returns the counts, including those of open connections.
     pub fn counts<R: Wait>(&self, rt: &R) -> Counts {
         let connections = self.connections.lock(rt);
         let mut counts = connections.counts;
@@ -78,17 +78,17 @@ impl ConnectionRegistry {
         counts
     }
 
-    /// How often accepting failed, and went on.
+    /// Returns how often accepting failed and continued.
     pub fn accept_faults<R: Wait>(&self, rt: &R) -> u64 {
         self.connections.lock(rt).counts.accept_faults
     }
 
-    /// One more fault of accepting.
+    /// Counts an accept error after which accepting continues.
     pub fn count_accept_fault<R: Wait>(&self, rt: &R) {
         self.connections.lock(rt).counts.count_accept_fault();
     }
 
-    /// Waits while as many clients are connected as may be, and the server isn't closed.
+    /// Waits while the limit of connections is reached and the server isn't closed.
     pub fn wait_for_place<R: Wait>(&self, rt: &R, ending: &Ending) {
         let mut connections = self.connections.lock(rt);
         for _ in rt.forever() {
@@ -99,13 +99,13 @@ impl ConnectionRegistry {
         }
     }
 
-    /// Wakes the accepting thread, which ends where the server is closed.
+    /// Wakes the accepting thread, which ends if the server is closed.
     pub fn wake<R: Wait>(&self, rt: &R) {
         drop(self.connections.lock(rt));
         self.changed.notify_all();
     }
 
-    // Admits a client: its number. None where it may not be admitted.
+    // Adds a client and returns its number, or `None` if a limit refuses it.
     fn enter<R: Wait>(
         &self,
         rt: &R,
@@ -127,7 +127,7 @@ impl ConnectionRegistry {
         }
     }
 
-    // The client of this number has gone.
+    // Removes the client of this number, which has disconnected.
     fn leave<R: Wait>(&self, rt: &R, number: u64) {
         let mut connections = self.connections.lock(rt);
         let left = connections.table.leave(number);
@@ -136,12 +136,12 @@ impl ConnectionRegistry {
             handle.timers.end_stream();
         }
         drop(connections);
-        // Its connection ends here, before others hear of it.
+        // Its connection ends here, before other threads are notified.
         drop(left);
         self.changed.notify_all();
     }
 
-    /// Has no client's next head be read, and ends the connections that wait for one.
+    /// Stops reading heads, and ends the connections that wait for one.
     pub fn stop<R: Wait>(&self, rt: &R) {
         let connections = self.connections.lock(rt);
         for entry in connections.table.entries() {
@@ -152,7 +152,7 @@ impl ConnectionRegistry {
         }
     }
 
-    /// Waits until nobody is connected, for so long at most from that time on. Whether nobody is.
+    /// Waits until no client is connected, for `time` at most from `begun` on. Returns whether none is.
     pub fn wait_until_empty<R: Wait + Clock>(
         &self,
         rt: &R,
@@ -177,12 +177,12 @@ impl ConnectionRegistry {
     }
 }
 
-/// The time of the clock; 0 where it can't be read.
+/// Returns the time of the clock, or 0 if it can't be read.
 pub(crate) fn time_of<R: Clock>(rt: &R) -> Duration {
     rt.monotonic().unwrap_or(Duration::from_secs(0))
 }
 
-/// A client that counts as connected, until this is dropped.
+/// A connection guard: its client counts as connected until it is dropped.
 pub(crate) struct ConnectionGuard<R: Wait + Clock + Drop> {
     rt: R,
     registry: Arc<ConnectionRegistry>,
@@ -190,7 +190,7 @@ pub(crate) struct ConnectionGuard<R: Wait + Clock + Drop> {
 }
 
 impl<R: Wait + Clock + Drop> ConnectionGuard<R> {
-    /// A client of this address counts as connected. None where it may not be.
+    /// Counts a client of this address as connected. Returns `None` if a limit refuses it.
     pub fn enter(
         rt: R,
         registry: &Arc<ConnectionRegistry>,
@@ -208,7 +208,7 @@ impl<R: Wait + Clock + Drop> ConnectionGuard<R> {
 }
 
 impl<R: Wait + Clock + Drop> Drop for ConnectionGuard<R> {
-    /// It counts no more.
+    /// Removes the client from the registry.
     fn drop(self) {
         let ConnectionGuard {
             rt,

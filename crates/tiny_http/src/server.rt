@@ -1,4 +1,4 @@
-//! The server: it listens, accepts clients, and hands out their requests to whoever asks.
+//! The server: it listens, accepts clients, and hands out their requests to any thread.
 ghost use Rattle.std.specs.Prelude.{◌≡◌, Err, IsSome, IsErr};
 ghost use Rattle.httpdate.specs.Date.{unix_secs};
 ghost use Rattle.tiny_http.specs.Clock.{seconds_of};
@@ -33,15 +33,14 @@ use tiny_http_threads::messages_queue::MessagesQueue;
 use tiny_http_threads::sequential::SequentialWriter;
 use tiny_http_threads::task_pool::TaskPool;
 
-// So many messages the queue has room for at first.
+// Initial capacity of the queue, in messages.
 const QUEUE_ROOM: usize = 8;
 
-// So many seconds a server that is dropped tries to connect to itself.
+// Timeout of a closing server's connection to itself, in seconds.
 const SELF_CONNECT_SECS: u64 = 1;
 
-/// What is needed of the runtime to make a server: sockets, the files of Unix sockets, a clock, threads that wait,
-/// and that it can be copied and sent to them. Any runtime with these has it. Threads that share a server need `Sync`
-/// besides.
+/// The runtime of a server. It has sockets, the files of Unix sockets, a clock and threads that wait, and can be copied
+/// and sent to threads. Any runtime with these implements it. Threads that share a server also need `Sync`.
 pub trait ServerRuntime: Net<Listener = TcpListener, Stream = TcpStream>
     + SocketFiles
     + Clock
@@ -63,49 +62,50 @@ where
         + 'static,
 {}
 
-/// What a program needs of the runtime whose threads share a server: what the server itself needs, and `Sync`. Any
-/// runtime with these has it.
+/// The runtime of a program whose threads share a server: a `ServerRuntime` that is `Sync`. Any such runtime implements
+/// it.
 pub trait Host: ServerRuntime + Sync {}
 
 impl<R: ServerRuntime + Sync> Host for R {}
 
-/// What a server reads a client by.
+/// The reader of a server's connection.
 pub type ServerReader<R> = TimedReader<FlushingReader<RefinedTcpStream, TimedWriter<R>>, R>;
 
-/// What a server writes to a client by.
+/// The writer of a server's connection.
 pub type ServerWriter<R> = CorkedWriter<TimedWriter<R>, R>;
 
 /// A request of a server's client.
 pub type ServerRequest<R> = Request<ServerReader<R>, ServerWriter<R>, R>;
 
-/// The body of such a request.
+/// The body of a `ServerRequest`.
 pub type ServerBody<R> = Body<ServerReader<R>, R>;
 
-/// What `into_writer` gives of such a request: the connection's output, in its turn.
+/// The result of `into_writer` on a `ServerRequest`: the connection's output, in its turn.
 pub type ServerOutput<R> = SequentialWriter<Outlet<ServerWriter<R>>, R>;
 
-/// What `upgrade` gives of such a request.
+/// The result of `upgrade` on a `ServerRequest`.
 pub type ServerStream<R> = CustomStream<ServerBody<R>, ServerOutput<R>>;
 
-/// How a call that stops a server ended.
+/// The result of a call that stops a server.
 #[derive(Clone, Copy, Debug, PartialEq, Eq)]
 pub enum Stopped {
-    /// All that was handed out is answered, and each connection is closed.
+    /// Every request that was handed out is answered, and every connection is closed.
     Answered,
     /// The time is over, and some client is still connected.
     TimeOver,
 }
 
-/// Why no server is made.
+/// An error of making a server.
 #[derive(Debug, Drop, Error)]
 pub enum ServerError {
-    /// It can't listen there, the host's name isn't found, the text is no address, or the system has no thread for it.
+    /// It can't listen at the address, the host's name isn't found, the text isn't an address, or the system has no
+    /// thread for it.
     #[error("{0}")]
     Io(io::Error),
-    /// TLS was asked for, which isn't built.
+    /// TLS was requested, which isn't implemented.
     #[error("Building a server with SSL requires enabling the `ssl` feature in tiny-http")]
     Ssl,
-    /// Memory was refused.
+    /// Out of memory.
     #[error("out of memory")]
     Memory,
 }
@@ -115,7 +115,7 @@ impl From<io::Error> for ServerError {
 
     ghost from_gives = { IsServerErrorOf };
 
-    /// `Memory` of the kind `OutOfMemory`, and `Io` of each other one.
+    /// Returns `Memory` for the kind `OutOfMemory`, and `Io` for each other kind.
     fn from(fault: io::Error) -> ServerError {
         if fault.kind() == ErrorKind::OutOfMemory {
             return ServerError::Memory;
@@ -129,7 +129,7 @@ impl From<ServerError> for io::Error {
 
     ghost from_gives = { IsFaultOf };
 
-    /// The fault itself; of kind `InvalidInput` for `Ssl`, and `OutOfMemory` for `Memory`.
+    /// Returns the fault itself, or `InvalidInput` for `Ssl` and `OutOfMemory` for `Memory`.
     fn from(error: ServerError) -> io::Error {
         match error {
             ServerError::Io(fault) => fault,
@@ -139,21 +139,21 @@ impl From<ServerError> for io::Error {
     }
 }
 
-/// What a server is made of.
+/// The settings of a server.
 #[derive(Debug, Drop)]
 pub struct ServerConfig {
-    /// Where it is to listen.
+    /// The address to listen at.
     pub addr: ConfigListenAddr,
-    /// The TLS settings. TLS isn't built: `Some` is refused by `ServerError::Ssl`.
+    /// The TLS settings. TLS isn't implemented: `Some` fails with `ServerError::Ssl`.
     pub ssl: Option<SslConfig>,
 }
 
 /// TLS settings, which are refused.
 #[derive(Debug, Drop)]
 pub struct SslConfig {
-    /// The certificate that is sent to clients.
+    /// The certificate for clients.
     pub certificate: Vec<u8>,
-    /// The key to decrypt by.
+    /// The private key.
     pub private_key: Vec<u8>,
 }
 
@@ -161,7 +161,7 @@ impl ServerConfig {
     ghost use Rattle.std.specs.Prelude.{IfOk};
     ghost use Rattle.tiny_http.specs.ServerConfig.{IsConfigCopy};
 
-    /// A copy. An error where memory was refused.
+    /// Returns a copy. Fails if memory is refused.
     pub fn try_clone(&self) -> Result<ServerConfig, AllocError>
         ensures { IfOk result (λ copy. IsConfigCopy self.now copy) }
     {
@@ -178,7 +178,7 @@ impl SslConfig {
     ghost use Rattle.std.specs.Prelude.{IfOk};
     ghost use Rattle.tiny_http.specs.ServerConfig.{IsSslCopy};
 
-    /// A copy. An error where memory was refused.
+    /// Returns a copy. Fails if memory is refused.
     pub fn try_clone(&self) -> Result<SslConfig, AllocError>
         ensures { IfOk result (λ copy. IsSslCopy self.now copy) }
     {
@@ -191,19 +191,19 @@ impl SslConfig {
     }
 }
 
-/// A server. Threads may share it, and each may ask for requests.
+/// A server. Threads may share it, and each may receive requests.
 ///
-/// Where it is dropped it accepts no further client, and the file of its Unix socket is removed; the accepting thread
-/// ends soon after. Requests that were handed out can still be answered. Each other request, one that waits or comes
-/// later, is answered by an empty 500. The connection of one that comes later ends with it; that of one that waited
-/// ends with its next request, or when the client ends it. A client that is just being accepted may be turned away.
+/// When it is dropped, it accepts no further client and removes the file of its Unix socket; the accepting thread ends
+/// soon after. Requests that were handed out can still be answered. Each other request, queued or later, gets an empty
+/// 500. The connection of a later one ends with it; that of a queued one ends with its next request, or when the client
+/// closes it. A client that is being accepted at that moment may be turned away.
 ///
-/// A request's date, that of its 500 if it is dropped, is read before the wait for its head: on a connection that was
-/// idle it is older than the request.
+/// The date of a request, which is that of its 500 if it is dropped, is read before the wait for its head: on an idle
+/// connection it is older than the request.
 pub struct Server<R: Net + SocketFiles + Wait + Clock + Drop> {
     pub(crate) rt: R,
     ending: Arc<Ending>,
-    // Set once it serves.
+    // Set once the server serves by a handler.
     pub(crate) serving: Arc<AtomicBool>,
     pub(crate) messages: Arc<Messages<R>>,
     pub(crate) registry: Arc<ConnectionRegistry>,
@@ -211,13 +211,13 @@ pub struct Server<R: Net + SocketFiles + Wait + Clock + Drop> {
 }
 
 impl<R: ServerRuntime> Server<R> {
-    /// A server at the first of these addresses that can be bound. Errors as `new`, and where a host's name isn't
-    /// found or the text is no address.
+    /// Makes a server at the first of these addresses that can be bound. Fails as `new` does, and if a host's name
+    /// isn't found or the text isn't an address.
     pub fn http<A: ToSocketAddrs>(rt: R, alloc: Global, addr: A) -> Result<Server<R>, ServerError> {
         Server::http_with(rt, alloc, addr, Profile::Lenient)
     }
 
-    /// The same server, that reads the heads of all its clients under this profile.
+    /// Makes a server as `http` does, which reads the heads of all its clients by this profile.
     pub fn http_with<A: ToSocketAddrs>(
         rt: R,
         alloc: Global,
@@ -228,15 +228,15 @@ impl<R: ServerRuntime> Server<R> {
         Server::new_with(rt, alloc, ServerConfig { addr, ssl: None }, profile)
     }
 
-    /// A server at this path, at which it makes a file. Errors as `new`.
+    /// Makes a server at this path, where it makes a file. Fails as `new` does.
     pub fn http_unix(rt: R, alloc: Global, path: Path<'_>) -> Result<Server<R>, ServerError> {
         let path = PathBuf::from_str(alloc, path.path_text()).map_err(|_| ServerError::Memory)?;
         let addr = ConfigListenAddr::unix_from_path(path);
         Server::new(rt, alloc, ServerConfig { addr, ssl: None })
     }
 
-    /// A server that listens as this says. `Io` where it can't listen there, and else as `from_listener`. Where no
-    /// server is made, no file of a Unix socket is left that this call made.
+    /// Makes a server with these settings. Fails with `Io` if it can't listen at the address, and otherwise as
+    /// `from_listener` does. If it fails, it leaves no file of a Unix socket that it made.
     pub fn new(rt: R, alloc: Global, config: ServerConfig) -> Result<Server<R>, ServerError>
         ensures ssl { IsSome config.ssl → IsErr result }
         ensures refused { result ≡ Err ServerError.Ssl → IsSome config.ssl }
@@ -244,7 +244,7 @@ impl<R: ServerRuntime> Server<R> {
         Server::new_with(rt, alloc, config, Profile::Lenient)
     }
 
-    /// The same server, that reads the heads of all its clients under this profile.
+    /// Makes a server as `new` does, which reads the heads of all its clients by this profile.
     pub fn new_with(
         rt: R,
         alloc: Global,
@@ -257,9 +257,9 @@ impl<R: ServerRuntime> Server<R> {
         Server::bound(rt, alloc, config, profile, None)
     }
 
-    /// A server for an open port: the same, with these limits for its clients. After a temporary fault of accepting,
-    /// such as no descriptor or a connection that its client has reset, it waits and tries again. A Unix socket's
-    /// file on which nobody listens is taken over.
+    /// Makes a server for an open port: as `new_with` does, with these limits for its clients. After a temporary accept
+    /// error, such as out of descriptors or a connection that its client has reset, it waits and tries again. It takes
+    /// over the file of a Unix socket on which no process listens.
     pub fn with(
         rt: R,
         alloc: Global,
@@ -276,7 +276,7 @@ impl<R: ServerRuntime> Server<R> {
         Server::bound(rt, alloc, config, profile, Some(limits))
     }
 
-    // A server that listens as this says, with these limits, if there are some.
+    // Makes a server with these settings and limits, if any.
     fn bound(
         rt: R,
         alloc: Global,
@@ -298,10 +298,11 @@ impl<R: ServerRuntime> Server<R> {
         made
     }
 
-    /// A server over this listening socket, which has to wait for clients: one that doesn't ends accepting by
-    /// `WouldBlock`. Heads are read under `Lenient`. The file of a Unix socket is removed where the server is
-    /// dropped. `Ssl` where it is to encrypt; `Io` where the socket has no address, or the system has no thread for
-    /// the server; `Memory` where memory was refused. Then such a file stays.
+    /// Makes a server over this listening socket, which has to be blocking: a nonblocking one ends accepting with
+    /// `WouldBlock`. Heads are read under `Lenient`. The file of a Unix socket is removed when the server is dropped.
+    ///
+    /// Fails with `Ssl` if there are TLS settings, `Io` if the socket has no address or the system has no thread for
+    /// the server, and `Memory` if memory is refused. Then the file stays.
     pub fn from_listener(
         rt: R,
         alloc: Global,
@@ -314,7 +315,7 @@ impl<R: ServerRuntime> Server<R> {
         Server::from_listener_with(rt, alloc, listener, ssl, Profile::Lenient)
     }
 
-    /// The same server, that reads the heads of all its clients under this profile.
+    /// Makes a server as `from_listener` does, which reads the heads of all its clients by this profile.
     pub fn from_listener_with(
         rt: R,
         alloc: Global,
@@ -328,7 +329,8 @@ impl<R: ServerRuntime> Server<R> {
         Server::over_unless_ssl(rt, alloc, listener, ssl, profile, None)
     }
 
-    /// A server for an open port over this listening socket: the same, with these limits for its clients, as `with`.
+    /// Makes a server for an open port over this listening socket: as `from_listener_with` does, with the limits and
+    /// the accept loop of `with`.
     pub fn from_listener_within(
         rt: R,
         alloc: Global,
@@ -343,7 +345,7 @@ impl<R: ServerRuntime> Server<R> {
         Server::over_unless_ssl(rt, alloc, listener, ssl, profile, Some(limits))
     }
 
-    // The same, with these limits, if there are some.
+    // Makes a server over this listening socket, with these limits, if any. Fails if there are TLS settings.
     fn over_unless_ssl(
         rt: R,
         alloc: Global,
@@ -361,7 +363,7 @@ impl<R: ServerRuntime> Server<R> {
         Ok(Server::over(rt, alloc, profile, limits, listener)?)
     }
 
-    // A server over this listening socket.
+    // Makes a server over this listening socket.
     fn over(
         rt: R,
         alloc: Global,
@@ -401,12 +403,12 @@ impl<R: ServerRuntime> Server<R> {
 }
 
 impl<R: Net + SocketFiles + Wait + Clock + Drop> Server<R> {
-    /// The requests, one after another.
+    /// Returns the requests, one after another.
     pub fn incoming_requests(&self) -> IncomingRequests<'_, R> {
         IncomingRequests { server: self }
     }
 
-    /// The address at which it listens.
+    /// Returns the address at which it listens.
     pub fn server_addr(&self) -> ListenAddr {
         match self.listening_addr.clone() {
             Ok(addr) => addr,
@@ -414,31 +416,31 @@ impl<R: Net + SocketFiles + Wait + Clock + Drop> Server<R> {
         }
     }
 
-    /// How many clients that were accepted are connected. One counts until all its requests are answered and its
+    /// Returns how many accepted clients are connected. A client counts until all its requests are answered and its
     /// connection is closed.
     pub fn num_connections(&self) -> usize {
         self.registry.count(&self.rt)
     }
 
-    /// What the server has counted since it began.
+    /// Returns what the server has counted since it began.
     pub fn counts(&self) -> Counts {
         self.registry.counts(&self.rt)
     }
 
-    /// How often accepting failed, and went on: under limits alone.
+    /// Returns how often accepting failed and continued, which happens only under limits.
     pub fn accept_faults(&self) -> u64 {
         self.registry.accept_faults(&self.rt)
     }
 
-    /// Waits for a request. An error is the fault by which accepting ended, which one call reports, or of kind
-    /// `Other` where `unblock` was called. After such a fault no further client is accepted, and requests come only
-    /// from those that were.
+    /// Waits for a request. Fails with the error by which accepting ended, which one call reports, or with kind `Other`
+    /// if `unblock` was called. After such an accept error no further client is accepted, and requests come only from
+    /// those that were.
     ///
-    /// A server that serves by a handler has none to give, but those of clients that came before. Where a client
-    /// waits for `serve` to be called again the error is at once of kind `Other`, as if `unblock` had been called.
+    /// A server that serves by a handler returns only requests of clients that came before. If a client waits for the
+    /// next call of `serve`, it fails at once with kind `Other`, as if `unblock` had been called.
     ///
-    /// Once the server was stopped the error is of kind `Other` at each call. On a server with limits a request isn't
-    /// handed out once an answer before it broke: its own would be lost.
+    /// Once the server was stopped, each call fails with kind `Other`. A server with limits doesn't hand out a request
+    /// after a response broke off on its connection: its own response would be lost.
     pub fn recv(&self) -> io::Result<ServerRequest<R>> {
         for _ in self.rt.forever() {
             let popped = self.messages.pop(&self.rt);
@@ -451,8 +453,8 @@ impl<R: Net + SocketFiles + Wait + Clock + Drop> Server<R> {
         Err(ErrorKind::Other.into())
     }
 
-    /// A request, if one has come; it waits for none. None too where `recv` reports an error of kind `Other`. An
-    /// error is the fault by which accepting ended, which one call reports.
+    /// Returns a request if one has come, without waiting, and `None` if `recv` would fail with kind `Other`. Fails
+    /// with the error by which accepting ended, which one call reports.
     pub fn try_recv(&self) -> io::Result<Option<ServerRequest<R>>> {
         for _ in self.rt.forever() {
             let popped = self.messages.try_pop(&self.rt);
@@ -464,8 +466,8 @@ impl<R: Net + SocketFiles + Wait + Clock + Drop> Server<R> {
         Ok(None)
     }
 
-    // What a pop of the queue is reported as. Once the server was stopped it is nothing, and another call that waits
-    // goes on, too.
+    // Converts a queue message to the result of `recv`. Once the server was stopped it is `None`, and another waiting
+    // call returns, too.
     fn received(&self, popped: Option<Message<R>>) -> io::Result<Option<ServerRequest<R>>> {
         if self.has_stopped() {
             let _ = self.messages.unblock(&self.rt);
@@ -474,7 +476,7 @@ impl<R: Net + SocketFiles + Wait + Clock + Drop> Server<R> {
         Message::received(&self.messages, &self.rt, popped)
     }
 
-    /// Has one call that waits for a request, now or later, go on without one. An error where memory was refused.
+    /// Has one call that waits for a request, now or later, return without one. Fails if memory is refused.
     pub fn unblock(&self) -> Result<(), AllocError> {
         self.messages.unblock(&self.rt)
     }
@@ -483,12 +485,14 @@ impl<R: Net + SocketFiles + Wait + Clock + Drop> Server<R> {
 impl<R: Net<Listener = TcpListener, Stream = TcpStream> + SocketFiles + Wait + Clock + Drop> Server<
     R,
 > {
-    /// Stops the server, from any thread: no further client is accepted, connections that wait for a head are closed,
-    /// and requests that wait in the queue are dropped, so that they are answered by 500. It waits until all that was
-    /// handed out is answered and each connection is closed, or for so long; and then has each call that waits for a
-    /// request, and `serve`, return. A connection whose request is answered is closed behind its answer. A later call
-    /// waits again for what is left. A handler that makes this call is waited for, too, so the call lasts the whole
-    /// time. It lasts longer where a client doesn't take a 500 that is sent here.
+    /// Stops the server, from any thread. No further client is accepted, connections that wait for a head are closed,
+    /// and requests in the queue are dropped, so that they get a 500. A connection whose request is answered is closed
+    /// after its response.
+    ///
+    /// The call waits, for `time` at most, until every request that was handed out is answered and every connection is
+    /// closed; then each call that waits for a request, and `serve`, returns. A later call waits again for what is
+    /// left. A handler that makes this call is waited for, too, so the call takes the whole time. It takes longer if a
+    /// client doesn't read a 500 that is sent here.
     pub fn stop(&self, time: Duration) -> Stopped {
         let begun = time_of(&self.rt);
         self.close_down();
@@ -508,8 +512,8 @@ impl<R: Net<Listener = TcpListener, Stream = TcpStream> + SocketFiles + Wait + C
 }
 
 impl<R: Net + SocketFiles + Wait + Clock + Drop> Server<R> {
-    /// Waits for a request, for so long at most, and then reports none; less than a millisecond counts as nothing.
-    /// Else as `try_recv`.
+    /// Waits for a request, for `timeout` at most, and then returns `None`. Less than a millisecond counts as 0.
+    /// Otherwise it is like `try_recv`.
     pub fn recv_timeout(&self, timeout: Duration) -> io::Result<Option<ServerRequest<R>>> {
         let begun = time_of(&self.rt);
         let mut left = timeout;
@@ -526,8 +530,8 @@ impl<R: Net + SocketFiles + Wait + Clock + Drop> Server<R> {
 }
 
 impl<R: Net + SocketFiles + Wait + Clock + Drop> Server<R> {
-    // Ends accepting, for which it connects to itself once, drops the requests that wait, and removes the file of a
-    // Unix socket. Once that is done it does nothing.
+    // Ends accepting, for which it connects to itself once, drops the requests in the queue, and removes the file of a
+    // Unix socket. A second call does nothing.
     fn close_down(&self) {
         if !self.ending.close() {
             return;
@@ -543,7 +547,7 @@ impl<R: Net + SocketFiles + Wait + Clock + Drop> Server<R> {
         self.messages.clear(rt);
     }
 
-    // Connects to itself, so that the accepting thread goes on.
+    // Connects to itself, so that the accepting thread wakes.
     fn connect_to_itself(&self) {
         let rt = &self.rt;
         match &self.listening_addr {
@@ -555,14 +559,14 @@ impl<R: Net + SocketFiles + Wait + Clock + Drop> Server<R> {
         }
     }
 
-    // Whether it was stopped, and all was answered or the time was over.
+    // Returns whether the server was stopped, and all was answered or the time was over.
     pub(crate) fn has_stopped(&self) -> bool {
         self.ending.has_stopped()
     }
 }
 
 impl<R: Net + SocketFiles + Wait + Clock + Drop> Drop for Server<R> {
-    /// Ends accepting, for which it connects to itself once, drops the requests that wait, and removes the file of a
+    /// Ends accepting, for which it connects to itself once, drops the requests in the queue, and removes the file of a
     /// Unix socket.
     fn drop(self) {
         self.close_down();
@@ -577,7 +581,7 @@ impl<R: Net + SocketFiles + Wait + Clock + Drop> Drop for Server<R> {
     }
 }
 
-// Removes the file of a Unix socket on which nobody listens any more.
+// Removes the file of a Unix socket on which no process listens any more.
 fn remove_stale<R: Net<Listener = TcpListener, Stream = TcpStream> + SocketFiles>(
     rt: &R,
     path: Path<'_>,
@@ -599,21 +603,20 @@ pub struct IncomingRequests<'a, R: Net + SocketFiles + Wait + Clock + Drop> {
 }
 
 impl<R: Net + SocketFiles + Wait + Clock + Drop> IncomingRequests<'_, R> {
-    /// Waits for the next request. None where `recv` reports an error: once for the fault by which accepting ended,
-    /// once for each `unblock`, and where a client waits for `serve`. A later call waits again, unless the server was
-    /// stopped.
+    /// Waits for the next request. Returns `None` if `recv` fails: once for the error by which accepting ended, once
+    /// for each `unblock`, and if a client waits for `serve`. A later call waits again, unless the server was stopped.
     pub fn next(&mut self) -> Option<ServerRequest<R>> {
         self.server.recv().ok()
     }
 }
 
-/// The date of the machine's clock, in whole seconds; that of second 0 where the clock can't be read, or stands
-/// before 1970 or after 9999.
+/// Returns the date of the system clock, in whole seconds. It is second 0 if the clock can't be read, or is before 1970
+/// or after 9999.
 pub fn current_date<R: Clock>(rt: &R) -> HttpDate {
     date_of(rt.since_1970().ok())
 }
 
-// The date of this time since 1970.
+// Returns the date of this time since 1970.
 fn date_of(time: Option<Duration>) -> HttpDate
     ensures { unix_secs result ≡ seconds_of time }
 {
@@ -624,7 +627,7 @@ fn date_of(time: Option<Duration>) -> HttpDate
     }
 }
 
-// The date of second 0.
+// Returns the date of second 0.
 fn epoch() -> HttpDate
     ensures { unix_secs result ≡ 0 }
 {

@@ -1,4 +1,4 @@
--- What is still to come of a request's body, and where the input stands after it.
+-- What is still to come of a request's body, and the input state after it.
 use Rattle.std.specs.Prelude.{◌≡◌, ℕ, ◌+◌, ◌-◌, ◌<◌, ◌≤◌, Bool, true, false, not, ◌||◌, ◌==◌, nat_lt, List, []}
 use Rattle.std.specs.Prelude.{length, take, Option, Some, None, Result, Ok, Err, IfOk, IfErr, OnErr, IfSome}
 use Rattle.std.specs.Prelude.{MatchBool, ⊤, if◌then◌else◌}
@@ -28,13 +28,13 @@ use Rattle.tiny_http_io.specs.Source.{SourceState, GoesOn, IsAtEnd, SkipsBytes, 
 use Rattle.tiny_http_io.specs.declared.source.InputState.{InputState}
 use Rattle.tiny_http_io.specs.InputState.{after_body, after_fault, after_abandoned}
 
--- What is still to come of a body, and the feed after it; a feed without a byte, where no head follows.
+-- What is still to come of a body, and the feed after it, which has no byte if no head follows.
 pub record Remaining : Type 0 where
   pub body : Feed
   pub behind : Feed
 
--- a chunked body that is whole ends, and the input goes on after it; one that is cut or broken stops by its fault, and
--- no head follows
+-- a whole chunked body ends, and the input continues after it; one that is cut or broken stops with its fault, and no
+-- head follows
 abbrev pub chunks_remaining : List ℕ → Result Feed ErrorKind → Remaining
 chunks_remaining bytes (Ok feed) = record { body = whole_feed bytes; behind = feed }
 chunks_remaining bytes (Err kind) = record { body = record { bytes = bytes; stop = Fault kind }; behind = stopped End }
@@ -42,35 +42,35 @@ chunks_remaining bytes (Err kind) = record { body = record { bytes = bytes; stop
 abbrev pub coming_remaining : Coming → Remaining
 coming_remaining c = chunks_remaining c.bytes c.behind
 
--- by which rules the lines of a chunked body are read
+-- the rules for the lines of a chunked body
 abbrev pub chunk_rules : Bool → ChunkRules
 chunk_rules true = chunks.Standard
 chunk_rules false = chunks.Lenient
 
--- how a body stops that the input's stop cuts: as the input does; by the standard its end is a fault, too (RFC 9112,
+-- the stop of a body that the input's stop cuts: the input's own, but by the standard an end is also a fault (RFC 9112,
 -- section 8)
 abbrev pub cut_stop : Bool → Stop → Stop
 cut_stop false stop = stop
 cut_stop true stop = Fault (fault_of stop)
 
--- the input, as a body meets its stop
+-- the input, with its stop as a body reports it
 abbrev pub cut_feed : Bool → Feed → Feed
 cut_feed by_standard feed = record { bytes = feed.bytes; stop = cut_stop by_standard feed.stop }
 
--- so many bytes of the input; where there are fewer no head follows
+-- n bytes of the input; if there are fewer, no head follows
 abbrev pub counted_remaining : Bool → ℕ → Feed → Remaining
 counted_remaining by_standard n feed =
     record { body = feed_front n (cut_feed by_standard feed); behind = skipped n feed }
 
--- the input stands after the body already
+-- the input is after the body already
 abbrev pub taken_remaining : Feed → Feed → Remaining
 taken_remaining body feed = record { body = body; behind = feed }
 
--- all that comes of the input; no head follows
+-- the whole rest of the input; no head follows
 abbrev pub rest_remaining : Feed → Remaining
 rest_remaining feed = record { body = feed; behind = stopped End }
 
--- what is still to come of the body, where the input still gives this
+-- what is still to come of the body if the input still gives this feed
 abbrev pub remaining : UnreadBody → Option Feed → Option Remaining
 remaining (Over stop) feed = option_map (taken_remaining (stopped stop)) feed
 remaining (WithHead bytes) feed = option_map (taken_remaining (whole_feed (cursor_bytes bytes))) feed
@@ -78,8 +78,8 @@ remaining (Counted n by_standard) feed = option_map (counted_remaining by_standa
 remaining (Chunked decoding) feed = option_map coming_remaining (decoding_coming decoding feed)
 remaining Rest feed = option_map rest_remaining feed
 
--- A body in chunks of which nothing was read: one that is whole gives its data, and leaves the rest; another one
--- gives the data that stand, and then the fault.
+-- A chunked body of which nothing was read: a whole one gives its data and leaves the rest; any other gives the data
+-- that are there, then the fault.
 pub record IsNewDecoding (by_standard : Bool) (d : Decoding) : Type 0 where
   pub rules : decoding_rules d ≡ chunk_rules by_standard
   pub whole : (bytes body rest : List ℕ) (stop : Stop) → WholeChunksBy (chunk_rules by_standard) bytes body rest
@@ -93,7 +93,7 @@ pub record IsNewDecoding (by_standard : Bool) (d : Decoding) : Type 0 where
 abbrev pub IsNewChunked : Bool → UnreadBody → Type 0
 IsNewChunked by_standard b = (d : Decoding) × (b ≡ Chunked d) × IsNewDecoding by_standard d
 
--- these bytes of the body, and then what remains
+-- these bytes of the body, then what remains
 abbrev pub prepend_body : List ℕ → Remaining → Remaining
 prepend_body bs r = record { body = prepend bs r.body; behind = r.behind }
 
@@ -110,7 +110,7 @@ abbrev pub NoneRemains : Option Remaining → Type 0
 NoneRemains None = ⊤
 NoneRemains (Some r) = r.body.bytes ≡ []
 
--- the body is read from the input
+-- the body is still read from the input
 abbrev pub is_streaming : UnreadBody → Bool
 is_streaming (Over stop) = false
 is_streaming (WithHead bytes) = false
@@ -118,7 +118,7 @@ is_streaming (Counted n by_standard) = true
 is_streaming (Chunked decoding) = true
 is_streaming Rest = true
 
--- no more of the body is read from the input, and no fault ended it
+-- nothing more of the body is read from the input, and no fault ended it
 abbrev pub is_whole : UnreadBody → Bool
 is_whole (Over End) = true
 is_whole (Over (Fault kind)) = false
@@ -127,7 +127,7 @@ is_whole (Counted n by_standard) = false
 is_whole (Chunked decoding) = false
 is_whole Rest = false
 
--- how many bytes of it are left, where a length says so
+-- how many bytes of it are left, if that is known
 abbrev pub bytes_left : UnreadBody → Option ℕ
 bytes_left (Over End) = Some 0
 bytes_left (Over (Fault kind)) = None
@@ -136,7 +136,7 @@ bytes_left (Counted n by_standard) = Some n
 bytes_left (Chunked decoding) = None
 bytes_left Rest = None
 
--- what is left of a body whose request is finished
+-- what is left of a body when its request is finished
 abbrev pub remainder : UnreadBody → Remainder
 remainder (Over End) = left.Skipped
 remainder (Over (Fault kind)) = left.Endless
@@ -153,12 +153,12 @@ abbrev pub is_skipped : Remainder → Bool
 is_skipped left.Skipped = true
 is_skipped _ = false
 
--- what a connection reads that was upgraded: by the standard all that comes, else the body of its request
+-- what an upgraded connection reads: by the standard all further input, otherwise the body of its request
 abbrev pub stream_body : Bool → UnreadBody → UnreadBody
 stream_body true b = Rest
 stream_body false b = b
 
--- what is reported from now on, where that is kept
+-- what is reported from now on, if the body keeps it
 abbrev pub body_stop : UnreadBody → Option Stop
 body_stop (Over stop) = Some stop
 body_stop (WithHead bytes) = None
@@ -178,21 +178,21 @@ abbrev pub IsChunkedBy : ChunkRules → UnreadBody → Type 0
 IsChunkedBy rules (Chunked decoding) = decoding_rules decoding ≡ rules
 IsChunkedBy rules _ = ⊥
 
--- A counted body is over, by its end or a fault, and all its bytes had come or not. If they had it ends without a
--- fault, else by the standard with one.
+-- A counted body is over, with its end or a fault. It ends without a fault if all its bytes had come; otherwise, by the
+-- standard, it ends with one.
 abbrev pub IsCountedOver : Bool → Bool → UnreadBody → Type 0
 IsCountedOver by_standard has_come (Over End) = (has_come || not by_standard) ≡ true
 IsCountedOver by_standard has_come (Over (Fault kind)) = has_come ≡ false
 IsCountedOver by_standard has_come _ = ⊥
 
--- A body in memory stays there: this is left of `count` bytes after n of them, and nothing where the end was reported.
+-- A body in memory stays there: after n of `count` bytes this is left, and nothing once the end was reported.
 abbrev pub StaysHeld : ℕ → ℕ → Bool → UnreadBody → Type 0
 StaysHeld count n end_reported (WithHead bytes) =
     (n + length (cursor_bytes bytes) ≡ count) × (end_reported ≡ true → length (cursor_bytes bytes) ≡ 0)
 StaysHeld count n end_reported _ = ⊥
 
--- So many bytes were read, and the end or the fault was reported or not. A counted body is over with its last byte,
--- another one that is read from the input once its end or fault was reported.
+-- The body after a read that gave n bytes and reported its end or fault, or not. A counted body is over with its last
+-- byte; any other that is read from the input is over once its end or fault was reported.
 abbrev pub ReadsOn : UnreadBody → ℕ → Bool → UnreadBody → Type 0
 ReadsOn (Over stop) n end_reported new = (new ≡ Over stop) × (n ≡ 0)
 ReadsOn (WithHead bytes) n end_reported new = StaysHeld (length (cursor_bytes bytes)) n end_reported new
@@ -208,7 +208,7 @@ abbrev pub bytes_given : {E : Type 0} → Result ℕ E → ℕ
 bytes_given (Ok n) = n
 bytes_given (Err e) = 0
 
--- one, where a body is over; where a fault ended it
+-- 1 if the body is over; 1 if a fault ended it
 abbrev pub over_count : UnreadBody → ℕ
 over_count (Over stop) = 1
 over_count _ = 0
@@ -217,8 +217,8 @@ abbrev pub fault_stops : UnreadBody → ℕ
 fault_stops (Over (Fault kind)) = 1
 fault_stops _ = 0
 
--- HOW MANY ENDS AND FAULTS OF THE INPUT A CALL MEETS that gave n bytes of a body and left this of it. A counted body
--- meets one only where it is cut, and one in chunks only where a fault ends it: its own end is a line.
+-- THE ENDS AND FAULTS OF THE INPUT THAT A CALL MEETS, if it gave n bytes of a body and left this of it. A counted body
+-- meets one only if it is cut, and a chunked one only if a fault ends it, since its own end is a line.
 abbrev pub ends_met : UnreadBody → ℕ → UnreadBody → ℕ
 ends_met (Over stop) n new = 0
 ends_met (WithHead bytes) n new = 0
@@ -226,7 +226,7 @@ ends_met (Counted left by_standard) n new = if n == left then 0 else over_count 
 ends_met (Chunked decoding) n new = fault_stops new
 ends_met Rest n new = over_count new
 
--- the body is finished: it is nothing or held, or all its bytes were given out, or its end or fault was reported
+-- the body is finished: it is empty or in memory, or all its bytes were given, or its end or fault was reported
 abbrev pub body_finished : Form → ℕ → ℕ → Bool → Bool
 body_finished form.Nothing n given end_reported = true
 body_finished form.WithHead n given end_reported = true
@@ -234,8 +234,7 @@ body_finished form.Counted n given end_reported = given == n || end_reported
 body_finished form.Chunked n given end_reported = end_reported
 body_finished form.Rest n given end_reported = end_reported
 
--- the stops that a finished body of this form may have: one in memory is never over, and where there is none, it is at
--- its end
+-- the stops that a finished body of this form may have: one in memory is never over, and an absent one has ended
 abbrev pub MayBeOver : Form → Stop → Type 0
 MayBeOver form.WithHead stop = ⊥
 MayBeOver form.Nothing stop = stop ≡ End
@@ -254,7 +253,7 @@ Fits standard (Chunked decoding) shape n given end_reported =
 Fits standard Rest shape n given end_reported = (shape ≡ form.Rest) × (end_reported ≡ false)
 
 -- A buffer was filled from the body: with all its bytes; or with fewer, and none is left; or a fault came before any
--- byte, and stays. One with room that got none met the body's end.
+-- byte, and stays. If the buffer had room and got none, the body was at its end.
 abbrev pub FillsFromBody : UnreadBody → Option Feed → UnreadBody → Option Feed → Result ℕ ErrorKind → List ℕ → Type 0
 FillsFromBody old from new to (Ok n) buf =
     (remaining old from ≡ prepended_body (take n buf) (remaining new to))
@@ -265,7 +264,7 @@ FillsFromBody old from new to (Err kind) buf =
     (remaining new to ≡ remaining old from) × ReadsOn old 0 true new × BodyStops (Fault kind) (remaining old from)
     × (new ≡ Over (Fault kind))
 
--- Where a source stands after a read that left this of the body.
+-- The input state after a read that left this of the body.
 abbrev pub body_input_state : UnreadBody → InputState → InputState
 body_input_state (Over End) input_state = after_body input_state
 body_input_state (Over (Fault kind)) input_state = after_fault kind input_state
@@ -274,10 +273,10 @@ body_input_state (Counted n by_standard) input_state = input_state
 body_input_state (Chunked decoding) input_state = input_state
 body_input_state Rest input_state = input_state
 
--- WHAT A READ GIVES of a body, and what it leaves: the bytes that came are the next of the body, no more than the
--- buffer has room for; no byte into a buffer with room is the end of the body, and a fault is its own. A counted body is
--- over with its last byte, another one that is read from the input once its end or fault was reported. After the first
--- fault the source has ended. The input goes on, or stays.
+-- WHAT A READ GIVES of a body, and what it leaves. The bytes that came are the next of the body, at most as many as
+-- fit. No byte into a buffer with room is the end of the body; a fault is the body's own. A counted body is over with
+-- its last byte; any other that is read from the input is over once its end or fault was reported. After the first
+-- fault the source has ended. The input advances or stays.
 pub record ReadsRemaining {R : Type 0} (old new : UnreadBody) (from to : SourceState R) (r : Result ℕ Error)
     (buf : List ℕ) : Type 0 where
   pub bound : IfOk r (λ n. n ≤ length buf)
@@ -291,9 +290,9 @@ pub record ReadsRemaining {R : Type 0} (old new : UnreadBody) (from to : SourceS
   pub at_end : OnErr r (body_stop old ≡ None → IsAtEnd to)
   pub goes_on : GoesOn from.feed to.feed
 
--- ONE READ of a body. Into an empty buffer it changes nothing. A body that isn't read from the source leaves it
--- alone, and one that is over reports its end or fault again. Else the source stands by what is left of the body: at
--- the next head once that is over.
+-- ONE READ of a body. A read into an empty buffer changes nothing. A body that isn't read from the source leaves it
+-- alone, and one that is over reports its end or fault again. Otherwise what is left of the body gives the input state:
+-- the next head, once the body is over.
 pub record ReadsBody {R : Type 0} (old new : UnreadBody) (from to : SourceState R) (r : Result ℕ Error)
     (buf : List ℕ) : Type 0 where
   pub reads : ReadsRemaining old new from to r buf
@@ -303,7 +302,7 @@ pub record ReadsBody {R : Type 0} (old new : UnreadBody) (from to : SourceState 
   pub reports_stop : IfSome (body_stop old) (λ stop. 0 < length buf → AnswersStop stop r × (new ≡ old))
   pub input_state : is_streaming old ≡ true → to.input_state ≡ body_input_state new from.input_state
 
--- One read, into a buffer with room, of a body that isn't read from the input. What is left isn't either.
+-- One read, into a buffer with room, of a body that isn't read from the input, and so isn't afterwards.
 pub record ReadsHeld (old new : UnreadBody) (r : Result ℕ Error) (buf : List ℕ) : Type 0 where
   pub bound : IfOk r (λ n. n ≤ length buf)
   pub bytes : (feed : Option Feed) → IfOk r (λ n. remaining old feed ≡ prepended_body (take n buf) (remaining new feed))
@@ -315,8 +314,8 @@ pub record ReadsHeld (old new : UnreadBody) (r : Result ℕ Error) (buf : List �
   pub reports_stop : IfSome (body_stop old) (λ stop. AnswersStop stop r × (new ≡ old))
   pub stays_held : is_streaming new ≡ false
 
--- A body of which nothing was read is passed over: the bytes of a counted one are skipped before the next head. Else
--- nothing changes: they were read with the head, or there are none.
+-- An unread body is skipped: the bytes of a counted one are skipped before the next head. Otherwise nothing changes:
+-- they were read with the head, or there are none.
 abbrev pub PassesOver : {R : Type 0} → UnreadBody → SourceState R → SourceState R → Type 0
 PassesOver (Counted left by_standard) old new = SkipsBytes left old new
 PassesOver (Over stop) old new = new ≡ old
@@ -324,8 +323,8 @@ PassesOver (WithHead bytes) old new = new ≡ old
 PassesOver (Chunked decoding) old new = new ≡ old
 PassesOver Rest old new = new ≡ old
 
--- A body is given up: the rest of a counted one is skipped, and the reader isn't called for it; after a chunked one
--- no head follows; else nothing changes, and the rest of the input is left to the source.
+-- A body is given up: the rest of a counted one is skipped without calling the reader; after a chunked one no head
+-- follows; otherwise nothing changes, and the rest of the input is left to the source.
 abbrev pub GivesUp : {R : Type 0} → UnreadBody → SourceState R → SourceState R → Type 0
 GivesUp (Over stop) old new = new ≡ old
 GivesUp (WithHead bytes) old new = new ≡ old

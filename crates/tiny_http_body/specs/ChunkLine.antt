@@ -1,4 +1,4 @@
--- A size line or a trailer line of a chunked body, taken from a reader byte by byte.
+-- Reading a chunk-size line or a trailer line of a chunked body, byte by byte.
 use Rattle.std.specs.Prelude.{◌≡◌, ℕ, ◌<◌, Bool, true, false, ◌==◌, List, [], ◌∷◌, ◌++◌, length, Option, Some, None, ⊤}
 use Rattle.std.specs.declared.io.ErrorKind.{ErrorKind}
 use Rattle.tiny_http_io.specs.declared.device.Stop.{Stop}
@@ -16,42 +16,42 @@ use Rattle.tiny_http_body.specs.declared.chunked.line.Scan.{Scan}
 use Rattle.tiny_http_body.specs.ChunkSize.{size_step, standard_step}
 use Rattle.tiny_http_body.specs.ChunkField.{field_step, is_whole_field}
 
--- one byte more
+-- the meaning after one more byte
 abbrev pub said_step : ChunkRules → Said → ℕ → Said
 said_step Lenient said b = record { size = size_step said.size b; field = said.field }
 said_step Standard said b = record { size = standard_step said.size b; field = field_step said.field b }
 
--- after these bytes
+-- the meaning after these bytes
 abbrev pub said_after : ChunkRules → Said → List ℕ → Said
 said_after rules said [] = said
 said_after rules said (b ∷ bs) = said_after rules (said_step rules said b) bs
 
--- before the first byte
+-- the meaning before the first byte
 abbrev pub nothing_said : Said
 nothing_said = record { size = size.Blank; field = field.Empty }
 
--- whether a line of one byte or more is a trailer line
+-- whether a nonempty line is a trailer line
 abbrev pub is_trailer_said : ChunkRules → Said → Bool
 is_trailer_said Lenient said = true
 is_trailer_said Standard said = is_whole_field said.field
 
--- whether such a byte, which doesn't end the line, breaks it
+-- whether a byte that doesn't end the line is malformed
 abbrev pub breaks_line : ChunkRules → ℕ → Bool
 breaks_line Lenient b = false
 breaks_line Standard b = b == line_feed
 
--- A byte more, after a carriage return or not. A carriage return is held back: it may begin the line's end.
+-- The state after one more byte, which may follow a CR. A CR is held back, since it may begin the end of the line.
 abbrev pub scan_with : ChunkRules → Said → Bool → ℕ → Bool → Scan
 scan_with rules said false b true = record { said = said; after_return = true }
 scan_with rules said false b false = record { said = said_step rules said b; after_return = false }
 scan_with rules said true b true = record { said = said_step rules said 13; after_return = true }
 scan_with rules said true b false = record { said = said_step rules (said_step rules said 13) b; after_return = false }
 
--- one byte more, which doesn't end the line
+-- the state after one more byte that doesn't end the line
 abbrev pub scan_step : ChunkRules → Scan → ℕ → Scan
 scan_step rules s b = scan_with rules s.said s.after_return b (b == 13)
 
--- a line was taken, and is this one
+-- this line was consumed
 pub record OneLine (rules : ChunkRules) (old new : Option Feed) (line : ChunkLine) : Type 0 where
   pub text : List ℕ
   pub gives : old ≡ prepended (text ++ crlf) new
@@ -59,7 +59,7 @@ pub record OneLine (rules : ChunkRules) (old new : Option Feed) (line : ChunkLin
   pub length_is : line.length ≡ length text
   pub said_is : line.said ≡ said_after rules nothing_said text
 
--- Each of the bytes was needed: with fewer of them their stop would stand in the line's place.
+-- Each of the bytes was needed: with fewer of them their stop would be reported instead of the line.
 abbrev pub AreNeeded : ChunkRules → List ℕ → Type 0
 AreNeeded rules gone =
     (front more : List ℕ) (stop : Stop)
@@ -67,14 +67,14 @@ AreNeeded rules gone =
     → 0 < length more
     → ChunkLineFaultBy rules front stop (fault_of stop)
 
--- no line stands there, and some bytes of what does were taken
+-- there is no line, and some of the bytes in its place were consumed
 pub record NoLine (rules : ChunkRules) (old new : Option Feed) (kind : ErrorKind) : Type 0 where
   pub gone : List ℕ
   pub gives : old ≡ prepended gone new
   pub fault : (feed : Feed) → new ≡ Some feed → ChunkLineFaultBy rules (gone ++ feed.bytes) feed.stop kind
   pub needed : AreNeeded rules gone
 
--- no byte is left of the feed, if it is stated, and its stop is stated so
+-- no byte is left of the feed, if it is stated, and this kind reports its stop
 abbrev pub CutBy : ErrorKind → Option Feed → Type 0
 CutBy kind None = ⊤
 CutBy kind (Some feed) = (feed.bytes ≡ []) × (kind ≡ fault_of feed.stop)

@@ -1,4 +1,4 @@
--- The same chunked bodies, computed: one plain reading.
+-- Chunked bodies as functions that compute them.
 use Rattle.std.specs.Prelude.{ℕ, zero, suc, ◌+◌, Bool, true, false, not, ◌&&◌, ◌||◌, ◌==◌, nat_lt, nat_le, List, []}
 use Rattle.std.specs.Prelude.{◌∷◌, ◌++◌, length, take, drop, Option, Some, None, Result, Ok, Err, if◌then◌else◌}
 use Rattle.std.specs.List.{list_all}
@@ -15,7 +15,7 @@ use Rattle.tiny_http_body.specs.declared.chunked.ChunkRules.{ChunkRules}
 use Rattle.tiny_http_body.specs.declared.chunked.ChunkRules.TheVariants.{Lenient, Standard}
 use Rattle.tiny_http_head.specs.HeadReading.{line, front_while}
 
--- the size that a size line gives
+-- the size in a chunk-size line
 abbrev pub digits_of : List ℕ → List ℕ
 digits_of text = trimmed is_bws (front_while (λ b. not (b == semicolon)) text)
 
@@ -31,24 +31,24 @@ abbrev pub size_by : ChunkRules → List ℕ → Option ℕ
 size_by Lenient text = size_of text
 size_by Standard text = if (has_bare_front is_bws text && list_all is_value_byte text) then size_of text else None
 
--- whether the text is a field line, behind some bytes of its name or none
+-- whether the text is a field line, or with `some` the rest of one after bytes of its name
 abbrev pub is_field_behind : Bool → List ℕ → Bool
 is_field_behind some [] = false
 is_field_behind some (b ∷ bs) =
     if is_token_byte b then is_field_behind true bs else (some && (b == colon && list_all is_value_byte bs))
 
--- whether a line of one byte or more is a trailer line
+-- whether a nonempty line is a trailer line
 abbrev pub is_trailer_by : ChunkRules → List ℕ → Bool
 is_trailer_by Lenient text = true
 is_trailer_by Standard text = is_field_behind false text
 
--- whether an LF stands before the first CR LF
+-- whether there is an LF before the first CR LF
 abbrev pub has_lone_feed : List ℕ → Bool
 has_lone_feed [] = false
 has_lone_feed (a ∷ []) = a == line_feed
 has_lone_feed (a ∷ b ∷ bs) = if (a == 13 && b == 10) then false else (a == line_feed || has_lone_feed (b ∷ bs))
 
--- what a chunked body gives: its data, and the rest after it or the fault
+-- the result of decoding a chunked body: its data, and the rest after it or the fault
 pub record Decoded : Type 0 where
   pub body : List ℕ
   pub ends : Result (List ℕ) ErrorKind
@@ -67,7 +67,7 @@ short_in stop bytes (Some l) = Ok (l.0, drop (length l.0 + 2) bytes)
 abbrev pub short_line : Stop → List ℕ → LineRead
 short_line stop bytes = short_in stop bytes (line (take (longest_line + 2) bytes))
 
--- by the standard an LF alone is a fault
+-- by the standard a lone LF is a fault
 abbrev pub line_by : ChunkRules → Stop → List ℕ → LineRead
 line_by Lenient stop bytes = short_line stop bytes
 line_by Standard stop bytes =

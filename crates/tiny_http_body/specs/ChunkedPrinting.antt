@@ -1,10 +1,10 @@
--- Bytes in chunks (RFC 9112, section 7.1), of `CHUNK` bytes each.
+-- Chunked encoding (RFC 9112, section 7.1), in chunks of `CHUNK` bytes.
 use Rattle.std.specs.Prelude.{ℕ, zero, suc, ◌*◌, ◌/◌, false, List, [], ◌++◌, length, take, drop, codes, ◌==◌}
 use Rattle.std.specs.Prelude.{if◌then◌else◌}
 use Rattle.std.specs.Fmt.{digits}
 use Rattle.tiny_http_body.specs.declared.chunks.TheConstants.{CHUNK}
 
--- a size in lower-case hexadecimal, CR LF, so many bytes, CR LF
+-- the size in lower-case hexadecimal, CR LF, the bytes, CR LF
 abbrev pub printed_chunk : List ℕ → List ℕ
 printed_chunk bytes = digits 16 false (length bytes) ++ codes "\r\n" ++ bytes ++ codes "\r\n"
 
@@ -13,18 +13,18 @@ abbrev pub first_chunks : ℕ → List ℕ → List ℕ
 first_chunks zero bytes = []
 first_chunks (suc count) bytes = printed_chunk (take CHUNK bytes) ++ first_chunks count (drop CHUNK bytes)
 
--- as many full chunks as the bytes make
+-- all full chunks of the bytes
 unfoldable pub full_chunks : List ℕ → List ℕ
 full_chunks bytes = first_chunks (length bytes / CHUNK) bytes
 
--- the bytes after them, less than a full chunk
+-- the bytes after them, fewer than a full chunk
 unfoldable pub left_over : List ℕ → List ℕ
 left_over bytes = drop (length bytes / CHUNK * CHUNK) bytes
 
--- the last chunk of bytes, if there are any
+-- the final chunk of bytes, if there are any
 abbrev pub short_chunk : List ℕ → List ℕ
 short_chunk bytes = if length bytes == 0 then [] else printed_chunk bytes
 
--- all the bytes in chunks, the last of them of 1 byte to a full chunk, and the end
+-- all bytes in chunks, the final one of 1 byte to a full chunk, and the end
 abbrev pub chunked : List ℕ → List ℕ
 chunked bytes = full_chunks bytes ++ short_chunk (left_over bytes) ++ codes "0\r\n\r\n"

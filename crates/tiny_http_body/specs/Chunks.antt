@@ -1,4 +1,4 @@
--- A chunked body (RFC 9112, section 7.1), and what stands of one that is cut or broken, by each of the two rules.
+-- A chunked body (RFC 9112, section 7.1), and the data of one that is cut or broken, by each of the two rules.
 use Rattle.std.specs.Prelude.{◌≡◌, ℕ, ◌+◌, ◌<◌, ◌≤◌, ◌⊎◌, Bool, false, ◌||◌, ◌==◌, nat_lt, List, [], ◌∷◌, ◌++◌}
 use Rattle.std.specs.Prelude.{length, take, flat_map, IsTrue}
 use Rattle.std.specs.List.{AllByRecursion, list_all}
@@ -16,11 +16,11 @@ use Rattle.tiny_http_body.specs.declared.chunked.TheConstants.{LONGEST_LINE, MOS
 use Rattle.tiny_http_body.specs.declared.chunked.ChunkRules.{ChunkRules}
 use Rattle.tiny_http_body.specs.declared.chunked.ChunkRules.TheVariants.{Lenient, Standard}
 
--- the most bytes of a size line or a trailer line, without its CR LF: 8192
+-- maximum length in bytes of a chunk-size line or a trailer line, without its CR LF: 8192
 abbrev pub longest_line : ℕ
 longest_line = LONGEST_LINE
 
--- the most lines of a trailer section: 128
+-- maximum number of lines in a trailer section: 128
 abbrev pub most_trailers : ℕ
 most_trailers = MOST_TRAILERS
 
@@ -32,7 +32,7 @@ is_bws b = b == 9 || b == 32
 abbrev pub is_hex : ℕ → Bool
 is_hex b = nat_lt (digit_value b) 16
 
--- chunk-size [ chunk-ext ]: what stands before the first `;`, without blanks round it, is 1 to 16 hexadecimal digits
+-- chunk-size [ chunk-ext ]: the text before the first `;`, without blanks around it, is 1 to 16 hexadecimal digits
 pub record SizeText (text : List ℕ) (size : ℕ) : Type 0 where
   pub part : List ℕ
   pub extension : List ℕ
@@ -46,7 +46,7 @@ pub record SizeText (text : List ℕ) (size : ℕ) : Type 0 where
   pub hexadecimal : IsTrue (list_all is_hex digits)
   pub value : size ≡ digits_value 16 digits
 
--- By the standard the text begins with its digits, and no byte of it is a control byte but the tab.
+-- By the standard the text begins with its digits, and has no control byte except tab.
 abbrev pub SizeTextBy : ChunkRules → List ℕ → ℕ → Type 0
 SizeTextBy Lenient text size = SizeText text size
 SizeTextBy Standard text size =
@@ -78,7 +78,7 @@ pub record IsChunkBy (rules : ChunkRules) (c : Chunk) : Type 0 where
 abbrev pub IsLastLineBy : ChunkRules → List ℕ → Type 0
 IsLastLineBy rules text = IsShortLineBy rules text × SizeTextBy rules text 0
 
--- field-line = field-name ":" OWS field-value OWS, where no byte of the value is a control byte but the tab
+-- field-line = field-name ":" OWS field-value OWS, with no control byte except tab in the value
 pub record FieldText (text : List ℕ) : Type 0 where
   pub name : List ℕ
   pub value : List ℕ
@@ -86,12 +86,12 @@ pub record FieldText (text : List ℕ) : Type 0 where
   pub name_is : IsTrue (is_token name)
   pub value_is : IsTrue (list_all is_value_byte value)
 
--- what a trailer line says: by the standard it is a field line
+-- the text of a trailer line: by the standard it is a field line
 abbrev pub TrailerTextBy : ChunkRules → List ℕ → Type 0
 TrailerTextBy Lenient text = 0 < length text
 TrailerTextBy Standard text = FieldText text
 
--- a line of the trailer part, which is passed over
+-- a line of the trailer section, which is skipped
 abbrev pub IsTrailerLineBy : ChunkRules → List ℕ → Type 0
 IsTrailerLineBy rules text = IsShortLineBy rules text × TrailerTextBy rules text
 
@@ -101,7 +101,7 @@ lines_text lines = flat_map (λ text. text ++ crlf) lines
 abbrev pub data_of : List Chunk → List ℕ
 data_of chunks = flat_map (λ c. c.bytes) chunks
 
--- the bytes are chunks, a last chunk, a trailer part and the rest; the body is the chunks' data
+-- the bytes are chunks, a last chunk, a trailer section and the rest; the body is the data of the chunks
 pub record WholeChunksBy (rules : ChunkRules) (bytes body rest : List ℕ) : Type 0 where
   pub chunks : List Chunk
   pub last : List ℕ
@@ -113,18 +113,18 @@ pub record WholeChunksBy (rules : ChunkRules) (bytes body rest : List ℕ) : Typ
   pub are_trailers : AllByRecursion (IsTrailerLineBy rules) trailers
   pub few_trailers : length trailers ≤ most_trailers
 
--- no CR LF begins at a place up to the greatest length of a line
+-- no CR LF begins within the maximum length of a line
 abbrev pub HasNoShortLine : List ℕ → Type 0
 HasNoShortLine bytes = has_crlf (take (longest_line + 2) bytes) ≡ false
 
--- where a line has to stand, none does: there is room for the longest one, or the bytes end
+-- there is no line where one must be: the longest one would fit, or the bytes end
 abbrev pub ChunkLineFault : List ℕ → Stop → ErrorKind → Type 0
 ChunkLineFault bytes stop kind =
     HasNoShortLine bytes
     × (((longest_line + 2 ≤ length bytes) × (kind ≡ InvalidData))
     ⊎ ((length bytes < longest_line + 2) × (kind ≡ fault_of stop)))
 
--- An LF stands before the first CR LF, behind at most so many bytes that a line could still end there.
+-- There is an LF before the first CR LF, within the bytes that a line with its end may have.
 pub record LoneFeed (bytes : List ℕ) : Type 0 where
   pub text : List ℕ
   pub rest : List ℕ
@@ -132,14 +132,14 @@ pub record LoneFeed (bytes : List ℕ) : Type 0 where
   pub lone : has_crlf (text ++ line_feed ∷ []) ≡ false
   pub near : length text < longest_line + 2
 
--- By the standard an LF alone breaks the line, whatever follows it.
+-- By the standard a lone LF is a fault, whatever follows it.
 abbrev pub ChunkLineFaultBy : ChunkRules → List ℕ → Stop → ErrorKind → Type 0
 ChunkLineFaultBy Lenient bytes stop kind = ChunkLineFault bytes stop kind
 ChunkLineFaultBy Standard bytes stop kind =
     (LoneFeed bytes × (kind ≡ InvalidData))
     ⊎ (HasNo line_feed (take (longest_line + 2) bytes) × ChunkLineFault bytes stop kind)
 
--- a line of one byte or more that is no field line
+-- a nonempty line that isn't a field line
 pub record NoField (bytes : List ℕ) : Type 0 where
   pub text : List ℕ
   pub rest : List ℕ
@@ -148,19 +148,19 @@ pub record NoField (bytes : List ℕ) : Type 0 where
   pub not_empty : 0 < length text
   pub no_field : FieldText text → ⊥
 
--- where a trailer line has to stand, none does
+-- there is no trailer line where one must be
 abbrev pub TrailerFaultBy : ChunkRules → List ℕ → Stop → ErrorKind → Type 0
 TrailerFaultBy Lenient bytes stop kind = ChunkLineFault bytes stop kind
 TrailerFaultBy Standard bytes stop kind =
     ChunkLineFaultBy Standard bytes stop kind ⊎ (NoField bytes × (kind ≡ InvalidData))
 
--- what stands where the CR LF after a chunk's data has to
+-- what there is instead of the CR LF after a chunk's data
 abbrev pub CloseFault : List ℕ → Stop → ErrorKind → Type 0
 CloseFault [] stop kind = kind ≡ fault_of stop
 CloseFault (a ∷ []) stop kind = ((a ≡ 13) × (kind ≡ fault_of stop)) ⊎ ((a ≡ 13 → ⊥) × (kind ≡ InvalidData))
 CloseFault (a ∷ b ∷ bs) stop kind = ((a ∷ b ∷ [] ≡ crlf) → ⊥) × (kind ≡ InvalidData)
 
--- The remainder of a body whose whole chunks were taken off: what stands of the next chunk's data, and the fault.
+-- The rest of a body after its whole chunks: the data of the next chunk that are there, and the fault.
 pub data Remainder : Type 0 where
   NoSizeLine : Remainder
   BadSize : (text rest : List ℕ) → Remainder
@@ -170,9 +170,9 @@ pub data Remainder : Type 0 where
   LongTrailer : (last : List ℕ) (trailers : List (List ℕ)) (next : List ℕ) → Remainder
 
 abbrev pub RemainderBreaksBy : ChunkRules → Remainder → List ℕ → Stop → List ℕ → ErrorKind → Type 0
--- no size line
+-- no chunk-size line
 RemainderBreaksBy rules NoSizeLine bytes stop part kind = (part ≡ []) × ChunkLineFaultBy rules bytes stop kind
--- a size line whose text is no size
+-- a chunk-size line without a valid size
 RemainderBreaksBy rules (BadSize text rest) bytes stop part kind =
     (bytes ≡ text ++ crlf ++ rest)
     × IsShortLineBy rules text
@@ -186,21 +186,21 @@ RemainderBreaksBy rules (CutData text size) bytes stop part kind =
     × SizeTextBy rules text size
     × (length part < size)
     × (kind ≡ fault_of stop)
--- all the data stand, and no CR LF after them
+-- all the data are there, but no CR LF after them
 RemainderBreaksBy rules (NoClose text close) bytes stop part kind =
     (bytes ≡ text ++ crlf ++ part ++ close)
     × IsShortLineBy rules text
     × SizeTextBy rules text (length part)
     × (0 < length part)
     × CloseFault close stop kind
--- a last chunk, and the trailer part breaks off
+-- a last chunk, and the trailer section breaks off
 RemainderBreaksBy rules (CutTrailer last trailers next) bytes stop part kind =
     (bytes ≡ lines_text (last ∷ trailers) ++ next)
     × IsLastLineBy rules last
     × AllByRecursion (IsTrailerLineBy rules) trailers
     × (length trailers ≤ most_trailers)
     × TrailerFaultBy rules next stop kind × (part ≡ [])
--- a last chunk, and a trailer line too many
+-- a last chunk, and one trailer line too many
 RemainderBreaksBy rules (LongTrailer last trailers next) bytes stop part kind =
     (bytes ≡ lines_text (last ∷ trailers) ++ next)
     × IsLastLineBy rules last
@@ -208,7 +208,7 @@ RemainderBreaksBy rules (LongTrailer last trailers next) bytes stop part kind =
     × (length trailers ≡ most_trailers + 1)
     × (part ≡ []) × (kind ≡ InvalidData)
 
--- the bytes are whole chunks and a remainder; the data are the whole chunks' and what stands of the next
+-- the bytes are whole chunks and a remainder; the data are those of the whole chunks and of the unfinished one
 pub record CutChunksBy (rules : ChunkRules) (bytes : List ℕ) (stop : Stop) (body : List ℕ)
     (kind : ErrorKind) : Type 0 where
   pub chunks : List Chunk

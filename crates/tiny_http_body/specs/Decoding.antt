@@ -15,16 +15,16 @@ use Rattle.tiny_http_io.specs.Device.{AnswersStop, Feed, prepended, TakesFront, 
 use Rattle.tiny_http_body.specs.ChunkReading.{Decoded, decoded_by, data_at, trailer_section, broken}
 use Rattle.tiny_http_body.specs.declared.chunked.ChunkRules.{ChunkRules}
 
--- the data that are still to come, and what the reader gives after the body, or the fault
+-- the data that are still to come, and the reader's feed after the body, or the fault
 pub record Coming : Type 0 where
   pub bytes : List ℕ
   pub behind : Result Feed ErrorKind
 
--- a chunked body that begins here
+-- decodes a chunked body from its beginning
 abbrev pub body_by : ChunkRules → Stop → List ℕ → Decoded
 body_by rules stop bytes = decoded_by rules (length bytes + 1) stop bytes
 
--- what is read of the body from here on
+-- decodes the body from here on
 unfoldable pub decoded_from_by : ChunkRules → Next → Feed → Decoded
 decoded_from_by rules Line feed = body_by rules feed.stop feed.bytes
 decoded_from_by rules (Data left) feed =
@@ -32,55 +32,55 @@ decoded_from_by rules (Data left) feed =
 decoded_from_by rules Over feed = record { body = []; ends = Ok feed.bytes }
 decoded_from_by rules (Broken kind) feed = broken [] kind
 
--- what is read after the last chunk's line, where so many trailer lines may stand
+-- decodes what comes after the last chunk's line, with at most this many trailer lines
 unfoldable pub trailers_from : ChunkRules → ℕ → Feed → Decoded
 trailers_from rules most feed = trailer_section rules most feed.stop feed.bytes
 
--- the rest of the bytes, with their stop, or the fault
+-- the rest of the bytes with their stop, or the fault
 abbrev pub rest_at : Stop → Result (List ℕ) ErrorKind → Result Feed ErrorKind
 rest_at stop (Ok rest) = Ok (record { bytes = rest; stop = stop })
 rest_at stop (Err kind) = Err kind
 
--- the same, by what is read of the bytes
+-- the same, by the result of decoding
 abbrev pub coming_of : Stop → Decoded → Coming
 coming_of stop d = record { bytes = d.body; behind = rest_at stop d.ends }
 
--- what comes of the body from here on, where the reader's feed is stated
+-- what is still to come of the body from here on, if the reader's feed is stated
 abbrev pub comes : ChunkRules → Next → Option Feed → Option Coming
 comes rules next feed = option_map (λ f. coming_of f.stop (decoded_from_by rules next f)) feed
 
--- what comes after the last chunk's line, where so many trailer lines may stand
+-- what comes after the last chunk's line, with at most this many trailer lines
 abbrev pub trails : ChunkRules → ℕ → Option Feed → Option Coming
 trails rules most feed = option_map (λ f. coming_of f.stop (trailers_from rules most f)) feed
 
--- the data that a decoding still gives with a reader of this feed, and what stands after the body, or the fault
+-- the data that a decoding still gives with a reader of this feed, and the feed after the body, or the fault
 abbrev pub decoding_coming : Decoding → Option Feed → Option Coming
 decoding_coming d feed = comes d.rules d.next feed
 
--- the rules by which it reads
+-- the rules that it follows
 abbrev pub decoding_rules : Decoding → ChunkRules
 decoding_rules d = d.rules
 
--- what is read of the body from here on, by the bytes that follow and their stop
+-- decodes the body from here on, by the bytes that follow and their stop
 abbrev pub decoding_reads : Decoding → Feed → Decoded
 decoding_reads d feed = decoded_from_by d.rules d.next feed
 
--- THE BYTES THAT WERE TAKEN WERE NEEDED: had the reader stopped before the last of them, its stop would be the body's
--- fault.
+-- THE BYTES THAT WERE TAKEN WERE NEEDED: if the reader had stopped before the last of them, its stop would be the
+-- body's fault.
 pub record TakesNeeded (reads : Feed → Decoded) (old new : Option Feed) : Type 0 where
   pub taken : List ℕ
   pub gives : old ≡ prepended taken new
   pub needed : (front more : List ℕ) (stop : Stop) → taken ≡ front ++ more → 0 < length more
       → (reads (record { bytes = front; stop = stop })).ends ≡ Err (fault_of stop)
 
--- no line has to be read before the next byte of data, the end or the fault
+-- no line is to be read before the next byte of data, the end or the fault
 abbrev pub IsReady : Next → Type 0
 IsReady Line = ⊥
 IsReady (Data left) = 0 < left
 IsReady Over = ⊤
 IsReady (Broken kind) = ⊤
 
--- how many faults stand in the place of what comes next
+-- 1 if a fault comes next
 abbrev pub broken_count : Next → ℕ
 broken_count Line = 0
 broken_count (Data left) = 0
@@ -98,32 +98,32 @@ next_stop (Broken kind) = Some (Fault kind)
 abbrev pub decoding_stop : Decoding → Option Stop
 decoding_stop d = next_stop d.next
 
--- these data, and then what comes
+-- these data, then what comes
 abbrev pub prepend_data : List ℕ → Coming → Coming
 prepend_data bs c = record { bytes = bs ++ c.bytes; behind = c.behind }
 
--- these data, and then what comes, if it is stated
+-- these data, then what comes, if it is stated
 abbrev pub prepended_data : List ℕ → Option Coming → Option Coming
 prepended_data bs c = option_map (prepend_data bs) c
 
--- the body is over, and this stands after it
+-- the body is over, and this feed comes after it
 abbrev pub over_at : Feed → Coming
 over_at feed = record { bytes = []; behind = Ok feed }
 
--- nothing comes but this fault, if what comes is stated
+-- only this fault comes, if what comes is stated
 abbrev pub BreaksBy : ErrorKind → Option Coming → Type 0
 BreaksBy kind None = ⊤
 BreaksBy kind (Some c) = c ≡ record { bytes = []; behind = Err kind }
 
--- the reader inside of a decoder
+-- the inner reader of a decoder
 abbrev pub decoder_inner : {R : Type 0} → Decoder R → R
 decoder_inner d = d.inner
 
--- the data that it still gives, and what stands after the body, or the fault
+-- the data that it still gives, and the feed after the body, or the fault
 abbrev pub decoder_coming : {R : Type 0} → (R → Option Feed) → Decoder R → Option Coming
 decoder_coming feed d = decoding_coming d.decoding (feed d.inner)
 
--- what it reads of the body from here on
+-- decodes the body from here on
 abbrev pub decoder_reads : {R : Type 0} → Decoder R → Feed → Decoded
 decoder_reads d feed = decoding_reads d.decoding feed
 
@@ -131,7 +131,7 @@ decoder_reads d feed = decoding_reads d.decoding feed
 abbrev pub decoder_stop : {R : Type 0} → Decoder R → Option Stop
 decoder_stop d = decoding_stop d.decoding
 
--- the data of a whole body end, others stop by the fault
+-- the data of a whole body end; any others stop with the fault
 abbrev pub stop_behind : Result Feed ErrorKind → Stop
 stop_behind (Ok rest) = End
 stop_behind (Err kind) = Fault kind
@@ -144,10 +144,10 @@ feed_of c = record { bytes = c.bytes; stop = stop_behind c.behind }
 abbrev pub decoder_feed : {R : Type 0} → (R → Option Feed) → Decoder R → Option Feed
 decoder_feed feed d = option_map feed_of (decoder_coming feed d)
 
--- ONE READ. The bytes that came are the next of the body's data; none of some only at the body's end, after which the
--- reader inside stands after it; an error only where the data break off, and it takes none. And whatever the reader
--- states: into an empty buffer nothing changes, what was reported once is reported from then on, of the reader's
--- bytes a front is taken, and up to a fault no byte more than shows it.
+-- ONE READ. The bytes that came are the next of the body's data. A nonempty read that gives none is at the body's end,
+-- and the inner reader is just after the body. An error comes only where the data break off, and takes none. Whatever
+-- the reader states, a read into an empty buffer changes nothing, a reported end or fault is reported from then on,
+-- only bytes at the reader's front are taken, and up to a fault none beyond the one that shows it.
 pub record ReadsData {R : Type 0} (feed : R → Option Feed) (old new : Decoder R) (r : Result ℕ Error)
     (buf : List ℕ) : Type 0 where
   pub bound : IfOk r (λ n. n ≤ length buf)

@@ -1,4 +1,4 @@
--- What a contract sees of an `Encoder`.
+-- What clauses see of an `Encoder`.
 use Rattle.std.specs.Prelude.{◌≡◌, ℕ, ◌<◌, ◌≤◌, Bool, false, List, ◌++◌, length, take, Result, Ok, Err, IfErr, IsErr}
 use Rattle.std.specs.IoError.{error_kind}
 use Rattle.std.specs.declared.io.Error.{Error}
@@ -6,14 +6,14 @@ use Rattle.std.specs.declared.io.ErrorKind.TheVariants.{BrokenPipe}
 use Rattle.tiny_http_io.specs.Device.{Sink, Took, Failed}
 use Rattle.tiny_http_body.specs.ChunkedPrinting.{full_chunks, left_over}
 
--- The writer inside, what it states, the bytes that don't fill a chunk yet, and whether the writer has failed.
+-- The inner writer, what it states, the bytes of an unfinished chunk, and whether the writer has failed.
 pub record EncoderState (W : Type 0) : Type 0 where
   pub writer : W
   pub sink : Sink
   pub held : List ℕ
   pub failed : Bool
 
--- the writer inside
+-- the inner writer
 abbrev pub encoder_writer : {W : Type 0} → EncoderState W → W
 encoder_writer e = e.writer
 
@@ -21,18 +21,18 @@ encoder_writer e = e.writer
 abbrev pub encoder_failed : {W : Type 0} → EncoderState W → Bool
 encoder_failed e = e.failed
 
--- From one state of a writer to another these bytes were given: their full chunks were written, and the rest is held.
+-- The bytes given between two states of a writer: their full chunks were written, and the rest is held.
 pub record Encoded (start now : Sink) (given held : List ℕ) : Type 0 where
   pub written : Took start now (full_chunks given)
   pub rest : held ≡ left_over given
 
--- From this state of its writer on an encoder was given these bytes, and did not fail: their full chunks were written,
--- and the rest is held.
+-- Since this state of its writer an encoder was given these bytes and didn't fail: their full chunks were written, and
+-- the rest is held.
 abbrev pub HasEncoded : {W : Type 0} → Sink → List ℕ → EncoderState W → Type 0
 HasEncoded start given e = (e.failed ≡ false) × Encoded start e.sink given e.held
 
--- A call took bytes from the front of a text: with those that were held before them they are written as full chunks,
--- and the rest is held. Or the writer failed within the full chunks of all of them.
+-- A call took bytes from the front of a text: together with the held ones their full chunks were written, and the rest
+-- is held. Or the writer failed within the full chunks of all of them.
 abbrev pub Encodes : Sink → Sink → List ℕ → List ℕ → Result ℕ Error → List ℕ → Type 0
 Encodes old new was held (Ok n) text =
     (n ≤ length text)
@@ -41,6 +41,6 @@ Encodes old new was held (Ok n) text =
     × (held ≡ left_over (was ++ take n text))
 Encodes old new was held (Err e) text = Failed old new (full_chunks (was ++ text)) (error_kind e)
 
--- the answer after the writer's first fault
+-- the result after the writer's first fault
 abbrev pub IsBroken : {T : Type 0} → Result T Error → Type 0
 IsBroken r = IsErr r × IfErr r (λ e. error_kind e ≡ BrokenPipe)

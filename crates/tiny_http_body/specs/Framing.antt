@@ -1,4 +1,4 @@
--- How a message is framed, and whether the connection goes on (RFC 9112, sections 6.3 and 9.3; RFC 9110, 10.1.1).
+-- The framing of requests, and whether the connection persists (RFC 9112, sections 6.3 and 9.3; RFC 9110, 10.1.1).
 use Rattle.std.specs.Prelude.{◌≡◌, ℕ, ◌<◌, ◌≤◌, ◌⊎◌, Bool, true, false, not, ◌&&◌, ◌||◌, ◌==◌, List, [], ◌∷◌, ◌++◌}
 use Rattle.std.specs.Prelude.{Option, Some, None, is_some, Result, Ok, Err, IsTrue, codes, if◌then◌else◌}
 use Rattle.tiny_http_head.specs.declared.common.Header.{Header}
@@ -17,32 +17,32 @@ use Rattle.tiny_http_body.specs.declared.framing.Form.{Form}
 use Rattle.tiny_http_body.specs.declared.framing.Form.TheVariants.{Rest, Nothing, WithHead, Counted, Chunked}
 use Rattle.tiny_http_body.specs.declared.framing.Framing.{Framing}
 
--- the most bytes that a head may have, the CR LF of its empty line included; or None: any number
+-- the maximum length of a head in bytes, the CR LF of its empty line included, or None if it may have any number
 abbrev pub head_limit : HeadRules → Option ℕ
 head_limit Lenient = None
 head_limit Strict = Some STRICT_HEAD
 
--- the value of the first header of that name
+-- the value of the first field with that name
 abbrev pub value_of : List ℕ → List Header → Option (List ℕ)
 value_of name [] = None
 value_of name (h ∷ hs) = if same_name h.field name then Some h.value else value_of name hs
 
--- the elements of all headers of that name, without white space (bytes 9 to 13, and 32) around them
+-- the elements of all fields with that name, stripped of white space (bytes 9 to 13, and 32)
 abbrev pub elements_of : List ℕ → List Header → List (List ℕ)
 elements_of name headers = elements_by_name is_blank name headers
 
--- the word stands in the value somewhere, case-insensitively
+-- the value contains the word, case-insensitively
 abbrev pub mentions : List ℕ → Option (List ℕ) → Bool
 mentions word None = false
 mentions word (Some value) = contains_word word (lowercase value)
 
--- the length that a value says, after an optional plus
+-- the length that a value gives, after an optional plus
 abbrev pub length_in_value : Option (List ℕ) → Option ℕ
 length_in_value None = None
 length_in_value (Some value) = length_in value
 
--- THE LENGTH UNDER LENIENT: the first Content-Length says it, if it can be read, and a Transfer-Encoding of any value
--- hides it.
+-- THE LENGTH UNDER LENIENT: the first Content-Length gives it, if it can be read, and a Transfer-Encoding of any value
+-- overrides it.
 abbrev pub lenient_length : List Header → Option ℕ
 lenient_length headers =
     if is_some (value_of (codes "Transfer-Encoding") headers) then None
@@ -56,35 +56,35 @@ EndsWithChunked codings =
     × (codings ≡ before ++ last ∷ [])
     × IsTrue (same_name last (codes "chunked"))
 
--- THE LENGTH UNDER STRICT (RFC 9112, sections 6.1 to 6.3), by the elements of Content-Length and those of
--- Transfer-Encoding: without codings it is the one length, or there is none; or there are codings alone, the last of
--- which is chunked. With elements of both there is none that holds.
+-- THE LENGTH UNDER STRICT (RFC 9112, sections 6.1 to 6.3), by the elements of Content-Length and Transfer-Encoding:
+-- without codings it is the one length, or there is none; with codings alone the last one must be chunked. With
+-- elements of both none is valid.
 abbrev pub IsStrictLength : List (List ℕ) → List (List ℕ) → Option ℕ → Type 0
 IsStrictLength lengths [] n = IsOneLength lengths n
 IsStrictLength [] (coding ∷ codings) n = (n ≡ None) × EndsWithChunked (coding ∷ codings)
 IsStrictLength (length ∷ lengths) (coding ∷ codings) n = ⊥
 
--- the length of the body by its headers, or that they give none
+-- the content length by the fields, or that they give none
 abbrev pub IsBodyLength : HeadRules → List Header → Option ℕ → Type 0
 IsBodyLength Lenient headers n = n ≡ lenient_length headers
 IsBodyLength Strict headers n =
     IsStrictLength (elements_of (codes "Content-Length") headers) (elements_of (codes "Transfer-Encoding") headers) n
 
--- whether a 100 is owed; or None: an expectation that can't be met
+-- whether a 100 is due; None if the expectation can't be met
 abbrev pub expectation : Option (List ℕ) → Option Bool
 expectation None = Some false
 expectation (Some value) = if same_name value (codes "100-continue") then Some true else None
 
--- the word upgrade stands in the first Connection value somewhere
+-- the first Connection value contains the word upgrade
 abbrev pub names_upgrade : List Header → Bool
 names_upgrade headers = mentions (codes "upgrade") (value_of (codes "Connection") headers)
 
--- a Transfer-Encoding header is present
+-- there is a Transfer-Encoding field
 abbrev pub names_coding : List Header → Bool
 names_coding headers = is_some (value_of (codes "Transfer-Encoding") headers)
 
--- HOW THE BODY IS READ: an upgrade comes before a coding, and a coding before a length. A body of 1 to
--- `LONGEST_WITH_HEAD` bytes is read with its head, unless a 100 is owed.
+-- HOW THE BODY IS READ: an upgrade takes precedence over a coding, and a coding over a length. A body of 1 to
+-- `LONGEST_WITH_HEAD` bytes is read with its head, unless a 100 is due.
 abbrev pub IsForm : Form → Bool → Bool → Bool → Option ℕ → Type 0
 IsForm Rest upgrade coded owed n = upgrade ≡ true
 IsForm Chunked upgrade coded owed n = (upgrade ≡ false) × (coded ≡ true)
@@ -100,8 +100,8 @@ is_last v connection =
     (mentions (codes "close") connection || mentions (codes "upgrade") connection)
     || ((v.0 == 1 && v.1 == 0) && not (mentions (codes "keep-alive") connection))
 
--- HOW A HEAD FRAMES ITS MESSAGE, or why it is refused: its framing is invalid, which is judged first, or it expects
--- what can't be met.
+-- HOW A HEAD FRAMES ITS REQUEST, or why it is refused: its framing is invalid, which is checked first, or an
+-- expectation can't be met.
 abbrev pub Frames : HeadRules → HTTPVersion → List Header → Result Framing FramingFault → Type 0
 Frames p v headers (Err Invalid) = (n : Option ℕ) → IsBodyLength p headers n → ⊥
 Frames p v headers (Err Expectation) =

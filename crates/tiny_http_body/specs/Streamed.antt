@@ -1,4 +1,4 @@
--- What a contract sees of a body that grows.
+-- What clauses see of a `Streamed`.
 use Rattle.std.specs.Prelude.{◌≡◌, ◌⊎◌, ℕ, ◌<◌, ◌≤◌, Bool, false, List, [], ◌++◌, length, take, Result, Ok, Err}
 use Rattle.std.specs.Prelude.{codes}
 use Rattle.std.specs.List.{flat_map, AllByRecursion}
@@ -10,7 +10,7 @@ use Rattle.tiny_http_body.specs.declared.chunks.TheConstants.{CHUNK}
 use Rattle.tiny_http_body.specs.declared.streamed.StreamedForm.{StreamedForm}
 use Rattle.tiny_http_body.specs.declared.streamed.StreamedForm.TheVariants.{Chunks, Plain, Absent}
 
--- The writer inside, what it states, how the body is sent, the bytes that are held, and whether the writer has failed.
+-- The inner writer, what it states, how the body is sent, the held bytes, and whether the writer has failed.
 pub record StreamedState (W : Type 0) : Type 0 where
   pub writer : W
   pub sink : Sink
@@ -18,11 +18,11 @@ pub record StreamedState (W : Type 0) : Type 0 where
   pub held : List ℕ
   pub failed : Bool
 
--- a body of which nothing has come yet
+-- a body of which nothing was given yet
 abbrev pub begun : {W : Type 0} → W → Sink → StreamedForm → StreamedState W
 begun writer sink form = record { writer = writer; sink = sink; form = form; held = []; failed = false }
 
--- a piece of a body as it is sent: a chunk, if there is a byte; the bytes; or nothing
+-- a piece of a body as it is sent: as a chunk, if it isn't empty; as is; or not at all
 abbrev pub piece_text : StreamedForm → List ℕ → List ℕ
 piece_text Chunks bytes = short_chunk bytes
 piece_text Plain bytes = bytes
@@ -41,12 +41,12 @@ pieces_text form pieces = flat_map (piece_text form) pieces
 abbrev pub joined : List (List ℕ) → List ℕ
 joined pieces = flat_map (λ piece. piece) pieces
 
--- a piece has no more bytes than a chunk may have
+-- a piece has at most as many bytes as a chunk
 abbrev pub IsPiece : List ℕ → Type 0
 IsPiece bytes = length bytes ≤ CHUNK
 
--- From one state of a writer to another a body was given these bytes: all but those that are held, which are less
--- than a chunk, were sent in pieces.
+-- The bytes given to a body between two states of a writer: all except the held ones, fewer than a chunk, were sent in
+-- pieces.
 pub record SentPieces (form : StreamedForm) (start now : Sink) (given held : List ℕ) : Type 0 where
   pub pieces : List (List ℕ)
   pub sent : Took start now (pieces_text form pieces)
@@ -54,11 +54,11 @@ pub record SentPieces (form : StreamedForm) (start now : Sink) (given held : Lis
   pub bounds : AllByRecursion IsPiece pieces
   pub few : length held < CHUNK
 
--- From this state of its writer on a body was given these bytes, and did not fail.
+-- Since this state of its writer a body was given these bytes and didn't fail.
 abbrev pub HasStreamed : {W : Type 0} → Sink → List ℕ → StreamedState W → Type 0
 HasStreamed start given s = (s.failed ≡ false) × SentPieces s.form start s.sink given s.held
 
--- THE WHOLE BODY of these bytes was sent, in pieces, and its end
+-- THE WHOLE BODY of these bytes was sent, in pieces, with its end
 pub record EndsStreamed (form : StreamedForm) (start now : Sink) (given : List ℕ) : Type 0 where
   pub pieces : List (List ℕ)
   pub sent : Took start now (pieces_text form pieces ++ end_text form)
@@ -71,8 +71,8 @@ Holds form old new held bytes =
     ((length bytes < CHUNK) × (new ≡ old) × (held ≡ bytes))
     ⊎ ((length bytes ≡ CHUNK) × Took old new (piece_text form bytes) × (held ≡ []))
 
--- ONE WRITE takes bytes from the front of a text, at least one if there is one, behind those that are held. Or the
--- writer failed within the piece that they fill.
+-- ONE WRITE takes bytes from the front of a text, at least one if there is one, after the held ones. Or the writer
+-- failed within the piece that they fill.
 abbrev pub Gathers : StreamedForm → Sink → Sink → List ℕ → List ℕ → Result ℕ Error → List ℕ → Type 0
 Gathers form old new was held (Ok n) text =
     (n ≤ length text) × (0 < length text → 0 < n) × Holds form old new held (was ++ take n text)

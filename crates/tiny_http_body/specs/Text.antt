@@ -26,11 +26,11 @@ prepend_text front text = record { bytes = front ++ text.bytes; ending = text.en
 abbrev pub whole : List ℕ → Text
 whole bytes = record { bytes = bytes; ending = Whole }
 
--- no byte is sent, and this fault reported
+-- no byte is sent, and this fault is reported
 abbrev pub nothing_sent : ErrorKind → Text
 nothing_sent kind = record { bytes = []; ending = Broken kind }
 
--- a body that is sent as it is, cut at its length (RFC 9112, section 6.2): whole if there are so many bytes
+-- a body without a transfer coding, cut at its length (RFC 9112, section 6.2): whole if there are n bytes
 abbrev pub identity_body : ℕ → Feed → Text
 identity_body n feed =
     record {
@@ -38,15 +38,15 @@ identity_body n feed =
       ending = if nat_le n (length feed.bytes) then Whole else Broken (fault_of feed.stop);
     }
 
--- what stands behind the first n bytes of the data
+-- the data after their first n bytes
 abbrev pub data_behind : ℕ → Feed → Feed
 data_behind n feed = record { bytes = drop n feed.bytes; stop = feed.stop }
 
--- A call took no more than the first n bytes of the data, and just these where it answers Ok.
+-- A call took at most the first n bytes of the data, and exactly these if it returns Ok.
 abbrev pub TakesUpTo : {T : Type 0} → ℕ → Feed → Option Feed → Result T Error → Type 0
 TakesUpTo n old new r = (k : ℕ) × (k ≤ n) × (new ≡ Some (data_behind k old)) × OnOk r (k ≡ n)
 
--- a body that is sent in chunks, up to its last full one where its data fails
+-- a body sent in chunks, up to its last full one if its data fail
 abbrev pub chunked_until : Stop → List ℕ → Text
 chunked_until End bytes = whole (chunked bytes)
 chunked_until (Fault kind) bytes = record { bytes = full_chunks bytes; ending = Broken kind }
@@ -54,8 +54,8 @@ chunked_until (Fault kind) bytes = record { bytes = full_chunks bytes; ending = 
 abbrev pub chunked_body : Feed → Text
 chunked_body feed = chunked_until feed.stop feed.bytes
 
--- What a call that prints a text comes to: all of it is written, or all up to where it breaks off, with
--- its fault as the answer, or the writer failed within it.
+-- The result of a call that prints a text: all of it was written, or all before it breaks off with its fault as the
+-- error, or the writer failed within it.
 abbrev pub Prints : {T : Type 0} → Sink → Sink → Result T Error → Text → Type 0
 Prints old new (Ok x) text = (text.ending ≡ Whole) × Took old new text.bytes
 Prints old new (Err e) text =

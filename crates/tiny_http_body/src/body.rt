@@ -1,4 +1,4 @@
-//! The body of a request, read from the connection's input.
+//! Reading the body of a request from the connection's input.
 ghost use Rattle.std.specs.Prelude.{◌≡◌, ◌<◌, ◌≤◌, ◌+◌, ◌==◌, true, false, length, take, drop, Option, Ok, IfOk, OnErr};
 ghost use Rattle.std.specs.Option.{option_map};
 ghost use Rattle.tiny_http_io.specs.Device.{AnswersStop, Feed, Tells};
@@ -15,41 +15,41 @@ use std::io::{Cursor, ErrorKind};
 use tiny_http_io::device::{ReadDevice, Stop, read_front};
 use tiny_http_io::source::{InputState, Source};
 
-/// The most bytes of a body of known length that are skipped before the next head, by the standard.
+/// Maximum number of bytes of a body of known length that are skipped before the next head, by the standard.
 pub const MOST_SKIPPED: usize = 65_536;
 
-/// What is left of a body whose request is finished.
+/// What is left of a body when its request is finished.
 #[derive(Clone, Copy, Debug, PartialEq, Eq)]
 pub enum Remainder {
-    /// So little that it is skipped, and the next head can follow.
+    /// Few enough bytes to skip, so that the next head can follow.
     Skipped,
-    /// More bytes of a known length than `MOST_SKIPPED`.
+    /// More than `MOST_SKIPPED` bytes of a known length.
     Long,
-    /// Its end isn't known: chunks are unread, or it is cut or broken.
+    /// An unknown number: chunks are unread, or the body is cut or broken.
     Endless,
 }
 
-/// How far a request's body was read.
+/// The unread part of a request's body.
 #[derive(Drop)]
 pub enum UnreadBody {
-    /// No byte follows, and this is reported.
+    /// Nothing: this end or fault is reported.
     Over(Stop),
-    /// The bytes were read with the head.
+    /// Bytes that were read with the head.
     WithHead(Cursor<Vec<u8>>),
-    /// So many bytes of the input.
+    /// A number of bytes of the input.
     Counted {
-        /// How many are left.
+        /// The number of bytes left.
         left: usize,
-        /// Whether an end of the input among them is a fault, and not the body's end.
+        /// Whether an end of input before the last of them is a fault rather than the end of the body.
         by_standard: bool,
     },
     /// Chunks of the input.
     Chunked(Decoding),
-    /// All that comes of the input.
+    /// The whole rest of the input.
     Rest,
 }
 
-// What is reported after the last byte of a body.
+// Reports the end or the fault after the last byte of a body.
 fn report(stop: Stop) -> Result<usize, io::Error>
     ensures { AnswersStop stop result }
 {
@@ -59,7 +59,7 @@ fn report(stop: Stop) -> Result<usize, io::Error>
     }
 }
 
-/// The body of which so many bytes of the input are left. By the standard an end of the input among them is a fault.
+/// Makes a body of `left` bytes of the input. By the standard an end of input before the last of them is a fault.
 pub fn counted(left: usize, by_standard: bool) -> UnreadBody
     ensures remaining { (feed : Option Feed)
         → remaining result feed ≡ option_map (counted_remaining by_standard left) feed }
@@ -72,7 +72,7 @@ pub fn counted(left: usize, by_standard: bool) -> UnreadBody
     }
 }
 
-/// The body whose chunks are the next bytes of the input. Their lines are read by the rules of the profile.
+/// Makes a body whose chunks are next in the input. Their lines are read by the rules of the profile.
 pub fn chunked(by_standard: bool) -> UnreadBody
     ensures { IsNewChunked by_standard result }
 {
@@ -84,7 +84,7 @@ pub fn chunked(by_standard: bool) -> UnreadBody
 }
 
 impl UnreadBody {
-    // Reads some of the bytes that are left of a body of a known length. After one that is cut no head follows.
+    // Reads some bytes of a body of known length. After one that is cut no head follows.
     fn read_counted<R: ReadDevice>(
         &mut self,
         source: &mut Source<R>,
@@ -126,7 +126,7 @@ impl UnreadBody {
         }
     }
 
-    // Reads some of the data of a chunked body. After one that is cut or broken no head follows.
+    // Reads some data of a chunked body. After one that is cut or broken no head follows.
     fn read_chunked<R: ReadDevice>(
         &mut self,
         source: &mut Source<R>,
@@ -159,7 +159,7 @@ impl UnreadBody {
         }
     }
 
-    // Reads some of the bytes that come.
+    // Reads some bytes of the rest of the input.
     fn read_rest<R: ReadDevice>(
         &mut self,
         source: &mut Source<R>,
@@ -187,17 +187,17 @@ impl UnreadBody {
         }
     }
 
-    /// Reads some bytes of the body into the front of `buf`, and says how many. After the last byte each call answers
-    /// the end, or the fault by which the body is cut or broken; after a fault no head follows on the source.
+    /// Reads some bytes of the body into the front of `buf` and returns how many. After the last byte each call reports
+    /// the end, or the fault that cut or broke the body. After a fault no head follows on the source.
     pub fn read<R: ReadDevice>(
         &mut self,
         source: &mut Source<R>,
         buf: &mut [u8],
     ) -> Result<usize, io::Error>
         ensures reads { ReadsBody self.old self.new source.old source.new result buf.new }
-        // The source's reader is asked for no second end or fault, nor for more than the bytes that came.
+        // The source's reader isn't asked for a second end or fault, nor for more than the bytes that came.
         ensures stop_count { Tells (R.stop_count source.old.reader) (R.stop_count source.new.reader) result }
-        // It is asked for none where the body has its own end.
+        // It is asked for none if the body has its own end.
         ensures whole { R.stop_count source.new.reader
             ≤ R.stop_count source.old.reader + ends_met self.old (bytes_given result) self.new }
     {
@@ -217,11 +217,12 @@ impl UnreadBody {
             }
             UnreadBody::Rest => self.read_rest(source, buf),
         };
-        source.stand_at(self.input_state_after(input_state));
+        source.set_input_state(self.input_state_after(input_state));
         read
     }
 
-    /// Reads some bytes of a body that isn't read from the input, into a buffer with room: as `read`, without a source.
+    /// Reads some bytes of a body that isn't read from the input, as `read` does, but without a source. `buf` must have
+    /// room.
     pub fn read_held(&mut self, buf: &mut [u8]) -> Result<usize, io::Error>
         requires held { is_streaming self.old ≡ false }
         requires room { 0 < length buf.old }
@@ -235,7 +236,7 @@ impl UnreadBody {
         }
     }
 
-    // Where a source stands after a read that left this of the body.
+    // Returns the input state after a read that left this of the body.
     fn input_state_after(&self, input_state: InputState) -> InputState
         ensures { result ≡ body_input_state self.now input_state }
     {
@@ -265,8 +266,8 @@ impl UnreadBody {
         self.read(source, &mut buf[at..])
     }
 
-    /// Reads until `buf` is full or no byte is left, and says how many bytes there are. A fault is reported where it
-    /// comes before any byte, else by the next read.
+    /// Reads until `buf` is full or no byte is left, and returns how many bytes there are. A fault is reported if no
+    /// byte came before it, and otherwise by the next read.
     pub fn fill<R: ReadDevice>(
         &mut self,
         source: &mut Source<R>,
@@ -278,11 +279,11 @@ impl UnreadBody {
         ensures goes_on { GoesOn source.old.feed source.new.feed }
         ensures input_state { is_streaming self.old ≡ true
             → source.new.input_state ≡ body_input_state self.new source.old.input_state }
-        // The source's reader is asked for no second end or fault, nor once the buffer is full.
+        // The source's reader isn't asked for a second end or fault, nor after the buffer is full.
         ensures stop_count { R.stop_count source.new.reader ≤ R.stop_count source.old.reader + 1 }
         ensures lazy { IfOk result
             (λ n. n ≡ length buf.new → R.stop_count source.new.reader ≤ R.stop_count source.old.reader) }
-        // Nor is it asked for one where the body has its own end.
+        // Nor is it asked for one if the body has its own end.
         ensures whole { R.stop_count source.new.reader
             ≤ R.stop_count source.old.reader + ends_met self.old (bytes_given result) self.new }
     {
@@ -302,14 +303,14 @@ impl UnreadBody {
         Ok(at)
     }
 
-    /// Whether the next head stands after bytes of this body that were not read.
+    /// Returns whether the body is still read from the input, so that the next head comes after unread bytes of it.
     pub fn holds_reader(&self) -> bool
         ensures { result ≡ is_streaming self.now }
     {
         !matches!(self, UnreadBody::Over(_) | UnreadBody::WithHead(_))
     }
 
-    /// What is left of it, if its request is finished now.
+    /// Returns what would be left if the request were finished now.
     pub fn remainder(&self) -> Remainder
         ensures { result ≡ remainder self.now }
     {
@@ -320,8 +321,8 @@ impl UnreadBody {
         }
     }
 
-    /// How many bytes of it are left to be read, where a length says so: of a body of a known length, and of one that
-    /// is over by its end. If the client's bytes end early fewer come.
+    /// Returns the number of bytes left to read, if it is known: for a body of known length, and for one that reached
+    /// its end. Fewer come if the client's bytes end early.
     pub fn left(&self) -> Option<usize>
         ensures { result ≡ bytes_left self.now }
     {
@@ -336,15 +337,15 @@ impl UnreadBody {
         }
     }
 
-    /// Whether none of it is read from the input any more, and no fault ends it.
+    /// Returns whether nothing more is read from the input for this body, and no fault ended it.
     pub fn is_whole(&self) -> bool
         ensures { result ≡ is_whole self.now }
     {
         matches!(self, UnreadBody::Over(Stop::End) | UnreadBody::WithHead(_))
     }
 
-    /// The connection was upgraded: by the standard all that comes is read from now on, else still the body of the
-    /// request.
+    /// Turns the body into the stream of an upgraded connection: by the standard all further input, otherwise still the
+    /// body of the request.
     pub fn become_stream(&mut self, by_standard: bool)
         ensures { self.new ≡ stream_body by_standard self.old }
     {
@@ -353,8 +354,8 @@ impl UnreadBody {
         }
     }
 
-    /// Gives the body up: what is left of a counted one is skipped by the next head; after a chunked one of which the
-    /// end wasn't reported no head follows; one that is all the rest of the input is left to the source.
+    /// Discards the rest of the body. The rest of a counted body is skipped by the next head. After a chunked body
+    /// whose end wasn't reported no head follows. A body that is the whole rest of the input is left to the source.
     pub fn give_up<R: ReadDevice>(&mut self, source: &mut Source<R>)
         ensures over { self.new ≡ UnreadBody.Over Stop.End }
         ensures gives_up { GivesUp self.old source.old source.new }
@@ -363,11 +364,11 @@ impl UnreadBody {
         match self {
             UnreadBody::Counted { left, .. } => {
                 source.skip(*left);
-                source.stand_at(input_state.after_body());
+                source.set_input_state(input_state.after_body());
             }
             UnreadBody::Chunked(_) => {
                 source.end();
-                source.stand_at(input_state.after_abandoned());
+                source.set_input_state(input_state.after_abandoned());
             }
             UnreadBody::Over(_) => {}
             UnreadBody::WithHead(_) => {}

@@ -1,4 +1,4 @@
-//! The decoder of chunked bodies (RFC 9112, section 7.1).
+//! The chunked transfer coding: decoding (RFC 9112, section 7.1).
 ghost use Rattle.std.specs.Prelude.{◌≡◌, ℕ, ◌+◌, ◌<◌, ◌≤◌, List, length, take, Option, None, Some, Ok, Err, IfOk};
 ghost use Rattle.std.specs.Prelude.{IfErr, OnOk, OnErr, IsSome, IfSome};
 ghost use Rattle.std.specs.Option.{option_map};
@@ -21,41 +21,43 @@ use std::io;
 use std::io::{ErrorKind, Read};
 use tiny_http_io::device::{ReadDevice, Stop, read_front};
 
-/// How many bytes a size line or a trailer line has at most, without its CR LF. (RFC 9112, section 7.1.1, asks for
-/// such a limit.)
+/// Maximum length of a chunk-size line or a trailer line in bytes, without its CR LF (RFC 9112, section 7.1.1, asks for
+/// a limit).
 pub const LONGEST_LINE: usize = 8192;
 
-/// How many lines the trailer section has at most, its empty line left out.
+/// Maximum number of lines in a trailer section, without its empty line.
 pub const MOST_TRAILERS: usize = 128;
 
-/// How the lines of a chunked body are read: its size lines, and the lines of its trailer part. By both rules a CR LF
-/// stands after a chunk's data.
+/// The rules for the lines of a chunked body: its chunk-size lines and its trailer section.
+///
+/// By both rules a chunk size has 1 to 16 hexadecimal digits of either case, and CR LF follows a chunk's data. A
+/// malformed line is reported once it has ended.
 #[derive(Clone, Copy, Debug, PartialEq, Eq)]
 pub enum ChunkRules {
-    /// A line ends at its first CR LF. The size is what stands before the first `;` of a size line, without bytes 9
-    /// and 32 round it. Of an extension and of a trailer line the length alone is checked.
+    /// A line ends at its first CR LF. The chunk size is the text before the first `;`, without bytes 9 and 32 around
+    /// it. Of extensions and trailer lines only the length is checked.
     Lenient,
-    /// By the standard (RFC 9112, sections 2.2 and 7.1 to 7.1.2). A line ends at its first LF, which is InvalidData
-    /// as soon as it was read if the byte before it is no CR. A size line begins with its digits; bytes 9 and 32 may
-    /// follow, and then an extension, which begins with `;`. A trailer line is a field line: a token, a colon at
-    /// once, and a value. An extension and a value have no byte 0 to 8, 10 to 31 or 127.
+    /// By the standard (RFC 9112, sections 2.2 and 7.1 to 7.1.2). A line ends at its first LF; without a CR before it,
+    /// it is `InvalidData` as soon as it was read. A chunk-size line begins with its digits; bytes 9 and 32 may follow,
+    /// then an extension, which begins with `;`. A trailer line is a field line: a token, immediately a colon, and a
+    /// value. Extensions and values have no byte 0 to 8, 10 to 31 or 127.
     Standard,
 }
 
-/// What has to come next of a chunked body.
+/// What must come next in a chunked body.
 #[derive(Clone, Copy, Drop)]
 enum Next {
-    /// A size line.
+    /// A chunk-size line.
     Line,
-    /// So many bytes of data, and a CR LF.
+    /// This many bytes of data, then CR LF.
     Data(u64),
-    /// Nothing: the trailer part was read.
+    /// Nothing: the trailer section was read.
     Over,
-    /// Nothing: the body is broken, by a fault of this kind.
+    /// Nothing: the body broke off with a fault of this kind.
     Broken(ErrorKind),
 }
 
-// Takes the CR LF after a chunk's data.
+// Consumes the CR LF after a chunk's data. Other bytes are `InvalidData`.
 fn close_chunk<R: ReadDevice>(reader: &mut R) -> Result<(), ErrorKind>
     ensures closed { (rules : ChunkRules)
         → OnOk result (comes rules Next.Line (R.feed reader.new) ≡ comes rules (Next.Data 0) (R.feed reader.old)) }
@@ -88,7 +90,7 @@ fn close_chunk<R: ReadDevice>(reader: &mut R) -> Result<(), ErrorKind>
     }
 }
 
-// Takes the trailer section: at most `MOST_TRAILERS` lines, and its empty line.
+// Consumes the trailer section: at most `MOST_TRAILERS` lines and the empty line.
 fn skip_trailers<R: ReadDevice>(reader: &mut R, rules: ChunkRules) -> Next
     ensures comes { comes rules result (R.feed reader.new) ≡ trails rules MOST_TRAILERS (R.feed reader.old) }
     ensures ready { IsReady result }
@@ -120,7 +122,7 @@ fn skip_trailers<R: ReadDevice>(reader: &mut R, rules: ChunkRules) -> Next
     }
 }
 
-// Takes a size line, and after that of the last chunk the trailer part.
+// Consumes a chunk-size line, and after that of the last chunk the trailer section.
 fn open_chunk<R: ReadDevice>(reader: &mut R, rules: ChunkRules) -> Next
     ensures comes { comes rules result (R.feed reader.new) ≡ comes rules Next.Line (R.feed reader.old) }
     ensures ready { IsReady result }
@@ -142,7 +144,7 @@ fn open_chunk<R: ReadDevice>(reader: &mut R, rules: ChunkRules) -> Next
     }
 }
 
-// Takes what stands before the next byte of data, the end or the fault.
+// Consumes everything before the next byte of data, the end or the fault.
 fn go_to_data<R: ReadDevice>(reader: &mut R, rules: ChunkRules, next: Next) -> Next
     ensures comes { comes rules result (R.feed reader.new) ≡ comes rules next (R.feed reader.old) }
     ensures ready { IsReady result }
@@ -167,7 +169,7 @@ fn go_to_data<R: ReadDevice>(reader: &mut R, rules: ChunkRules, next: Next) -> N
     }
 }
 
-// Reads some of so many bytes, which have to come.
+// Reads some of the `left` bytes of data. An end of input is `UnexpectedEof`.
 fn read_data<R: ReadDevice>(reader: &mut R, left: u64, buf: &mut [u8]) -> Result<usize, io::Error>
     requires left { 0 < left }
     requires room { 0 < length buf.old }
@@ -186,7 +188,7 @@ fn read_data<R: ReadDevice>(reader: &mut R, left: u64, buf: &mut [u8]) -> Result
     }
 }
 
-/// How far a chunked body was decoded, apart from its reader. A copy stays where it was made.
+/// The state of decoding a chunked body, without its reader. A copy doesn't advance with the original.
 #[derive(Clone, Copy, Drop)]
 pub struct Decoding {
     rules: ChunkRules,
@@ -194,13 +196,13 @@ pub struct Decoding {
 }
 
 impl Decoding {
-    /// The decoding of a body whose first byte is the reader's next one, by the lenient rules.
+    /// Starts at the first byte of a body, by the lenient rules.
     pub fn new() -> Decoding
-        // A body that is whole gives its data, and leaves the rest.
+        // A whole body gives its data and leaves the rest.
         ensures whole { (bytes body rest : List ℕ) (stop : Stop) → WholeChunks bytes body rest
             → decoding_coming result (Some (record { bytes = bytes; stop = stop }))
             ≡ Some (record { bytes = body; behind = Ok (record { bytes = rest; stop = stop }) }) }
-        // Another one gives the data that stand, and then the fault.
+        // Any other gives the data that are there, then the fault.
         ensures front { (bytes body : List ℕ) (stop : Stop) (kind : ErrorKind) → CutChunks bytes stop body kind
             → decoding_coming result (Some (record { bytes = bytes; stop = stop }))
             ≡ Some (record { bytes = body; behind = Err kind }) }
@@ -210,13 +212,13 @@ impl Decoding {
         Decoding::new_with(ChunkRules::Lenient)
     }
 
-    /// The decoding of a body whose first byte is the reader's next one, by these rules.
+    /// Starts at the first byte of a body, by these rules.
     pub fn new_with(rules: ChunkRules) -> Decoding
-        // A body that is whole by the rules gives its data, and leaves the rest.
+        // A whole body by the rules gives its data and leaves the rest.
         ensures whole { (bytes body rest : List ℕ) (stop : Stop) → WholeChunksBy rules bytes body rest
             → decoding_coming result (Some (record { bytes = bytes; stop = stop }))
             ≡ Some (record { bytes = body; behind = Ok (record { bytes = rest; stop = stop }) }) }
-        // Another one gives the data that stand, and then the fault.
+        // Any other gives the data that are there, then the fault.
         ensures front { (bytes body : List ℕ) (stop : Stop) (kind : ErrorKind) → CutChunksBy rules bytes stop body kind
             → decoding_coming result (Some (record { bytes = bytes; stop = stop }))
             ≡ Some (record { bytes = body; behind = Err kind }) }
@@ -229,21 +231,12 @@ impl Decoding {
         }
     }
 
-    /// Reads some data into the front of `buf`, and says how many bytes: 0 at the end, and where
-    /// `buf` is empty. Size lines, CR LFs and the trailer part are taken and not given, and nothing
-    /// after the trailer part is taken (RFC 9112, section 7.1). It takes no memory.
-    ///
-    /// A line has at most 8192 bytes before its CR LF, and the trailer part at most 128 lines. A
-    /// size is 1 to 16 hexadecimal digits of either case. What else a line may hold is said by the
-    /// `ChunkRules`. What breaks these rules, and other bytes than CR LF after a chunk's data, is a
-    /// fault of kind InvalidData. Where the reader stops within the body, its end is a fault of kind
-    /// UnexpectedEof, and its fault is one of the same kind. The data before a fault are given
-    /// first, those of an unfinished chunk too.
-    ///
-    /// By the standard's rules a lone LF is reported as soon as it was read; another wrong line is
-    /// reported once it has ended. No byte behind it is read. The end is reported once the trailer
-    /// part was read. From then on, and from a fault on, each call answers the same, and does not
-    /// call the reader.
+    /// Reads some data into the front of `buf` and returns how many bytes: 0 at the end, or if `buf` is empty. It takes
+    /// no memory. Chunk-size lines, CR LFs and the trailer section are consumed, and nothing after it (RFC 9112,
+    /// section 7.1). What breaks the `ChunkRules`, `LONGEST_LINE` or `MOST_TRAILERS` is `InvalidData`. The reader's end
+    /// within the body is `UnexpectedEof`; its fault keeps its kind. Data before a fault come first, even of an
+    /// unfinished chunk. The end comes once the trailer section was read. After it, or a fault, each call reports the
+    /// same without calling the reader.
     pub fn read<R: ReadDevice>(
         &mut self,
         reader: &mut R,
@@ -255,7 +248,7 @@ impl Decoding {
         ensures data { IfOk result
             (λ n. decoding_coming self.old (R.feed reader.old)
             ≡ prepended_data (take n buf.new) (decoding_coming self.new (R.feed reader.new))) }
-        // The end is reported where the reader stands after the body.
+        // The end is reported when the reader is just after the body.
         ensures end { IfOk result (λ n. n ≡ 0
             → 0 < length buf.new
             → decoding_coming self.old (R.feed reader.old) ≡ option_map over_at (R.feed reader.new)) }
@@ -263,18 +256,18 @@ impl Decoding {
         ensures again { OnErr result
             (decoding_coming self.new (R.feed reader.new) ≡ decoding_coming self.old (R.feed reader.old)) }
         ensures empty { length buf.new ≡ 0 → (result ≡ Ok 0) × (self.new ≡ self.old) × (reader.new ≡ reader.old) }
-        // Whatever the reader states, after the end or a fault it isn't called again, and the same is answered.
+        // Whatever the reader states, it isn't called again after the end or a fault, and the same is reported.
         ensures zero_is_end { IfOk result (λ n. n ≡ 0 → 0 < length buf.new → decoding_stop self.new ≡ Some Stop.End) }
         ensures broken { IfErr result (λ e. decoding_stop self.new ≡ Some (Stop.Fault (error_kind e))) }
         ensures stays { IsSome (decoding_stop self.old) → (self.new ≡ self.old) × (reader.new ≡ reader.old) }
         ensures reports_stop { IfSome (decoding_stop self.old) (λ stop. 0 < length buf.new → AnswersStop stop result) }
-        // Only bytes at the front of what the reader gives are taken.
+        // Only bytes at the front of what the reader gives are consumed.
         ensures takes { TakesFront (R.feed reader.old) (R.feed reader.new) }
-        // Up to a fault no byte more is taken than shows it.
+        // Up to a fault no byte is consumed beyond the one that shows it.
         ensures needed { OnErr result (TakesNeeded (decoding_reads self.old) (R.feed reader.old) (R.feed reader.new)) }
-        // The reader is asked for no second end or fault, nor for more than the bytes that came.
+        // The reader isn't asked for a second end or fault, nor for more than the bytes that came.
         ensures stop_count { Tells (R.stop_count reader.old) (R.stop_count reader.new) result }
-        // It is asked for none where the body has its own end, which is a line.
+        // It is asked for none if the body has its own end, which is a line.
         ensures whole { R.stop_count reader.new ≤ R.stop_count reader.old + fault_count result }
     {
         if buf.is_empty() {
@@ -297,7 +290,7 @@ impl Decoding {
         }
     }
 
-    /// The end or the fault that each read reports from now on, if it is known.
+    /// Returns the end or the fault that each further read reports, if it is known.
     pub fn stop(&self) -> Option<Stop>
         ensures { result ≡ decoding_stop self.now }
     {
@@ -309,8 +302,8 @@ impl Decoding {
     }
 }
 
-/// The data of a chunked body, as a reader. It takes no byte of the reader inside after the body's
-/// trailer part. Dropped or taken apart before its end it leaves the rest of the body unread.
+/// A reader of the data of a chunked body. It consumes no byte of the inner reader after the trailer section. If it is
+/// dropped or taken apart before the end, the rest of the body stays unread.
 #[derive(Drop)]
 pub struct Decoder<R> {
     inner: R,
@@ -321,14 +314,14 @@ impl<R: ReadDevice> Decoder<R> {
     ghost use Rattle.tiny_http_io.specs.Device.{Feed};
     ghost use Rattle.tiny_http_body.specs.Decoding.{decoder_coming, decoder_inner, decoder_stop, ReadsData};
 
-    /// The data of a body whose first byte is the reader's next one, by the lenient rules.
+    /// Decodes a body whose first byte is the reader's next, by the lenient rules.
     pub fn new(inner: R) -> Decoder<R>
         ensures inner { decoder_inner result ≡ inner }
-        // A body that is whole gives its data, and leaves the rest.
+        // A whole body gives its data and leaves the rest.
         ensures whole { (feed : Feed) (body rest : List ℕ) → R.feed inner ≡ Some feed → WholeChunks feed.bytes body rest
             → decoder_coming R.feed result
             ≡ Some (record { bytes = body; behind = Ok (record { bytes = rest; stop = feed.stop }) }) }
-        // Another one gives the data that stand, and then the fault.
+        // Any other gives the data that are there, then the fault.
         ensures front { (feed : Feed) (body : List ℕ) (kind : ErrorKind)
             → R.feed inner ≡ Some feed
             → CutChunks feed.bytes feed.stop body kind
@@ -338,16 +331,16 @@ impl<R: ReadDevice> Decoder<R> {
         Decoder::new_with(inner, ChunkRules::Lenient)
     }
 
-    /// The data of a body whose first byte is the reader's next one, by these rules.
+    /// Decodes a body whose first byte is the reader's next, by these rules.
     pub fn new_with(inner: R, rules: ChunkRules) -> Decoder<R>
         ensures inner { decoder_inner result ≡ inner }
-        // A body that is whole by the rules gives its data, and leaves the rest.
+        // A whole body by the rules gives its data and leaves the rest.
         ensures whole { (feed : Feed) (body rest : List ℕ)
             → R.feed inner ≡ Some feed
             → WholeChunksBy rules feed.bytes body rest
             → decoder_coming R.feed result
             ≡ Some (record { bytes = body; behind = Ok (record { bytes = rest; stop = feed.stop }) }) }
-        // Another one gives the data that stand, and then the fault.
+        // Any other gives the data that are there, then the fault.
         ensures front { (feed : Feed) (body : List ℕ) (kind : ErrorKind)
             → R.feed inner ≡ Some feed
             → CutChunksBy rules feed.bytes feed.stop body kind
@@ -360,8 +353,8 @@ impl<R: ReadDevice> Decoder<R> {
         }
     }
 
-    /// Reads some data into the front of `buf`, as `Decoding::read`: after them each call answers
-    /// the end, or the fault.
+    /// Reads some data into the front of `buf`, as `Decoding::read` does. After the last byte each call reports the end
+    /// or the fault.
     pub fn read(&mut self, buf: &mut [u8]) -> Result<usize, io::Error>
         ensures reads { ReadsData R.feed self.old self.new result buf.new }
         ensures stop_count { Tells (R.stop_count (decoder_inner self.old))
@@ -372,7 +365,7 @@ impl<R: ReadDevice> Decoder<R> {
         self.decoding.read(&mut self.inner, buf)
     }
 
-    /// The reader inside. Once the end was reported it stands after the body.
+    /// Returns the inner reader. Once the end was reported it is just after the body.
     pub fn into_inner(self) -> R
         ensures { result ≡ decoder_inner self }
     {

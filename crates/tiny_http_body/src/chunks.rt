@@ -1,4 +1,4 @@
-//! Data that are sent in chunks (RFC 9112, section 7.1).
+//! The chunked transfer coding: encoding of data from a reader (RFC 9112, section 7.1).
 ghost use Rattle.std.specs.Prelude.{◌≡◌, ◌<◌, ◌≤◌, ◌+◌, ◌^◌, ◌++◌, length, codes, IfSome};
 ghost use Rattle.tiny_http_io.specs.Device.{Puts, CountsFaults};
 ghost use Rattle.tiny_http_body.specs.ChunkedPrinting.{printed_chunk, short_chunk};
@@ -10,14 +10,13 @@ use std::io::ErrorKind;
 use tiny_http_io::device::{ReadDevice, WriteDevice, put, put_all};
 use tiny_http_text::number::Numeral;
 
-/// How many bytes a full chunk has (as tiny_http).
+/// The size of a full chunk in bytes (as in the original).
 pub const CHUNK: usize = 8192;
 
-/// Writes some bytes as one chunk: how many they are in lower-case hexadecimal without leading zeros,
-/// CR LF, the bytes, CR LF (RFC 9112, section 7.1). The error is the writer's first fault, after which
-/// nothing more is written.
+/// Writes some bytes as one chunk: their number in lower-case hexadecimal without leading zeros, CR LF, the bytes, CR
+/// LF (RFC 9112, section 7.1). Fails with the writer's first fault, after which nothing more is written.
 pub fn put_chunk<W: WriteDevice>(writer: &mut W, bytes: &[u8]) -> Result<(), io::Error>
-    // A chunk of no bytes is the last one.
+    // A chunk without bytes would be the last one.
     requires { 0 < length bytes.now }
     ensures { Puts (W.sink writer.old) (W.sink writer.new) result (printed_chunk bytes.now) }
 {
@@ -25,8 +24,8 @@ pub fn put_chunk<W: WriteDevice>(writer: &mut W, bytes: &[u8]) -> Result<(), io:
     put_all(writer, &[size.as_bytes(), b"\r\n", bytes, b"\r\n"])
 }
 
-/// Writes the last bytes as a chunk, if there are any, and then the last chunk, which has none, with an
-/// empty trailer (RFC 9112, section 7.1). Errors as `put_chunk`.
+/// Writes the final bytes as a chunk, if there are any, then the last chunk with an empty trailer section (RFC 9112,
+/// section 7.1). Errors are those of `put_chunk`.
 pub fn put_last<W: WriteDevice>(writer: &mut W, bytes: &[u8]) -> Result<(), io::Error>
     ensures { Puts (W.sink writer.old) (W.sink writer.new) result (short_chunk bytes.now ++ codes "0\r\n\r\n") }
 {
@@ -36,18 +35,18 @@ pub fn put_last<W: WriteDevice>(writer: &mut W, bytes: &[u8]) -> Result<(), io::
     put(writer, b"0\r\n\r\n")
 }
 
-/// Writes all the data in chunks of 8192 bytes, the last of 1 to 8192, and the end of the body (RFC
-/// 9112, section 7.1). The first fault of the data or of the writer is the error. After a fault of the
-/// data the full chunks before it are written, and no last chunk; after one of the writer nothing more.
+/// Writes all the data in chunks of 8192 bytes, the final one of 1 to 8192, and the end of the body (RFC 9112, section
+/// 7.1). Fails with the first fault of the data or the writer. After a fault of the data all full chunks before it are
+/// written, but no last chunk; after one of the writer nothing more is.
 pub fn put_chunked<D: ReadDevice, W: WriteDevice>(
     source: &mut D,
     writer: &mut W,
 ) -> Result<(), io::Error>
     ensures text { IfSome (D.feed source.old) (λ feed. length feed.bytes < 2 ^ 63 →
         Prints (W.sink writer.old) (W.sink writer.new) result (chunked_body feed)) }
-    // Whatever the data and the writer state: a fault of the writer's is one that its count has.
+    // Whatever the data and the writer state, a fault is the writer's only if its count rose.
     ensures uses { CountsFaults (W.sink writer.old) (W.sink writer.new) result }
-    // The data aren't asked for on behind their end or fault.
+    // The data are not read again after their end or fault.
     ensures stop_count { D.stop_count source.new ≤ D.stop_count source.old + 1 }
 {
     let mut buf = [0u8; CHUNK];

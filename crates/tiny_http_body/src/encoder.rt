@@ -1,4 +1,4 @@
-//! A writer whose bytes are sent in chunks (RFC 9112, section 7.1).
+//! The chunked transfer coding: a writer (RFC 9112, section 7.1).
 ghost use Rattle.std.specs.Prelude.{◌≡◌, ◌+◌, ◌<◌, ◌≤◌, ◌++◌, List, ℕ, [], true, false, length, take, Ok, IfOk};
 ghost use Rattle.std.specs.Prelude.{IfErr, OnOk, OnErr};
 ghost use Rattle.std.specs.IoError.{error_kind};
@@ -13,11 +13,10 @@ use std::io::{ErrorKind, Write};
 use std::marker::Model;
 use tiny_http_io::device::WriteDevice;
 
-/// A writer of chunks of 8192 bytes over another writer. It holds the bytes that don't fill a chunk yet.
+/// A writer that sends its bytes in chunks of 8192 to another writer. It buffers the bytes of an unfinished chunk.
 ///
-/// After the writer's first fault it writes nothing more: each later call is an error of kind
-/// `BrokenPipe`. Only `finish` sends what is held, and the end of the body. An encoder that is dropped
-/// sends nothing.
+/// Only `finish` sends the buffered bytes and the end of the body; a dropped encoder sends nothing. After the inner
+/// writer's first fault nothing more is written: each later call fails with `BrokenPipe`.
 #[derive(Drop)]
 pub struct Encoder<W: WriteDevice> {
     inner: W,
@@ -40,7 +39,7 @@ impl<W: WriteDevice> Model for Encoder<W> {
     ghost invariant = { λ e. e.len < CHUNK };
 }
 
-/// Copies the first `count` of the bytes to the place `at` of the buffer.
+/// Copies the first `count` bytes into the buffer at `at`.
 pub(crate) fn copy_to(held: &mut [u8], at: usize, bytes: &[u8], count: usize)
     requires room { at + count ≤ length held.old }
     requires there { count ≤ length bytes.now }
@@ -49,8 +48,8 @@ pub(crate) fn copy_to(held: &mut [u8], at: usize, bytes: &[u8], count: usize)
     held[at..at + count].copy_from_slice(&bytes[..count]);
 }
 
-// Takes bytes from the front of a text, at least one if there is one, after the first `len` of the
-// buffer. Where they fill a chunk it is written.
+// Takes bytes from the front of a text, at least one if there is one, after the first `len` of the buffer. Writes a
+// chunk once it is full.
 fn encode<W: WriteDevice>(
     writer: &mut W,
     held: &mut [u8; CHUNK],
@@ -68,7 +67,7 @@ fn encode<W: WriteDevice>(
 impl<W: WriteDevice> Encoder<W> {
     ghost use Rattle.tiny_http_body.specs.Encoder.{HasEncoded, encoder_writer, encoder_failed, IsBroken};
 
-    /// An encoder over this writer that was given nothing yet. It writes nothing.
+    /// Wraps a writer. Nothing is written yet.
     pub fn new(inner: W) -> Encoder<W>
         ensures writer { encoder_writer result ≡ inner }
         ensures begins { HasEncoded (W.sink inner) [] result }
@@ -81,7 +80,7 @@ impl<W: WriteDevice> Encoder<W> {
         }
     }
 
-    /// The writer. What is held isn't written yet.
+    /// Borrows the writer. Buffered bytes aren't written yet.
     pub fn get_ref(&self) -> &W
         ensures writer { result.now ≡ encoder_writer self.now }
         ensures sink { self.now.sink ≡ W.sink result.now }
@@ -89,17 +88,16 @@ impl<W: WriteDevice> Encoder<W> {
         &self.inner
     }
 
-    /// Sends the bytes that are held as a chunk, if there are any, and the end of the body, and gives the
-    /// writer back: it then took all the bytes that the encoder was given, in chunks of 8192, the last of
-    /// 1 to 8192. It doesn't flush. The error is the writer's fault; or of kind `BrokenPipe` after an
-    /// earlier one, and then the writer is left as it was.
+    /// Sends the buffered bytes as a chunk, if there are any, and the end of the body, and returns the writer. It then
+    /// has all bytes that the encoder was given, in chunks of 8192, the final one of 1 to 8192. It doesn't flush. Fails
+    /// with the writer's fault, or, after an earlier one, with `BrokenPipe`, and then the writer is left as it was.
     pub fn finish(mut self) -> Result<W, io::Error>
     where
         W: Drop,
         ensures body { IfOk result (λ w. (start : Sink) (given : List ℕ)
             → HasEncoded start given self
             → Took start (W.sink w) (chunked given)) }
-        // The fault is the one by which the writer, as it was left, failed within the rest of the body.
+        // The fault is the writer's, which failed within the rest of the body.
         ensures fault { IfErr result (λ e. encoder_failed self ≡ false → (w : W) × ((start : Sink) (given : List ℕ)
             → HasEncoded start given self
             → Failed start (W.sink w) (chunked given) (error_kind e))) }
@@ -118,9 +116,8 @@ impl<W: WriteDevice> Write for Encoder<W> {
     ghost use Rattle.std.specs.Io.{WritesAtMost};
     ghost use Rattle.tiny_http_body.specs.Encoder.{HasEncoded, encoder_failed, IsBroken};
 
-    /// Takes some of the bytes, at least one if there is one, and says how many. Where they fill a chunk it
-    /// is written; else they are held. The error is the writer's first fault, or of kind `BrokenPipe` after
-    /// it.
+    /// Takes some bytes, at least one if there is one, and returns how many. A full chunk is written; other bytes are
+    /// buffered. Fails with the writer's first fault, and with `BrokenPipe` after it.
     fn write(&mut self, buf: &[u8]) -> io::Result<usize>
         ensures bound { WritesAtMost result buf.now }
         ensures some { IfOk result (λ n. 0 < length buf.now → 0 < n) }
@@ -151,7 +148,7 @@ impl<W: WriteDevice> Write for Encoder<W> {
         }
     }
 
-    /// Flushes the writer. What is held stays: it doesn't become a chunk. Errors as `write`.
+    /// Flushes the writer. Buffered bytes stay: they don't become a chunk. Errors are those of `write`.
     fn flush(&mut self) -> io::Result<()>
         ensures body { OnOk result ((start : Sink) (given : List ℕ)
             → HasEncoded start given self.old

@@ -1,4 +1,4 @@
-//! How a message is framed, and whether the connection goes on.
+//! The framing of requests, and whether the connection persists.
 ghost use Rattle.std.specs.Prelude.{◌≡◌, ◌==◌, ◌∷◌, [], if◌then◌else◌, false, codes, None, is_some};
 ghost use Rattle.std.specs.Option.{option_copied};
 ghost use Rattle.std.specs.List.{starts_with};
@@ -18,36 +18,35 @@ use tiny_http_head::grammar::parse_content_length;
 use tiny_http_text::ascii::AsciiString;
 use tiny_http_text::text::trim;
 
-/// The most bytes of a body that is read with its head (as tiny_http).
+/// Maximum length in bytes of a body that is read with its head (as in the original).
 pub const LONGEST_WITH_HEAD: usize = 1024;
 
-/// The most bytes of a head under `Strict`, the CR LF of its empty line included (RFC 6585, section 5, names no
-/// number).
+/// Maximum length of a head in bytes under `Strict`, the CR LF of its empty line included (RFC 6585, section 5, gives
+/// no number).
 pub const STRICT_HEAD: usize = 65_536;
 
-/// The most bytes of a head under `Standard`, its empty lines included (RFC 9112, section 3, and RFC 6585, section 5,
-/// name no number).
+/// Maximum length of a head in bytes under `Standard`, its empty lines included (RFC 9112, section 3, and RFC 6585,
+/// section 5, give no number).
 pub const STANDARD_HEAD: usize = 65_536;
 
-/// How strictly a head is judged.
+/// How strictly requests are validated.
 #[derive(Clone, Copy, Debug, PartialEq, Eq)]
 pub enum Profile {
-    /// As tiny_http 0.12: the first `Content-Length` counts, a `Transfer-Encoding` of any value means chunked and
-    /// hides it, and a head may be of any size.
+    /// As the original, tiny_http 0.12: the first `Content-Length` counts, a `Transfer-Encoding` of any value means
+    /// chunked and overrides it, and a head may be of any size.
     Lenient,
-    /// For a server behind a proxy. Refused as well are `Content-Length` values that aren't one number,
-    /// `Content-Length` beside `Transfer-Encoding`, a `Transfer-Encoding` that doesn't end in `chunked` (RFC 9112,
-    /// sections 6.1 to 6.3), and a head of more than `STRICT_HEAD` bytes (RFC 6585, section 5).
+    /// Laxer than `Standard`: as `Lenient`, but for a server behind a proxy. It also refuses `Content-Length` values
+    /// that aren't one number, `Content-Length` beside `Transfer-Encoding`, a `Transfer-Encoding` that doesn't end in
+    /// `chunked` (RFC 9112, sections 6.1 to 6.3), and a head of more than `STRICT_HEAD` bytes (RFC 6585, section 5).
     Strict,
-    /// By the standard (RFC 9110 and RFC 9112): heads have its grammar, and are judged by `tiny_http_standard_head`.
-    /// Lengths and sizes are refused as under `Strict`, and of codings only `chunked` is served. The lines of a
-    /// chunked body have its grammar, a body that is cut is a fault, and a connection is upgraded only as its request
-    /// asks. An answer is printed in version 1.1, says what becomes of the connection, and is refused where its code
-    /// isn't final.
+    /// By the standard (RFC 9110 and RFC 9112): heads follow its grammar, and `tiny_http_standard_head` validates them.
+    /// Lengths and sizes are refused as under `Strict`; `chunked` is the only transfer coding. The lines of a chunked
+    /// body follow the grammar, a body that is cut is a fault, and a connection is upgraded only as its request asks. A
+    /// response has version 1.1 and says whether the connection persists; without a final status code it is refused.
     Standard,
 }
 
-/// How a head is read that isn't read by the standard: by the grammar of tiny_http.
+/// The rules for heads that are read by the original's grammar, not by the standard.
 #[derive(Clone, Copy, Debug, PartialEq, Eq)]
 pub enum HeadRules {
     /// As `Profile::Lenient`.
@@ -59,8 +58,8 @@ pub enum HeadRules {
 impl HeadRules {
     ghost use Rattle.tiny_http_body.specs.Framing.{head_limit};
 
-    /// The most bytes that a head may have, the CR LF of its empty line included: `STRICT_HEAD` under `Strict`, and
-    /// any number under `Lenient`.
+    /// Returns the maximum length of a head in bytes, the CR LF of its empty line included: `STRICT_HEAD` under
+    /// `Strict`, and none under `Lenient`.
     pub fn head_limit(self) -> Option<usize>
         ensures { result ≡ head_limit self }
     {
@@ -71,13 +70,13 @@ impl HeadRules {
     }
 }
 
-/// Why the framing that a head asks for is refused.
+/// The reason why the framing of a request is refused.
 #[derive(Clone, Copy, Debug, PartialEq, Eq)]
 pub enum FramingFault {
-    /// It is invalid: lengths that aren't one number, a length beside a coding, or codings that don't end in
-    /// `chunked`. Of these rules only `Strict` refuses such a head, by 400 (RFC 9112, section 6.3).
+    /// It is invalid: lengths that aren't one number, a length beside a transfer coding, or codings that don't end in
+    /// `chunked`. Of these rules only `Strict` refuses such a head, with 400 (RFC 9112, section 6.3).
     Invalid,
-    /// The head expects what can't be met: 417 (RFC 9110, section 10.1.1).
+    /// An expectation can't be met: 417 (RFC 9110, section 10.1.1).
     Expectation,
 }
 
@@ -90,31 +89,30 @@ pub enum Form {
     Nothing,
     /// 1 to 1024 bytes, read with the head.
     WithHead,
-    /// As many bytes as the head says, read from the stream.
+    /// The number of bytes that the head gives, read from the stream.
     Counted,
     /// Chunks, read from the stream.
     Chunked,
 }
 
-/// How a message is framed: its body's form, whether a 100 is owed, the length that it says, whether it asks for an
-/// upgrade, by which rules that was judged, and whether the connection ends after it.
+/// The framing of a request, as its head gives it, and whether the connection ends after it.
 #[derive(Clone, Copy, Debug, PartialEq, Eq)]
 pub struct Framing {
-    /// How the body is read.
+    /// How the body is delimited.
     pub form: Form,
-    /// Whether the head expects a 100 before the body.
+    /// Whether the head expects a 100 (Continue) before the body.
     pub owes_continue: bool,
-    /// The length that `Content-Length` says, where it can be read and no `Transfer-Encoding` hides it.
+    /// The value of `Content-Length`, if it can be read and no `Transfer-Encoding` overrides it.
     pub body_length: Option<usize>,
-    /// Whether the head asks for an upgrade (RFC 9110, section 7.8); it is told under `Standard` alone.
+    /// Whether the head asks for an upgrade (RFC 9110, section 7.8). Always false except under `Standard`.
     pub asks_upgrade: bool,
     /// Whether the head was read under `Standard`.
     pub by_standard: bool,
-    /// Whether the connection ends after the message.
+    /// Whether the connection ends after the request.
     pub is_last: bool,
 }
 
-/// The value of the first header of that name, in either case of its letters.
+/// Returns the value of the first field of that name, compared case-insensitively.
 pub fn value_of<'a>(headers: &'a [Header], name: &str) -> Option<&'a AsciiString>
     ensures { option_copied result ≡ value_of name.now headers.now }
 {
@@ -126,7 +124,7 @@ pub fn value_of<'a>(headers: &'a [Header], name: &str) -> Option<&'a AsciiString
     None
 }
 
-// The value that was found before, or else this header's if it has the name.
+// Returns the value found before or, if there is none, this field's if it has the name.
 #[inline(always)]
 fn or_value_of<'a>(
     found: Option<&'a AsciiString>,
@@ -141,7 +139,7 @@ fn or_value_of<'a>(
     found
 }
 
-// Whether the text, in lower case, begins with the word.
+// Returns whether the text, in lower case, begins with the word.
 fn begins(text: &[u8], word: &[u8]) -> bool
     ensures { result ≡ starts_with ◌==◌ (lowercase text.now) word.now }
 {
@@ -156,7 +154,7 @@ fn begins(text: &[u8], word: &[u8]) -> bool
     true
 }
 
-// Whether the word stands in the text, in lower case, somewhere.
+// Returns whether the text, in lower case, contains the word.
 fn contains_word(text: &[u8], word: &[u8]) -> bool
     ensures { result ≡ contains_word word.now (lowercase text.now) }
 {
@@ -168,7 +166,7 @@ fn contains_word(text: &[u8], word: &[u8]) -> bool
     word.is_empty()
 }
 
-// Whether the word stands in the value, if there is one.
+// Returns whether the value, if there is one, contains the word.
 fn mentions(value: Option<&AsciiString>, word: &str) -> bool
     ensures { result ≡ mentions word.now (option_copied value.entry) }
 {
@@ -178,7 +176,7 @@ fn mentions(value: Option<&AsciiString>, word: &str) -> bool
     }
 }
 
-// The length under `Lenient`, by the first values of `Transfer-Encoding` and `Content-Length`: the coding hides the
+// Returns the length under `Lenient`, by the first `Transfer-Encoding` and `Content-Length`: the coding overrides the
 // length.
 fn lenient_length(coding: Option<&AsciiString>, length: Option<&AsciiString>) -> Option<usize>
     ensures { result
@@ -190,7 +188,7 @@ fn lenient_length(coding: Option<&AsciiString>, length: Option<&AsciiString>) ->
     }
 }
 
-// Whether the last element of a value is `chunked`.
+// Returns whether the last element of a value is `chunked`.
 fn ends_chunked(value: &str) -> bool
     ensures { result ≡ chunked_on false (elements_in is_blank value.now) }
 {
@@ -201,7 +199,7 @@ fn ends_chunked(value: &str) -> bool
     is_chunked
 }
 
-// Whether the last element of all `Transfer-Encoding` headers is `chunked`.
+// Returns whether the last element of all `Transfer-Encoding` fields is `chunked`.
 fn is_chunked(headers: &[Header]) -> bool
     ensures { result ≡ chunked_on false (elements_of (codes "Transfer-Encoding") headers.now) }
 {
@@ -214,14 +212,14 @@ fn is_chunked(headers: &[Header]) -> bool
     is_chunked
 }
 
-// The length under `Strict`, without a `Transfer-Encoding`.
+// Returns the length under `Strict`, without a `Transfer-Encoding`.
 fn uncoded_length(headers: &[Header]) -> Result<Option<usize>, FramingFault>
     ensures { result ≡ uncoded_length (one_length (elements_of (codes "Content-Length") headers.now)) }
 {
     one_length(headers, Blanks::WhiteSpace).map_err(|_| FramingFault::Invalid)
 }
 
-// The length under `Strict`, where a `Transfer-Encoding` and a `Content-Length` stand there or don't.
+// Returns the length under `Strict`, by whether there are `Transfer-Encoding` and `Content-Length` fields.
 fn strict_length(
     is_coded: bool,
     is_sized: bool,
@@ -244,8 +242,7 @@ fn strict_length(
     Err(FramingFault::Invalid)
 }
 
-// The length that the headers say, if any, where these are the first values of `Transfer-Encoding` and
-// `Content-Length`.
+// Returns the content length, if any, by the first values of `Transfer-Encoding` and `Content-Length`.
 fn body_length(
     rules: HeadRules,
     coding: Option<&AsciiString>,
@@ -262,7 +259,7 @@ fn body_length(
     }
 }
 
-// Whether a 100 is owed by the value of `Expect`; or None for an expectation that can't be met.
+// Returns whether a 100 is due, by the value of `Expect`, or `None` if the expectation can't be met.
 fn expectation(value: Option<&AsciiString>) -> Option<bool>
     ensures { result ≡ expectation (option_copied value.entry) }
 {
@@ -273,8 +270,8 @@ fn expectation(value: Option<&AsciiString>) -> Option<bool>
     }
 }
 
-/// The form of a body of a known length, or of none: read with its head where it is short and no 100 is owed (RFC
-/// 9112, section 6.3).
+/// Returns the form of a body of known length, or without one: a short one is read with its head unless a 100 is due
+/// (RFC 9112, section 6.3).
 pub fn sized_form(owed: bool, length: Option<usize>) -> Form
     ensures { result ≡ sized_form owed length }
 {
@@ -297,7 +294,7 @@ fn form_by(is_upgrade: bool, is_coded: bool, owed: bool, length: Option<usize>) 
     sized_form(owed, length)
 }
 
-// Whether the connection ends after the request, by its version and its `Connection` header.
+// Returns whether the connection ends after the request, by its version and its `Connection` field.
 fn is_last(version: HTTPVersion, connection: Option<&AsciiString>) -> bool
     ensures { result ≡ is_last version (option_copied connection.entry) }
 {
@@ -306,8 +303,8 @@ fn is_last(version: HTTPVersion, connection: Option<&AsciiString>) -> bool
         || (version.0 == 1 && version.1 == 0 && !mentions(connection, "keep-alive"))
 }
 
-/// The framing that version and headers give by these rules. It is an error where it is invalid, which is judged
-/// first, or where an expectation can't be met.
+/// Returns the framing that the version and the fields give by these rules. Fails if it is invalid, which is checked
+/// first, or if an expectation can't be met.
 #[tactic(auto, unfolding(crate::specs::FramingReading::framing))]
 pub fn framing_of(
     rules: HeadRules,
@@ -341,7 +338,7 @@ pub fn framing_of(
     })
 }
 
-/// Whether this version is above 1.1, the highest one that is served.
+/// Returns whether the version is above 1.1, the highest that is supported.
 pub fn is_too_new(version: HTTPVersion) -> bool
     ensures { result ≡ is_too_new version }
 {

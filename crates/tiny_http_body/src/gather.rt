@@ -1,4 +1,4 @@
-//! Data that are read a buffer at a time, or whole.
+//! Reading data a buffer at a time, or whole.
 ghost use Rattle.std.specs.Prelude.{◌≡◌, ◌<◌, ◌≤◌, ◌+◌, ◌^◌, length, drop, take, IfOk, IfSome};
 ghost use Rattle.tiny_http_io.specs.Device.{Fills, ReadsFrom, Gathers, Tells};
 
@@ -7,7 +7,7 @@ use std::io;
 use std::io::ErrorKind;
 use tiny_http_io::device::{ReadDevice, read_some};
 
-/// How many bytes of the data are read at a time, at most.
+/// Maximum number of bytes that are read at a time.
 pub(crate) const PIECE: usize = 8192;
 
 // Reads into the buffer from `at` on.
@@ -21,11 +21,11 @@ fn read_behind<D: ReadDevice>(source: &mut D, buf: &mut [u8], at: usize) -> Resu
     read_some(source, &mut buf[at..])
 }
 
-/// Reads until the buffer is full or the data end, and says how many bytes there are.
+/// Reads until the buffer is full or the data end, and returns how many bytes there are.
 pub(crate) fn fill<D: ReadDevice>(source: &mut D, buf: &mut [u8]) -> Result<usize, io::Error>
     ensures bound { IfOk result (λ n. n ≤ length buf.old) }
     ensures bytes { Fills (D.feed source.old) (D.feed source.new) result buf.new }
-    // The data aren't asked for on behind their end or fault, nor once the buffer is full.
+    // The data are not read again after their end or fault, nor after the buffer is full.
     ensures stop_count { D.stop_count source.new ≤ D.stop_count source.old + 1 }
     ensures lazy { IfOk result (λ n. n ≡ length buf.old → D.stop_count source.new ≤ D.stop_count source.old) }
 {
@@ -40,11 +40,11 @@ pub(crate) fn fill<D: ReadDevice>(source: &mut D, buf: &mut [u8]) -> Result<usiz
     Ok(at)
 }
 
-/// Reads all the data into memory. Its fault is reported, and lack of memory as OutOfMemory.
+/// Reads all the data into memory. Fails with their fault, or with `OutOfMemory`.
 pub fn gather<D: ReadDevice>(alloc: Global, source: &mut D) -> Result<Vec<u8>, io::Error>
     ensures gathers { IfSome (D.feed source.old)
         (λ feed. length feed.bytes < 2 ^ 63 → Gathers (λ v. v.items) feed result) }
-    // The data aren't asked for on behind their end or fault.
+    // The data are not read again after their end or fault.
     ensures stop_count { D.stop_count source.new ≤ D.stop_count source.old + 1 }
 {
     let mut all = Vec::new(alloc);

@@ -1,4 +1,4 @@
-//! A body that is sent as it is, of a known length (RFC 9112, section 6.2).
+//! Bodies of known length, sent without a transfer coding (RFC 9112, section 6.2).
 ghost use Rattle.std.specs.Prelude.{◌≡◌, ◌<◌, ◌≤◌, ◌+◌, length, take, IfOk, OnErr, IfSome};
 ghost use Rattle.tiny_http_io.specs.Device.{ReadsFrom, CopiesPiece, CountsFaults, Tells, fault_count};
 ghost use Rattle.tiny_http_body.specs.Text.{Prints, identity_body, TakesUpTo};
@@ -8,7 +8,7 @@ use std::io;
 use std::io::ErrorKind;
 use tiny_http_io::device::{ReadDevice, WriteDevice, put, read_some};
 
-// Reads some bytes into the first `n` places of the buffer.
+// Reads some bytes into the first `n` of the buffer.
 fn read_into_front<D: ReadDevice>(
     source: &mut D,
     buf: &mut [u8],
@@ -22,7 +22,7 @@ fn read_into_front<D: ReadDevice>(
     read_some(source, &mut buf[..n])
 }
 
-// Reads a piece of the next `left` bytes through the buffer and writes it. It says how many bytes it has.
+// Copies some of the next `left` bytes through the buffer and returns how many. An end of the data is `UnexpectedEof`.
 fn put_piece<D: ReadDevice, W: WriteDevice>(
     source: &mut D,
     writer: &mut W,
@@ -69,13 +69,13 @@ fn put_through<D: ReadDevice, W: WriteDevice>(
     Ok(())
 }
 
-// Rooms that are enough for short data, and for most: a buffer costs by its size, since it is set to zero.
+// Buffer sizes that are enough for short data, and for most. A buffer costs by its size, since it is zeroed.
 const SHORT: usize = 256;
 
 const SMALL: usize = 1024;
 
-/// Writes the first `n` bytes of the data, as they come. Fewer are a fault of kind UnexpectedEof; else
-/// the first fault of the data or of the writer is the error, and nothing is written after it.
+/// Writes the first `n` bytes of the data, as they come. Fails with `UnexpectedEof` if there are fewer, and otherwise
+/// with the first fault of the data or the writer, after which nothing is written.
 pub fn put_exactly<D: ReadDevice, W: WriteDevice>(
     source: &mut D,
     writer: &mut W,
@@ -83,10 +83,10 @@ pub fn put_exactly<D: ReadDevice, W: WriteDevice>(
 ) -> Result<(), io::Error>
     ensures text { IfSome (D.feed source.old)
         (λ feed. Prints (W.sink writer.old) (W.sink writer.new) result (identity_body n feed)) }
-    // No byte behind the `n` is taken off the data.
+    // No byte after the first `n` is taken from the data.
     ensures takes { IfSome (D.feed source.old) (λ feed. TakesUpTo n feed (D.feed source.new) result) }
     ensures uses { CountsFaults (W.sink writer.old) (W.sink writer.new) result }
-    // The data aren't asked for on behind their end or fault, nor for more than the `n` bytes.
+    // The data are not read again after their end or fault, nor beyond the `n` bytes.
     ensures stop_count { D.stop_count source.new ≤ D.stop_count source.old + fault_count result }
 {
     if n <= SHORT {

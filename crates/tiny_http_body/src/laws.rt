@@ -1,4 +1,4 @@
-//! Laws of the definitions, each the contract of a function that does nothing.
+//! Laws of the definitions, each stated as the contract of a function that does nothing.
 ghost use Rattle.std.specs.Prelude.{◌≡◌, ◌⊎◌, ℕ, List, Err, Result};
 ghost use Rattle.std.specs.declared.io.ErrorKind.{ErrorKind};
 ghost use Rattle.tiny_http_io.specs.declared.device.Stop.{Stop};
@@ -10,8 +10,8 @@ ghost use Rattle.tiny_http_body.specs.declared.chunked.ChunkRules.{ChunkRules};
 use crate::framing::{Framing, FramingFault, HeadRules};
 use tiny_http_head::common::{HTTPVersion, Header};
 
-/// By each of the two rules all bytes with their stop are a chunked body and a rest, or a cut one: one of the two, in
-/// one way (RFC 9112, section 7.1).
+/// By each of the two rules, all bytes with their stop are exactly one of these, in one way: a whole chunked body and a
+/// rest, or one that is cut or broken (RFC 9112, section 7.1).
 pub fn one_chunked_body()
     ensures some { (rules : ChunkRules) (bytes : List ℕ) (stop : Stop)
         → ((body : List ℕ) × (rest : List ℕ) × WholeChunksBy rules bytes body rest)
@@ -30,7 +30,7 @@ pub fn one_chunked_body()
         → ⊥ }
 {}
 
-/// By the rules of tiny_http `framing` computes the one result that version and headers have by the cases of
+/// By the original's rules `framing` computes the only result that the version and the fields have by the cases of
 /// `Frames`. Under `Lenient` no framing is invalid.
 pub fn one_framing()
     ensures some { (p : HeadRules) (v : HTTPVersion) (headers : List Header)

@@ -1,6 +1,6 @@
-//! Bodies (RFC 9112, sections 6 and 7): how the headers of a request frame its body, how the body is read, the
-//! chunked coding both ways, and how the data of an answer become its body. It stands on `tiny_http_head` and
-//! `tiny_http_io`; `tiny_http_wire` names `chunked`, `encoder` and `streamed` again, and `tiny_http_core` names
+//! Message bodies (RFC 9112, sections 6 and 7): the framing of requests, the reading of their bodies, the chunked
+//! transfer coding in both directions, and the sending of response bodies. The crate depends on `tiny_http_head` and
+//! `tiny_http_io`. `tiny_http_wire` re-exports `chunked`, `encoder` and `streamed`, and `tiny_http_core` re-exports
 //! `framing`.
 #![tactic(auto)]
 

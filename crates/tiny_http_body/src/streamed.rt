@@ -1,4 +1,4 @@
-//! A body that grows while it is sent.
+//! Response bodies that grow while they are sent.
 ghost use Rattle.std.specs.Prelude.{◌≡◌, List, ℕ, ◌+◌, ◌<◌, ◌≤◌, ◌++◌, [], true, false, length, take, IfOk, IfErr};
 ghost use Rattle.std.specs.Prelude.{OnOk, OnErr};
 ghost use Rattle.std.specs.IoError.{error_kind};
@@ -12,22 +12,22 @@ use std::io::{ErrorKind, Write};
 use std::marker::Model;
 use tiny_http_io::device::{WriteDevice, put};
 
-/// How a body stands behind the head of its answer.
+/// How a body follows the head of its response.
 #[derive(Clone, Copy, Debug, PartialEq, Eq)]
 pub enum StreamedForm {
-    /// In chunks, and behind them the last one (RFC 9112, section 7.1).
+    /// In chunks, ended by the last chunk (RFC 9112, section 7.1).
     Chunks,
-    /// As it is: the connection's end ends it (RFC 9112, section 6.3).
+    /// As is: the end of the connection ends it (RFC 9112, section 6.3).
     Plain,
-    /// Not at all, as behind the head that answers a `HEAD`: what is written is left out.
+    /// Not at all, as in the response to a `HEAD`: what is written is discarded.
     Absent,
 }
 
-/// A writer of a body of which more may come at any time. It holds up to 8191 bytes. They are sent by `flush`, and
-/// once they are 8192; where the body comes in chunks, as one chunk. `finish` sends what is held, and the end of the
-/// body. Where it is dropped instead it sends nothing more, so that a body in chunks is visibly cut.
+/// A writer of a body that grows. It buffers at most 8191 bytes, and sends them on `flush` or once there are 8192, as
+/// one chunk if the body is chunked. `finish` sends the buffered bytes and the end of the body. If it is dropped
+/// instead, nothing more is sent, so a chunked body is visibly cut.
 ///
-/// After the writer's first fault it writes nothing more: each later call is an error of kind `BrokenPipe`.
+/// After the writer's first fault nothing more is written: each later call fails with `BrokenPipe`.
 #[derive(Drop)]
 pub struct Streamed<W: WriteDevice> {
     inner: W,
@@ -76,8 +76,8 @@ fn put_end<W: WriteDevice>(writer: &mut W, form: StreamedForm) -> Result<(), io:
     }
 }
 
-/// Takes bytes from the front of a text, at least one if there is one, behind the first `len` of the buffer. Where
-/// they fill it they are sent.
+/// Takes bytes from the front of a text, at least one if there is one, after the first `len` of the buffer. Sends the
+/// buffer once it is full.
 pub(crate) fn gather<W: WriteDevice>(
     writer: &mut W,
     form: StreamedForm,
@@ -109,7 +109,7 @@ impl<W: WriteDevice> Streamed<W> {
     ghost use Rattle.tiny_http_body.specs.Encoder.{IsBroken};
     ghost use Rattle.tiny_http_body.specs.Streamed.{begun, HasStreamed, EndsStreamed};
 
-    /// A body of this form, of which nothing has come yet, on this writer, which has taken the head of its answer.
+    /// Starts a body of this form on a writer that has taken the response head.
     pub fn new(inner: W, form: StreamedForm) -> Streamed<W>
         ensures begun { result ≡ begun inner (W.sink inner) form }
         ensures begins { HasStreamed (W.sink inner) [] result }
@@ -123,7 +123,7 @@ impl<W: WriteDevice> Streamed<W> {
         }
     }
 
-    /// The writer. What is held isn't written yet.
+    /// Borrows the writer. Buffered bytes aren't written yet.
     pub fn get_ref(&self) -> &W
         ensures writer { result.now ≡ self.now.writer }
         ensures sink { self.now.sink ≡ W.sink result.now }
@@ -131,14 +131,14 @@ impl<W: WriteDevice> Streamed<W> {
         &self.inner
     }
 
-    /// How the body is sent.
+    /// Returns how the body is sent.
     pub fn form(&self) -> StreamedForm
         ensures { result ≡ self.now.form }
     {
         self.form
     }
 
-    /// The writer. What is held is dropped, and the body has no end.
+    /// Returns the writer. Buffered bytes are discarded, and the body isn't ended.
     pub fn into_inner(self) -> W
         ensures writer { result ≡ self.writer }
         ensures sink { W.sink result ≡ self.sink }
@@ -146,8 +146,8 @@ impl<W: WriteDevice> Streamed<W> {
         self.inner
     }
 
-    /// Sends what is held, and the end of the body, and gives the writer back. It doesn't flush. The error is the
-    /// writer's fault; or of kind `BrokenPipe` after an earlier one, and then nothing is written.
+    /// Sends the buffered bytes and the end of the body, and returns the writer. It doesn't flush. Fails with the
+    /// writer's fault, or, after an earlier one, with `BrokenPipe`, and then nothing is written.
     pub fn finish(mut self) -> Result<W, io::Error>
     where
         W: Drop,
@@ -156,7 +156,7 @@ impl<W: WriteDevice> Streamed<W> {
         ensures body { IfOk result (λ w. (start : Sink) (given : List ℕ)
             → HasStreamed start given self
             → EndsStreamed self.form start (W.sink w) given) }
-        // The fault is the one by which the writer, as it was left, failed within this rest.
+        // The fault is the writer's, which failed within this rest.
         ensures fault { IfErr result (λ e. self.failed ≡ false → (w : W)
             × Failed self.sink (W.sink w) (piece_text self.form self.held ++ end_text self.form) (error_kind e)) }
         ensures open { OnOk result (self.failed ≡ false) }
@@ -170,7 +170,7 @@ impl<W: WriteDevice> Streamed<W> {
         Ok(self.inner)
     }
 
-    // Sends what is held, and flushes the writer.
+    // Sends the buffered bytes and flushes the writer.
     fn send(&mut self) -> Result<(), io::Error>
         ensures puts { Puts self.old.sink self.new.sink result (piece_text self.old.form self.old.held) }
         ensures held { OnOk result (self.new.held ≡ []) }
@@ -189,8 +189,8 @@ impl<W: WriteDevice> Write for Streamed<W> {
     ghost use Rattle.tiny_http_body.specs.Encoder.{IsBroken};
     ghost use Rattle.tiny_http_body.specs.Streamed.{HasStreamed};
 
-    /// Takes some of the bytes, at least one if there is one, and says how many. Where they fill a piece of 8192
-    /// bytes it is sent; else they are held. The error is the writer's first fault, or of kind `BrokenPipe` after it.
+    /// Takes some bytes, at least one if there is one, and returns how many. Full pieces of 8192 bytes are sent; other
+    /// bytes are buffered. Fails with the writer's first fault, and with `BrokenPipe` after it.
     fn write(&mut self, buf: &[u8]) -> io::Result<usize>
         ensures bound { WritesAtMost result buf.now }
         ensures gathers { self.old.failed ≡ false
@@ -221,7 +221,7 @@ impl<W: WriteDevice> Write for Streamed<W> {
         }
     }
 
-    /// Sends what is held as one piece, and flushes the writer. Errors as `write`.
+    /// Sends the buffered bytes as one piece and flushes the writer. Errors are those of `write`.
     fn flush(&mut self) -> io::Result<()>
         ensures puts { self.old.failed ≡ false
             → Puts self.old.sink self.new.sink result (piece_text self.old.form self.old.held) }

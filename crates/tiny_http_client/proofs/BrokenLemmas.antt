@@ -31,7 +31,7 @@ use Rattle.tiny_http_client.specs.ClientText.{stated_length, printed_headers, li
 use Rattle.tiny_http_client.specs.SentTexts.{BreaksOff}
 use Rattle.tiny_http_client.proofs.TextLaw.{major-fits, minor-fits, read_back}
 use Rattle.tiny_http_client.proofs.ClientAnswerLemmas.{answer-one}
-use Rattle.tiny_http_client.proofs.PrintedLemmas.{FramingFits, head-stands}
+use Rattle.tiny_http_client.proofs.PrintedLemmas.{FramingFits, head-represents}
 use Rattle.std.proofs.Math.Bool.{or-true}
 
 -- more data of the same answer, with which the text is whole
@@ -217,7 +217,7 @@ pub interim-head : (p : Printing) (x : List ℕ) → p.upgrade ≡ None → p.ve
 interim-head p x e a b =
     let P : List ℕ → Type 0 = λ z. BeginsWithAnswerHead (z ++ x) (interim_read p) x in (
       interim_read p,
-      subst P (sym (interim-bytes p e)) (head-stands (status_version p.persistence p.version) 100 [] (interim_listed p) p.date (interim_framing p.persistence) x
+      subst P (sym (interim-bytes p e)) (head-represents (status_version p.persistence p.version) 100 [] (interim_listed p) p.date (interim_framing p.persistence) x
           (major-fits p.persistence p.version a) (minor-fits p.persistence p.version b) (omega arith) (none-listed p.persistence p.version) (interim-fits p.persistence)),
       refl,
     )

@@ -49,16 +49,16 @@ front-space : (value : List ℕ) → IsTrue (has_bare_front is_blank value) → 
 front-space [] h = refl
 front-space (b ∷ bs) h = space-blank b (b == space) refl h
 
-readable-stands : (h : Header) → IsReadable h → PrintsBack h
-readable-stands h r = record {
+readable-represents : (h : Header) → IsReadable h → PrintsBack h
+readable-represents h r = record {
   ascii = ascii-line h.field h.value r.ascii_field r.ascii_value;
   first = one-line h.field h.value r.no_blank r.one_line;
   parts = record { joins = refl; no_colon = r.no_colon; no_blank = r.no_blank; one_space = front-space h.value r.bare_front };
 }
 
 -- a value of the server's own
-plain-stands : (field value : List ℕ) → AreAscii field → HasNo colon field → HasNoBlank field → ArePlain value → IsTrue (has_bare_front is_space value) → PrintsBack (record { field = field; value = value })
-plain-stands field value a c b p s = record {
+plain-represents : (field value : List ℕ) → AreAscii field → HasNo colon field → HasNoBlank field → ArePlain value → IsTrue (has_bare_front is_space value) → PrintsBack (record { field = field; value = value })
+plain-represents field value a c b p s = record {
   ascii = ascii-line field value a (plain-ascii value p);
   first = one-line field value b (plain-one_line value p);
   parts = record { joins = refl; no_colon = c; no_blank = b; one_space = s };
@@ -69,22 +69,22 @@ AllStand hs = AllByRecursion PrintsBack hs
 
 all-readable : (hs : List Header) → AllByRecursion IsReadable hs → AllStand hs
 all-readable [] h = tt
-all-readable (x ∷ xs) h = (readable-stands x h.0, all-readable xs h.1)
+all-readable (x ∷ xs) h = (readable-represents x h.0, all-readable xs h.1)
 
 all-append : (xs ys : List Header) → AllStand xs → AllStand ys → AllStand (xs ++ ys)
 all-append [] ys h k = k
 all-append (x ∷ xs) ys h k = (h.0, all-append xs ys h.1 k)
 
-server-stands : (headers : List Header) → AllStand (server_header headers)
-server-stands headers = elim (has_header headers (codes "Server")) as (λ t. AllStand (if t then [] else record { field = codes "Server"; value = codes "tiny-http (Rust)" } ∷ [])) [
+server-represents : (headers : List Header) → AllStand (server_header headers)
+server-represents headers = elim (has_header headers (codes "Server")) as (λ t. AllStand (if t then [] else record { field = codes "Server"; value = codes "tiny-http (Rust)" } ∷ [])) [
   | true ↦ tt
-  | false ↦ (plain-stands (codes "Server") (codes "tiny-http (Rust)") refl refl refl refl refl, tt)
+  | false ↦ (plain-represents (codes "Server") (codes "tiny-http (Rust)") refl refl refl refl refl, tt)
 ]
 
-date-stands : (headers : List Header) (date : HttpDate) → AllStand (date_header headers date)
-date-stands headers date = elim (has_header headers (codes "Date")) as (λ t. AllStand (if t then [] else record { field = codes "Date"; value = date_text date } ∷ [])) [
+date-represents : (headers : List Header) (date : HttpDate) → AllStand (date_header headers date)
+date-represents headers date = elim (has_header headers (codes "Date")) as (λ t. AllStand (if t then [] else record { field = codes "Date"; value = date_text date } ∷ [])) [
   | true ↦ tt
-  | false ↦ (plain-stands (codes "Date") (date_text date) refl refl refl (plain-date date) (date-front date), tt)
+  | false ↦ (plain-represents (codes "Date") (date_text date) refl refl refl (plain-date date) (date-front date), tt)
 ]
 
 abbrev pub FramingFits : FramingHeader → Type 0
@@ -96,17 +96,17 @@ digits-front : (ds : List ℕ) → IsTrue (list_all (λ b. not (b == space)) ds)
 digits-front [] h = refl
 digits-front (b ∷ bs) h = (and_parts (not (b == space)) (list_all (λ x. not (x == space)) bs) h).0
 
-framing-stands : (framing : FramingHeader) → FramingFits framing → AllStand (framing_header framing)
-framing-stands Neither h = tt
-framing-stands TransferEncoding h = (plain-stands (codes "Transfer-Encoding") (codes "chunked") refl refl refl refl refl, tt)
-framing-stands (ContentLength n) h = (plain-stands (codes "Content-Length") (decimal n) refl refl refl (plain-decimal n h) (digits-front (decimal n) (decimal-has_no space n (omega arith) h)), tt)
+framing-represents : (framing : FramingHeader) → FramingFits framing → AllStand (framing_header framing)
+framing-represents Neither h = tt
+framing-represents TransferEncoding h = (plain-represents (codes "Transfer-Encoding") (codes "chunked") refl refl refl refl refl, tt)
+framing-represents (ContentLength n) h = (plain-represents (codes "Content-Length") (decimal n) refl refl refl (plain-decimal n h) (digits-front (decimal n) (decimal-has_no space n (omega arith) h)), tt)
 
 pub printed-stand : (headers listed : List Header) (date : HttpDate) (framing : FramingHeader) → AllByRecursion IsReadable listed → FramingFits framing → AllStand (printed_headers headers listed date framing)
 unfolding printed_headers
 printed-stand headers listed date framing h f =
-    all-append (server_header headers) (date_header headers date ++ (listed ++ framing_header framing)) (server-stands headers)
-    (all-append (date_header headers date) (listed ++ framing_header framing) (date-stands headers date)
-    (all-append listed (framing_header framing) (all-readable listed h) (framing-stands framing f)))
+    all-append (server_header headers) (date_header headers date ++ (listed ++ framing_header framing)) (server-represents headers)
+    (all-append (date_header headers date) (listed ++ framing_header framing) (date-represents headers date)
+    (all-append listed (framing_header framing) (all-readable listed h) (framing-represents framing f)))
 
 -- the text of a list of headers
 abbrev pub lines_of : List Header → List ℕ
@@ -180,10 +180,10 @@ status-plain v status a b c =
     (plain-append (decimal status) (space ∷ reason_phrase status) (plain-decimal status (omega arith)) (plain-phrase status))))
 
 -- a printed head is read as it was printed
-pub head-stands : (v : HTTPVersion) (status : ℕ) (headers listed : List Header) (date : HttpDate) (framing : FramingHeader) (after : List ℕ)
+pub head-represents : (v : HTTPVersion) (status : ℕ) (headers listed : List Header) (date : HttpDate) (framing : FramingHeader) (after : List ℕ)
     → v.0 ≤ 255 → v.1 ≤ 255 → status ≤ 65535 → AllByRecursion IsReadable listed → FramingFits framing
     → BeginsWithAnswerHead (answer_head_text v status None headers listed date framing ++ after) (record { version = v; status = status; headers = printed_headers headers listed date framing }) after
-head-stands v status headers listed date framing after a b c h f =
+head-represents v status headers listed date framing after a b c h f =
     let p = status-plain v status a b c in
     let hs = printed_headers headers listed date framing in
     let fields = lines_of hs ++ (crlf ++ after) in

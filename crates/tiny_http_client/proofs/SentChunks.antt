@@ -81,8 +81,8 @@ hex-short n h =
 abbrev Hex : ℕ → List ℕ
 Hex n = digits 16 false n
 
-size-stands : (n : ℕ) → n ≤ 8192 → n < 16 ^ 64 → SizeText (Hex n) n
-size-stands n h lt =
+size-represents : (n : ℕ) → n ≤ 8192 → n < 16 ^ 64 → SizeText (Hex n) n
+size-represents n h lt =
     let d = digits_is_IsNumeral 16 false (omega arith) (omega arith) n lt in
     record {
       part = Hex n;
@@ -104,12 +104,12 @@ chunk_of bytes = record { size_line = Hex (length bytes); bytes = bytes }
 below : (n : ℕ) → n ≤ 8192 → n < 16 ^ 64
 below n h = omega arith
 
-chunk-stands : (bytes : List ℕ) → 0 < length bytes → length bytes ≤ 8192 → IsChunk (chunk_of bytes)
-chunk-stands bytes p h =
+chunk-represents : (bytes : List ℕ) → 0 < length bytes → length bytes ≤ 8192 → IsChunk (chunk_of bytes)
+chunk-represents bytes p h =
     let lt = below (length bytes) h in
     let d = digits_is_IsNumeral 16 false (omega arith) (omega arith) (length bytes) lt in
     let few = hex-short (length bytes) h in
-    record { short = (omega arith, no-cr-line (Hex (length bytes)) (hex-no 13 (Hex (length bytes)) (omega arith) d.0.1)); sized = size-stands (length bytes) h lt; not_last = p }
+    record { short = (omega arith, no-cr-line (Hex (length bytes)) (hex-no 13 (Hex (length bytes)) (omega arith) d.0.1)); sized = size-represents (length bytes) h lt; not_last = p }
 
 abbrev pieces : ℕ → List ℕ → List Chunk
 pieces zero bytes = []
@@ -123,7 +123,7 @@ pieces-stand : (count : ℕ) (bytes : List ℕ) → count * 8192 ≤ length byte
 pieces-stand zero bytes h = tt
 pieces-stand (suc count) bytes h =
     let len : length (take 8192 bytes) ≡ 8192 = simp length-take (omega arith) in
-    (chunk-stands (take 8192 bytes) (omega arith) (omega arith), pieces-stand count (drop 8192 bytes) (simp length-drop (omega arith)))
+    (chunk-represents (take 8192 bytes) (omega arith) (omega arith), pieces-stand count (drop 8192 bytes) (simp length-drop (omega arith)))
 
 pieces-data : (count : ℕ) (bytes : List ℕ) → data_of (pieces count bytes) ≡ take (count * 8192) bytes
 pieces-data zero bytes = refl
@@ -151,7 +151,7 @@ positive (suc n) e = omega arith
 
 last-stand-step : (bytes : List ℕ) (t : Bool) → (length bytes == 0) ≡ t → length bytes ≤ 8192 → AllByRecursion IsChunk (if t then [] else chunk_of bytes ∷ [])
 last-stand-step bytes true e h = tt
-last-stand-step bytes false e h = (chunk-stands bytes (positive (length bytes) e) h, tt)
+last-stand-step bytes false e h = (chunk-represents bytes (positive (length bytes) e) h, tt)
 
 chunks-append : (xs ys : List Chunk) → flat_map chunk_text (xs ++ ys) ≡ flat_map chunk_text xs ++ flat_map chunk_text ys
 chunks-append [] ys = refl

@@ -4,7 +4,7 @@ use Rattle.std.specs.Prelude.{MatchOption}
 use Rattle.std.specs.List.{AllByRecursion}
 use Rattle.tiny_http_head.specs.declared.common.Method.{Method}
 use Rattle.tiny_http_client.specs.ClientAnswer.{ClientAnswer, ReadsAnswer, Unfinished, UnfinishedAnswer, ReadsAnswers}
-use Rattle.tiny_http_client.specs.SentTexts.{SentText, BreaksOff, IsSentText, joined_texts, joined_behind, methods, whole_by, whole_answers, remains_by, remains, StandIn}
+use Rattle.tiny_http_client.specs.SentTexts.{SentText, BreaksOff, IsSentText, joined_texts, joined_behind, methods, whole_by, whole_answers, remains_by, remains, AreIn}
 use Rattle.tiny_http_io.specs.Device.{IsFront}
 use Rattle.tiny_http_client.proofs.ClientAnswerLaws.{answer-no_lack}
 use Rattle.tiny_http_client.proofs.FrontLemmas.{answer-more, front-unfinished}
@@ -31,7 +31,7 @@ unfinished-none : (m : Method) (out : List ℕ) → UnfinishedAnswer m out → (
 unfinished-none m out u a next h = answer-no_lack m out Unfinished a next h u
 
 abbrev pub Reads : List SentText → List ℕ → Type 0
-Reads xs out = (answers : List ClientAnswer) × (rest : List ℕ) × ReadsAnswers (methods xs) out answers rest × StandIn xs out answers rest
+Reads xs out = (answers : List ClientAnswer) × (rest : List ℕ) × ReadsAnswers (methods xs) out answers rest × AreIn xs out answers rest
 
 stops : (x : SentText) (xs : List SentText) (out : List ℕ) → IsFront out x.text → UnfinishedAnswer x.method out → Reads (x ∷ xs) out
 stops x xs out f u = ([], out, (refl, unfinished-none x.method out u), inr (refl, refl, f, u))

@@ -32,7 +32,7 @@ use Rattle.tiny_http_head.specs.Heads.{length_of}
 use Rattle.tiny_http_response.specs.Readable.{IsReadable}
 use Rattle.tiny_http_client.specs.ClientAnswer.{AnswerHead, BeginsWithAnswerHead, is_interim, is_head, NoBody, OfChunks, OfLength, says_chunked, first_value, content_length, has_no_body, extent, BeginsWithBody, ReadsAnswer}
 use Rattle.tiny_http_client.specs.ClientText.{server_header, date_header, framing_header, printed_headers, stated_length, framing_of, framing_said, sent_body, body_said, listed_of, alone_by_code, received_answer, IsReadableAnswer}
-use Rattle.tiny_http_client.proofs.PrintedLemmas.{FramingFits, head-stands}
+use Rattle.tiny_http_client.proofs.PrintedLemmas.{FramingFits, head-represents}
 use Rattle.tiny_http_client.proofs.SentChunks.{sent-chunks}
 
 -- what the printed headers say of the body
@@ -155,7 +155,7 @@ module _ (m : Method) (v : HTTPVersion) (status : ℕ) (headers listed : List He
         start = (top framing ++ text) ++ rest;
         after = text ++ rest;
         passes = refl;
-        has_head = subst P (sym (append_assoc (top framing) text rest)) (head-stands v status headers listed date framing (text ++ rest) known.major_fits known.minor_fits known.status_fits known.readable f);
+        has_head = subst P (sym (append_assoc (top framing) text rest)) (head-represents v status headers listed date framing (text ++ rest) known.major_fits known.minor_fits known.status_fits known.readable f);
         is_final = not-interim status known.final;
         has_body = b;
       }

@@ -49,14 +49,14 @@ remains (x ∷ xs) = remains_by x.answer x.text (remains xs)
 
 -- Of a prefix of what was sent: the responses that are complete in it; what remains is nothing, or an unfinished prefix
 -- of the next text.
-abbrev pub StandIn : List SentText → List ℕ → List ClientAnswer → List ℕ → Type 0
-StandIn [] out answers rest = (out ≡ []) × (answers ≡ []) × (rest ≡ [])
-StandIn (x ∷ xs) out answers rest =
+abbrev pub AreIn : List SentText → List ℕ → List ClientAnswer → List ℕ → Type 0
+AreIn [] out answers rest = (out ≡ []) × (answers ≡ []) × (rest ≡ [])
+AreIn (x ∷ xs) out answers rest =
     ((a : ClientAnswer)
     × (next : List ℕ)
     × (more : List ClientAnswer)
     × (x.answer ≡ Some a)
     × (out ≡ x.text ++ next)
     × (answers ≡ a ∷ more)
-    × StandIn xs next more rest)
+    × AreIn xs next more rest)
     ⊎ ((answers ≡ []) × (rest ≡ out) × IsFront rest x.text × UnfinishedAnswer x.method rest)

@@ -7,7 +7,7 @@ ghost use Rattle.tiny_http_client.specs.ClientReading.{answer_read};
 ghost use Rattle.tiny_http_client.specs.ClientText.{IsReadableAnswer, received_answer};
 ghost use Rattle.tiny_http_response.specs.Answer.{Answer, Printing, text_of};
 ghost use Rattle.tiny_http_io.specs.Device.{Feed, IsFront};
-ghost use Rattle.tiny_http_client.specs.SentTexts.{SentText, IsSentText, BreaksOff, StandIn, joined_texts, methods};
+ghost use Rattle.tiny_http_client.specs.SentTexts.{SentText, IsSentText, BreaksOff, AreIn, joined_texts, methods};
 ghost use Rattle.tiny_http_client.specs.SentTexts.{whole_answers, remains};
 ghost use Rattle.tiny_http_body.specs.Text.{Whole, Broken};
 ghost use Rattle.tiny_http_body.specs.Chunks.{WholeChunks};
@@ -93,7 +93,7 @@ pub fn sent_texts_are_read()
         → (answers : List ClientAnswer)
         × (rest : List ℕ)
         × ReadsAnswers (methods texts) out answers rest
-        × StandIn texts out answers rest }
+        × AreIn texts out answers rest }
 {}
 
 /// A body that grew while it was sent in chunks is read as the concatenation of its pieces, however it was cut into

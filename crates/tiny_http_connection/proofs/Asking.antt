@@ -11,7 +11,7 @@ use Rattle.tiny_http_connection.specs.Pending.{last_holds_next_head}
 use Rattle.tiny_http_connection.specs.Steps.{ReplyValue}
 use Rattle.tiny_http_connection.specs.Conversation.{State}
 use Rattle.tiny_http_connection.proofs.ConnectionAsk.{AskIsAnswered}
-use Rattle.tiny_http_connection.specs.Connection.{ConnectionState, kept, Stands}
+use Rattle.tiny_http_connection.specs.Connection.{ConnectionState, kept, Represents}
 use Rattle.tiny_http_connection.specs.Driving.{AskEnds, AskLeaves, IsDeclined}
 
 -- the asking hasn't ended, no body holds the reader, and the next head waits for no answer
@@ -20,7 +20,7 @@ CanAsk c = (c.end ≡ None) × (c.source.input_state ≡ at.Body → ⊥) × (la
 
 -- An Ask leads from one connection to another with this reply: what `TakesStep` says of it, from wherever a run stands.
 pub record AskStep {R W : Type 0} (old new : ConnectionState R W) (now : HttpDate) (reply : ReplyValue) : Type 0 where
-  pub does : (client : Feed) (before : Sink) (s : State) → before.failures < 2 ^ 64 - 1 → Stands client before (kept old) s
+  pub does : (client : Feed) (before : Sink) (s : State) → before.failures < 2 ^ 64 - 1 → Represents client before (kept old) s
       → AskIsAnswered client before (kept new) s now reply
   pub profile : new.profile ≡ old.profile
   pub declined : IsDeclined step.Ask reply → new ≡ old

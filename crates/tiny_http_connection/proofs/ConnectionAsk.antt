@@ -48,7 +48,7 @@ use Rattle.tiny_http_connection.proofs.ConversationWriting.{unreported, flushed-
 use Rattle.tiny_http_response.specs.Sending.{IsFlushed, SendsUnlessEnded}
 use Rattle.tiny_http_turns.specs.Turns.{Mark, Open, Left, Finished, AreInShape, first_unfinished}
 use Rattle.tiny_http_connection.specs.Pending.{LeavesText, last_holds_next_head, last_body, is_streaming_body}
-use Rattle.tiny_http_connection.specs.Connection.{Kept, dropped, IsWaiting, AreKept, OutputAt, behind_body, GivesRest, InputEnded, is_past_last, is_in_body, BeginsMore, BeginsBehindAt, PlaceIn, NextHead, InputStands, Stands, HandedOut, FollowsLast}
+use Rattle.tiny_http_connection.specs.Connection.{Kept, dropped, IsWaiting, AreKept, OutputAt, behind_body, GivesRest, InputEnded, is_past_last, is_in_body, BeginsMore, BeginsBehindAt, PlaceIn, NextHead, InputMatches, Represents, HandedOut, FollowsLast}
 use Rattle.tiny_http_io.proofs.SourceGoesOn.{goes-on_more}
 use Rattle.tiny_http_open_request.proofs.PipelineLemmas.{pipeline-first, pipeline-none, heads-rest_last, empty-pipeline}
 use Rattle.tiny_http_connection.proofs.ConnectionReader.{LastKept, last-kept, last-awaits, last-awaits-none, last-snoc, body-snoc, settled-snoc, and-false, held-by, behind-settled, gives-settled}
@@ -61,7 +61,7 @@ use Rattle.tiny_http_connection.proofs.PendingLemmas.{first-issued}
 
 -- the step was answered so
 abbrev pub StepIsAnswered : Feed → Sink → Kept → State → HttpDate → StepValue → ReplyValue → Type 0
-StepIsAnswered client before k s date step reply = (new : State) × Stands client before k new × StepsTo s date step reply new
+StepIsAnswered client before k s date step reply = (new : State) × Represents client before k new × StepsTo s date step reply new
 
 -- where no memory was found for a head, and no item is left, a byte of a further head comes behind them all
 abbrev pub FoundHead : Feed → Profile → ReplyValue → State → Type 0
@@ -70,10 +70,10 @@ FoundHead client p _ new = Unit {0}
 
 -- the same of an Ask
 abbrev pub AskIsAnswered : Feed → Sink → Kept → State → HttpDate → ReplyValue → Type 0
-AskIsAnswered client before k s date reply = (new : State) × Stands client before k new × StepsTo s date Ask reply new × FoundHead client k.profile reply new
+AskIsAnswered client before k s date reply = (new : State) × Represents client before k new × StepsTo s date Ask reply new × FoundHead client k.profile reply new
 
 -- A step that changes nothing.
-pub step-unchanged : (client : Feed) (before : Sink) (k : Kept) (s : State) (date : HttpDate) (step : StepValue) (reply : ReplyValue) → Stands client before k s → outcome true date s.reached step ≡ unchanged s.reached reply
+pub step-unchanged : (client : Feed) (before : Sink) (k : Kept) (s : State) (date : HttpDate) (step : StepValue) (reply : ReplyValue) → Represents client before k s → outcome true date s.reached step ≡ unchanged s.reached reply
     → StepIsAnswered client before k s date step reply
 step-unchanged client before k s date step reply h e =
     let P : Outcome → Type 0 = λ o. HasOutcome o s reply s in
@@ -126,19 +126,19 @@ pub stated-feed : (client : Feed) (o : Option Feed) → GoesOn (Some client) o �
 stated-feed client None h = absurd h
 stated-feed client (Some f) h = (f, refl)
 
-pub last-of : (client : Feed) (before : Sink) (k : Kept) (s : State) → Stands client before k s → LastKept (last_slot s.reached.slots) (last_body k.requests)
+pub last-of : (client : Feed) (before : Sink) (k : Kept) (s : State) → Represents client before k s → LastKept (last_slot s.reached.slots) (last_body k.requests)
 last-of client before k s h = last-kept s.reached.slots k.marks k.requests h.numbers
 
 -- the last body isn't read from the input, and the next head waits for no answer
 abbrev pub IsQuiet : List (Option Unfinished) → Type 0
 IsQuiet us = (is_streaming_body (last_body us) ≡ false) × (last_holds_next_head us ≡ false)
 
-unheld : (client : Feed) (before : Sink) (k : Kept) (s : State) → Stands client before k s → IsQuiet k.requests → last_holds_reader (last_slot s.reached.slots) ≡ false
+unheld : (client : Feed) (before : Sink) (k : Kept) (s : State) → Represents client before k s → IsQuiet k.requests → last_holds_reader (last_slot s.reached.slots) ≡ false
 unheld client before k s h quiet =
     held-by (last_slot s.reached.slots) (last_body k.requests) (last-of client before k s h)
     ∙ rw (quiet.0, and-false (not (is_last_slot (last_slot s.reached.slots))), last-awaits s.reached.slots k.marks k.requests h.numbers) quiet.1
 
-pub going : (client : Feed) (before : Sink) (k : Kept) (s : State) → Stands client before k s → k.asking_ended ≡ false → is_past_last k.input_state ≡ false → IsQuiet k.requests → (InputEnded k → ⊥) → Going client k s
+pub going : (client : Feed) (before : Sink) (k : Kept) (s : State) → Represents client before k s → k.asking_ended ≡ false → is_past_last k.input_state ≡ false → IsQuiet k.requests → (InputEnded k → ⊥) → Going client k s
 going client before k s h e o quiet open_input =
     let f = stated-feed client k.feed h.reader.source in
     let next = h.reader.next e in
@@ -248,8 +248,8 @@ pub record StandsFor (r : Request) (w : OpenRequest UnreadBody) (at : InputState
   pub past : is_past_last at ≡ r.framing.is_last
   pub within : is_in_body at ≡ (not r.framing.is_last && is_streaming w.body)
 
-pub stands-for : (x : Exchange) (content behind : Feed) (at : InputState) → at ≡ input_state_of x → StandsFor (request_of x.head content behind) x.open_request at
-stands-for x content behind at e =
+pub represents-for : (x : Exchange) (content behind : Feed) (at : InputState) → at ≡ input_state_of x → StandsFor (request_of x.head content behind) x.open_request at
+represents-for x content behind at e =
     let S : InputState → Type 0 = λ y. StandsFor (request_of x.head content behind) x.open_request y in
     subst S (sym e) (by x.head.framing.is_last (is_streaming x.open_request.body) refl refl)
   where
@@ -258,10 +258,10 @@ stands-for x content behind at e =
     by false true l t = record { past = rw (l, t) refl; within = rw (l, t) refl }
     by false false l t = record { past = rw (l, t) refl; within = rw (l, t) refl }
 
-handed-reader : (client : Feed) (k : Kept) (slots : List Slot) (rest more : List Item) (date : HttpDate) (r : Request) (w : OpenRequest UnreadBody) (p : Option Feed) (stop : Option Stop) (over : Bool) (at : InputState) (close : Stop) (next : Place) → InputStands client k slots rest → IsQuiet k.requests → r.behind ≡ place_feed close next
+handed-reader : (client : Feed) (k : Kept) (slots : List Slot) (rest more : List Item) (date : HttpDate) (r : Request) (w : OpenRequest UnreadBody) (p : Option Feed) (stop : Option Stop) (over : Bool) (at : InputState) (close : Stop) (next : Place) → InputMatches client k slots rest → IsQuiet k.requests → r.behind ≡ place_feed close next
     → remaining w.body p ≡ Some (record { body = r.body; behind = place_feed close next }) → Pipeline k.profile (place_after r.framing.is_last next) close more → (BeginsBehind k.profile (place_after r.framing.is_last next) close more → BeginsMore k.profile client) → GoesOn (Some client) p → StandsFor r w at
-    → InputStands client (after_handed k w p stop over at) (slots ++ (handed_slot date r ∷ [])) more
-handed-reader client k slots rest more date r w p stop over at close next old quiet after left items begins source stands =
+    → InputMatches client (after_handed k w p stop over at) (slots ++ (handed_slot date r ∷ [])) more
+handed-reader client k slots rest more date r w p stop over at close next old quiet after left items begins source represents =
     let x = handed_slot date r in
     let last : last_slot (slots ++ (x ∷ [])) ≡ Some x = last-snoc None slots x in
     let content : last_body (k.requests ++ (Some (still.Waiting w) ∷ [])) ≡ Some w.body = body-snoc k.requests (Some (still.Waiting w)) in
@@ -278,19 +278,19 @@ handed-reader client k slots rest more date r w p stop over at close next old qu
       settled = settled-snoc k.requests (Some (still.Waiting w)) old.settled quiet;
       gives = subst (λ o. P o (last_body (k.requests ++ (Some (still.Waiting w) ∷ [])))) (sym last) (subst (λ b. P (Some x) b) (sym content) here);
       next = λ e. record {
-        is_last = stands.past ∙ ap is_last_slot (sym last);
-        within = stands.within ∙ ap (λ b. W (Some x) b) (sym content) ∙ ap (λ o. W o (last_body (k.requests ++ (Some (still.Waiting w) ∷ [])))) (sym last);
+        is_last = represents.past ∙ ap is_last_slot (sym last);
+        within = represents.within ∙ ap (λ b. W (Some x) b) (sym content) ∙ ap (λ o. W o (last_body (k.requests ++ (Some (still.Waiting w) ∷ [])))) (sym last);
         lost = λ lost. (let no : true ≡ false = sym lost ∙ (ap last_was_abandoned last ∙ and-false (is_chunked_form r.framing.form)) in cc);
-        place = λ e. subst (λ y. Q y (last_body (k.requests ++ (Some (still.Waiting w) ∷ [])))) (sym stands.past) (subst (λ y. Q r.framing.is_last y) (sym content) (subst F (sym behind) (handed-of client k.profile r.framing.is_last close next more items begins)));
+        place = λ e. subst (λ y. Q y (last_body (k.requests ++ (Some (still.Waiting w) ∷ [])))) (sym represents.past) (subst (λ y. Q r.framing.is_last y) (sym content) (subst F (sym behind) (handed-of client k.profile r.framing.is_last close next more items begins)));
       };
       follows = λ holds. subst (λ o. L o (last_body (k.requests ++ (Some (still.Waiting w) ∷ [])))) (sym last) (subst (λ b. L (Some x) b) (sym content) (behind ∙ ap Some (sym after)));
       source = source;
     }
 
-pub ask-handed : (client : Feed) (before : Sink) (k : Kept) (s : State) (date : HttpDate) (x : Exchange) (from_here : InputState) (p : Option Feed) (stop : Option Stop) (over : Bool) (at : InputState) (n : ℕ) → Stands client before k s → k.asking_ended ≡ false → is_past_last k.input_state ≡ false → IsQuiet k.requests
+pub ask-handed : (client : Feed) (before : Sink) (k : Kept) (s : State) (date : HttpDate) (x : Exchange) (from_here : InputState) (p : Option Feed) (stop : Option Stop) (over : Bool) (at : InputState) (n : ℕ) → Represents client before k s → k.asking_ended ≡ false → is_past_last k.input_state ≡ false → IsQuiet k.requests
     → (InputEnded k → ⊥) → ReadsHead k.profile from_here date k.feed p (Ok (read.Request x)) → GoesOn k.feed p → n ≡ length k.marks → AreInShape (k.marks ++ (Open ∷ [])) → at ≡ input_state_of x
     → StepIsAnswered client before (after_handed k x.open_request p stop over at) s date Ask (Handed n (head_message x.head) (head_framing x.head))
-ask-handed client before k s date x from_here p stop over at n st e o quiet open_input reads goes number shape stands =
+ask-handed client before k s date x from_here p stop over at n st e o quiet open_input reads goes number shape represents =
     let g = going client before k s st e o quiet open_input in
     let P : Option Feed → Type 0 = λ y. ReadsHead k.profile from_here date y p (Ok (read.Request x)) in
     let found = subst P g.stated reads in
@@ -312,14 +312,14 @@ ask-handed client before k s date x from_here p stop over at n st e o quiet open
         shape = shape;
         in_turn = turn-more s.reached.slots y st.in_turn (refl, λ z. refl);
         asking_ended = sym e;
-        reader = handed-reader client k s.reached.slots s.reached.rest first.0 date r x.open_request p stop over at g.feed.stop found.1 st.reader quiet refl found.3 first.2 (begins-from client k.profile g.feed (Asks r) (place_after h.framing.is_last found.1) s.reached.rest first.0 g.begins first.1 found.2) (goes-on_more (Some client) k.feed p st.reader.source goes) (stands-for x found.0 (place_feed g.feed.stop found.1) at stands);
+        reader = handed-reader client k s.reached.slots s.reached.rest first.0 date r x.open_request p stop over at g.feed.stop found.1 st.reader quiet refl found.3 first.2 (begins-from client k.profile g.feed (Asks r) (place_after h.framing.is_last found.1) s.reached.rest first.0 g.begins first.1 found.2) (goes-on_more (Some client) k.feed p st.reader.source goes) (represents-for x found.0 (place_feed g.feed.stop found.1) at represents);
         output = output-waiting before k.sink k.output_ended s.reached.slots date r s.flushed s.failure st.output;
       },
       inl (true, tt, subst G (sym is) (refl, refl, (ap (λ z. Handed z (head_message h) (head_framing h)) end_reported, refl))),
     )
 
 -- the body of the last request holds the reader
-pub ask-not_yet : (client : Feed) (before : Sink) (k : Kept) (s : State) (date : HttpDate) → Stands client before k s → k.asking_ended ≡ false → k.input_state ≡ in_place.Body → StepIsAnswered client before k s date Ask NotYet
+pub ask-not_yet : (client : Feed) (before : Sink) (k : Kept) (s : State) (date : HttpDate) → Represents client before k s → k.asking_ended ≡ false → k.input_state ≡ in_place.Body → StepIsAnswered client before k s date Ask NotYet
 ask-not_yet client before k s date st e held =
     let slots = s.reached.slots in
     let within : (not (is_last_slot (last_slot slots)) && is_streaming_body (last_body k.requests)) ≡ true = sym (st.reader.next e).within ∙ ap is_in_body held in
@@ -327,7 +327,7 @@ ask-not_yet client before k s date st e held =
     step-unchanged client before k s date Ask NotYet st (ask-held date s.reached (st.asking_ended ∙ e) is)
 
 -- the next head waits for the answer to the last request
-pub ask-waits : (client : Feed) (before : Sink) (k : Kept) (s : State) (date : HttpDate) → Stands client before k s → k.asking_ended ≡ false → last_holds_next_head k.requests ≡ true → StepIsAnswered client before k s date Ask NotYet
+pub ask-waits : (client : Feed) (before : Sink) (k : Kept) (s : State) (date : HttpDate) → Represents client before k s → k.asking_ended ≡ false → last_holds_next_head k.requests ≡ true → StepIsAnswered client before k s date Ask NotYet
 ask-waits client before k s date st e held =
     let slots = s.reached.slots in
     let awaits : last_is_holding (last_slot slots) ≡ true = last-awaits slots k.marks k.requests st.numbers ∙ held in
@@ -340,7 +340,7 @@ pub record BeforeHead (k : Kept) (s : State) : Type 0 where
   pub more : is_last_slot (last_slot s.reached.slots) ≡ false
   pub quiet : IsQuiet k.requests
 
-pub before-head : (client : Feed) (before : Sink) (k : Kept) (s : State) → Stands client before k s → k.asking_ended ≡ false → IsBeforeHead k.input_state → last_holds_next_head k.requests ≡ false → BeforeHead k s
+pub before-head : (client : Feed) (before : Sink) (k : Kept) (s : State) → Represents client before k s → k.asking_ended ≡ false → IsBeforeHead k.input_state → last_holds_next_head k.requests ≡ false → BeforeHead k s
 before-head client before k s st e here free =
     let n = st.reader.next e in
     let past = not-past k.input_state here in
@@ -371,15 +371,15 @@ abbrev pub after_end : Kept → Option Feed → Option Stop → Bool → InputSt
 after_end k p stop over at = record k { asking_ended = true; feed = p; stop = stop; is_over = over; input_state = at }
 
 -- the input was read, and the last body isn't read from it
-end-reader : (client : Feed) (before : Sink) (k : Kept) (s : State) (p : Option Feed) (stop : Option Stop) (over : Bool) (at : InputState) (rest : List Item) → Stands client before k s → IsQuiet k.requests → GoesOn k.feed p
-    → InputStands client (after_end k p stop over at) s.reached.slots rest
+end-reader : (client : Feed) (before : Sink) (k : Kept) (s : State) (p : Option Feed) (stop : Option Stop) (over : Bool) (at : InputState) (rest : List Item) → Represents client before k s → IsQuiet k.requests → GoesOn k.feed p
+    → InputMatches client (after_end k p stop over at) s.reached.slots rest
 end-reader client before k s p stop over at rest st quiet goes =
     let source = goes-on_more (Some client) k.feed p st.reader.source goes in
     let f = stated-feed client p source in
     let P : Option Feed → Type 0 = λ y. GivesRest (last_body k.requests) (last_slot s.reached.slots) y in
     record { settled = st.reader.settled; gives = subst P (sym f.1) (gives-settled (last_slot s.reached.slots) (last_body k.requests) f.0 (last-of client before k s st) quiet.0); next = λ e. cc; follows = λ holds. (let no : false ≡ true = sym quiet.1 ∙ holds in cc); source = source }
 
-pub ask-over : (client : Feed) (before : Sink) (k : Kept) (s : State) (date : HttpDate) → Stands client before k s → k.asking_ended ≡ false → is_past_last k.input_state ≡ true
+pub ask-over : (client : Feed) (before : Sink) (k : Kept) (s : State) (date : HttpDate) → Represents client before k s → k.asking_ended ≡ false → is_past_last k.input_state ≡ true
     → StepIsAnswered client before (after_end k k.feed k.stop k.is_over k.input_state) s date Ask Ended
 ask-over client before k s date st e o = by (last_was_abandoned (last_slot s.reached.slots)) refl
   where
@@ -394,7 +394,7 @@ ask-over client before k s date st e o = by (last_was_abandoned (last_slot s.rea
         let last : is_last_slot (last_slot slots) ≡ true = sym next.is_last ∙ o in
         held-by (last_slot slots) (last_body k.requests) (last-of client before k s st) ∙ rw last (last-awaits-none (last_slot slots) last)
 
-    ended_reader : (rest : List Item) → InputStands client (after_end k k.feed k.stop k.is_over k.input_state) slots rest
+    ended_reader : (rest : List Item) → InputMatches client (after_end k k.feed k.stop k.is_over k.input_state) slots rest
     ended_reader rest = record { settled = st.reader.settled; gives = st.reader.gives; next = λ z. cc; follows = st.reader.follows; source = st.reader.source }
 
     by : (t : Bool) → last_was_abandoned (last_slot slots) ≡ t → StepIsAnswered client before (after_end k k.feed k.stop k.is_over k.input_state) s date Ask Ended
@@ -418,7 +418,7 @@ ask-over client before k s date st e o = by (last_was_abandoned (last_slot s.rea
         )
 
 -- no head follows
-pub ask-none : (client : Feed) (before : Sink) (k : Kept) (s : State) (date : HttpDate) (from_here : InputState) (why : EndOfRequests) (p : Option Feed) (stop : Option Stop) (over : Bool) (at : InputState) → Stands client before k s → k.asking_ended ≡ false → is_past_last k.input_state ≡ false → IsQuiet k.requests
+pub ask-none : (client : Feed) (before : Sink) (k : Kept) (s : State) (date : HttpDate) (from_here : InputState) (why : EndOfRequests) (p : Option Feed) (stop : Option Stop) (over : Bool) (at : InputState) → Represents client before k s → k.asking_ended ≡ false → is_past_last k.input_state ≡ false → IsQuiet k.requests
     → ReadsHead k.profile from_here date k.feed p (Ok (read.Ended why)) → GoesOn k.feed p
     → StepIsAnswered client before (after_end k p stop over at) s date Ask Ended
 ask-none client before k s date from_here why p stop over at st e o quiet reads goes = by (last_was_abandoned (last_slot s.reached.slots)) refl
@@ -454,7 +454,7 @@ ask-none client before k s date from_here why p stop over at st e o quiet reads 
         )
 
 -- no memory was found
-pub ask-memory : (client : Feed) (before : Sink) (k : Kept) (s : State) (date : HttpDate) (p : Option Feed) (stop : Option Stop) (over : Bool) (at : InputState) → Stands client before k s → k.asking_ended ≡ false → is_past_last k.input_state ≡ false → IsQuiet k.requests → is_last_slot (last_slot s.reached.slots) ≡ false → (InputEnded k → ⊥) → HasByteOrTimedOut k.profile k.feed → GoesOn k.feed p
+pub ask-memory : (client : Feed) (before : Sink) (k : Kept) (s : State) (date : HttpDate) (p : Option Feed) (stop : Option Stop) (over : Bool) (at : InputState) → Represents client before k s → k.asking_ended ≡ false → is_past_last k.input_state ≡ false → IsQuiet k.requests → is_last_slot (last_slot s.reached.slots) ≡ false → (InputEnded k → ⊥) → HasByteOrTimedOut k.profile k.feed → GoesOn k.feed p
     → AskIsAnswered client before (after_end k p stop over at) s date Memory
 ask-memory client before k s date p stop over at st e o quiet more open_input begun goes =
     let g = going client before k s st e o quiet open_input in
@@ -537,7 +537,7 @@ refuses before sink new e ended s marks final requests n text h kept shape over 
     })
     (turn-at slots marks requests [] kept (shape-issued marks shape))
 
-pub ask-refused : (client : Feed) (before : Sink) (k : Kept) (s : State) (date : HttpDate) (from_here : InputState) (status : StatusCode) (text : Vec ℕ) (p : Option Feed) (stop : Option Stop) (over : Bool) (at : InputState) (marks : List Mark) (sink : Sink) (ended : Bool) → Stands client before k s → before.failures < 2 ^ 64 - 1
+pub ask-refused : (client : Feed) (before : Sink) (k : Kept) (s : State) (date : HttpDate) (from_here : InputState) (status : StatusCode) (text : Vec ℕ) (p : Option Feed) (stop : Option Stop) (over : Bool) (at : InputState) (marks : List Mark) (sink : Sink) (ended : Bool) → Represents client before k s → before.failures < 2 ^ 64 - 1
     → k.asking_ended ≡ false → is_past_last k.input_state ≡ false → IsQuiet k.requests → (InputEnded k → ⊥) → ReadsHead k.profile from_here date k.feed p (Ok (read.Refused status text true)) → GoesOn k.feed p
     → LeavesText (length k.marks == first_unfinished k.marks) k.marks [] marks text.items k.output_ended k.sink sink ended
     → StepIsAnswered client before (after_refused k marks p stop over at sink ended) s date Ask Ended
@@ -578,11 +578,11 @@ ask-refused client before k s date from_here status text p stop over at marks si
       inl (true, tt, subst G (sym is) (refl, refl, out.writes)),
     )
 
-pub ask-ended : (client : Feed) (before : Sink) (k : Kept) (s : State) (date : HttpDate) → Stands client before k s → k.asking_ended ≡ true → StepIsAnswered client before k s date Ask Ended
+pub ask-ended : (client : Feed) (before : Sink) (k : Kept) (s : State) (date : HttpDate) → Represents client before k s → k.asking_ended ≡ true → StepIsAnswered client before k s date Ask Ended
 ask-ended client before k s date st e = step-unchanged client before k s date Ask Ended st (ask-ends date s.reached (st.asking_ended ∙ e))
 
 -- no request follows: the last one was read, or none stands in front of the input
-pub ask-final : (client : Feed) (before : Sink) (k : Kept) (s : State) (date : HttpDate) (why : EndOfRequests) (p : Option Feed) (stop : Option Stop) (over : Bool) (at : InputState) → Stands client before k s → k.asking_ended ≡ false → (k.input_state ≡ in_place.Body → ⊥) → last_holds_next_head k.requests ≡ false
+pub ask-final : (client : Feed) (before : Sink) (k : Kept) (s : State) (date : HttpDate) (why : EndOfRequests) (p : Option Feed) (stop : Option Stop) (over : Bool) (at : InputState) → Represents client before k s → k.asking_ended ≡ false → (k.input_state ≡ in_place.Body → ⊥) → last_holds_next_head k.requests ≡ false
     → (k.input_state ≡ in_place.Last → (p ≡ k.feed) × (stop ≡ k.stop) × (over ≡ k.is_over) × (at ≡ k.input_state)) → (IsBeforeHead k.input_state → ReadsHead k.profile k.input_state date k.feed p (Ok (read.Ended why))) → GoesOn k.feed p
     → StepIsAnswered client before (after_end k p stop over at) s date Ask Ended
 ask-final client before k s date why p stop over at st e outside free left reads goes = by k.input_state refl
@@ -604,9 +604,9 @@ ask-final client before k s date why p stop over at st e outside free left reads
         (ask-over client before k s date st e (ap is_past_last i)))))
 
 -- neither within a body nor after the last request the input stands in front of a head
-pub stands-before : (at : InputState) → (at ≡ in_place.Body → ⊥) → (at ≡ in_place.Last → ⊥) → IsBeforeHead at
-stands-before in_place.Head b l = tt
-stands-before in_place.Abandoned b l = tt
-stands-before (in_place.Broken kind) b l = tt
-stands-before in_place.Body b l = absurd (b refl)
-stands-before in_place.Last b l = absurd (l refl)
+pub represents-before : (at : InputState) → (at ≡ in_place.Body → ⊥) → (at ≡ in_place.Last → ⊥) → IsBeforeHead at
+represents-before in_place.Head b l = tt
+represents-before in_place.Abandoned b l = tt
+represents-before (in_place.Broken kind) b l = tt
+represents-before in_place.Body b l = absurd (b refl)
+represents-before in_place.Last b l = absurd (l refl)

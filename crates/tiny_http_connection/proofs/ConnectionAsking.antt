@@ -24,7 +24,7 @@ use Rattle.tiny_http_connection.specs.Steps.{Ask, ReplyValue, Handed, Ended, Giv
 use Rattle.tiny_http_connection.specs.Outcomes.{WriterUse, Unused, Unreported, Outcome, Reached, use_in_turn, ask, asks_from}
 use Rattle.tiny_http_connection.specs.Conversation.{Failure, State, IsPassedOver, BeginsBehind, Fares, Well, FailsWithin, FailsAfter, MayFare, WriterPart, reply_in, failure_in, has_output_ended, flushed_after, answers_to, HasOutcome, StepsTo}
 use Rattle.tiny_http_connection.specs.Pending.{LeavesText, last_body, is_streaming_body}
-use Rattle.tiny_http_connection.specs.Connection.{Kept, OutputAt, behind_body, GivesRest, InputEnded, is_past_last, is_in_body, BeginsMore, PlaceIn, InputStands, Stands, FollowsLast}
+use Rattle.tiny_http_connection.specs.Connection.{Kept, OutputAt, behind_body, GivesRest, InputEnded, is_past_last, is_in_body, BeginsMore, PlaceIn, InputMatches, Represents, FollowsLast}
 use Rattle.tiny_http_connection.proofs.SlotsLemmas.{joined-waits}
 use Rattle.tiny_http_connection.proofs.ConversationWriting.{unreported, flushed-is}
 use Rattle.tiny_http_connection.proofs.ConnectionAsk.{AskIsAnswered, FoundHead, IsQuiet, going, ask-goes, handed-of, begins-from, turn-next, refused-whole, refused-text, refuses}
@@ -270,8 +270,8 @@ compose s m true o reply new p b h = by (has_output_ended s) refl
     by false e = compose-open s m o reply new p b e h
 
 -- what was flushed matters only while the writer hasn't failed
-stands-as : (client : Feed) (before : Sink) (k : Kept) (new : State) (flushed : List ℕ) → (new.failure ≡ None → flushed ≡ new.flushed) → Stands client before k new → Stands client before k (record { reached = new.reached; flushed = flushed; failure = new.failure })
-stands-as client before k new flushed same st =
+represents-as : (client : Feed) (before : Sink) (k : Kept) (new : State) (flushed : List ℕ) → (new.failure ≡ None → flushed ≡ new.flushed) → Represents client before k new → Represents client before k (record { reached = new.reached; flushed = flushed; failure = new.failure })
+represents-as client before k new flushed same st =
     record { numbers = st.numbers; shape = st.shape; in_turn = st.in_turn; asking_ended = st.asking_ended; reader = st.reader; output = by new.failure refl st.output }
   where
     by : (f : Option Failure) → new.failure ≡ f → OutputAt before k.sink k.output_ended new.reached.slots new.flushed f → OutputAt before k.sink k.output_ended new.reached.slots flushed f
@@ -285,7 +285,7 @@ firm-of before sink ended slots flushed (Some f) h e = cc
 -- WHERE AN ASK GOES ON: the connection stands behind the refused head, and an Ask from there is one from in front of it.
 pub record AskGoesOn (client : Feed) (before : Sink) (k : Kept) (s : State) (date : HttpDate) : Type 0 where
   pub mid : State
-  pub stands : Stands client before k mid
+  pub represents : Represents client before k mid
   pub asks : (later : Kept) (reply : ReplyValue) → AskIsAnswered client before later mid date reply → AskIsAnswered client before later s date reply
 
 -- a refused head has its number, and the input stands behind its body
@@ -294,10 +294,10 @@ after_passed k marks p stop over at sink ended = record k { marks = marks; reque
 
 -- the input stands in front of the next head
 passed-reader : (client : Feed) (k : Kept) (slots : List Slot) (rest more : List Item) (n : Slot) (p : Option Feed) (stop : Option Stop) (over : Bool) (at : InputState) (marks : List Mark) (sink : Sink) (ended : Bool) (close : Stop) (next : Place)
-    → InputStands client k slots rest → IsQuiet k.requests → is_last_slot (Some n) ≡ false → last_was_abandoned (Some n) ≡ false
+    → InputMatches client k slots rest → IsQuiet k.requests → is_last_slot (Some n) ≡ false → last_was_abandoned (Some n) ≡ false
     → p ≡ Some (place_feed close next) → Pipeline k.profile next close more → (BeginsBehind k.profile next close more → BeginsMore k.profile client) → GoesOn (Some client) p → at ≡ in_place.Head
-    → InputStands client (after_passed k marks p stop over at sink ended) (slots ++ (n ∷ [])) more
-passed-reader client k slots rest more n p stop over at marks sink ended close next old quiet unread unlost here items begins source stands =
+    → InputMatches client (after_passed k marks p stop over at sink ended) (slots ++ (n ∷ [])) more
+passed-reader client k slots rest more n p stop over at marks sink ended close next old quiet unread unlost here items begins source represents =
     let last : last_slot (slots ++ (n ∷ [])) ≡ Some n = last-snoc None slots n in
     let content : last_body (k.requests ++ (None ∷ [])) ≡ None = body-snoc k.requests None in
     let B : Option UnreadBody → Type 0 = λ b. GivesRest b (last_slot (slots ++ (n ∷ []))) p in
@@ -307,10 +307,10 @@ passed-reader client k slots rest more n p stop over at marks sink ended close n
       settled = settled-snoc k.requests None old.settled quiet;
       gives = subst B (sym content) tt;
       next = λ e. record {
-        is_last = ap is_past_last stands ∙ sym (ap is_last_slot last ∙ unread);
-        within = ap is_in_body stands ∙ sym (ap (λ o. not (is_last_slot o) && is_streaming_body (last_body (k.requests ++ (None ∷ [])))) last ∙ rw unread (ap is_streaming_body content));
+        is_last = ap is_past_last represents ∙ sym (ap is_last_slot last ∙ unread);
+        within = ap is_in_body represents ∙ sym (ap (λ o. not (is_last_slot o) && is_streaming_body (last_body (k.requests ++ (None ∷ [])))) last ∙ rw unread (ap is_streaming_body content));
         lost = λ lost. (let no : true ≡ false = sym lost ∙ (ap last_was_abandoned last ∙ unlost) in cc);
-        place = λ e. subst Q (sym content) (subst (λ y. F y p) (sym (ap is_past_last stands)) (subst (λ o. F false o) (sym here) (handed-of client k.profile false close next more items begins)));
+        place = λ e. subst Q (sym content) (subst (λ y. F y p) (sym (ap is_past_last represents)) (subst (λ o. F false o) (sym here) (handed-of client k.profile false close next more items begins)));
       };
       follows = λ holds. subst (λ b. FollowsLast b (last_slot (slots ++ (n ∷ []))) p) (sym content) tt;
       source = source;
@@ -365,7 +365,7 @@ ask-from-behind client before later s m date item rest t reply p turn passed rea
     found flushed Memory h = h
 
     answered : (flushed : List ℕ) → (new.failure ≡ None → flushed ≡ new.flushed) → StepsTo s date Ask reply (record { reached = new.reached; flushed = flushed; failure = new.failure }) → AskIsAnswered client before later s date reply
-    answered flushed same steps = (record { reached = new.reached; flushed = flushed; failure = new.failure }, stands-as client before later new flushed same a.1, steps, found flushed reply a.3)
+    answered flushed same steps = (record { reached = new.reached; flushed = flushed; failure = new.failure }, represents-as client before later new flushed same a.1, steps, found flushed reply a.3)
 
     slots_are : m.reached.slots ≡ s.reached.slots ++ (new_slot date item ∷ [])
     slots_are = ap (λ (x : Reached). x.slots) reached
@@ -402,7 +402,7 @@ ask-from-behind client before later s m date item rest t reply p turn passed rea
         answered c.flushed c.same (inr (open_is, more, unheld, kept, item ∷ refused, behind, items ∙ ap (λ xs. item ∷ xs) (sym rest_is ∙ eq), (passed, all), outcome))
 
 -- a head is refused, and the next one stands behind its body
-pub ask-passes : (client : Feed) (before : Sink) (k : Kept) (s : State) (date : HttpDate) (from_here : InputState) (status : StatusCode) (text : Vec ℕ) (p : Option Feed) (stop : Option Stop) (over : Bool) (at : InputState) (marks : List Mark) (sink : Sink) (ended : Bool) → Stands client before k s → before.failures < 2 ^ 64 - 1
+pub ask-passes : (client : Feed) (before : Sink) (k : Kept) (s : State) (date : HttpDate) (from_here : InputState) (status : StatusCode) (text : Vec ℕ) (p : Option Feed) (stop : Option Stop) (over : Bool) (at : InputState) (marks : List Mark) (sink : Sink) (ended : Bool) → Represents client before k s → before.failures < 2 ^ 64 - 1
     → k.asking_ended ≡ false → is_past_last k.input_state ≡ false → IsQuiet k.requests → is_last_slot (last_slot s.reached.slots) ≡ false → (InputEnded k → ⊥) → ReadsHead k.profile from_here date k.feed p (Ok (read.Refused status text false)) → GoesOn k.feed p
     → LeavesText (length k.marks == first_unfinished k.marks) k.marks [] marks text.items k.output_ended k.sink sink ended → at ≡ in_place.Head
     → AskGoesOn client before (after_passed k marks p stop over at sink ended) s date
@@ -433,7 +433,7 @@ ask-passes client before k s date from_here status text p stop over at marks sin
     let is : ask date s.reached ≡ asks_from date (used_by t) slots first.0 = ask-goes date s.reached (st.asking_ended ∙ e) g.unheld g.kept ∙ ap F first.1 in
     record {
       mid = mid;
-      stands = record {
+      represents = record {
         numbers = out.numbers;
         shape = out.shape;
         in_turn = turn-more s.reached.slots n st.in_turn (refl, λ z. (let no : true ≡ false = z in cc));

@@ -22,7 +22,7 @@ use Rattle.tiny_http_body.specs.Body.{body_finished}
 use Rattle.tiny_http_connection.specs.Outcomes.{finished_as}
 use Rattle.tiny_http_body.specs.Body.{Remaining, remaining, is_streaming, body_input_state, Fits, GivesUp}
 use Rattle.tiny_http_connection.specs.Pending.{last_holds_next_head, kept_body, last_body, is_streaming_body, holds_next_head_at}
-use Rattle.tiny_http_connection.specs.Connection.{Kept, open_slot, IsOpen, IsSettled, AreSettled, behind_body, slot_rest, GivesRest, is_past_last, is_in_body, PlaceIn, NextHead, InputStands, FollowsLast, behind_item}
+use Rattle.tiny_http_connection.specs.Connection.{Kept, open_slot, IsOpen, IsSettled, AreSettled, behind_body, slot_rest, GivesRest, is_past_last, is_in_body, PlaceIn, NextHead, InputMatches, FollowsLast, behind_item}
 use Rattle.tiny_http_io.proofs.SourceGoesOn.{goes-on_more}
 use Rattle.tiny_http_connection.proofs.ConnectionAsk.{stated-feed}
 use Rattle.tiny_http_body.proofs.BodyReads.{gives-up}
@@ -134,22 +134,22 @@ pub record StandsOn (c : UnreadBody) (p q : InputState) (last : Bool) : Type 0 w
   pub past : is_past_last q ≡ is_past_last p
   pub within : is_in_body q ≡ (not last && is_streaming c)
 
-stands-by : (c : UnreadBody) (p : InputState) (last : Bool) → is_in_body p ≡ (not last && true) → StandsOn c p (body_input_state c p) last
-stands-by (body.Over End) p last e = record { past = past-body p; within = out-body p ∙ sym (and-false (not last)) }
-stands-by (body.Over (Faults kind)) p last e = record { past = past-fault kind p; within = out-fault kind p ∙ sym (and-false (not last)) }
-stands-by (body.WithHead bytes) p last e = record { past = past-body p; within = out-body p ∙ sym (and-false (not last)) }
-stands-by (body.Counted left by_standard) p last e = record { past = refl; within = e }
-stands-by (body.Chunked d) p last e = record { past = refl; within = e }
-stands-by body.Rest p last e = record { past = refl; within = e }
+represents-by : (c : UnreadBody) (p : InputState) (last : Bool) → is_in_body p ≡ (not last && true) → StandsOn c p (body_input_state c p) last
+represents-by (body.Over End) p last e = record { past = past-body p; within = out-body p ∙ sym (and-false (not last)) }
+represents-by (body.Over (Faults kind)) p last e = record { past = past-fault kind p; within = out-fault kind p ∙ sym (and-false (not last)) }
+represents-by (body.WithHead bytes) p last e = record { past = past-body p; within = out-body p ∙ sym (and-false (not last)) }
+represents-by (body.Counted left by_standard) p last e = record { past = refl; within = e }
+represents-by (body.Chunked d) p last e = record { past = refl; within = e }
+represents-by body.Rest p last e = record { past = refl; within = e }
 
-pub stands-on : (b c : UnreadBody) (p q : InputState) (last : Bool) → (is_streaming b ≡ true → q ≡ body_input_state c p) → (is_streaming b ≡ false → q ≡ p) → (is_streaming b ≡ false → is_streaming c ≡ false) → is_in_body p ≡ (not last && is_streaming b) → StandsOn c p q last
-stands-on b c p q last goes settled stays e = by (is_streaming b) refl
+pub represents-on : (b c : UnreadBody) (p q : InputState) (last : Bool) → (is_streaming b ≡ true → q ≡ body_input_state c p) → (is_streaming b ≡ false → q ≡ p) → (is_streaming b ≡ false → is_streaming c ≡ false) → is_in_body p ≡ (not last && is_streaming b) → StandsOn c p q last
+represents-on b c p q last goes settled stays e = by (is_streaming b) refl
   where
     S : InputState → Type 0
     S x = StandsOn c p x last
 
     by : (t : Bool) → is_streaming b ≡ t → StandsOn c p q last
-    by true t = subst S (sym (goes t)) (stands-by c p last (e ∙ ap (λ x. not last && x) t))
+    by true t = subst S (sym (goes t)) (represents-by c p last (e ∙ ap (λ x. not last && x) t))
     by false t = subst S (sym (settled t)) (record { past = refl; within = e ∙ ap (λ x. not last && x) (t ∙ sym (stays t)) })
 
 -- a body that isn't read from the input leaves it
@@ -181,8 +181,8 @@ pub record IsInput {R : Type 0} (k : Kept) (source : SourceState R) : Type 0 whe
   pub input_state : k.input_state ≡ source.input_state
 
 -- a step of a number that isn't the last, which leaves the input
-pub reader-within : {R : Type 0} (client : Feed) (k : Kept) (source : SourceState R) (bs cs : List Slot) (us vs : List (Option Unfinished)) (rest : List Item) (s t c : Slot) (v x u : Option Unfinished) → IsInput k source → InputStands client k (bs ++ (s ∷ (c ∷ cs))) rest
-    → k.requests ≡ us ++ (u ∷ (v ∷ vs)) → IsSettled x → InputStands client (with_reader k (us ++ (x ∷ (v ∷ vs))) source) (bs ++ (t ∷ (c ∷ cs))) rest
+pub reader-within : {R : Type 0} (client : Feed) (k : Kept) (source : SourceState R) (bs cs : List Slot) (us vs : List (Option Unfinished)) (rest : List Item) (s t c : Slot) (v x u : Option Unfinished) → IsInput k source → InputMatches client k (bs ++ (s ∷ (c ∷ cs))) rest
+    → k.requests ≡ us ++ (u ∷ (v ∷ vs)) → IsSettled x → InputMatches client (with_reader k (us ++ (x ∷ (v ∷ vs))) source) (bs ++ (t ∷ (c ∷ cs))) rest
 reader-within client k source bs cs us vs rest s t c v x u from reader is quiet =
     let last : last_slot (bs ++ (t ∷ (c ∷ cs))) ≡ last_slot (bs ++ (s ∷ (c ∷ cs))) = last-within None bs t s c cs in
     let content : last_body (us ++ (x ∷ (v ∷ vs))) ≡ last_body k.requests = body-within us x u v vs ∙ ap last_body (sym is) in
@@ -211,7 +211,7 @@ pub record LastWaits {R : Type 0} (client : Feed) (k : Kept) (source : SourceSta
   pub place : k.asking_ended ≡ false → PlaceIn client k.profile (is_past_last source.input_state) (behind_body (Some b) source.feed) rest
   pub follows : last_holds_next_head k.requests ≡ true → behind_body (Some b) source.feed ≡ Some (behind_item s.item)
 
-pub last-waits : {R : Type 0} (client : Feed) (k : Kept) (source : SourceState R) (bs : List Slot) (us : List (Option Unfinished)) (rest : List Item) (s : Slot) (u : Option Unfinished) (b : UnreadBody) → IsOpen s b → kept_body u ≡ Some b → IsInput k source → InputStands client k (bs ++ (s ∷ [])) rest → k.requests ≡ us ++ (u ∷ [])
+pub last-waits : {R : Type 0} (client : Feed) (k : Kept) (source : SourceState R) (bs : List Slot) (us : List (Option Unfinished)) (rest : List Item) (s : Slot) (u : Option Unfinished) (b : UnreadBody) → IsOpen s b → kept_body u ≡ Some b → IsInput k source → InputMatches client k (bs ++ (s ∷ [])) rest → k.requests ≡ us ++ (u ∷ [])
     → LastWaits client k source bs s b rest
 last-waits client k source bs us rest s u b h has from reader is =
     let f = stated-feed client k.feed reader.source in
@@ -234,9 +234,9 @@ last-waits client k source bs us rest s u b h has from reader is =
     }
 
 -- the last number's body is given up
-reader-last : {R : Type 0} (closes : Bool) (client : Feed) (k : Kept) (old new : SourceState R) (bs : List Slot) (us : List (Option Unfinished)) (rest : List Item) (s : Slot) (u x : Option Unfinished) (b : UnreadBody) (stage : Stage) → (h : IsOpen s b) → kept_body u ≡ Some b → kept_body x ≡ None → IsInput k old → InputStands client k (bs ++ (s ∷ [])) rest
+reader-last : {R : Type 0} (closes : Bool) (client : Feed) (k : Kept) (old new : SourceState R) (bs : List Slot) (us : List (Option Unfinished)) (rest : List Item) (s : Slot) (u x : Option Unfinished) (b : UnreadBody) (stage : Stage) → (h : IsOpen s b) → kept_body u ≡ Some b → kept_body x ≡ None → IsInput k old → InputMatches client k (bs ++ (s ∷ [])) rest
     → k.requests ≡ us ++ (u ∷ []) → GivesUp b old new
-    → InputStands client (with_reader k (us ++ (x ∷ [])) new) (bs ++ (finished_as closes (open_slot h.handed h.request h.given h.end_reported) stage ∷ [])) rest
+    → InputMatches client (with_reader k (us ++ (x ∷ [])) new) (bs ++ (finished_as closes (open_slot h.handed h.request h.given h.end_reported) stage ∷ [])) rest
 reader-last closes client k old new bs us rest s u x b stage h has none from reader is gives =
     let t = finished_as closes (open_slot h.handed h.request h.given h.end_reported) stage in
     let r = h.request in
@@ -268,8 +268,8 @@ reader-last closes client k old new bs us rest s u x b stage h has none from rea
 -- A number's body is given up. `bs`, `cs`: the numbers before and behind; `us`, `vs`: what is kept of them; `u`, `x`: what is
 -- kept of the number before and after the step.
 pub reader-given_up : {R : Type 0} (closes : Bool) (client : Feed) (k : Kept) (old new : SourceState R) (bs cs : List Slot) (us vs : List (Option Unfinished)) (rest : List Item) (s : Slot) (u x : Option Unfinished) (b : UnreadBody) (stage : Stage) → (h : IsOpen s b) → kept_body u ≡ Some b → kept_body x ≡ None → IsInput k old
-    → InputStands client k (bs ++ (s ∷ cs)) rest → k.requests ≡ us ++ (u ∷ vs) → length cs ≡ length vs → GivesUp b old new
-    → InputStands client (with_reader k (us ++ (x ∷ vs)) new) (bs ++ (finished_as closes (open_slot h.handed h.request h.given h.end_reported) stage ∷ cs)) rest
+    → InputMatches client k (bs ++ (s ∷ cs)) rest → k.requests ≡ us ++ (u ∷ vs) → length cs ≡ length vs → GivesUp b old new
+    → InputMatches client (with_reader k (us ++ (x ∷ vs)) new) (bs ++ (finished_as closes (open_slot h.handed h.request h.given h.end_reported) stage ∷ cs)) rest
 reader-given_up closes client k old new bs [] us [] rest s u x b stage h has none from reader is same gives = reader-last closes client k old new bs us rest s u x b stage h has none from reader is gives
 reader-given_up closes client k old new bs [] us (v ∷ vs) rest s u x b stage h has none from reader is same gives = absurd (omega (arith, same))
 reader-given_up closes client k old new bs (c ∷ cs) us [] rest s u x b stage h has none from reader is same gives = absurd (omega (arith, same))
@@ -277,7 +277,7 @@ reader-given_up {R = R} closes client k old new bs (c ∷ cs) us (v ∷ vs) rest
     let A : List (Option Unfinished) → Type 0 = λ y. AreSettled y in
     let quiet : is_streaming b ≡ false = ap is_streaming_body (sym has) ∙ (settled-place us u v vs (subst A is reader.settled)).0 in
     let t = finished_as closes (open_slot h.handed h.request h.given h.end_reported) stage in
-    let P : SourceState R → Type 0 = λ y. InputStands client (with_reader k (us ++ (x ∷ (v ∷ vs))) y) (bs ++ (t ∷ (c ∷ cs))) rest in
+    let P : SourceState R → Type 0 = λ y. InputMatches client (with_reader k (us ++ (x ∷ (v ∷ vs))) y) (bs ++ (t ∷ (c ∷ cs))) rest in
     subst P (sym (given-same b old new gives quiet)) (reader-within client k old bs cs us vs rest s t c v x u from reader is (ap is_streaming_body none, bodiless-free x none))
 
 -- two slots which the input doesn't tell apart
@@ -300,8 +300,8 @@ still-true true b f e = refl
 still-true false b f e = let no : false ≡ true = sym (f refl) ∙ e in cc
 
 -- a step of a number that leaves its body and the input
-pub reader-alike : {R : Type 0} (client : Feed) (k : Kept) (source : SourceState R) (bs cs : List Slot) (us vs : List (Option Unfinished)) (rest : List Item) (s t : Slot) (u x : Option Unfinished) → IsInput k source → InputStands client k (bs ++ (s ∷ cs)) rest → k.requests ≡ us ++ (u ∷ vs) → length cs ≡ length vs
-    → kept_body x ≡ kept_body u → (holds_next_head_at (Some u) ≡ false → holds_next_head_at (Some x) ≡ false) → Alike s t → InputStands client (with_reader k (us ++ (x ∷ vs)) source) (bs ++ (t ∷ cs)) rest
+pub reader-alike : {R : Type 0} (client : Feed) (k : Kept) (source : SourceState R) (bs cs : List Slot) (us vs : List (Option Unfinished)) (rest : List Item) (s t : Slot) (u x : Option Unfinished) → IsInput k source → InputMatches client k (bs ++ (s ∷ cs)) rest → k.requests ≡ us ++ (u ∷ vs) → length cs ≡ length vs
+    → kept_body x ≡ kept_body u → (holds_next_head_at (Some u) ≡ false → holds_next_head_at (Some x) ≡ false) → Alike s t → InputMatches client (with_reader k (us ++ (x ∷ vs)) source) (bs ++ (t ∷ cs)) rest
 reader-alike client k source bs [] us (v ∷ vs) rest s t u x from reader is same body keeps alike = absurd (omega (arith, same))
 reader-alike client k source bs (c ∷ cs) us [] rest s t u x from reader is same body keeps alike = absurd (omega (arith, same))
 reader-alike client k source bs (c ∷ cs) us (v ∷ vs) rest s t u x from reader is same body keeps alike =

@@ -19,7 +19,7 @@ use Rattle.tiny_http_connection.specs.declared.pending.Unfinished.TheVariants as
 use Rattle.tiny_http_connection.specs.Segments.{Slot, Stage, Unanswered, Answered, ByServer, Raw, Upgraded, is_stage_finished, is_finished, is_broken, is_slot_broken, stage_text, opening, segment}
 use Rattle.tiny_http_connection.specs.Slots.{is_output_broken, joined, is_unanswered, closing_slot, with_last, last_slot}
 use Rattle.tiny_http_connection.specs.Pending.{kept_body, last_body, holds_next_head_at, last_holds_next_head, closing_number, closing_if_asked}
-use Rattle.tiny_http_connection.specs.Connection.{Kept, IsWaiting, IsRaw, IsUpgraded, IsDone, IsLeft, IsKept, AreKept, HasSentNothing, AreSentInTurn, AreSettled, GivesRest, FollowsLast, behind_body, slot_rest, behind_item, OutputAt, InputStands, Stands}
+use Rattle.tiny_http_connection.specs.Connection.{Kept, IsWaiting, IsRaw, IsUpgraded, IsDone, IsLeft, IsKept, AreKept, HasSentNothing, AreSentInTurn, AreSettled, GivesRest, FollowsLast, behind_body, slot_rest, behind_item, OutputAt, InputMatches, Represents}
 use Rattle.tiny_http_connection.specs.Steps.{ReplyValue}
 use Rattle.tiny_http_connection.specs.Outcomes.{asked_to_close, WriterUse, Unused, Unreported, Reported, Outcome}
 use Rattle.tiny_http_connection.specs.Conversation.{Failure, State, finished_front, Fares, Well, FailsWithin, FailsAfter, FallsBetween, MayFare, reply_in, failure_in, writes_nothing, flushes, HasOutcome}
@@ -263,7 +263,7 @@ follows-closing None o feed h = h
 follows-closing (Some b) None feed h = h
 follows-closing (Some b) (Some s) feed h = by-closing (λ t. behind_body (Some b) feed ≡ Some (behind_item t.item)) s (λ e. h) h
 
-input-closing : (client : Feed) (k : Kept) (slots : List Slot) (rest : List Item) → InputStands client k slots rest → InputStands client (closed_kept k) (with_last closing_slot slots) rest
+input-closing : (client : Feed) (k : Kept) (slots : List Slot) (rest : List Item) → InputMatches client k slots rest → InputMatches client (closed_kept k) (with_last closing_slot slots) rest
 input-closing client k slots rest r =
     let G : Option UnreadBody → Type 0 = λ b. GivesRest b (last_slot (with_last closing_slot slots)) k.feed in
     let H : Option Slot → Type 0 = λ o. GivesRest (last_body k.requests) o k.feed in
@@ -283,8 +283,8 @@ output-closing before sink ended slots flushed None h =
     (h.0 ∙ ap Some (sym (joined-closing slots)), h.1, h.2, h.3 ∙ sym (broken-closing slots), subst J (sym (joined-closing slots)) h.4, h.5)
 output-closing before sink ended slots flushed (Some f) h = h
 
-stands-closing : (client : Feed) (before : Sink) (k : Kept) (s : State) → Stands client before k s → Stands client before (closed_kept k) (asked_state true s)
-stands-closing client before k s st =
+represents-closing : (client : Feed) (before : Sink) (k : Kept) (s : State) → Represents client before k s → Represents client before (closed_kept k) (asked_state true s)
+represents-closing client before k s st =
     record {
       numbers = kept-closing s.reached.slots k.marks k.requests st.numbers;
       shape = st.shape;
@@ -294,9 +294,9 @@ stands-closing client before k s st =
       output = output-closing before k.sink k.output_ended s.reached.slots s.flushed s.failure st.output;
     }
 
-pub stands-asked : (closes : Bool) (client : Feed) (before : Sink) (k : Kept) (s : State) → Stands client before k s → Stands client before (asked_kept closes k) (asked_state closes s)
-stands-asked true client before k s st = subst (λ e. Stands client before (record k { requests = with_last closing_number k.requests; asking_ended = e }) (asked_state true s)) (sym (or-true k.asking_ended)) (stands-closing client before k s st)
-stands-asked false client before k s st = subst (λ e. Stands client before (record k { asking_ended = e }) s) (sym (or-false k.asking_ended)) st
+pub represents-asked : (closes : Bool) (client : Feed) (before : Sink) (k : Kept) (s : State) → Represents client before k s → Represents client before (asked_kept closes k) (asked_state closes s)
+represents-asked true client before k s st = subst (λ e. Represents client before (record k { requests = with_last closing_number k.requests; asking_ended = e }) (asked_state true s)) (sym (or-true k.asking_ended)) (represents-closing client before k s st)
+represents-asked false client before k s st = subst (λ e. Represents client before (record k { asking_ended = e }) s) (sym (or-false k.asking_ended)) st
 
 -- ---- what a step comes to doesn't see it
 

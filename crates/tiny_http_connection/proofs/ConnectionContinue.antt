@@ -21,7 +21,7 @@ use Rattle.tiny_http_connection.specs.Outcomes.{Unreported, Outcome, Reached, ch
 use Rattle.tiny_http_connection.specs.Conversation.{State, flushed_after, WriterPart, HasOutcome}
 use Rattle.tiny_http_connection.specs.declared.pending.Unfinished.{Unfinished}
 use Rattle.tiny_http_connection.specs.declared.pending.Unfinished.TheVariants as still
-use Rattle.tiny_http_connection.specs.Connection.{Kept, HandedOut, open_slot, IsWaiting, AreSentInTurn, AreKept, OutputAt, slot_rest, InputStands, Stands, behind_item}
+use Rattle.tiny_http_connection.specs.Connection.{Kept, HandedOut, open_slot, IsWaiting, AreSentInTurn, AreKept, OutputAt, slot_rest, InputMatches, Represents, behind_item}
 use Rattle.tiny_http_connection.proofs.SlotsLemmas.{breaks-waits}
 use Rattle.tiny_http_connection.proofs.ConversationWriting.{unreported, flushed-is}
 use Rattle.tiny_http_connection.proofs.ConnectionAsk.{StepIsAnswered, step-unchanged}
@@ -40,7 +40,7 @@ continue-not_taken n (Raw w c) owed e = refl
 continue-not_taken n (Upgraded p r d w c) owed e = refl
 
 -- no 100 is owed
-pub continue-unowed : (client : Feed) (before : Sink) (k : Kept) (s : State) (date : HttpDate) (n : ℕ) (w : OpenRequest UnreadBody) → Stands client before k s → slice_get k.requests n ≡ Some (Some (still.Waiting w)) → w.owes_continue ≡ false → StepIsAnswered client before k s date (AsReader n) Done
+pub continue-unowed : (client : Feed) (before : Sink) (k : Kept) (s : State) (date : HttpDate) (n : ℕ) (w : OpenRequest UnreadBody) → Represents client before k s → slice_get k.requests n ≡ Some (Some (still.Waiting w)) → w.owes_continue ≡ false → StepIsAnswered client before k s date (AsReader n) Done
 continue-unowed client before k s date n w st e free =
     let p = place-of s.reached.slots k.marks k.requests n (still.Waiting w) st.numbers e in
     let at = slot-at s.reached.slots p.bs p.cs p.s n p.slots_are p.slots_before in
@@ -48,7 +48,7 @@ continue-unowed client before k s date n w st e free =
     step-unchanged client before k s date (AsReader n) Done st (ap (at_slot true date s.reached n (AsReader n)) at.get ∙ ap T p.waiting.is ∙ rw (sym p.waiting.owed ∙ free) refl)
 
 -- its turn hasn't come
-pub continue-not_yet : (client : Feed) (before : Sink) (k : Kept) (s : State) (date : HttpDate) (n : ℕ) (w : OpenRequest UnreadBody) → Stands client before k s → slice_get k.requests n ≡ Some (Some (still.Waiting w)) → w.owes_continue ≡ true → (n == first_unfinished k.marks) ≡ false
+pub continue-not_yet : (client : Feed) (before : Sink) (k : Kept) (s : State) (date : HttpDate) (n : ℕ) (w : OpenRequest UnreadBody) → Represents client before k s → slice_get k.requests n ≡ Some (Some (still.Waiting w)) → w.owes_continue ≡ true → (n == first_unfinished k.marks) ≡ false
     → StepIsAnswered client before k s date (AsReader n) NotYet
 continue-not_yet client before k s date n w st e owed early =
     let p = place-of s.reached.slots k.marks k.requests n (still.Waiting w) st.numbers e in
@@ -90,7 +90,7 @@ still-waiting date s w h = record {
   settled = h.settled;
 }
 
-pub continue-done : {R : Type 0} (client : Feed) (before : Sink) (k : Kept) (s : State) (date : HttpDate) (n : ℕ) (w : OpenRequest UnreadBody) (context : ResponseContext) (new : Sink) (ended : Bool) (final : List Mark) (requests : List (Option Unfinished)) (source : SourceState R) → Stands client before k s → IsInput k source → before.failures < 2 ^ 64 - 1
+pub continue-done : {R : Type 0} (client : Feed) (before : Sink) (k : Kept) (s : State) (date : HttpDate) (n : ℕ) (w : OpenRequest UnreadBody) (context : ResponseContext) (new : Sink) (ended : Bool) (final : List Mark) (requests : List (Option Unfinished)) (source : SourceState R) → Represents client before k s → IsInput k source → before.failures < 2 ^ 64 - 1
     → slice_get k.requests n ≡ Some (Some (still.Waiting w)) → w.response_context ≡ context → w.owes_continue ≡ true → (n == first_unfinished k.marks) ≡ true → final ≡ k.marks → requests ≡ slice_set k.requests n (Some (still.Waiting (unowed w)))
     → ((k.output_ended ≡ false → CanSend k.sink) → SendsUnlessEnded k.output_ended k.sink new ended (own_text_by 100 (printing_in context date))) → IsFlushed new
     → StepIsAnswered client before (after_number k final requests source new ended) s date (AsReader n) Done
@@ -132,10 +132,10 @@ continue-done {R = R} client before k s date n w context new ended final request
     requests_now : requests ≡ p.us ++ (Some (still.Waiting (unowed w)) ∷ p.vs)
     requests_now = requests_are ∙ set-place k.requests p.us p.vs n (Some (still.Waiting w)) (Some (still.Waiting (unowed w))) p.requests_are p.requests_before
 
-    reader : InputStands client (with_reader k requests source) slots s.reached.rest
+    reader : InputMatches client (with_reader k requests source) slots s.reached.rest
     reader =
-        let P : List Slot → Type 0 = λ l. InputStands client k l s.reached.rest in
-        let Q : List (Option Unfinished) → Type 0 = λ q. InputStands client (with_reader k q source) slots s.reached.rest in
+        let P : List Slot → Type 0 = λ l. InputMatches client k l s.reached.rest in
+        let Q : List (Option Unfinished) → Type 0 = λ q. InputMatches client (with_reader k q source) slots s.reached.rest in
         subst Q (sym requests_now) (reader-alike client k source p.bs p.cs p.us p.vs s.reached.rest p.s s1 (Some (still.Waiting w)) (Some (still.Waiting (unowed w))) from (subst P p.slots_are st.reader) p.requests_are (kept-many p.cs p.rs p.vs p.behind) refl (λ e. e) alike)
 
     printed : printing_in context date ≡ to_request h.request.framing.is_last h.request date

@@ -23,7 +23,7 @@ use Rattle.tiny_http_connection.specs.Steps.{StepValue, ReplyValue, Respond, Upg
 use Rattle.tiny_http_connection.specs.Outcomes.{Reached, changes, ends_asking, use_in_turn, at_slot, outcome}
 use Rattle.tiny_http_connection.specs.Conversation.{State}
 use Rattle.tiny_http_connection.specs.Pending.{LeavesText}
-use Rattle.tiny_http_connection.specs.Connection.{Kept, HandedOut, open_slot, dropped, IsWaiting, InputStands, Stands}
+use Rattle.tiny_http_connection.specs.Connection.{Kept, HandedOut, open_slot, dropped, IsWaiting, InputMatches, Represents}
 use Rattle.tiny_http_connection.proofs.ConnectionAsk.{StepIsAnswered, dropped-whole}
 use Rattle.tiny_http_connection.proofs.ConnectionBody.{IsInput, with_reader, reader-given_up}
 use Rattle.tiny_http_connection.proofs.ConnectionKept.{kept-many, KeptAt, place-of}
@@ -57,10 +57,10 @@ drop-ends s w h = record {
 }
 
 -- the input after it
-pub reader-dropped : {R : Type 0} (client : Feed) (k : Kept) (s : State) (n : ℕ) (w : OpenRequest UnreadBody) (p : KeptAt s.reached.slots k.marks k.requests n (still.Waiting w)) (old source : SourceState R) → IsInput k old → InputStands client k s.reached.slots s.reached.rest → GivesUp w.body old source
-    → InputStands client (with_reader k (p.us ++ (None ∷ p.vs)) source) (p.bs ++ (dropped_slot p.s w p.waiting ∷ p.cs)) s.reached.rest
+pub reader-dropped : {R : Type 0} (client : Feed) (k : Kept) (s : State) (n : ℕ) (w : OpenRequest UnreadBody) (p : KeptAt s.reached.slots k.marks k.requests n (still.Waiting w)) (old source : SourceState R) → IsInput k old → InputMatches client k s.reached.slots s.reached.rest → GivesUp w.body old source
+    → InputMatches client (with_reader k (p.us ++ (None ∷ p.vs)) source) (p.bs ++ (dropped_slot p.s w p.waiting ∷ p.cs)) s.reached.rest
 reader-dropped client k s n w p old source from reader gives =
-    let P : List Slot → Type 0 = λ l. InputStands client k l s.reached.rest in
+    let P : List Slot → Type 0 = λ l. InputMatches client k l s.reached.rest in
     reader-given_up (closes_now p.waiting.request p.waiting.handed.closes p.waiting.handed.owed p.waiting.given p.waiting.end_reported) client k old source p.bs p.cs p.us p.vs s.reached.rest p.s (Some (still.Waiting w)) None w.body ByServer (open-waiting p.s w p.waiting) refl refl from (subst P p.slots_are reader) p.requests_are (kept-many p.cs p.rs p.vs p.behind) gives
 
 -- what tells whether an answer to a request is refused
@@ -72,7 +72,7 @@ IsKeptOf w r given end_reported =
 -- The request of a number that waits is dropped, by whatever step.
 pub drop-done : {R : Type 0} (client : Feed) (before : Sink) (k : Kept) (s : State) (date : HttpDate) (n : ℕ) (step : StepValue) (reply : ReplyValue) (w : OpenRequest UnreadBody) (new : Sink) (ended : Bool) (final : List Mark) (requests : List (Option Unfinished)) (old source : SourceState R)
     → ((old : Reached) (asked : HandedOut) (r : Request) (given : ℕ) (end_reported : Bool) → IsKeptOf w r given end_reported → slice_get old.slots n ≡ Some (open_slot asked r given end_reported) → outcome true date old step ≡ ends_asking (ends_when_finished r asked.owed given end_reported) (changes old n (dropped asked r given end_reported) reply (use_in_turn (turn_has_come n old.slots))))
-    → Stands client before k s → IsInput k old → GivesUp w.body old source → before.failures < 2 ^ 64 - 1 → slice_get k.requests n ≡ Some (Some (still.Waiting w)) → requests ≡ slice_set k.requests n None
+    → Represents client before k s → IsInput k old → GivesUp w.body old source → before.failures < 2 ^ 64 - 1 → slice_get k.requests n ≡ Some (Some (still.Waiting w)) → requests ≡ slice_set k.requests n None
     → ((front rest : List Mark) → k.marks ≡ front ++ (Open ∷ rest) → length front ≡ n → (k.output_ended ≡ false → CanSend k.sink) → LeavesText (n == first_unfinished k.marks) front rest final (drop_text w.dropped (final_context w (remainder w.body))) k.output_ended k.sink new ended)
     → StepIsAnswered client before (with_asking_ended (w.by_standard && (w.owes_continue || is_long (remainder w.body))) (after_number k final requests source new ended)) s date step reply
 drop-done {R = R} client before k s date n step reply w new ended final requests old source drops st from gives low e requests_are leaves =

@@ -16,7 +16,7 @@ use Rattle.tiny_http_connection.specs.Steps.{StepValue, ReplyValue}
 use Rattle.tiny_http_connection.specs.Outcomes.{Outcome, Reached, outcome, changes, use_in_turn}
 use Rattle.tiny_http_connection.specs.Conversation.{Failure, State, flushed_after, WriterPart, HasOutcome}
 use Rattle.tiny_http_connection.specs.Pending.{left_text, with_left_finished, LeavesText}
-use Rattle.tiny_http_connection.specs.Connection.{Kept, HasSentNothing, AreSentInTurn, AreKept, OutputAt, InputStands, Stands}
+use Rattle.tiny_http_connection.specs.Connection.{Kept, HasSentNothing, AreSentInTurn, AreKept, OutputAt, InputMatches, Represents}
 use Rattle.tiny_http_connection.proofs.ConversationWriting.{unreported, flushed-is}
 use Rattle.tiny_http_connection.proofs.ConnectionBody.{with_reader}
 use Rattle.tiny_http_connection.proofs.ConnectionAsk.{StepIsAnswered}
@@ -49,8 +49,8 @@ record EndSaid (before new : Sink) (ended : Bool) (slots : List Slot) (old : Sta
 
 -- A number ends with this text: in its turn it is sent, with the texts behind it; else it waits.
 pub leave-done : {R : Type 0} (client : Feed) (before : Sink) (k : Kept) (s : State) (date : HttpDate) (n : ℕ) (u : Unfinished) (p : KeptAt s.reached.slots k.marks k.requests n u) (s1 : Slot) (step : StepValue) (reply : ReplyValue) (text : List ℕ) (asked_last kept_last : Bool) (new : Sink) (ended : Bool) (final : List Mark) (requests : List (Option Unfinished))
-    (source : SourceState R) → Stands client before k s → before.failures < 2 ^ 64 - 1 → EndsAs p.s s1 text → outcome true date s.reached step ≡ record (changes s.reached n s1 reply (use_in_turn (turn_has_come n s.reached.slots))) { asking_ended = asked_last }
-    → asked_last ≡ kept_last → (kept_last ≡ false → k.asking_ended ≡ false) → requests ≡ slice_set k.requests n None → InputStands client (with_reader k (p.us ++ (None ∷ p.vs)) source) (p.bs ++ (s1 ∷ p.cs)) s.reached.rest
+    (source : SourceState R) → Represents client before k s → before.failures < 2 ^ 64 - 1 → EndsAs p.s s1 text → outcome true date s.reached step ≡ record (changes s.reached n s1 reply (use_in_turn (turn_has_come n s.reached.slots))) { asking_ended = asked_last }
+    → asked_last ≡ kept_last → (kept_last ≡ false → k.asking_ended ≡ false) → requests ≡ slice_set k.requests n None → InputMatches client (with_reader k (p.us ++ (None ∷ p.vs)) source) (p.bs ++ (s1 ∷ p.cs)) s.reached.rest
     → ((front rest : List Mark) → k.marks ≡ front ++ (Open ∷ rest) → length front ≡ n → (k.output_ended ≡ false → CanSend k.sink) → LeavesText (n == first_unfinished k.marks) front rest final text k.output_ended k.sink new ended)
     → StepIsAnswered client before (with_ended kept_last (after_number k final requests source new ended)) s date step reply
 leave-done {R = R} client before k s date n u p s1 step reply text asked_last kept_last new ended final requests source st low e is same_last stays requests_are reader leaves = ⊎_elim in-turn out-of-turn (turn-at p.bs p.fs p.us p.rs p.before (subst S p.marks_are st.shape))
@@ -93,7 +93,7 @@ leave-done {R = R} client before k s date n u p s1 step reply text asked_last ke
         let L : List Slot → Reached = λ l. record { slots = l; rest = s.reached.rest; asking_ended = asked_last } in
         let W : List Slot → Type 0 = λ l. WriterPart (use_in_turn t) s reply l reply said.failure in
         let G : Outcome → Type 0 = λ x. HasOutcome x s reply new_state in
-        let Q : List (Option Unfinished) → Type 0 = λ q. InputStands client (with_reader k q source) slots s.reached.rest in (
+        let Q : List (Option Unfinished) → Type 0 = λ q. InputMatches client (with_reader k q source) slots s.reached.rest in (
           new_state,
           record {
             numbers = said.numbers;

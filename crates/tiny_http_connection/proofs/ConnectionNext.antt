@@ -28,7 +28,7 @@ use Rattle.tiny_http_connection.specs.Steps.{ReplyValue, Ask, Ended, Memory, Han
 use Rattle.tiny_http_connection.specs.Connection.{Kept, ConnectionState, kept}
 use Rattle.tiny_http_connection.proofs.Asking.{CanAsk, AskStep, IsAskBehind}
 use Rattle.tiny_http_connection.proofs.ConnectionAsking.{AskGoesOn, ask-passes}
-use Rattle.tiny_http_connection.proofs.ConnectionAsk.{StepIsAnswered, AskIsAnswered, ask-final, ask-memory, ask-handed, ask-refused, before-head, stands-before}
+use Rattle.tiny_http_connection.proofs.ConnectionAsk.{StepIsAnswered, AskIsAnswered, ask-final, ask-memory, ask-handed, ask-refused, before-head, represents-before}
 use Rattle.tiny_http_connection.proofs.ConnectionOutput.{can-send}
 use Rattle.tiny_http_connection.proofs.ConnectionReader.{holds-snoc}
 use Rattle.tiny_http_connection.proofs.DrivingLemmas.{viewed, end-refused, end-final, ask-step, ask-found, asks-behind-head, end-behind, begins-behind, begins-here, hands-here, hands-behind, not-body, driving-reads-on}
@@ -48,7 +48,7 @@ last-reason why e = cc
 
 -- what was read where a head would begin, if it isn't the end
 before : {R : Type 0} (profile : Profile) (date : HttpDate) (s t : SourceState R) (r : Result HeadRead AllocError) → TakesHead profile date s t r → (IsOkEnd r → ⊥) → (s.input_state ≡ at.Body → ⊥) → IsBeforeHead s.input_state
-before profile date s t r h other outside = stands-before s.input_state outside (λ e. other (past-last r (h.last e).0))
+before profile date s t r h other outside = represents-before s.input_state outside (λ e. other (past-last r (h.last e).0))
 
 -- a request was read, and takes a number
 finds-request : {R W : Type 0} (profile : Profile) (date : HttpDate) (s t : SourceState R) (o : OutletState W) (p q : Pending) (end : Option EndOfRequests) (x : Exchange) (n : ℕ)
@@ -192,12 +192,12 @@ finds-another : {R W : Type 0} (profile : Profile) (date : HttpDate) (s t : Sour
     → TakesHead profile date s t (Ok (read.Refused status text false)) → RefusesHead p o text.items true q u → CanAsk (viewed profile s o p end)
     → CanAsk (viewed profile t u q end) × IsAskBehind (viewed profile s o p end) (viewed profile t u q end) date
 finds-another {R = R} {W = W} profile date s t o u p q end status text h f can = (
-  (can.0, λ e. not-body t.input_state stands e, subst F (sym (f.requests refl)) (holds-snoc p.requests None)),
+  (can.0, λ e. not-body t.input_state represents e, subst F (sym (f.requests refl)) (holds-snoc p.requests None)),
   asks-behind-head old new date (record {
     does = λ client before s low st.
         let n = before-head client before k s st open_is here can.2 in
         let done = ask-passes client before k s date from.input_state status text t.feed t.stop t.is_over t.input_state q.turns.marks (output_of u) (outlet_ended u) st low open_is n.unread n.quiet n.more
-        (λ i. elim (h.at_end i).0 [ ]) reads h.goes_on (f.leaves refl (can-send before k.sink k.output_ended s.reached.slots s.flushed s.failure st.output low)) stands in
+        (λ i. elim (h.at_end i).0 [ ]) reads h.goes_on (f.leaves refl (can-send before k.sink k.output_ended s.reached.slots s.flushed s.failure st.output low)) represents in
         let P : List (Option Unfinished) → Type 0 = λ r.
         AskGoesOn client before (record k { marks = q.turns.marks; requests = r; input_state = t.input_state; feed = t.feed; stop = t.stop; is_over = t.is_over; sink = output_of u; output_ended = outlet_ended u }) s date in
         subst (λ r. P r) (sym (f.requests refl)) done;
@@ -208,7 +208,7 @@ finds-another {R = R} {W = W} profile date s t o u p q end status text h f can =
     begins = λ begun. begins-behind profile s.input_state date s.feed t.feed status text reads begun;
     free = (can.1, can.2);
     hands = λ n message framing left hands. hands-behind profile s.input_state date s.feed t.feed status text n message framing left reads hands;
-    stands = stands;
+    represents = represents;
     ends = λ why ends. end-behind profile s.input_state date s.feed t.feed status text why here reads ends;
     requests = f.requests refl;
     counts = f.counts refl;
@@ -237,8 +237,8 @@ finds-another {R = R} {W = W} profile date s t o u p q end status text h f can =
     reads : ReadsHead profile s.input_state date s.feed t.feed (Ok (read.Refused status text false))
     reads = h.reads here
 
-    stands : t.input_state ≡ at.Head
-    stands = h.input_state
+    represents : t.input_state ≡ at.Head
+    represents = h.input_state
 
     F : List (Option Unfinished) → Type 0
     F us = last_holds_next_head us ≡ false

@@ -29,11 +29,11 @@ use Rattle.tiny_http_turns.specs.Turns.{Mark, Open}
 use Rattle.tiny_http_connection.specs.declared.pending.Unfinished.{Unfinished}
 use Rattle.tiny_http_connection.specs.declared.pending.Unfinished.TheVariants as still
 use Rattle.tiny_http_connection.specs.Pending.{last_holds_next_head, kept_body, number_with_body, is_readable, last_body, is_streaming_body, holds_next_head_at}
-use Rattle.tiny_http_connection.specs.Connection.{Kept, open_slot, IsWaiting, IsOpen, IsUpgraded, KeepsUnfinished, AreSentInTurn, AreKept, AreSettled, behind_body, slot_rest, GivesRest, is_past_last, PlaceIn, InputStands, Stands, FollowsLast, behind_item}
+use Rattle.tiny_http_connection.specs.Connection.{Kept, open_slot, IsWaiting, IsOpen, IsUpgraded, KeepsUnfinished, AreSentInTurn, AreKept, AreSettled, behind_body, slot_rest, GivesRest, is_past_last, PlaceIn, InputMatches, Represents, FollowsLast, behind_item}
 use Rattle.tiny_http_io.proofs.SourceGoesOn.{goes-on_more}
 use Rattle.tiny_http_connection.proofs.ConnectionAsk.{StepIsAnswered, step-unchanged, settled-any, stated-feed}
 use Rattle.tiny_http_body.proofs.BodyReads.{stays-settled, counted-over}
-use Rattle.tiny_http_connection.proofs.ConnectionBody.{IsInput, StandsOn, stands-on, last-waits, with_reader, reader-within}
+use Rattle.tiny_http_connection.proofs.ConnectionBody.{IsInput, StandsOn, represents-on, last-waits, with_reader, reader-within}
 use Rattle.tiny_http_connection.proofs.ConnectionKept.{KeptAt, place-of, kept-append, kept-many, unfinished-is, unfinished-whole}
 use Rattle.tiny_http_connection.proofs.ConnectionOutput.{output-same}
 use Rattle.tiny_http_connection.proofs.ConnectionReader.{holds-snoc, open-waiting, last-snoc, body-snoc, settled-place, settled-set, and-false}
@@ -346,10 +346,10 @@ with-body-holds c still.Raw = refl
 with-body-holds c (still.Upgraded b) = refl
 
 -- the last number's body is read
-read-last : {R : Type 0} (client : Feed) (k : Kept) (old new : SourceState R) (bs : List Slot) (us : List (Option Unfinished)) (rest : List Item) (s : Slot) (u : Unfinished) (b c : UnreadBody) (n : ℕ) (reply : ReplyValue) → (q : IsReadable s u b) → IsInput k old → InputStands client k (bs ++ (s ∷ [])) rest
+read-last : {R : Type 0} (client : Feed) (k : Kept) (old new : SourceState R) (bs : List Slot) (us : List (Option Unfinished)) (rest : List Item) (s : Slot) (u : Unfinished) (b c : UnreadBody) (n : ℕ) (reply : ReplyValue) → (q : IsReadable s u b) → IsInput k old → InputMatches client k (bs ++ (s ∷ [])) rest
     → k.requests ≡ us ++ (Some u ∷ []) → ReadOn b c old.feed new.feed q.opened.request q.opened.given q.opened.end_reported n reply → (is_streaming b ≡ false → new ≡ old) → (is_streaming b ≡ true → new.input_state ≡ body_input_state c old.input_state) → GoesOn old.feed new.feed
-    → InputStands client (with_reader k (us ++ (Some (number_with_body c u) ∷ [])) new) (bs ++ (read_slot s b q.opened n ∷ [])) rest
-read-last {R = R} client k old new bs us rest s u b c n reply q from reader is on leaves stands goes =
+    → InputMatches client (with_reader k (us ++ (Some (number_with_body c u) ∷ [])) new) (bs ++ (read_slot s b q.opened n ∷ [])) rest
+read-last {R = R} client k old new bs us rest s u b c n reply q from reader is on leaves represents goes =
     let h = q.opened in
     let t = read_slot s b h n in
     let last : last_slot (bs ++ (t ∷ [])) ≡ Some t = last-snoc None bs t in
@@ -361,7 +361,7 @@ read-last {R = R} client k old new bs us rest s u b c n reply q from reader is o
     let Q : Option Feed → Type 0 = λ f. PlaceIn client k.profile (is_past_last old.input_state) f rest in
     let W : Option Slot → Option UnreadBody → Bool = λ x y. not (is_last_slot x) && is_streaming_body y in
     let same : (e : k.asking_ended ≡ false) → StandsOn c old.input_state new.input_state (is_last_item s.item) =
-    λ e. stands-on b c old.input_state new.input_state (is_last_item s.item) stands (λ quiet. ap (λ (x : SourceState R). x.input_state) (leaves quiet)) on.stays (l.within e) in
+    λ e. represents-on b c old.input_state new.input_state (is_last_item s.item) represents (λ quiet. ap (λ (x : SourceState R). x.input_state) (leaves quiet)) on.stays (l.within e) in
     let item : is_last_item s.item ≡ is_last_item t.item = ap (λ (x : Slot). is_last_item x.item) h.is in
     let S : Option Feed → Type 0 = λ f. GoesOn f new.feed in
     let C : Option Remaining → Option Feed = λ o. option_map (λ (x : Remaining). x.body) o in
@@ -381,21 +381,21 @@ read-last {R = R} client k old new bs us rest s u b c n reply q from reader is o
       source = goes-on_more (Some client) k.feed new.feed reader.source (subst S (sym from.feed) goes);
     }
 
-reader-read : {R : Type 0} (client : Feed) (k : Kept) (old new : SourceState R) (bs cs : List Slot) (us vs : List (Option Unfinished)) (rest : List Item) (s : Slot) (u : Unfinished) (b c : UnreadBody) (n : ℕ) (reply : ReplyValue) → (q : IsReadable s u b) → IsInput k old → InputStands client k (bs ++ (s ∷ cs)) rest
+reader-read : {R : Type 0} (client : Feed) (k : Kept) (old new : SourceState R) (bs cs : List Slot) (us vs : List (Option Unfinished)) (rest : List Item) (s : Slot) (u : Unfinished) (b c : UnreadBody) (n : ℕ) (reply : ReplyValue) → (q : IsReadable s u b) → IsInput k old → InputMatches client k (bs ++ (s ∷ cs)) rest
     → k.requests ≡ us ++ (Some u ∷ vs) → length cs ≡ length vs → ReadOn b c old.feed new.feed q.opened.request q.opened.given q.opened.end_reported n reply → (is_streaming b ≡ false → new ≡ old) → (is_streaming b ≡ true → new.input_state ≡ body_input_state c old.input_state) → GoesOn old.feed new.feed
-    → InputStands client (with_reader k (us ++ (Some (number_with_body c u) ∷ vs)) new) (bs ++ (read_slot s b q.opened n ∷ cs)) rest
-reader-read client k old new bs [] us [] rest s u b c n reply q from reader is same on leaves stands goes = read-last client k old new bs us rest s u b c n reply q from reader is on leaves stands goes
-reader-read client k old new bs [] us (v ∷ vs) rest s u b c n reply q from reader is same on leaves stands goes = absurd (omega (arith, same))
-reader-read client k old new bs (d ∷ cs) us [] rest s u b c n reply q from reader is same on leaves stands goes = absurd (omega (arith, same))
-reader-read {R = R} client k old new bs (d ∷ cs) us (v ∷ vs) rest s u b c n reply q from reader is same on leaves stands goes =
+    → InputMatches client (with_reader k (us ++ (Some (number_with_body c u) ∷ vs)) new) (bs ++ (read_slot s b q.opened n ∷ cs)) rest
+reader-read client k old new bs [] us [] rest s u b c n reply q from reader is same on leaves represents goes = read-last client k old new bs us rest s u b c n reply q from reader is on leaves represents goes
+reader-read client k old new bs [] us (v ∷ vs) rest s u b c n reply q from reader is same on leaves represents goes = absurd (omega (arith, same))
+reader-read client k old new bs (d ∷ cs) us [] rest s u b c n reply q from reader is same on leaves represents goes = absurd (omega (arith, same))
+reader-read {R = R} client k old new bs (d ∷ cs) us (v ∷ vs) rest s u b c n reply q from reader is same on leaves represents goes =
     let A : List (Option Unfinished) → Type 0 = λ x. AreSettled x in
     let quiet : is_streaming b ≡ false = ap is_streaming_body (sym q.has) ∙ (settled-place us (Some u) v vs (subst A is reader.settled)).0 in
     let t = read_slot s b q.opened n in
-    let P : SourceState R → Type 0 = λ x. InputStands client (with_reader k (us ++ (Some (number_with_body c u) ∷ (v ∷ vs))) x) (bs ++ (t ∷ (d ∷ cs))) rest in
+    let P : SourceState R → Type 0 = λ x. InputMatches client (with_reader k (us ++ (Some (number_with_body c u) ∷ (v ∷ vs))) x) (bs ++ (t ∷ (d ∷ cs))) rest in
     subst P (sym (leaves quiet)) (reader-within client k old bs cs us vs rest s t d v (Some (number_with_body c u)) (Some u) from reader is (ap is_streaming_body (q.has_then c) ∙ on.stays quiet, with-body-holds c u ∙ (settled-place us (Some u) v vs (subst A is reader.settled)).1))
 
 -- what is left of a number's body, as its reader sees it
-read-remains-of : {R : Type 0} (client : Feed) (k : Kept) (old : SourceState R) (bs cs : List Slot) (us vs : List (Option Unfinished)) (rest : List Item) (s : Slot) (u : Unfinished) (b : UnreadBody) → (h : IsOpen s b) → kept_body (Some u) ≡ Some b → IsInput k old → InputStands client k (bs ++ (s ∷ cs)) rest
+read-remains-of : {R : Type 0} (client : Feed) (k : Kept) (old : SourceState R) (bs cs : List Slot) (us vs : List (Option Unfinished)) (rest : List Item) (s : Slot) (u : Unfinished) (b : UnreadBody) → (h : IsOpen s b) → kept_body (Some u) ≡ Some b → IsInput k old → InputMatches client k (bs ++ (s ∷ cs)) rest
     → k.requests ≡ us ++ (Some u ∷ vs) → length cs ≡ length vs → (y : Remaining) × (remaining b old.feed ≡ Some y) × (y.body ≡ rest_of h.request h.given)
 read-remains-of client k old bs [] us [] rest s u b h has from reader is same =
     let l = last-waits client k old bs us rest s (Some u) b h has from reader is in
@@ -429,7 +429,7 @@ read-unfit k n x still.Raw h e = ap (λ y. accepts_step y x.owed (Read k n)) h.s
 read-unfit k n x (still.Upgraded b) h e = let no : true ≡ false = e in cc
 
 -- no body is read while a 100 is owed, or where none is kept
-pub read-nothing : (client : Feed) (before : Sink) (k : Kept) (s : State) (date : HttpDate) (n m : ℕ) → Stands client before k s → is_readable (slice_get k.requests n) ≡ false → StepIsAnswered client before k s date (Read n m) NoSuch
+pub read-nothing : (client : Feed) (before : Sink) (k : Kept) (s : State) (date : HttpDate) (n m : ℕ) → Represents client before k s → is_readable (slice_get k.requests n) ≡ false → StepIsAnswered client before k s date (Read n m) NoSuch
 read-nothing client before k s date n m st free =
     not-taken client before k s date n (Read n m) refl (read-not_taken n m) st (λ x u e h. read-unfit n m x u h (ap is_readable (sym e) ∙ free))
 
@@ -453,7 +453,7 @@ at-read date old k n s u b q e =
     ap (at_slot true date old k (Read k n)) e ∙ ap T q.opened.is ∙ rw (q.accepts k n) refl
 
 -- no bytes are asked for
-pub read-none : (client : Feed) (before : Sink) (k : Kept) (s : State) (date : HttpDate) (j n : ℕ) (u : Unfinished) (b : UnreadBody) → Stands client before k s → slice_get k.requests j ≡ Some (Some u) → is_readable (Some (Some u)) ≡ true → kept_body (Some u) ≡ Some b → n ≡ 0
+pub read-none : (client : Feed) (before : Sink) (k : Kept) (s : State) (date : HttpDate) (j n : ℕ) (u : Unfinished) (b : UnreadBody) → Represents client before k s → slice_get k.requests j ≡ Some (Some u) → is_readable (Some (Some u)) ≡ true → kept_body (Some u) ≡ Some b → n ≡ 0
     → StepIsAnswered client before k s date (Read j n) (Given [])
 read-none client before k s date j n u b st e free has zero =
     let p = place-of s.reached.slots k.marks k.requests j u st.numbers e in
@@ -461,7 +461,7 @@ read-none client before k s date j n u b st e free has zero =
     step-unchanged client before k s date (Read j n) (Given []) st (at-read date s.reached j n p.s u b (readable p.s u b p.waiting free has) at.get ∙ rw zero refl)
 
 -- no memory was found
-pub read-memory : (client : Feed) (before : Sink) (k : Kept) (s : State) (date : HttpDate) (j n : ℕ) (u : Unfinished) (b : UnreadBody) → Stands client before k s → slice_get k.requests j ≡ Some (Some u) → is_readable (Some (Some u)) ≡ true → kept_body (Some u) ≡ Some b → 0 < n
+pub read-memory : (client : Feed) (before : Sink) (k : Kept) (s : State) (date : HttpDate) (j n : ℕ) (u : Unfinished) (b : UnreadBody) → Represents client before k s → slice_get k.requests j ≡ Some (Some u) → is_readable (Some (Some u)) ≡ true → kept_body (Some u) ≡ Some b → 0 < n
     → StepIsAnswered client before k s date (Read j n) Memory
 read-memory client before k s date j n u b st e free has some =
     let p = place-of s.reached.slots k.marks k.requests j u st.numbers e in
@@ -478,11 +478,11 @@ read-memory client before k s date j n u b st e free has some =
     such n (z ∷ left) stop false a b x y e = let no : Given (take n (z ∷ left)) ≡ NoSuch = sym y ∙ e in cc
 
 -- the body was read
-pub read-done : {R : Type 0} (client : Feed) (before : Sink) (k : Kept) (s : State) (date : HttpDate) (j n : ℕ) (u : Unfinished) (b c : UnreadBody) (old new : SourceState R) (requests : List (Option Unfinished)) (result : Result ℕ ErrorKind) (buf : List ℕ) → Stands client before k s → slice_get k.requests j ≡ Some (Some u)
+pub read-done : {R : Type 0} (client : Feed) (before : Sink) (k : Kept) (s : State) (date : HttpDate) (j n : ℕ) (u : Unfinished) (b c : UnreadBody) (old new : SourceState R) (requests : List (Option Unfinished)) (result : Result ℕ ErrorKind) (buf : List ℕ) → Represents client before k s → slice_get k.requests j ≡ Some (Some u)
     → is_readable (Some (Some u)) ≡ true → kept_body (Some u) ≡ Some b
     → requests ≡ slice_set k.requests j (Some (number_with_body c u)) → IsInput k old → IfBound result buf → length buf ≡ n → 0 < n → FillsFromBody b old.feed c new.feed result buf → (is_streaming b ≡ false → new ≡ old) → (is_streaming b ≡ true → new.input_state ≡ body_input_state c old.input_state) → GoesOn old.feed new.feed
     → StepIsAnswered client before (with_reader k requests new) s date (Read j n) (reply_for result buf)
-read-done {R = R} client before k s date j n u b c old new requests result buf st e free has requests_are from bound size some fills leaves stands goes =
+read-done {R = R} client before k s date j n u b c old new requests result buf st e free has requests_are from bound size some fills leaves represents goes =
     let R : List (Option Unfinished) → Type 0 = λ l. StepIsAnswered client before (with_reader k l new) s date (Read j n) (reply_for result buf) in
     subst R (sym set) (
       state,
@@ -491,7 +491,7 @@ read-done {R = R} client before k s date j n u b c old new requests result buf s
         shape = st.shape;
         in_turn = turn-set p.bs p.cs s0 s1 (λ sent. sent) (λ done. done) (subst T open_is st.in_turn);
         asking_ended = st.asking_ended;
-        reader = reader-read client k old new p.bs p.cs p.us p.vs s.reached.rest p.s u b c n (reply_for result buf) q from (subst P p.slots_are st.reader) p.requests_are many on leaves stands goes;
+        reader = reader-read client k old new p.bs p.cs p.us p.vs s.reached.rest p.s u b c n (reply_for result buf) q from (subst P p.slots_are st.reader) p.requests_are many on leaves represents goes;
         output = output-same before k.sink k.output_ended s.reached.slots slots s.flushed s.failure joined_same breaks_same st.output;
       },
       inl (true, tt, subst G (sym is) (ap L (sym (at.set s1)), refl, (on.reply_is, refl))),
@@ -510,7 +510,7 @@ read-done {R = R} client before k s date j n u b c old new requests result buf s
     many = kept-many p.cs p.rs p.vs p.behind
 
     P : List Slot → Type 0
-    P l = InputStands client k l s.reached.rest
+    P l = InputMatches client k l s.reached.rest
 
     s1 : Slot
     s1 = read_slot p.s b h n

@@ -30,7 +30,7 @@ use Rattle.tiny_http_connection.specs.Seen.{Answers, reply_to}
 use Rattle.tiny_http_response.specs.Sending.{CanSend, OutletTook, OutletFailed, IsFlushed, SendsText, SendsUnlessEnded}
 use Rattle.tiny_http_turns.specs.Turns.{Mark, Open, Held, Finished, AreInShape, first_unfinished}
 use Rattle.tiny_http_connection.specs.Pending.{is_last_once_finished_at as kept_lacks, refuses_at, left_text, with_left_finished, begins_left, SendsLeft, FinishesFront, waiting_response_context}
-use Rattle.tiny_http_connection.specs.Connection.{Kept, response_context_of, HandedOut, open_slot, IsWaiting, KeepsUnfinished, HasSentNothing, AreSentInTurn, AreKept, OutputAt, InputStands, Stands}
+use Rattle.tiny_http_connection.specs.Connection.{Kept, response_context_of, HandedOut, open_slot, IsWaiting, KeepsUnfinished, HasSentNothing, AreSentInTurn, AreKept, OutputAt, InputMatches, Represents}
 use Rattle.tiny_http_io.specs.Source.{SourceState}
 use Rattle.tiny_http_body.specs.Body.{remainder, is_long, GivesUp}
 use Rattle.tiny_http_connection.proofs.ConnectionBody.{IsInput, with_reader, next-same, reader-given_up}
@@ -81,7 +81,7 @@ respond-nothing-at date old n step free = at (slice_get old.slots n) refl
     at (Some x) e = of x x.item (free x e)
 
 -- no request of this number takes the step: it is finished, or what is kept of it doesn't take it
-pub not-taken : (client : Feed) (before : Sink) (k : Kept) (s : State) (date : HttpDate) (n : ℕ) (step : StepValue) → outcome true date s.reached step ≡ at_number true date s.reached n step → TakesNone step → Stands client before k s
+pub not-taken : (client : Feed) (before : Sink) (k : Kept) (s : State) (date : HttpDate) (n : ℕ) (step : StepValue) → outcome true date s.reached step ≡ at_number true date s.reached n step → TakesNone step → Represents client before k s
     → ((x : Slot) (u : Unfinished) → slice_get k.requests n ≡ Some (Some u) → KeepsUnfinished x u → accepts_step x.stage x.owed step ≡ false) → StepIsAnswered client before k s date step NoSuch
 not-taken client before k s date n step at free st unfit =
     step-unchanged client before k s date step NoSuch st
@@ -95,7 +95,7 @@ finished-none step needs (Raw w c) owed e = needs (Raw w c) owed refl
 finished-none step needs (Upgraded p r d w c) owed e = needs (Upgraded p r d w c) owed refl
 
 -- no number that waits for its answer takes the step
-pub no-such : (client : Feed) (before : Sink) (k : Kept) (s : State) (date : HttpDate) (n : ℕ) (step : StepValue) → outcome true date s.reached step ≡ at_number true date s.reached n step → NeedsWaiting step → Stands client before k s → waiting_response_context (slice_get k.requests n) ≡ None
+pub no-such : (client : Feed) (before : Sink) (k : Kept) (s : State) (date : HttpDate) (n : ℕ) (step : StepValue) → outcome true date s.reached step ≡ at_number true date s.reached n step → NeedsWaiting step → Represents client before k s → waiting_response_context (slice_get k.requests n) ≡ None
     → StepIsAnswered client before k s date step NoSuch
 no-such client before k s date n step at needs st none = not-taken client before k s date n step at (finished-none step needs) st by
   where
@@ -149,7 +149,7 @@ pub refuses-same : (s : Slot) (w : OpenRequest UnreadBody) (h : IsWaiting s w) (
 refuses-same s w h v =
     ap (λ b. refuses_code b (is_connect_method h.request.message.method) v.answer.status) (sym h.standard) ∙ ap (λ b. refuses_code w.by_standard b v.answer.status) (sym h.connect)
 
-pub respond-not_yet : (client : Feed) (before : Sink) (k : Kept) (s : State) (date : HttpDate) (n : ℕ) (v : ResponseValue) (w : OpenRequest UnreadBody) → Stands client before k s → slice_get k.requests n ≡ Some (Some (still.Waiting w)) → refuses_at v.answer.status (slice_get k.requests n) ≡ false
+pub respond-not_yet : (client : Feed) (before : Sink) (k : Kept) (s : State) (date : HttpDate) (n : ℕ) (v : ResponseValue) (w : OpenRequest UnreadBody) → Represents client before k s → slice_get k.requests n ≡ Some (Some (still.Waiting w)) → refuses_at v.answer.status (slice_get k.requests n) ≡ false
     → ((slice_get k.marks n ≡ Some Open) × (n ≡ first_unfinished k.marks) → ⊥) → StepIsAnswered client before k s date (Respond n v) NotYet
 respond-not_yet client before k s date n v w st e good never =
     let p = place-of s.reached.slots k.marks k.requests n (still.Waiting w) st.numbers e in
@@ -488,7 +488,7 @@ pub record Answerable (k : Kept) (s : State) (n : ℕ) (response_context : Respo
 pub set-place : {X : Type 0} (xs us vs : List X) (n : ℕ) (x y : X) → xs ≡ us ++ (x ∷ vs) → length us ≡ n → slice_set xs n y ≡ us ++ (y ∷ vs)
 set-place xs us vs n x y e place = ap (λ l. slice_set l n y) e ∙ ap (λ m. slice_set (us ++ (x ∷ vs)) m y) (sym place) ∙ set-at us x y vs
 
-pub answerable : (client : Feed) (before : Sink) (k : Kept) (s : State) (n : ℕ) (response_context : ResponseContext) → Stands client before k s → waiting_response_context (slice_get k.requests n) ≡ Some response_context → n ≡ first_unfinished k.marks → Answerable k s n response_context
+pub answerable : (client : Feed) (before : Sink) (k : Kept) (s : State) (n : ℕ) (response_context : ResponseContext) → Represents client before k s → waiting_response_context (slice_get k.requests n) ≡ Some response_context → n ≡ first_unfinished k.marks → Answerable k s n response_context
 answerable client before k s n response_context st e first =
     let w = answer-form-some (slice_get k.requests n) response_context e in
     let p = place-of s.reached.slots k.marks k.requests n (still.Waiting w.0) st.numbers w.1 in
@@ -534,8 +534,8 @@ after_number k marks requests source sink ended =
     record k { marks = marks; requests = requests; input_state = source.input_state; feed = source.feed; stop = source.stop; is_over = source.is_over; sink = sink; output_ended = ended }
 
 -- the reader doesn't see the turns and the output
-pub reader-after : {R : Type 0} (client : Feed) (k : Kept) (marks : List Mark) (requests : List (Option Unfinished)) (source : SourceState R) (sink : Sink) (ended : Bool) (slots : List Slot) (rest : List Item) → InputStands client (with_reader k requests source) slots rest
-    → InputStands client (after_number k marks requests source sink ended) slots rest
+pub reader-after : {R : Type 0} (client : Feed) (k : Kept) (marks : List Mark) (requests : List (Option Unfinished)) (source : SourceState R) (sink : Sink) (ended : Bool) (slots : List Slot) (rest : List Item) → InputMatches client (with_reader k requests source) slots rest
+    → InputMatches client (after_number k marks requests source sink ended) slots rest
 reader-after client k marks requests source sink ended slots rest r =
     record { settled = r.settled; gives = r.gives; next = λ e. next-same client (with_reader k requests source) (after_number k marks requests source sink ended) (last_slot slots) (last_slot slots) rest refl refl refl refl refl refl refl refl (r.next e); follows = r.follows; source = r.source }
 
@@ -551,7 +551,7 @@ pub neither : (a b : Bool) → (a || b) ≡ false → a ≡ false
 neither true b e = let no : true ≡ false = e in cc
 neither false b e = refl
 
-pub reader-ended : (client : Feed) (k : Kept) (ended : Bool) (slots : List Slot) (rest : List Item) → (ended ≡ false → k.asking_ended ≡ false) → InputStands client k slots rest → InputStands client (with_ended ended k) slots rest
+pub reader-ended : (client : Feed) (k : Kept) (ended : Bool) (slots : List Slot) (rest : List Item) → (ended ≡ false → k.asking_ended ≡ false) → InputMatches client k slots rest → InputMatches client (with_ended ended k) slots rest
 reader-ended client k ended slots rest stays r =
     record { settled = r.settled; gives = r.gives; next = λ e. next-same client k (with_ended ended k) (last_slot slots) (last_slot slots) rest refl refl refl refl refl refl refl refl (r.next (stays e)); follows = r.follows; source = r.source }
 
@@ -577,11 +577,11 @@ gathered-by false a b v coding version no_body date h = h
 gathered-any : (v : ResponseValue) (r : Request) (date : HttpDate) (closes : Bool) → IsGathered v.answer (to_request closes r date) → IsGathered v.answer (to_request r.framing.is_last r date)
 gathered-any v r date closes h = gathered-by r.framing.by_standard closes r.framing.is_last v (coding_for r.framing.by_standard r.message.headers) r.message.version (is_head_method r.message.method) date h
 
-respond-stands : {R : Type 0} (client : Feed) (before : Sink) (k : Kept) (s : State) (date : HttpDate) (n : ℕ) (v : ResponseValue) (response_context : ResponseContext) (found : Bool) (mid new : Sink) (mid_ended ended : Bool) (final : List Mark) (requests : List (Option Unfinished)) (source : SourceState R) (reply : ReplyValue)
-    → Stands client before k s → before.failures < 2 ^ 64 - 1 → (a : Answerable k s n response_context) → refuses_at v.answer.status (slice_get k.requests n) ≡ false → asked_to_close v.answer.closes s.reached ≡ s.reached → (found ≡ true) ⊎ IsGathered v.answer (to_request (closes_now a.waits.request a.waits.handed.closes a.waits.handed.owed a.waits.given a.waits.end_reported) a.waits.request date) → requests ≡ slice_set k.requests n None → InputStands client (with_reader k (a.us ++ (None ∷ a.vs)) source) (a.bs ++ (answered_slot a.waits.handed a.waits.request a.waits.given a.waits.end_reported v date found ∷ a.cs)) s.reached.rest → FinishesFront a.fs a.rs final
+respond-represents : {R : Type 0} (client : Feed) (before : Sink) (k : Kept) (s : State) (date : HttpDate) (n : ℕ) (v : ResponseValue) (response_context : ResponseContext) (found : Bool) (mid new : Sink) (mid_ended ended : Bool) (final : List Mark) (requests : List (Option Unfinished)) (source : SourceState R) (reply : ReplyValue)
+    → Represents client before k s → before.failures < 2 ^ 64 - 1 → (a : Answerable k s n response_context) → refuses_at v.answer.status (slice_get k.requests n) ≡ false → asked_to_close v.answer.closes s.reached ≡ s.reached → (found ≡ true) ⊎ IsGathered v.answer (to_request (closes_now a.waits.request a.waits.handed.closes a.waits.handed.owed a.waits.given a.waits.end_reported) a.waits.request date) → requests ≡ slice_set k.requests n None → InputMatches client (with_reader k (a.us ++ (None ∷ a.vs)) source) (a.bs ++ (answered_slot a.waits.handed a.waits.request a.waits.given a.waits.end_reported v date found ∷ a.cs)) s.reached.rest → FinishesFront a.fs a.rs final
     → OwnSaid before mid k.output_ended mid_ended s.reached.slots a.bs (answered_slot a.waits.handed a.waits.request a.waits.given a.waits.end_reported v date found) (response_sent found v (closes_now a.waits.request a.waits.handed.closes a.waits.handed.owed a.waits.given a.waits.end_reported) a.waits.request date) s.flushed s.failure reply → SendsLeft a.rs mid_ended mid new ended
     → StepIsAnswered client before (with_asking_ended (kept_lacks (slice_get k.requests n)) (after_number k final requests source new ended)) s date (Respond n v) reply
-respond-stands client before k s date n v response_context found mid new mid_ended ended final requests source reply st low a good fixed lack requests_are reader passes own sends =
+respond-represents client before k s date n v response_context found mid new mid_ended ended final requests source reply st low a good fixed lack requests_are reader passes own sends =
     let s0 = open_slot a.waits.handed a.waits.request a.waits.given a.waits.end_reported in
     let s1 = answered_slot a.waits.handed a.waits.request a.waits.given a.waits.end_reported v date found in
     let text = response_sent found v (closes_now a.waits.request a.waits.handed.closes a.waits.handed.owed a.waits.given a.waits.end_reported) a.waits.request date in
@@ -608,7 +608,7 @@ respond-stands client before k s date n v response_context found mid new mid_end
         in_turn = turn-set a.bs a.cs s0 s1 (λ q. (q.0, λ z. (let no : true ≡ false = z in cc))) (λ none. refl) turns;
         asking_ended = both-end s.reached.asking_ended k.asking_ended last (kept_lacks (slice_get k.requests n)) st.asking_ended (lacks-same a.slot a.waiting a.waits ∙ sym (ap kept_lacks a.kept));
         reader = reader-ended client (after_number k final requests source new ended) (k.asking_ended || kept_lacks (slice_get k.requests n)) slots s.reached.rest (neither k.asking_ended (kept_lacks (slice_get k.requests n)))
-            (reader-after client k final requests source new ended slots s.reached.rest (subst (λ q. InputStands client (with_reader k q source) slots s.reached.rest) (sym (requests_are ∙ a.requests_set)) reader));
+            (reader-after client k final requests source new ended slots s.reached.rest (subst (λ q. InputMatches client (with_reader k q source) slots s.reached.rest) (sym (requests_are ∙ a.requests_set)) reader));
         output = said.output;
       },
       inl (found, lacks found lack a.at.get, has),
@@ -628,7 +628,7 @@ RespondsBy k mid mid_ended reply v response_context date =
     ⊎ ((k.output_ended ≡ false) × Answers k.sink mid mid_ended reply v.answer v.content (printing_in response_context date))
 
 pub respond-done : {R : Type 0} (client : Feed) (before : Sink) (k : Kept) (s : State) (date : HttpDate) (n : ℕ) (v : ResponseValue) (response_context : ResponseContext) (mid new : Sink) (mid_ended ended : Bool) (marks final : List Mark) (requests : List (Option Unfinished)) (old source : SourceState R) (reply : ReplyValue)
-    → Stands client before k s → IsInput k old → ((w : OpenRequest UnreadBody) → slice_get k.requests n ≡ Some (Some (still.Waiting w)) → GivesUp w.body old source) → before.failures < 2 ^ 64 - 1 → waiting_response_context (slice_get k.requests n) ≡ Some response_context → refuses_at v.answer.status (slice_get k.requests n) ≡ false → asked_to_close v.answer.closes s.reached ≡ s.reached → n ≡ first_unfinished k.marks → marks ≡ slice_set k.marks n Held → requests ≡ slice_set k.requests n None
+    → Represents client before k s → IsInput k old → ((w : OpenRequest UnreadBody) → slice_get k.requests n ≡ Some (Some (still.Waiting w)) → GivesUp w.body old source) → before.failures < 2 ^ 64 - 1 → waiting_response_context (slice_get k.requests n) ≡ Some response_context → refuses_at v.answer.status (slice_get k.requests n) ≡ false → asked_to_close v.answer.closes s.reached ≡ s.reached → n ≡ first_unfinished k.marks → marks ≡ slice_set k.marks n Held → requests ≡ slice_set k.requests n None
     → RespondsBy k mid mid_ended reply v response_context date
     → ((front rest : List Mark) → marks ≡ front ++ (Held ∷ rest) → length front ≡ n → FinishesFront front rest final)
     → ((front rest : List Mark) → marks ≡ front ++ (Held ∷ rest) → length front ≡ n → (mid_ended ≡ false → CanSend mid) → SendsLeft rest mid_ended mid new ended)
@@ -645,15 +645,15 @@ respond-done {R = R} client before k s date n v response_context mid new mid_end
     longer_by : (found : Bool) → Longer s.reached.slots a.bs (answered_slot a.waits.handed a.waits.request a.waits.given a.waits.end_reported v date found) (response_sent found v (closes_now a.waits.request a.waits.handed.closes a.waits.handed.owed a.waits.given a.waits.end_reported) a.waits.request date).bytes
     longer_by found = longer-open s.reached.slots a.bs a.cs a.waits.handed a.waits.request a.waits.given a.waits.end_reported (AnsweredBy v date found) a.slots_are a.turn.finished
 
-    reader : (found : Bool) → InputStands client (with_reader k (a.us ++ (None ∷ a.vs)) source) (a.bs ++ (answered_slot a.waits.handed a.waits.request a.waits.given a.waits.end_reported v date found ∷ a.cs)) s.reached.rest
+    reader : (found : Bool) → InputMatches client (with_reader k (a.us ++ (None ∷ a.vs)) source) (a.bs ++ (answered_slot a.waits.handed a.waits.request a.waits.given a.waits.end_reported v date found ∷ a.cs)) s.reached.rest
     reader found =
-        let P : List Slot → Type 0 = λ l. InputStands client k l s.reached.rest in
+        let P : List Slot → Type 0 = λ l. InputMatches client k l s.reached.rest in
         reader-given_up (closes_now a.waits.request a.waits.handed.closes a.waits.handed.owed a.waits.given a.waits.end_reported) client k old source a.bs a.cs a.us a.vs s.reached.rest a.slot (Some (still.Waiting a.waiting)) None a.waiting.body (AnsweredBy v date found) (open-waiting a.slot a.waiting a.waits) refl refl from (subst P a.slots_were st.reader) a.requests_are a.as_many (gives a.waiting a.kept)
 
     answered : (found : Bool) → (found ≡ true) ⊎ IsGathered v.answer (to_request (closes_now a.waits.request a.waits.handed.closes a.waits.handed.owed a.waits.given a.waits.end_reported) a.waits.request date) → OwnSaid before mid k.output_ended mid_ended s.reached.slots a.bs (answered_slot a.waits.handed a.waits.request a.waits.given a.waits.end_reported v date found) (response_sent found v (closes_now a.waits.request a.waits.handed.closes a.waits.handed.owed a.waits.given a.waits.end_reported) a.waits.request date) s.flushed s.failure reply
         → StepIsAnswered client before (with_asking_ended (kept_lacks (slice_get k.requests n)) (after_number k final requests source new ended)) s date (Respond n v) reply
     answered found lack o =
-        respond-stands client before k s date n v response_context found mid new mid_ended ended final requests source reply st low a good fixed lack requests_are (reader found) (passes a.fs a.rs held a.place) o
+        respond-represents client before k s date n v response_context found mid new mid_ended ended final requests source reply st low a good fixed lack requests_are (reader found) (passes a.fs a.rs held a.place) o
         (sends a.fs a.rs held a.place (can-send before mid mid_ended (a.bs ++ (answered_slot a.waits.handed a.waits.request a.waits.given a.waits.end_reported v date found ∷ [])) (flushed_if k.output_ended s.flushed (a.bs ++ (answered_slot a.waits.handed a.waits.request a.waits.given a.waits.end_reported v date found ∷ []))) o.failure o.output low))
 
     by-own : RespondsBy k mid mid_ended reply v response_context date → StepIsAnswered client before (with_asking_ended (kept_lacks (slice_get k.requests n)) (after_number k final requests source new ended)) s date (Respond n v) reply
@@ -690,7 +690,7 @@ gathers-same date v r x y e f h =
 
 -- A number is answered, once the last number was told what the response asks: that is the step.
 pub respond-asked : (client : Feed) (before : Sink) (k final : Kept) (s : State) (date : HttpDate) (n : ℕ) (v : ResponseValue) (response_context : ResponseContext) (reply : ReplyValue)
-    → Stands client before k s → waiting_response_context (slice_get k.requests n) ≡ Some response_context → refuses_at v.answer.status (slice_get k.requests n) ≡ false → n ≡ first_unfinished k.marks
+    → Represents client before k s → waiting_response_context (slice_get k.requests n) ≡ Some response_context → refuses_at v.answer.status (slice_get k.requests n) ≡ false → n ≡ first_unfinished k.marks
     → StepIsAnswered client before final (asked_state v.answer.closes s) date (Respond n v) reply → StepIsAnswered client before final s date (Respond n v) reply
 respond-asked client before k final s date n v response_context reply st e good first h = (h.0, h.1, by h.2)
   where

@@ -32,7 +32,7 @@ use Rattle.tiny_http_connection.specs.Slots.{joined, is_chunked_form, is_last_sl
 use Rattle.tiny_http_connection.specs.Steps.{Upgrade, Done, NotYet}
 use Rattle.tiny_http_connection.specs.Outcomes.{Unreported, Outcome, Reached, ends_asking, ends_with_stream, changes, at_slot, at_number}
 use Rattle.tiny_http_connection.specs.Conversation.{State, flushed_after, WriterPart, HasOutcome}
-use Rattle.tiny_http_connection.specs.Connection.{Kept, open_slot, IsWaiting, IsUpgraded, AreSentInTurn, AreKept, OutputAt, slot_rest, InputStands, Stands, AreSettled, GivesRest, behind_body, behind_item}
+use Rattle.tiny_http_connection.specs.Connection.{Kept, open_slot, IsWaiting, IsUpgraded, AreSentInTurn, AreKept, OutputAt, slot_rest, InputMatches, Represents, AreSettled, GivesRest, behind_body, behind_item}
 use Rattle.tiny_http_connection.proofs.SlotsLemmas.{breaks-waits}
 use Rattle.tiny_http_connection.proofs.ConversationWriting.{unreported, flushed-is}
 use Rattle.tiny_http_connection.proofs.ConnectionAsk.{StepIsAnswered, step-unchanged}
@@ -60,7 +60,7 @@ refuses-same : (s : Slot) (w : OpenRequest UnreadBody) (h : IsWaiting s w) (prot
 refuses-same s w h protocol v = refusal-same w h.request h.given h.end_reported (open_slot h.handed h.request h.given h.end_reported) protocol v (kept-of s w h) refl refl
 
 -- its turn hasn't come
-pub upgrade-not_yet : (client : Feed) (before : Sink) (k : Kept) (s : State) (date : HttpDate) (n : ℕ) (protocol : List ℕ) (v : ResponseValue) (w : OpenRequest UnreadBody) → Stands client before k s → slice_get k.requests n ≡ Some (Some (still.Waiting w))
+pub upgrade-not_yet : (client : Feed) (before : Sink) (k : Kept) (s : State) (date : HttpDate) (n : ℕ) (protocol : List ℕ) (v : ResponseValue) (w : OpenRequest UnreadBody) → Represents client before k s → slice_get k.requests n ≡ Some (Some (still.Waiting w))
     → is_err (request_check w protocol v.answer.status (is_whole w.body)) ≡ false → (n == first_unfinished k.marks) ≡ false → StepIsAnswered client before k s date (Upgrade n protocol v) NotYet
 upgrade-not_yet client before k s date n protocol v w st e granted early =
     let p = place-of s.reached.slots k.marks k.requests n (still.Waiting w) st.numbers e in
@@ -174,9 +174,9 @@ becomes protocol v date s w h = by h.request.framing.by_standard refl h.standard
 
 -- What the input gives once the connection is upgraded: it stands as before; by the standard it stands behind the body of the last
 -- request, and all that follows is read.
-upgraded-lenient : {R : Type 0} (client : Feed) (k : Kept) (n : ℕ) (source : SourceState R) (slots : List Slot) (rest : List Item) (protocol : List ℕ) (v : ResponseValue) (date : HttpDate) (w : OpenRequest UnreadBody) (p : KeptAt slots k.marks k.requests n (still.Waiting w)) → IsInput k source → InputStands client k slots rest
+upgraded-lenient : {R : Type 0} (client : Feed) (k : Kept) (n : ℕ) (source : SourceState R) (slots : List Slot) (rest : List Item) (protocol : List ℕ) (v : ResponseValue) (date : HttpDate) (w : OpenRequest UnreadBody) (p : KeptAt slots k.marks k.requests n (still.Waiting w)) → IsInput k source → InputMatches client k slots rest
     → (let h = p.waiting in let s1 = record (open_slot h.handed h.request h.given h.end_reported) { stage = begun_stage protocol v date; owed = false } in
-    InputStands client (with_reader k (p.us ++ (Some (still.Upgraded w.body) ∷ p.vs)) source) (p.bs ++ (s1 ∷ p.cs)) rest)
+    InputMatches client (with_reader k (p.us ++ (Some (still.Upgraded w.body) ∷ p.vs)) source) (p.bs ++ (s1 ∷ p.cs)) rest)
 upgraded-lenient client k n source slots rest protocol v date w p from reader =
     let h = p.waiting in
     let s1 = record (open_slot h.handed h.request h.given h.end_reported) { stage = begun_stage protocol v date; owed = false } in
@@ -186,7 +186,7 @@ upgraded-lenient client k n source slots rest protocol v date w p from reader =
       left = ap slot_rest (sym h.is);
       behind = ap (λ (x : Slot). behind_item x.item) (sym h.is);
     } in
-    let P : List Slot → Type 0 = λ l. InputStands client k l rest in
+    let P : List Slot → Type 0 = λ l. InputMatches client k l rest in
     reader-alike client k source p.bs p.cs p.us p.vs rest p.s s1 (Some (still.Waiting w)) (Some (still.Upgraded w.body)) from (subst P p.slots_are reader) p.requests_are (kept-many p.cs p.rs p.vs p.behind) refl (λ e. refl) alike
 
 -- a request that holds the next head is the last
@@ -199,16 +199,16 @@ none-of [] [] e z = refl
 none-of [] (c ∷ cs) e z = absurd (omega (arith, e))
 none-of (v ∷ vs) cs e z = cc
 
-stream-last : {R : Type 0} (client : Feed) (k : Kept) (source : SourceState R) (bs : List Slot) (us : List (Option Unfinished)) (rest : List Item) (protocol : List ℕ) (v : ResponseValue) (date : HttpDate) (s : Slot) (w : OpenRequest UnreadBody) (h : IsWaiting s w) → IsInput k source → InputStands client k (bs ++ (s ∷ [])) rest → k.requests ≡ us ++ (Some (still.Waiting w) ∷ [])
+stream-last : {R : Type 0} (client : Feed) (k : Kept) (source : SourceState R) (bs : List Slot) (us : List (Option Unfinished)) (rest : List Item) (protocol : List ℕ) (v : ResponseValue) (date : HttpDate) (s : Slot) (w : OpenRequest UnreadBody) (h : IsWaiting s w) → IsInput k source → InputMatches client k (bs ++ (s ∷ [])) rest → k.requests ≡ us ++ (Some (still.Waiting w) ∷ [])
     → w.holds_next_head ≡ true → is_streaming w.body ≡ false
     → (let s1 = record (open_slot h.handed h.request h.given h.end_reported) { item = Asks (as_stream h.request); given = 0; end_reported = false; stage = begun_stage protocol v date; owed = false } in
-    InputStands client (with_ended true (with_reader k (us ++ (Some (still.Upgraded body.Rest) ∷ [])) source)) (bs ++ (s1 ∷ [])) rest)
+    InputMatches client (with_ended true (with_reader k (us ++ (Some (still.Upgraded body.Rest) ∷ [])) source)) (bs ++ (s1 ∷ [])) rest)
 stream-last client k source bs us rest protocol v date s w h from reader is holds quiet =
     let s1 = record (open_slot h.handed h.request h.given h.end_reported) { item = Asks (as_stream h.request); given = 0; end_reported = false; stage = begun_stage protocol v date; owed = false } in
     let u : Option Unfinished = Some (still.Upgraded body.Rest) in
     let l = last-waits client k source bs us rest s (Some (still.Waiting w)) w.body (open-waiting s w h) refl from reader is in
     let held : last_holds_next_head k.requests ≡ true = ap last_holds_next_head is ∙ holds-snoc us (Some (still.Waiting w)) ∙ holds in
-    let stands : source.feed ≡ Some h.request.behind =
+    let represents : source.feed ≡ Some h.request.behind =
     l.stated ∙ sym (ap (λ (o : Option Remaining). option_map (λ (r : Remaining). r.behind) o) (h.settled quiet l.feed)) ∙ ap (behind_body (Some w.body)) (sym l.stated) ∙ l.follows held ∙ ap (λ (x : Slot). Some (behind_item x.item)) h.is in
     let last : last_slot (bs ++ (s1 ∷ [])) ≡ Some s1 = last-snoc None bs s1 in
     let content : last_body (us ++ (u ∷ [])) ≡ Some body.Rest = body-snoc us u in
@@ -218,16 +218,16 @@ stream-last client k source bs us rest protocol v date s w h from reader is hold
     let S : Option Feed → Type 0 = λ f. GoesOn (Some client) f in
     record {
       settled = settled-set us (Some (still.Waiting w)) u [] (subst A is reader.settled) (inr refl);
-      gives = subst (λ b. G b (last_slot (bs ++ (s1 ∷ [])))) (sym content) (subst (λ o. G (Some body.Rest) o) (sym last) (ap (λ (o : Option Feed). option_map (λ (r : Remaining). r.body) (remaining body.Rest o)) stands));
+      gives = subst (λ b. G b (last_slot (bs ++ (s1 ∷ [])))) (sym content) (subst (λ o. G (Some body.Rest) o) (sym last) (ap (λ (o : Option Feed). option_map (λ (r : Remaining). r.body) (remaining body.Rest o)) represents));
       next = λ e. cc;
       follows = λ e. (let no : false ≡ true = sym free ∙ e in cc);
       source = subst S from.feed reader.source;
     }
 
-stream-any : {R : Type 0} (client : Feed) (k : Kept) (source : SourceState R) (bs cs : List Slot) (us vs : List (Option Unfinished)) (rest : List Item) (protocol : List ℕ) (v : ResponseValue) (date : HttpDate) (s : Slot) (w : OpenRequest UnreadBody) (h : IsWaiting s w) → IsInput k source → InputStands client k (bs ++ (s ∷ cs)) rest → k.requests ≡ us ++ (Some (still.Waiting w) ∷ vs)
+stream-any : {R : Type 0} (client : Feed) (k : Kept) (source : SourceState R) (bs cs : List Slot) (us vs : List (Option Unfinished)) (rest : List Item) (protocol : List ℕ) (v : ResponseValue) (date : HttpDate) (s : Slot) (w : OpenRequest UnreadBody) (h : IsWaiting s w) → IsInput k source → InputMatches client k (bs ++ (s ∷ cs)) rest → k.requests ≡ us ++ (Some (still.Waiting w) ∷ vs)
     → vs ≡ [] → cs ≡ [] → w.holds_next_head ≡ true → is_streaming w.body ≡ false
     → (let s1 = record (open_slot h.handed h.request h.given h.end_reported) { item = Asks (as_stream h.request); given = 0; end_reported = false; stage = begun_stage protocol v date; owed = false } in
-    InputStands client (with_ended true (with_reader k (us ++ (Some (still.Upgraded body.Rest) ∷ vs)) source)) (bs ++ (s1 ∷ cs)) rest)
+    InputMatches client (with_ended true (with_reader k (us ++ (Some (still.Upgraded body.Rest) ∷ vs)) source)) (bs ++ (s1 ∷ cs)) rest)
 stream-any client k source bs [] us [] rest protocol v date s w h from reader is alone none holds quiet = stream-last client k source bs us rest protocol v date s w h from reader is holds quiet
 stream-any client k source bs (c ∷ cs) us [] rest protocol v date s w h from reader is alone none holds quiet = cc
 stream-any client k source bs cs us (x ∷ vs) rest protocol v date s w h from reader is alone none holds quiet = cc
@@ -257,9 +257,9 @@ first-true : (a b : Bool) → (a && b) ≡ true → a ≡ true
 first-true true b e = refl
 first-true false b e = cc
 
-reader-upgraded : {R : Type 0} (client : Feed) (k : Kept) (n : ℕ) (source : SourceState R) (slots : List Slot) (rest : List Item) (protocol : List ℕ) (v : ResponseValue) (date : HttpDate) (w : OpenRequest UnreadBody) (p : KeptAt slots k.marks k.requests n (still.Waiting w)) → IsInput k source → InputStands client k slots rest
+reader-upgraded : {R : Type 0} (client : Feed) (k : Kept) (n : ℕ) (source : SourceState R) (slots : List Slot) (rest : List Item) (protocol : List ℕ) (v : ResponseValue) (date : HttpDate) (w : OpenRequest UnreadBody) (p : KeptAt slots k.marks k.requests n (still.Waiting w)) → IsInput k source → InputMatches client k slots rest
     → is_err (request_check w protocol v.answer.status (is_whole w.body)) ≡ false
-    → InputStands client (with_ended (k.asking_ended || (w.holds_next_head || (w.by_standard && (w.owes_continue || is_long (remainder w.body))))) (with_reader k (p.us ++ (Some (still.Upgraded (stream_body w.by_standard w.body)) ∷ p.vs)) source)) (p.bs ++ (slot_upgraded protocol v date p.s w p.waiting ∷ p.cs)) rest
+    → InputMatches client (with_ended (k.asking_ended || (w.holds_next_head || (w.by_standard && (w.owes_continue || is_long (remainder w.body))))) (with_reader k (p.us ++ (Some (still.Upgraded (stream_body w.by_standard w.body)) ∷ p.vs)) source)) (p.bs ++ (slot_upgraded protocol v date p.s w p.waiting ∷ p.cs)) rest
 reader-upgraded {R = R} client k n source slots rest protocol v date w p from reader granted = by p.waiting.request.framing.by_standard p.waiting.standard
   where
     h : IsWaiting p.s w
@@ -275,7 +275,7 @@ reader-upgraded {R = R} client k n source slots rest protocol v date w p from re
     at t = if t then record s0 { item = Asks (as_stream h.request); given = 0; end_reported = false; stage = begun_stage protocol v date; owed = false } else record s0 { stage = begun_stage protocol v date; owed = false }
 
     Stood : Bool → Bool → Bool → Type 0
-    Stood t u over = InputStands client (with_ended over (with_reader k (p.us ++ (Some (still.Upgraded (stream_body u w.body)) ∷ p.vs)) source)) (p.bs ++ (at t ∷ p.cs)) rest
+    Stood t u over = InputMatches client (with_ended over (with_reader k (p.us ++ (Some (still.Upgraded (stream_body u w.body)) ∷ p.vs)) source)) (p.bs ++ (at t ∷ p.cs)) rest
 
     by : (t : Bool) → w.by_standard ≡ t → Stood t w.by_standard (k.asking_ended || ends)
     by false e =
@@ -286,13 +286,13 @@ reader-upgraded {R = R} client k n source slots rest protocol v date w p from re
         let asked = granted-by named protocol v.answer.status (is_whole w.body) (ap (λ b. is_err (upgrade_check b named protocol v.answer.status (is_whole w.body))) (sym e) ∙ granted) in
         let holds : w.holds_next_head ≡ true = first-true w.holds_next_head (names_protocol w.upgrades.items protocol) asked.0 in
         let A : List (Option Unfinished) → Type 0 = λ x. AreSettled x in
-        let P : List Slot → Type 0 = λ l. InputStands client k l rest in
+        let P : List Slot → Type 0 = λ l. InputMatches client k l rest in
         let alone : p.vs ≡ [] = last-holding p.us p.vs w (subst A p.requests_are reader.settled) holds in
         let over : (k.asking_ended || ends) ≡ true = ap (λ b. k.asking_ended || (b || (w.by_standard && (w.owes_continue || is_long (remainder w.body))))) holds ∙ or-true k.asking_ended in
         subst (λ u. Stood true u (k.asking_ended || ends)) (sym e) (subst (λ o. Stood true true o) (sym over)
         (stream-any client k source p.bs p.cs p.us p.vs rest protocol v date p.s w h from (subst P p.slots_are reader) p.requests_are alone (none-of p.vs p.cs (kept-many p.cs p.rs p.vs p.behind) alone) holds (whole-quiet w.body asked.1)))
 
-pub upgrade-done : {R : Type 0} (client : Feed) (before : Sink) (k : Kept) (s : State) (date : HttpDate) (n : ℕ) (protocol : List ℕ) (v : ResponseValue) (w : OpenRequest UnreadBody) (context : ResponseContext) (new : Sink) (ended : Bool) (final : List Mark) (requests : List (Option Unfinished)) (source : SourceState R) → Stands client before k s → IsInput k source → before.failures < 2 ^ 64 - 1
+pub upgrade-done : {R : Type 0} (client : Feed) (before : Sink) (k : Kept) (s : State) (date : HttpDate) (n : ℕ) (protocol : List ℕ) (v : ResponseValue) (w : OpenRequest UnreadBody) (context : ResponseContext) (new : Sink) (ended : Bool) (final : List Mark) (requests : List (Option Unfinished)) (source : SourceState R) → Represents client before k s → IsInput k source → before.failures < 2 ^ 64 - 1
     → slice_get k.requests n ≡ Some (Some (still.Waiting w)) → w.response_context ≡ context → is_err (request_check w protocol v.answer.status (is_whole w.body)) ≡ false → (n == first_unfinished k.marks) ≡ true → final ≡ k.marks → requests ≡ slice_set k.requests n (Some (still.Upgraded (stream_body w.by_standard w.body)))
     → ((k.output_ended ≡ false → CanSend k.sink) → SendsUnlessEnded k.output_ended k.sink new ended (upgrade_text v protocol (printing_in context date))) → IsFlushed new
     → StepIsAnswered client before (with_asking_ended (w.holds_next_head || (w.by_standard && (w.owes_continue || is_long (remainder w.body)))) (after_number k final requests source new ended)) s date (Upgrade n protocol v) Done
@@ -335,10 +335,10 @@ upgrade-done {R = R} client before k s date n protocol v w context new ended fin
     requests_now : requests ≡ p.us ++ (Some (still.Upgraded kept_now) ∷ p.vs)
     requests_now = requests_are ∙ set-place k.requests p.us p.vs n (Some (still.Waiting w)) (Some (still.Upgraded kept_now)) p.requests_are p.requests_before
 
-    reader : InputStands client (with_ended (k.asking_ended || ends) (after_number k final requests source new ended)) slots s.reached.rest
+    reader : InputMatches client (with_ended (k.asking_ended || ends) (after_number k final requests source new ended)) slots s.reached.rest
     reader =
         let over : Kept = with_ended (k.asking_ended || ends) k in
-        let Q : List (Option Unfinished) → Type 0 = λ q. InputStands client (with_reader over q source) slots s.reached.rest in
+        let Q : List (Option Unfinished) → Type 0 = λ q. InputMatches client (with_reader over q source) slots s.reached.rest in
         reader-after client over final requests source new ended slots s.reached.rest (subst Q (sym requests_now) (reader-upgraded client k n source s.reached.slots s.reached.rest protocol v date w p from st.reader granted))
 
     printed : printing_in context date ≡ to_request h.request.framing.is_last h.request date

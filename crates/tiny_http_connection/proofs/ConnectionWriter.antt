@@ -32,7 +32,7 @@ use Rattle.tiny_http_connection.specs.declared.driver.Step.TheVariants as step
 use Rattle.std.specs.Global.{Vec}
 use Rattle.tiny_http_connection.specs.Conversation.{Failure, State, flushed_after, WriterPart, HasOutcome}
 use Rattle.tiny_http_connection.specs.Pending.{kept_body, is_writable, GivesUpIfKept, LeavesText}
-use Rattle.tiny_http_connection.specs.Connection.{Kept, rest_in, open_slot, IsWaiting, IsRaw, IsUpgraded, KeepsUnfinished, AreSentInTurn, AreKept, OutputAt, InputStands, Stands, behind_item}
+use Rattle.tiny_http_connection.specs.Connection.{Kept, rest_in, open_slot, IsWaiting, IsRaw, IsUpgraded, KeepsUnfinished, AreSentInTurn, AreKept, OutputAt, InputMatches, Represents, behind_item}
 use Rattle.tiny_http_connection.proofs.ConversationWriting.{FailsReported, flushed_if, written, flushed-is}
 use Rattle.tiny_http_connection.proofs.ConnectionAsk.{StepIsAnswered, step-unchanged}
 use Rattle.tiny_http_connection.proofs.ConnectionBody.{IsInput, Alike, with_reader, reader-alike, reader-given_up}
@@ -55,7 +55,7 @@ into_writer-not_taken n (Upgraded p r d w c) owed e = refl
 abbrev raw_slot : (s : Slot) (w : OpenRequest UnreadBody) → IsWaiting s w → Slot
 raw_slot s w h = finished_as h.handed.closes (open_slot h.handed h.request h.given h.end_reported) (Raw [] false)
 
-pub into_writer-done : {R : Type 0} (client : Feed) (before : Sink) (k : Kept) (s : State) (date : HttpDate) (n : ℕ) (w : OpenRequest UnreadBody) (requests : List (Option Unfinished)) (old source : SourceState R) → Stands client before k s → IsInput k old → GivesUp w.body old source → slice_get k.requests n ≡ Some (Some (still.Waiting w))
+pub into_writer-done : {R : Type 0} (client : Feed) (before : Sink) (k : Kept) (s : State) (date : HttpDate) (n : ℕ) (w : OpenRequest UnreadBody) (requests : List (Option Unfinished)) (old source : SourceState R) → Represents client before k s → IsInput k old → GivesUp w.body old source → slice_get k.requests n ≡ Some (Some (still.Waiting w))
     → requests ≡ slice_set k.requests n (Some still.Raw) → StepIsAnswered client before (with_asking_ended (w.holds_next_head || (w.by_standard && (w.owes_continue || is_long (remainder w.body)))) (with_reader k requests source)) s date (IntoWriter n) Done
 into_writer-done {R = R} client before k s date n w requests old source st from gives e requests_are =
     let L : List (Option Unfinished) → Type 0 = λ l. StepIsAnswered client before (with_asking_ended (w.holds_next_head || (w.by_standard && (w.owes_continue || is_long (remainder w.body)))) (with_reader k l source)) s date (IntoWriter n) Done in
@@ -92,7 +92,7 @@ into_writer-done {R = R} client before k s date n w requests old source st from 
     slots = p.bs ++ (s1 ∷ p.cs)
 
     P : List Slot → Type 0
-    P l = InputStands client k l s.reached.rest
+    P l = InputMatches client k l s.reached.rest
 
     M : List Mark → Type 0
     M m = AreKept slots m (p.us ++ (Some still.Raw ∷ p.vs))
@@ -179,7 +179,7 @@ fit step o x still.Raw h e = ap (λ y. accepts_step y x.owed step) h.stage ∙ o
 fit step o x (still.Upgraded b) h e = ap (λ (y : Slot). accepts_step y.stage x.owed step) h.opened.is ∙ ap (λ y. accepts_step y x.owed step) h.stage ∙ o.upgraded h.protocol h.response h.date h.written x.owed
 
 -- no raw writer and no stream of this number is in use
-pub no-writer : (client : Feed) (before : Sink) (k : Kept) (s : State) (date : HttpDate) (n : ℕ) (step : StepValue) → outcome true date s.reached step ≡ at_number true date s.reached n step → OfWriter step → Stands client before k s → is_writable (slice_get k.requests n) ≡ false
+pub no-writer : (client : Feed) (before : Sink) (k : Kept) (s : State) (date : HttpDate) (n : ℕ) (step : StepValue) → outcome true date s.reached step ≡ at_number true date s.reached n step → OfWriter step → Represents client before k s → is_writable (slice_get k.requests n) ≡ false
     → StepIsAnswered client before k s date step NoSuch
 no-writer client before k s date n step at o st free = not-taken client before k s date n step at o.finished st (λ x u e h. unfit step o x u h (ap is_writable (sym e) ∙ free))
 
@@ -199,7 +199,7 @@ at-accepted date old n step x r t get item accepts turn =
     ap (at_slot true date old n step) get ∙ ap I item ∙ rw (accepts, turn) refl
 
 -- its turn hasn't come
-pub writer-not_yet : (client : Feed) (before : Sink) (k : Kept) (s : State) (date : HttpDate) (n : ℕ) (step : StepValue) (u : Unfinished) → outcome true date s.reached step ≡ at_number true date s.reached n step → OfWriter step → ((r : Request) (x : Slot) → needs_turn r x step ≡ true) → Stands client before k s
+pub writer-not_yet : (client : Feed) (before : Sink) (k : Kept) (s : State) (date : HttpDate) (n : ℕ) (step : StepValue) (u : Unfinished) → outcome true date s.reached step ≡ at_number true date s.reached n step → OfWriter step → ((r : Request) (x : Slot) → needs_turn r x step ≡ true) → Represents client before k s
     → slice_get k.requests n ≡ Some (Some u) → is_writable (Some (Some u)) ≡ true → (n == first_unfinished k.marks) ≡ false → StepIsAnswered client before k s date step NotYet
 writer-not_yet client before k s date n step u is o needs st e writable early =
     let p = place-of s.reached.slots k.marks k.requests n u st.numbers e in
@@ -364,7 +364,7 @@ flushed-own false s was own slots over = refl
 
 -- A Write or a Flush of a number whose turn has come. `u`: what is kept of it; `s1`: its slot after the step.
 pub own-done : {R T : Type 0} (client : Feed) (before : Sink) (k : Kept) (s : State) (date : HttpDate) (n : ℕ) (u : Unfinished) (p : KeptAt s.reached.slots k.marks k.requests n u) (s1 : Slot) (step : StepValue) (flushes : Bool) (own : List ℕ) (new : Sink) (ended : Bool) (r : Result T Error) (source : SourceState R)
-    → Stands client before k s → IsInput k source → before.failures < 2 ^ 64 - 1 → (n == first_unfinished k.marks) ≡ true → KeepsOn p.s s1 u own → (turn_has_come n s.reached.slots ≡ true → outcome true date s.reached step ≡ changes s.reached n s1 Done (own_use flushes own))
+    → Represents client before k s → IsInput k source → before.failures < 2 ^ 64 - 1 → (n == first_unfinished k.marks) ≡ true → KeepsOn p.s s1 u own → (turn_has_come n s.reached.slots ≡ true → outcome true date s.reached step ≡ changes s.reached n s1 Done (own_use flushes own))
     → k.sink.has_ended ≡ k.output_ended → WritesOwn {T = T} k.output_ended k.sink new ended r own → (flushes ≡ true → IsFlushed new) → StepIsAnswered client before (after_number k k.marks k.requests source new ended) s date step (write_reply r)
 own-done {R = R} {T = T} client before k s date n u p s1 step flushes own new ended r source st from low come keeps is open_sink writes firm =
     ⊎_elim in-turn (λ (t : OutOfTurn p.bs p.fs p.rs). absurd (t.turn (p.marks_before ∙ eqb-true n (first_unfinished k.marks) come ∙ ap first_unfinished p.marks_are))) (turn-at p.bs p.fs p.us p.rs p.before (subst S p.marks_are st.shape))
@@ -387,10 +387,10 @@ own-done {R = R} {T = T} client before k s date n u p s1 step flushes own new en
     still_whole : is_slot_broken s1 ≡ false
     still_whole = unfinished-whole s1 u keeps.kept
 
-    reader : InputStands client (with_reader k k.requests source) slots s.reached.rest
+    reader : InputMatches client (with_reader k k.requests source) slots s.reached.rest
     reader =
-        let P : List Slot → Type 0 = λ l. InputStands client k l s.reached.rest in
-        let Q : List (Option Unfinished) → Type 0 = λ q. InputStands client (with_reader k q source) slots s.reached.rest in
+        let P : List Slot → Type 0 = λ l. InputMatches client k l s.reached.rest in
+        let Q : List (Option Unfinished) → Type 0 = λ q. InputMatches client (with_reader k q source) slots s.reached.rest in
         subst Q (sym p.requests_are) (reader-alike client k source p.bs p.cs p.us p.vs s.reached.rest p.s s1 (Some u) (Some u) from (subst P p.slots_are st.reader) p.requests_are (kept-many p.cs p.rs p.vs p.behind) refl (λ e. e) keeps.alike)
 
     in-turn : InTurn p.bs p.fs p.rs → StepIsAnswered client before (after_number k k.marks k.requests source new ended) s date step (write_reply r)
@@ -427,7 +427,7 @@ own-done {R = R} {T = T} client before k s date n u p s1 step flushes own new en
         )
 
 -- a Write whose turn has come
-pub write-done : {R T : Type 0} (client : Feed) (before : Sink) (k : Kept) (s : State) (date : HttpDate) (n : ℕ) (bytes : List ℕ) (u : Unfinished) (new : Sink) (ended : Bool) (r : Result T Error) (source : SourceState R) → Stands client before k s → IsInput k source → before.failures < 2 ^ 64 - 1 → slice_get k.requests n ≡ Some (Some u)
+pub write-done : {R T : Type 0} (client : Feed) (before : Sink) (k : Kept) (s : State) (date : HttpDate) (n : ℕ) (bytes : List ℕ) (u : Unfinished) (new : Sink) (ended : Bool) (r : Result T Error) (source : SourceState R) → Represents client before k s → IsInput k source → before.failures < 2 ^ 64 - 1 → slice_get k.requests n ≡ Some (Some u)
     → is_writable (Some (Some u)) ≡ true → (n == first_unfinished k.marks) ≡ true → k.sink.has_ended ≡ k.output_ended → WritesOwn {T = T} k.output_ended k.sink new ended r bytes → StepIsAnswered client before (after_number k k.marks k.requests source new ended) s date (Write n bytes) (write_reply r)
 write-done {R = R} {T = T} client before k s date n bytes u new ended r source st from low e writable come open_sink writes =
     let p = place-of s.reached.slots k.marks k.requests n u st.numbers e in
@@ -437,7 +437,7 @@ write-done {R = R} {T = T} client before k s date n bytes u new ended r source s
     (λ turn. at-accepted date s.reached n (Write n bytes) p.s q.0 true at.get q.1 (fit (Write n bytes) (a-write n bytes) p.s u p.waiting writable) turn) open_sink writes (λ none. (let no : false ≡ true = none in cc))
 
 -- a Flush whose turn has come
-pub flush-done : {R T : Type 0} (client : Feed) (before : Sink) (k : Kept) (s : State) (date : HttpDate) (n : ℕ) (u : Unfinished) (new : Sink) (ended : Bool) (r : Result T Error) (source : SourceState R) → Stands client before k s → IsInput k source → before.failures < 2 ^ 64 - 1 → slice_get k.requests n ≡ Some (Some u)
+pub flush-done : {R T : Type 0} (client : Feed) (before : Sink) (k : Kept) (s : State) (date : HttpDate) (n : ℕ) (u : Unfinished) (new : Sink) (ended : Bool) (r : Result T Error) (source : SourceState R) → Represents client before k s → IsInput k source → before.failures < 2 ^ 64 - 1 → slice_get k.requests n ≡ Some (Some u)
     → is_writable (Some (Some u)) ≡ true → (n == first_unfinished k.marks) ≡ true → k.sink.has_ended ≡ k.output_ended → WritesOwn {T = T} k.output_ended k.sink new ended r [] → IsFlushed new → StepIsAnswered client before (after_number k k.marks k.requests source new ended) s date (Flush n) (write_reply r)
 flush-done {R = R} {T = T} client before k s date n u new ended r source st from low e writable come open_sink writes firm =
     let p = place-of s.reached.slots k.marks k.requests n u st.numbers e in
@@ -468,18 +468,18 @@ closes s still.Raw h e = ends-closed s (Raw h.written false) h.stage refl (λ it
 closes s (still.Upgraded b) h e = ends-closed s (Upgraded h.protocol h.response h.date h.written false) (ap (λ (x : Slot). x.stage) h.opened.is ∙ h.stage) refl (λ item. refl) (λ item. refl)
 
 -- the input after a Finish
-reader-closed : {R : Type 0} (client : Feed) (k : Kept) (bs cs : List Slot) (us vs : List (Option Unfinished)) (rest : List Item) (s : Slot) (u : Unfinished) (old source : SourceState R) → KeepsUnfinished s u → is_writable (Some (Some u)) ≡ true → IsInput k old → InputStands client k (bs ++ (s ∷ cs)) rest → k.requests ≡ us ++ (Some u ∷ vs) → length cs ≡ length vs
-    → GivesUpIfKept (kept_body (Some u)) old source → InputStands client (with_reader k (us ++ (None ∷ vs)) source) (bs ++ (closed_slot s ∷ cs)) rest
+reader-closed : {R : Type 0} (client : Feed) (k : Kept) (bs cs : List Slot) (us vs : List (Option Unfinished)) (rest : List Item) (s : Slot) (u : Unfinished) (old source : SourceState R) → KeepsUnfinished s u → is_writable (Some (Some u)) ≡ true → IsInput k old → InputMatches client k (bs ++ (s ∷ cs)) rest → k.requests ≡ us ++ (Some u ∷ vs) → length cs ≡ length vs
+    → GivesUpIfKept (kept_body (Some u)) old source → InputMatches client (with_reader k (us ++ (None ∷ vs)) source) (bs ++ (closed_slot s ∷ cs)) rest
 reader-closed client k bs cs us vs rest s (still.Waiting w) old source h e from reader is same closes = cc
 reader-closed {R = R} client k bs cs us vs rest s still.Raw old source h e from reader is same closes =
-    let P : SourceState R → Type 0 = λ x. InputStands client (with_reader k (us ++ (None ∷ vs)) x) (bs ++ (closed_slot s ∷ cs)) rest in
+    let P : SourceState R → Type 0 = λ x. InputMatches client (with_reader k (us ++ (None ∷ vs)) x) (bs ++ (closed_slot s ∷ cs)) rest in
     subst P (sym closes) (reader-alike client k old bs cs us vs rest s (closed_slot s) (Some still.Raw) None from reader is same refl (λ e. refl) (alike-by s (closed_slot s) h.request h.item refl refl refl (sym h.given_up)))
 reader-closed client k bs cs us vs rest s (still.Upgraded b) old source h e from reader is same closes =
     let o = h.opened in
-    let P : Slot → Type 0 = λ x. InputStands client (with_reader k (us ++ (None ∷ vs)) source) (bs ++ (x ∷ cs)) rest in
+    let P : Slot → Type 0 = λ x. InputMatches client (with_reader k (us ++ (None ∷ vs)) source) (bs ++ (x ∷ cs)) rest in
     subst P (sym (ap closed_slot o.is)) (reader-given_up o.handed.closes client k old source bs cs us vs rest s (Some (still.Upgraded b)) None b (stage_closed o.stage) o refl refl from reader is same closes)
 
-pub finish-done : {R : Type 0} (client : Feed) (before : Sink) (k : Kept) (s : State) (date : HttpDate) (n : ℕ) (u : Unfinished) (new : Sink) (ended : Bool) (final : List Mark) (requests : List (Option Unfinished)) (old source : SourceState R) → Stands client before k s → IsInput k old → GivesUpIfKept (kept_body (Some u)) old source → before.failures < 2 ^ 64 - 1
+pub finish-done : {R : Type 0} (client : Feed) (before : Sink) (k : Kept) (s : State) (date : HttpDate) (n : ℕ) (u : Unfinished) (new : Sink) (ended : Bool) (final : List Mark) (requests : List (Option Unfinished)) (old source : SourceState R) → Represents client before k s → IsInput k old → GivesUpIfKept (kept_body (Some u)) old source → before.failures < 2 ^ 64 - 1
     → slice_get k.requests n ≡ Some (Some u) → is_writable (Some (Some u)) ≡ true → requests ≡ slice_set k.requests n None
     → ((front rest : List Mark) → k.marks ≡ front ++ (Open ∷ rest) → length front ≡ n → (k.output_ended ≡ false → CanSend k.sink) → LeavesText (n == first_unfinished k.marks) front rest final [] k.output_ended k.sink new ended)
     → StepIsAnswered client before (after_number k final requests source new ended) s date (Finish n) Done
@@ -487,7 +487,7 @@ finish-done {R = R} client before k s date n u new ended final requests old sour
     let p = place-of s.reached.slots k.marks k.requests n u st.numbers e in
     let at = slot-at s.reached.slots p.bs p.cs p.s n p.slots_are p.slots_before in
     let q = unfinished-asks p.s u p.waiting in
-    let P : List Slot → Type 0 = λ l. InputStands client k l s.reached.rest in
+    let P : List Slot → Type 0 = λ l. InputMatches client k l s.reached.rest in
     leave-done client before k s date n u p (closed_slot p.s) (Finish n) Done [] s.reached.asking_ended k.asking_ended new ended final requests source st low (closes p.s u p.waiting writable)
     (at-accepted date s.reached n (Finish n) p.s q.0 (turn_has_come n s.reached.slots) at.get q.1 (fit (Finish n) (a-finish n) p.s u p.waiting writable) refl) st.asking_ended (λ e. e) requests_are
     (reader-closed client k p.bs p.cs p.us p.vs s.reached.rest p.s u old source p.waiting writable from (subst P p.slots_are st.reader) p.requests_are (kept-many p.cs p.rs p.vs p.behind) gives) leaves

@@ -20,7 +20,7 @@ use Rattle.tiny_http_connection.specs.Segments.{Slot, is_last_item}
 use Rattle.tiny_http_connection.specs.Slots.{joined, last_slot, last_is_open, last_was_abandoned, is_last_slot, body_is_open, body_was_abandoned, is_form_streamed, is_body_finished, is_chunked_form}
 use Rattle.tiny_http_connection.specs.Steps.{ReplyValue, TimedValue}
 use Rattle.tiny_http_connection.specs.Conversation.{State, Failure, StepsTo, Run, start_state, IsFresh, HasAskOutOfMemory, PlaceAt, WithinBody, WithinLast, InputAt, IsOutput, IsConversation, BeginsBehind}
-use Rattle.tiny_http_connection.specs.Connection.{ConnectionState, Kept, OutputAt, IsOpen, behind_body, slot_rest, GivesRest, PlaceIn, Stands}
+use Rattle.tiny_http_connection.specs.Connection.{ConnectionState, Kept, OutputAt, IsOpen, behind_body, slot_rest, GivesRest, PlaceIn, Represents}
 use Rattle.tiny_http_io.specs.ToCome.{stopped}
 use Rattle.tiny_http_body.specs.Body.{Remaining, remaining, is_streaming}
 use Rattle.tiny_http_connection.specs.Pending.{last_body, is_streaming_body}
@@ -77,8 +77,8 @@ joins-end all done (x ∷ rest) joins len = absurd (omega arith)
 abbrev pub begun : Profile → Option Feed → Bool → Sink → Kept
 begun profile feed is_over sink = record { profile = profile; marks = []; requests = []; input_state = at.Head; asking_ended = false; feed = feed; stop = None; is_over = is_over; sink = holding sink [] false; output_ended = false }
 
-pub stands-begun : (profile : Profile) (client : Feed) (feed : Option Feed) (is_over : Bool) (sink : Sink) (items : List Item) → feed ≡ Some client → IsFresh sink → Pipeline profile (Some client.bytes) client.stop items → Stands client sink (begun profile feed is_over sink) (start_state items)
-stands-begun profile client feed is_over sink items e fresh h =
+pub represents-begun : (profile : Profile) (client : Feed) (feed : Option Feed) (is_over : Bool) (sink : Sink) (items : List Item) → feed ≡ Some client → IsFresh sink → Pipeline profile (Some client.bytes) client.stop items → Represents client sink (begun profile feed is_over sink) (start_state items)
+represents-begun profile client feed is_over sink items e fresh h =
     let G : Option Feed → Type 0 = λ x. GoesOn (Some client) x in
     let P : Option Feed → Type 0 = λ x. PlaceIn client profile false x items in
     record {
@@ -114,7 +114,7 @@ within profile ended s b f rest (Some x) h is_streaming_body e g p =
     let P : Slot → Type 0 = λ y. x.body ≡ slot_rest y → (ended ≡ false → PlaceAt profile (is_last_item y.item) (Some x.behind) rest) → WithinBody profile ended y y.item f rest in
     let A : Feed → Type 0 = λ b. RemainsAt h.request.framing.by_standard h.request.framing.form (body_length_or_0 h.request.framing - h.given) f.bytes f.stop b k.next in
     let B : Feed → Type 0 = λ b. PlaceAt profile h.request.framing.is_last (Some b) rest in
-    subst P (sym h.is) (λ is place. (k.next, subst A (sym content ∙ is) k.stands, λ on. place-pipeline profile h.request.framing.is_last f.stop k.next rest (subst B behind (place on)))) same p
+    subst P (sym h.is) (λ is place. (k.next, subst A (sym content ∙ is) k.represents, λ on. place-pipeline profile h.request.framing.is_last f.stop k.next rest (subst B behind (place on)))) same p
 
 within-last : (profile : Profile) (ended : Bool) (last : Option Slot) (b : Option UnreadBody) (feed : Option Feed) (f : Feed) (rest : List Item) → feed ≡ Some f → LastKept last b → last_is_open last ≡ true → GivesRest b last feed
     → (ended ≡ false → PlaceAt profile (is_last_slot last) (behind_body b feed) rest) → WithinLast profile ended last feed rest
@@ -146,7 +146,7 @@ open-not_lost (Some s) h = by s.item h
     by (Refuses refusal manner no_body last) e = refl
 
 -- how the input stands at the end
-input-end : (client : Feed) (before : Sink) (k : Kept) (s : State) → Stands client before k s → InputAt k.profile s.reached k.feed
+input-end : (client : Feed) (before : Sink) (k : Kept) (s : State) → Represents client before k s → InputAt k.profile s.reached k.feed
 input-end client before k s st = by-open (last_is_open last) refl
   where
     last : Option Slot
@@ -204,7 +204,7 @@ output-end before sink held ended slots flushed (Some f) empty begins h =
 
 -- a run to where the connection stands is a conversation, with what is then held and left
 pub conversation : (profile : Profile) (client : Feed) (before sink : Sink) (held : List ℕ) (k : Kept) (ended : Bool) (items : List Item) (end : State) (replies : List ReplyValue) (dated : List TimedValue) → k.profile ≡ profile → k.sink ≡ holding sink held ended → k.output_ended ≡ ended → (ended ≡ true → held ≡ []) → BeginsKnown sink.sent sink.taken
-    → Pipeline profile (Some client.bytes) client.stop items → Run (start_state items) dated replies end → Stands client before k end → (HasAskOutOfMemory dated replies → (end.reached.asking_ended ≡ true) × (end.reached.rest ≡ [] → BeginsBehind profile (Some client.bytes) client.stop items)) → IsConversation profile client before dated replies sink held ended k.feed
+    → Pipeline profile (Some client.bytes) client.stop items → Run (start_state items) dated replies end → Represents client before k end → (HasAskOutOfMemory dated replies → (end.reached.asking_ended ≡ true) × (end.reached.rest ≡ [] → BeginsBehind profile (Some client.bytes) client.stop items)) → IsConversation profile client before dated replies sink held ended k.feed
 conversation profile client before sink held k ended items end replies dated profile_is same same_end empty begins pipeline run st memory =
     let P : Sink → Bool → Type 0 = λ x y. OutputAt before x y end.reached.slots end.flushed end.failure in
     let out : P (holding sink held ended) ended = subst (λ y. P (holding sink held ended) y) same_end (subst (λ x. P x k.output_ended) same st.output) in

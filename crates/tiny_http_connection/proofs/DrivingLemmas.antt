@@ -34,11 +34,11 @@ use Rattle.tiny_http_open_request.specs.declared.open_request.OpenRequest.{OpenR
 use Rattle.tiny_http_open_request.specs.OpenRequest.{refuses_code, request_check}
 use Rattle.tiny_http_body.specs.Body.{Remaining, remaining, is_streaming, body_input_state, is_whole}
 use Rattle.std.specs.Prelude.{MatchBool, is_err}
-use Rattle.tiny_http_connection.specs.Connection.{Kept, ConnectionState, kept, Stands, HandedOut, open_slot, dropped, BeginsMore}
+use Rattle.tiny_http_connection.specs.Connection.{Kept, ConnectionState, kept, Represents, HandedOut, open_slot, dropped, BeginsMore}
 use Rattle.tiny_http_connection.specs.Slots.{turn_has_come, ends_when_finished}
 use Rattle.tiny_http_connection.proofs.ConnectionDrop.{IsKeptOf, at-drop, at-unanswerable, at-refused}
 use Rattle.std.specs.Prelude.{String, string_bytes, slice_get}
-use Rattle.tiny_http_connection.specs.Driving.{HasDone, TakesStep, AskEnds, StepEnds, EndsBehind, UpgradeEnds, ends_behind, IsDeclined, stated_response, stated_step, StepLeaves, AskLeaves, LetsGo, StandsAfter, ReportsFault, AnswerLeaves, UpgradeLeaves, IsDropping, RefusesHeads, RespondEnds, StepReports, RespondReports}
+use Rattle.tiny_http_connection.specs.Driving.{HasDone, TakesStep, AskEnds, StepEnds, EndsBehind, UpgradeEnds, ends_behind, IsDeclined, stated_response, stated_step, StepLeaves, AskLeaves, LetsGo, InputStateAfter, ReportsFault, AnswerLeaves, UpgradeLeaves, IsDropping, RefusesHeads, RespondEnds, StepReports, RespondReports}
 use Rattle.tiny_http_connection.proofs.ConnectionAsk.{StepIsAnswered, AskIsAnswered, FoundHead}
 use Rattle.tiny_http_connection.proofs.ConversationEnded.{steps-stay, vain-snoc, begins-behind_items}
 use Rattle.tiny_http_connection.proofs.ConnectionReader.{holds-snoc}
@@ -61,7 +61,7 @@ use Rattle.tiny_http_body.specs.declared.framing.Profile.{Profile}
 use Rattle.tiny_http_open_request.specs.Pipeline.{OneHead, Request, Item, Refuses, Place, place_feed}
 use Rattle.tiny_http_connection.specs.Driving.{SendsInTurn, HandsOutHead, IsFree, IsRefusal, EndsRequestsAt, EndsThere, ArePassedOver, HasByteBehind, input_state_past}
 use Rattle.tiny_http_open_request.proofs.PipelineLemmas.{has-pipeline}
-use Rattle.tiny_http_connection.proofs.ConversationRuns.{run-more, stands-begun, split}
+use Rattle.tiny_http_connection.proofs.ConversationRuns.{run-more, represents-begun, split}
 use Rattle.tiny_http_body.proofs.BodyReads.{gives-up}
 use Rattle.tiny_http_response.proofs.SendingLemmas.{once-none, once-append}
 use Rattle.tiny_http_connection.proofs.Asking.{AskStep, IsAskBehind}
@@ -111,16 +111,16 @@ end-final profile place.Last date o p why outside last h = last refl
 pub end-behind : (profile : Profile) (at : InputState) (date : HttpDate) (o p : Option Feed) (status : StatusCode) (text : Vec ℕ) (why : EndOfRequests) → IsBeforeHead at → ReadsHead profile at date o p (Ok (read.Refused status text false)) → EndsRequestsAt profile place.Head p why → EndsRequestsAt profile at o why
 end-behind profile at date o p status text why here h ends = by at here h
   where
-    stands : (xs : List Item) (rest : Feed) → EndsThere profile (input_state_past place.Head xs) rest why → EndsThere profile place.Head rest why
-    stands [] rest k = k
-    stands (x ∷ xs) rest k = k
+    represents : (xs : List Item) (rest : Feed) → EndsThere profile (input_state_past place.Head xs) rest why → EndsThere profile place.Head rest why
+    represents [] rest k = k
+    represents (x ∷ xs) rest k = k
 
     behind : (x : InputState) → ReadsHead profile x date o p (Ok (read.Refused status text false)) → (f : Feed) → o ≡ Some f → (passed : List Item) × (rest : Feed) × ArePassedOver profile f passed rest × EndsThere profile (input_state_past x passed) rest why
     behind x h f e =
         let P : Option Feed → Type 0 = λ y. ReadsHead profile x date y p (Ok (read.Refused status text false)) in
         let r = subst P e h in
         let next = ends (place_feed f.stop r.3) r.7 in
-        (Refuses r.0 r.1 r.2 false ∷ next.0, next.1, (refl, r.3, r.4, next.2), stands next.0 next.1 next.3)
+        (Refuses r.0 r.1 r.2 false ∷ next.0, next.1, (refl, r.3, r.4, next.2), represents next.0 next.1 next.3)
 
     by : (x : InputState) → IsBeforeHead x → ReadsHead profile x date o p (Ok (read.Refused status text false)) → EndsRequestsAt profile x o why
     by place.Head here h = behind place.Head h
@@ -240,15 +240,15 @@ vain-asks x (Drop k) reply is v = elim v [ ]
 -- where a step has led, and what is known where it asked in vain
 abbrev Leads : Feed → Sink → Kept → State → HttpDate → StepValue → ReplyValue → Type 0
 Leads client before k s now asked reply =
-    (new : State) × Stands client before k new × StepsTo s now asked reply new × (IsAskOutOfMemory asked reply → (new.reached.asking_ended ≡ true) × (new.reached.rest ≡ [] → BeginsMore k.profile client))
+    (new : State) × Represents client before k new × StepsTo s now asked reply new × (IsAskOutOfMemory asked reply → (new.reached.asking_ended ≡ true) × (new.reached.rest ≡ [] → BeginsMore k.profile client))
 
 takes-found : {R W : Type 0} (old new : ConnectionState R W) (now : HttpDate) (x : Step (Option Feed)) (reply : ReplyValue)
-    → ((client : Feed) (before : Sink) (s : State) (asked : StepValue) → before.failures < 2 ^ 64 - 1 → IsStep (λ f. f) x asked → Stands client before (kept old) s → Leads client before (kept new) s now asked reply)
+    → ((client : Feed) (before : Sink) (s : State) (asked : StepValue) → before.failures < 2 ^ 64 - 1 → IsStep (λ f. f) x asked → Represents client before (kept old) s → Leads client before (kept new) s now asked reply)
     → (IsDeclined x reply → new ≡ old) → StepReplies old x reply → StepEnds x old new reply → StepLeaves x now old new reply → MovesBy x reply old new → ((kind : ErrorKind) → reply ≡ Fault kind → ReportsFault old new now x kind) → StepReports old new now x reply → TakesStep old new now x reply
 takes-found old new now x reply answers declined replies ends leaves moves honest tells =
     record {
       does = λ p client before steps replies asked is done.
-          let a = answers client before done.at asked done.fresh.can_count is done.stands in
+          let a = answers client before done.at asked done.fresh.can_count is done.represents in
           let profile = moves.profile ∙ done.profile in
           let M : Profile → Type 0 = λ q. BeginsMore q client in
           record {
@@ -258,7 +258,7 @@ takes-found old new now x reply answers declined replies ends leaves moves hones
             pipeline = done.pipeline;
             at = a.0;
             run = run-more _ done.at a.0 steps replies (now, asked) reply done.run a.2;
-            stands = a.1;
+            represents = a.1;
             memory = λ vain. ⊎_elim
                 (λ before. (let m = done.memory before in let e = steps-stay done.at now asked reply a.0 m.0 a.2 in (e.0, λ none. m.1 (sym e.1 ∙ none))))
                 (λ v. (let m = a.3 v in (m.0, λ none. begins-behind_items p client done.items done.pipeline (subst M profile (m.1 none)))))
@@ -280,7 +280,7 @@ takes-found old new now x reply answers declined replies ends leaves moves hones
     }
 
 pub takes : {R W : Type 0} (old new : ConnectionState R W) (now : HttpDate) (x : Step (Option Feed)) (reply : ReplyValue)
-    → ((client : Feed) (before : Sink) (s : State) (asked : StepValue) → before.failures < 2 ^ 64 - 1 → IsStep (λ f. f) x asked → Stands client before (kept old) s → StepIsAnswered client before (kept new) s now asked reply)
+    → ((client : Feed) (before : Sink) (s : State) (asked : StepValue) → before.failures < 2 ^ 64 - 1 → IsStep (λ f. f) x asked → Represents client before (kept old) s → StepIsAnswered client before (kept new) s now asked reply)
     → (IsDeclined x reply → new ≡ old) → StepReplies old x reply → StepEnds x old new reply → StepLeaves x now old new reply → MovesBy x reply old new → ((kind : ErrorKind) → reply ≡ Fault kind → ReportsFault old new now x kind) → StepReports old new now x reply → (IsAskStep x → ⊥) → TakesStep old new now x reply
 takes old new now x reply answers declined replies ends leaves moves honest tells other =
     takes-found old new now x reply
@@ -300,8 +300,8 @@ gives-up-body {R = R} None old new h = let P : SourceState R → Type 0 = λ x. 
 gives-up-body (Some b) old new h = gives-up b old new h
 
 -- where the source stands after a read
-pub stands-after : {R : Type 0} (was body : UnreadBody) (old new : SourceState R) → (is_streaming was ≡ false → new ≡ old) → (is_streaming was ≡ true → new.input_state ≡ body_input_state body old.input_state) → StandsAfter was body old new
-stands-after was body old new same moves = by (is_streaming was) same moves
+pub represents-after : {R : Type 0} (was body : UnreadBody) (old new : SourceState R) → (is_streaming was ≡ false → new ≡ old) → (is_streaming was ≡ true → new.input_state ≡ body_input_state body old.input_state) → InputStateAfter was body old new
+represents-after was body old new same moves = by (is_streaming was) same moves
   where
     by : (b : Bool) → (b ≡ false → new ≡ old) → (b ≡ true → new.input_state ≡ body_input_state body old.input_state) → MatchBool b (new.input_state ≡ body_input_state body old.input_state) (new ≡ old)
     by true same moves = moves refl
@@ -331,7 +331,7 @@ ask-reports-none old new NoSuch h kind e = cc
 ask-reports-none old new Memory h kind e = cc
 
 pub ask-found : {R W : Type 0} (old new : ConnectionState R W) (now : HttpDate) (reply : ReplyValue)
-    → ((client : Feed) (before : Sink) (s : State) → before.failures < 2 ^ 64 - 1 → Stands client before (kept old) s → AskIsAnswered client before (kept new) s now reply)
+    → ((client : Feed) (before : Sink) (s : State) → before.failures < 2 ^ 64 - 1 → Represents client before (kept old) s → AskIsAnswered client before (kept new) s now reply)
     → (IsDeclined step.Ask reply → new ≡ old) → AskEnds old new reply → AskLeaves now old new reply → Moves false old new → AskStep old new now reply
 ask-found old new now reply answers declined ends leaves moves = record {
   does = answers;
@@ -347,7 +347,7 @@ ask-found old new now reply answers declined ends leaves moves = record {
 
 -- memory was found
 pub ask-step : {R W : Type 0} (old new : ConnectionState R W) (now : HttpDate) (reply : ReplyValue) → ((client : Feed) (p : Profile) (left : State) → FoundHead client p reply left)
-    → ((client : Feed) (before : Sink) (s : State) → before.failures < 2 ^ 64 - 1 → Stands client before (kept old) s → StepIsAnswered client before (kept new) s now Ask reply)
+    → ((client : Feed) (before : Sink) (s : State) → before.failures < 2 ^ 64 - 1 → Represents client before (kept old) s → StepIsAnswered client before (kept new) s now Ask reply)
     → (IsDeclined step.Ask reply → new ≡ old) → AskEnds old new reply → AskLeaves now old new reply → Moves false old new → AskStep old new now reply
 ask-step old new now reply found answers declined ends leaves moves =
     ask-found old new now reply (λ client before s low st. (let a = answers client before s low st in (a.0, a.1, a.2, found client new.profile a.0))) declined ends leaves moves
@@ -386,7 +386,7 @@ takes-ask old new now reply a =
 
 -- What a head that is passed leaves: what stood in front of it asks no more than what stands behind it.
 pub record PassesHead {R W : Type 0} (old mid : ConnectionState R W) (now : HttpDate) : Type 0 where
-  pub does : (client : Feed) (before : Sink) (s : State) → before.failures < 2 ^ 64 - 1 → Stands client before (kept old) s → AskGoesOn client before (kept mid) s now
+  pub does : (client : Feed) (before : Sink) (s : State) → before.failures < 2 ^ 64 - 1 → Represents client before (kept old) s → AskGoesOn client before (kept mid) s now
   pub was_open : old.end ≡ None
   pub is_open : mid.end ≡ None
   pub here : IsBeforeHead old.source.input_state
@@ -394,7 +394,7 @@ pub record PassesHead {R W : Type 0} (old mid : ConnectionState R W) (now : Http
   pub begins : HasByteBehind mid.profile mid.source.feed → HasByteBehind old.profile old.source.feed
   pub free : IsFree old
   pub hands : (n : ℕ) (message : Message) (framing : Framing) (left : Option Remaining) → HandsOutHead n mid.profile mid.source.feed message framing left → HandsOutHead (suc n) old.profile old.source.feed message framing left
-  pub stands : mid.source.input_state ≡ place.Head
+  pub represents : mid.source.input_state ≡ place.Head
   pub ends : (why : EndOfRequests) → EndsRequestsAt mid.profile place.Head mid.source.feed why → EndsRequestsAt old.profile old.source.input_state old.source.feed why
   pub requests : mid.requests ≡ old.requests ++ (None ∷ [])
   pub counts : length mid.marks ≡ length old.marks + 1
@@ -444,7 +444,7 @@ leaves-behind now old mid new NoSuch e count here unended same hands h = elim h 
 -- behind a refused head no body and no answer is waited for
 never-waits : {R W : Type 0} (old mid : ConnectionState R W) (now : HttpDate) → PassesHead old mid now → (mid.source.input_state ≡ place.Body ⊎ last_holds_next_head mid.requests ≡ true) → ⊥
 never-waits old mid now p h =
-    ⊎_elim (not-body mid.source.input_state p.stands)
+    ⊎_elim (not-body mid.source.input_state p.represents)
     (λ waits. (let no : false ≡ true = sym (ap last_holds_next_head p.requests ∙ holds-snoc old.requests None) ∙ waits in cc)) h
 
 ends-behind : {R W : Type 0} (old mid new : ConnectionState R W) (now : HttpDate) (reply : ReplyValue) → PassesHead old mid now → AskEnds mid new reply → AskEnds old new reply
@@ -455,7 +455,7 @@ ends-behind old mid new now Ended p h = (
   λ open_is.
       let x = h.2 p.is_open in
       let E : InputState → Type 0 = λ y. EndsRequestsAt mid.profile y mid.source.feed x.0 in
-      (x.0, x.1, p.ends x.0 (subst E p.stands x.2), p.free),
+      (x.0, x.1, p.ends x.0 (subst E p.represents x.2), p.free),
 )
 ends-behind old mid new now Memory p h = (p.was_open, h.1, p.here, p.begins h.3, p.free, p.unended)
 ends-behind old mid new now NotYet p h = absurd (never-waits old mid now p h.1)
@@ -478,7 +478,7 @@ never-declined old mid new now NoSuch e h was = elim h [ ]
 
 pub asks-behind-head : {R W : Type 0} (old mid : ConnectionState R W) (now : HttpDate) → PassesHead old mid now → IsAskBehind old mid now
 asks-behind-head old mid now p = λ new reply a. record {
-  does = λ client before s low st. (let g = p.does client before s low st in g.asks (kept new) reply (a.does client before g.mid low g.stands));
+  does = λ client before s low st. (let g = p.does client before s low st in g.asks (kept new) reply (a.does client before g.mid low g.represents));
   profile = a.profile ∙ p.moves.profile;
   declined = λ was. absurd (never-declined old mid new now reply p a.ends was);
   ends = ends-behind old mid new now reply p a.ends;
@@ -490,7 +490,7 @@ asks-behind-head old mid now p = λ new reply a. record {
 }
 
 pub takes-send_continue : {R W : Type 0} (old new : ConnectionState R W) (now : HttpDate) (n : ℕ) (reply : ReplyValue)
-    → ((client : Feed) (before : Sink) (s : State) → before.failures < 2 ^ 64 - 1 → Stands client before (kept old) s → StepIsAnswered client before (kept new) s now (AsReader n) reply)
+    → ((client : Feed) (before : Sink) (s : State) → before.failures < 2 ^ 64 - 1 → Represents client before (kept old) s → StepIsAnswered client before (kept new) s now (AsReader n) reply)
     → (IsDeclined (step.AsReader n) reply → new ≡ old) → StepReplies old (step.AsReader n) reply → new.end ≡ old.end → StepLeaves (step.AsReader n) now old new reply → Moves false old new → ReportsNoFault reply → TakesStep old new now (step.AsReader n) reply
 takes-send_continue old new now n reply answers declined replies ends leaves moves none =
     takes old new now (step.AsReader n) reply
@@ -498,7 +498,7 @@ takes-send_continue old new now n reply answers declined replies ends leaves mov
     declined replies ends leaves (moves-kept (step.AsReader n) reply old new (λ sent. refl) moves) (λ kind e. absurd (none kind e)) tt (λ ask. ask)
 
 pub takes-drop : {R W : Type 0} (old new : ConnectionState R W) (now : HttpDate) (n : ℕ) (reply : ReplyValue)
-    → ((client : Feed) (before : Sink) (s : State) → before.failures < 2 ^ 64 - 1 → Stands client before (kept old) s → StepIsAnswered client before (kept new) s now (Drop n) reply)
+    → ((client : Feed) (before : Sink) (s : State) → before.failures < 2 ^ 64 - 1 → Represents client before (kept old) s → StepIsAnswered client before (kept new) s now (Drop n) reply)
     → (IsDeclined (step.Drop n) reply → new ≡ old) → StepReplies old (step.Drop n) reply → EndsBehind (kept_lacks (slice_get old.requests n)) old new reply → (IsAnswered reply → LetsGo n old new) → Moves false old new → ReportsNoFault reply → TakesStep old new now (step.Drop n) reply
 takes-drop old new now n reply answers declined replies ends leaves moves none =
     takes old new now (step.Drop n) reply
@@ -506,7 +506,7 @@ takes-drop old new now n reply answers declined replies ends leaves moves none =
     declined replies ends leaves (moves-kept (step.Drop n) reply old new (λ sent. refl) moves) (λ kind e. absurd (none kind e)) tt (λ ask. ask)
 
 pub takes-read : {R W : Type 0} (old new : ConnectionState R W) (now : HttpDate) (n m : ℕ) (reply : ReplyValue)
-    → ((client : Feed) (before : Sink) (s : State) → Stands client before (kept old) s → StepIsAnswered client before (kept new) s now (Read n m) reply)
+    → ((client : Feed) (before : Sink) (s : State) → Represents client before (kept old) s → StepIsAnswered client before (kept new) s now (Read n m) reply)
     → (IsDeclined (step.Read n m) reply → new ≡ old) → new.end ≡ old.end → StepLeaves (step.Read n m) now old new reply → Moves false old new → TakesStep old new now (step.Read n m) reply
 takes-read old new now n m reply answers declined ends leaves moves =
     takes old new now (step.Read n m) reply
@@ -514,7 +514,7 @@ takes-read old new now n m reply answers declined ends leaves moves =
     declined tt ends leaves (moves-kept (step.Read n m) reply old new (λ sent. refl) moves) (λ kind e. tt) tt (λ ask. ask)
 
 pub takes-respond : {R W D : Type 0} (feed : D → Option Feed) (all : Bool) (old new : ConnectionState R W) (now : HttpDate) (n : ℕ) (r : ResponseState D) (reply : ReplyValue)
-    → ((client : Feed) (before : Sink) (s : State) (value : ResponseValue) → before.failures < 2 ^ 64 - 1 → IsResponse feed r value → Stands client before (kept old) s → StepIsAnswered client before (kept new) s now (Respond n value) reply)
+    → ((client : Feed) (before : Sink) (s : State) (value : ResponseValue) → before.failures < 2 ^ 64 - 1 → IsResponse feed r value → Represents client before (kept old) s → StepIsAnswered client before (kept new) s now (Respond n value) reply)
     → (IsDeclined (step.Respond n (stated_response feed r)) reply → new ≡ old) → StepReplies old (step.Respond n (stated_response feed r)) reply → RespondEnds n r.answer.closes old new reply → AnswerLeaves n r.answer old new reply → is_done reply ≡ all → Moves all old new → ((kind : ErrorKind) → reply ≡ Fault kind → ReportsFault old new now (step.Respond n (stated_response feed r)) kind)
     → RespondReports old new now n (stated_response feed r) reply → TakesStep old new now (step.Respond n (stated_response feed r)) reply
 takes-respond feed all old new now n r reply answers declined replies ends leaves done moves honest tells =
@@ -523,7 +523,7 @@ takes-respond feed all old new now n r reply answers declined replies ends leave
     declined replies ends leaves (moves-sent (step.Respond n (stated_response feed r)) reply all old new (λ sent. refl) done moves) honest tells (λ ask. ask)
 
 pub takes-into_writer : {R W : Type 0} (old new : ConnectionState R W) (now : HttpDate) (n : ℕ) (reply : ReplyValue)
-    → ((client : Feed) (before : Sink) (s : State) → before.failures < 2 ^ 64 - 1 → Stands client before (kept old) s → StepIsAnswered client before (kept new) s now (IntoWriter n) reply)
+    → ((client : Feed) (before : Sink) (s : State) → before.failures < 2 ^ 64 - 1 → Represents client before (kept old) s → StepIsAnswered client before (kept new) s now (IntoWriter n) reply)
     → (IsDeclined (step.IntoWriter n) reply → new ≡ old) → StepReplies old (step.IntoWriter n) reply → EndsBehind (is_last_with_stream_at (slice_get old.requests n)) old new reply → StepLeaves (step.IntoWriter n) now old new reply → Moves false old new → ReportsNoFault reply → TakesStep old new now (step.IntoWriter n) reply
 takes-into_writer old new now n reply answers declined replies ends leaves moves none =
     takes old new now (step.IntoWriter n) reply
@@ -531,7 +531,7 @@ takes-into_writer old new now n reply answers declined replies ends leaves moves
     declined replies ends leaves (moves-kept (step.IntoWriter n) reply old new (λ sent. refl) moves) (λ kind e. absurd (none kind e)) tt (λ ask. ask)
 
 pub takes-finish : {R W : Type 0} (old new : ConnectionState R W) (now : HttpDate) (n : ℕ) (reply : ReplyValue)
-    → ((client : Feed) (before : Sink) (s : State) → before.failures < 2 ^ 64 - 1 → Stands client before (kept old) s → StepIsAnswered client before (kept new) s now (Finish n) reply)
+    → ((client : Feed) (before : Sink) (s : State) → before.failures < 2 ^ 64 - 1 → Represents client before (kept old) s → StepIsAnswered client before (kept new) s now (Finish n) reply)
     → (IsDeclined (step.Finish n) reply → new ≡ old) → StepReplies old (step.Finish n) reply → new.end ≡ old.end → StepLeaves (step.Finish n) now old new reply → Moves false old new → ReportsNoFault reply → TakesStep old new now (step.Finish n) reply
 takes-finish old new now n reply answers declined replies ends leaves moves none =
     takes old new now (step.Finish n) reply
@@ -539,7 +539,7 @@ takes-finish old new now n reply answers declined replies ends leaves moves none
     declined replies ends leaves (moves-kept (step.Finish n) reply old new (λ sent. refl) moves) (λ kind e. absurd (none kind e)) tt (λ ask. ask)
 
 pub takes-flush : {R W : Type 0} (all : Bool) (old new : ConnectionState R W) (now : HttpDate) (n : ℕ) (reply : ReplyValue)
-    → ((client : Feed) (before : Sink) (s : State) → before.failures < 2 ^ 64 - 1 → Stands client before (kept old) s → StepIsAnswered client before (kept new) s now (Flush n) reply)
+    → ((client : Feed) (before : Sink) (s : State) → before.failures < 2 ^ 64 - 1 → Represents client before (kept old) s → StepIsAnswered client before (kept new) s now (Flush n) reply)
     → (IsDeclined (step.Flush n) reply → new ≡ old) → StepReplies old (step.Flush n) reply → new.end ≡ old.end → StepLeaves (step.Flush n) now old new reply → is_done reply ≡ all → Moves all old new → ((kind : ErrorKind) → reply ≡ Fault kind → (new.outlet.ended ≡ true) × IsOfWriter (output_of old.outlet) (output_of new.outlet) kind)
     → ReportsOfWriter (output_of old.outlet) (output_of new.outlet) reply → TakesStep old new now (step.Flush n) reply
 takes-flush all old new now n reply answers declined replies ends leaves done moves honest tells =
@@ -549,7 +549,7 @@ takes-flush all old new now n reply answers declined replies ends leaves done mo
 
 -- a Write that wasn't done leaves what is sent on as it was; of one that was nothing is said
 pub takes-write : {R W : Type 0} (old new : ConnectionState R W) (now : HttpDate) (n : ℕ) (v : Vec ℕ) (bytes : List ℕ) (reply : ReplyValue)
-    → v.items ≡ bytes → ((client : Feed) (before : Sink) (s : State) → before.failures < 2 ^ 64 - 1 → Stands client before (kept old) s → StepIsAnswered client before (kept new) s now (Write n bytes) reply)
+    → v.items ≡ bytes → ((client : Feed) (before : Sink) (s : State) → before.failures < 2 ^ 64 - 1 → Represents client before (kept old) s → StepIsAnswered client before (kept new) s now (Write n bytes) reply)
     → (IsDeclined (step.Write n v) reply → new ≡ old) → StepReplies old (step.Write n v) reply → new.end ≡ old.end → StepLeaves (step.Write n v) now old new reply → new.profile ≡ old.profile → GoesOn old.source.feed new.source.feed
     → FailsOnce old.outlet new.outlet → (is_done reply ≡ false → new.outlet ≡ old.outlet) → ((kind : ErrorKind) → reply ≡ Fault kind → (new.outlet.ended ≡ true) × IsOfWriter (output_of old.outlet) (output_of new.outlet) kind)
     → ReportsOfWriter (output_of old.outlet) (output_of new.outlet) reply → TakesStep old new now (step.Write n v) reply
@@ -573,7 +573,7 @@ takes-write {W = W} old new now n v bytes reply same answers declined replies en
     apart false false d e = cc
 
 pub takes-upgrade : {R W D : Type 0} (feed : D → Option Feed) (all : Bool) (old new : ConnectionState R W) (now : HttpDate) (n : ℕ) (p : String Global) (r : ResponseState D) (reply : ReplyValue)
-    → ((client : Feed) (before : Sink) (s : State) (value : ResponseValue) → before.failures < 2 ^ 64 - 1 → value.answer ≡ r.answer → Stands client before (kept old) s → StepIsAnswered client before (kept new) s now (Upgrade n (string_bytes p) value) reply)
+    → ((client : Feed) (before : Sink) (s : State) (value : ResponseValue) → before.failures < 2 ^ 64 - 1 → value.answer ≡ r.answer → Represents client before (kept old) s → StepIsAnswered client before (kept new) s now (Upgrade n (string_bytes p) value) reply)
     → (IsDeclined (step.Upgrade n p (stated_response feed r)) reply → new ≡ old) → StepReplies old (step.Upgrade n p (stated_response feed r)) reply → UpgradeEnds n old new reply → UpgradeLeaves n (string_bytes p) r.answer.status old new reply → is_done reply ≡ all → Moves all old new → ReportsNoFault reply → TakesStep old new now (step.Upgrade n p (stated_response feed r)) reply
 takes-upgrade feed all old new now n p r reply answers declined replies ends leaves done moves none =
     takes old new now (step.Upgrade n p (stated_response feed r)) reply
@@ -584,7 +584,7 @@ takes-upgrade feed all old new now n p r reply answers declined replies ends lea
 pub drops-by : {R W : Type 0} (n : ℕ) (w : OpenRequest UnreadBody) (old new : ConnectionState R W) (now : HttpDate) → slice_get old.requests n ≡ Some (Some (still.Waiting w))
     → ((client : Feed) (before : Sink) (s : State) (asked : StepValue) (reply : ReplyValue)
     → ((was : Reached) (by : HandedOut) (r : Request) (given : ℕ) (end_reported : Bool) → IsKeptOf w r given end_reported → slice_get was.slots n ≡ Some (open_slot by r given end_reported) → outcome true now was asked ≡ ends_asking (ends_when_finished r by.owed given end_reported) (changes was n (dropped by r given end_reported) reply (use_in_turn (turn_has_come n was.slots))))
-    → before.failures < 2 ^ 64 - 1 → Stands client before (kept old) s → StepIsAnswered client before (kept new) s now asked reply)
+    → before.failures < 2 ^ 64 - 1 → Represents client before (kept old) s → StepIsAnswered client before (kept new) s now asked reply)
     → new.end ≡ ends_behind (kept_lacks (slice_get old.requests n)) old.end → LetsGo n old new → Moves false old new → (x : Step (Option Feed)) (reply : ReplyValue) → IsDropping old.requests n x reply → TakesStep old new now x reply
 drops-by n w old new now kept answers ends leaves moves = by
   where
@@ -647,16 +647,16 @@ begins {W = W} client before writer c m r o e feed stop outlet fresh =
     let K : List Mark → List (Option Unfinished) → InputState → Option EndOfRequests → Option Stop → OutletState W → Kept = λ m r o e s w.
     record { profile = c.profile; marks = m; requests = r; input_state = o; asking_ended = is_some e; feed = c.source.feed; stop = s; is_over = c.source.is_over; sink = output_of w; output_ended = w.ended } in
     let has = has-pipeline c.profile client in
-    let S : Kept → Type 0 = λ k. Stands client before k (start_state has.0) in
+    let S : Kept → Type 0 = λ k. Represents client before k (start_state has.0) in
     let none : OutletState W = record { held = []; ended = false; writer = writer; sink = before } in
-    let st = stands-begun c.profile client c.source.feed c.source.is_over before has.0 feed fresh has.1 in
+    let st = represents-begun c.profile client c.source.feed c.source.is_over before has.0 feed fresh has.1 in
     let st1 = subst (λ w. S (K [] [] place.Head None None w)) (sym outlet) st in
     let st2 = subst (λ s. S (K [] [] place.Head None s c.outlet)) (sym stop) st1 in
     let st3 = subst (λ x. S (K [] [] place.Head x c.source.stop c.outlet)) (sym e) st2 in
     let st4 = subst (λ x. S (K [] [] x c.end c.source.stop c.outlet)) (sym o) st3 in
     let st5 = subst (λ x. S (K [] x c.source.input_state c.end c.source.stop c.outlet)) (sym r) st4 in
     let st6 = subst (λ x. S (K x c.requests c.source.input_state c.end c.source.stop c.outlet)) (sym m) st5 in
-    record { profile = refl; fresh = fresh; items = has.0; pipeline = has.1; at = start_state has.0; run = refl; stands = st6; memory = λ vain. elim vain [ ] }
+    record { profile = refl; fresh = fresh; items = has.0; pipeline = has.1; at = start_state has.0; run = refl; represents = st6; memory = λ vain. elim vain [ ] }
 
 pub honest-more : (mid ended : Bool) (a b c : Sink) (x : Answer) (feed : Option Feed) (p : Printing) (kind : ErrorKind) → mid ≡ true → FailsOnceUnlessEnded mid b c ended → c.last_kind ≡ b.last_kind → IsHonest a b x feed p kind → IsHonest a c x feed p kind
 honest-more true ended a b c x feed p kind e k last (inl h) = let K : Option ErrorKind → Type 0 = λ y. StatesKind y kind in inl (k.0 ∙ h.0, λ low. subst K (sym last) (h.1 low))

@@ -16,7 +16,7 @@ use Rattle.tiny_http_connection.specs.Pending.{kept_body, number_with_body}
 use Rattle.tiny_http_connection.specs.Steps.{Given, Fault}
 use Rattle.tiny_http_connection.specs.Giving.{TakesNext}
 use Rattle.tiny_http_connection.specs.Connection.{ConnectionState}
-use Rattle.tiny_http_connection.specs.Driving.{ReadsKept, StandsAfter, ClosesBody}
+use Rattle.tiny_http_connection.specs.Driving.{ReadsKept, InputStateAfter, ClosesBody}
 
 -- ---- a read of no bytes
 
@@ -30,12 +30,12 @@ same-body (still.Waiting w) b e = let same : w.body ≡ b = cc in ap (λ x. stil
 same-body still.Raw b e = cc
 same-body (still.Upgraded c) b e = let same : c ≡ b = cc in ap still.Upgraded same
 
-stands-still : {R : Type 0} (b : UnreadBody) (s : SourceState R) → StandsAfter b b s s
-stands-still (body.Over stop) s = refl
-stands-still (body.WithHead bytes) s = refl
-stands-still (body.Counted n by_standard) s = refl
-stands-still (body.Chunked decoding) s = refl
-stands-still body.Rest s = refl
+represents-still : {R : Type 0} (b : UnreadBody) (s : SourceState R) → InputStateAfter b b s s
+represents-still (body.Over stop) s = refl
+represents-still (body.WithHead bytes) s = refl
+represents-still (body.Counted n by_standard) s = refl
+represents-still (body.Chunked decoding) s = refl
+represents-still body.Rest s = refl
 
 takes-none : (n : ℕ) (bytes : List ℕ) (o : Option Remaining) → n ≡ 0 → [] ≡ bytes → TakesNext n o (Given bytes) o
 takes-none n bytes None none empty = tt
@@ -47,7 +47,7 @@ closes-none n (x ∷ xs) b none = tt
 
 pub reads-nothing : {R W : Type 0} (c : ConnectionState R W) (k n : ℕ) (bytes : List ℕ) (u : Unfinished) (b : UnreadBody) → slice_get c.requests k ≡ Some (Some u) → kept_body (Some u) ≡ Some b → n ≡ 0 → [] ≡ bytes → ReadsKept k n c c (Given bytes)
 reads-nothing c k n bytes u b e has none empty =
-    (u, b, b, e, has, same-set c.requests k (Some u) e ∙ ap (λ x. slice_set c.requests k (Some x)) (same-body u b has), stands-still b c.source, takes-none n bytes (remaining b c.source.feed) none empty, λ some. absurd (omega (arith, some, none)), closes-none n bytes b none)
+    (u, b, b, e, has, same-set c.requests k (Some u) e ∙ ap (λ x. slice_set c.requests k (Some x)) (same-body u b has), represents-still b c.source, takes-none n bytes (remaining b c.source.feed) none empty, λ some. absurd (omega (arith, some, none)), closes-none n bytes b none)
 
 -- ---- a read into a buffer
 

@@ -1,5 +1,5 @@
--- How the driver's connection represents a state of the definitions. The laws of `InShort` can be read without this
--- file.
+-- How the driver's connection represents a state of the definitions. The laws of `InShort` can be understood without
+-- this file.
 use Rattle.std.specs.Prelude.{◌≡◌, ℕ, ◌+◌, Bool, true, false, not, ◌&&◌, List, [], ◌∷◌, Option, Some, None, is_some}
 use Rattle.std.specs.Prelude.{MatchBool, ⊤}
 use Rattle.std.specs.Option.{option_map}
@@ -97,8 +97,8 @@ pub record HandedOut : Type 0 where
   pub owed : Bool
   pub closes : Bool
 
--- a request that was handed out so and awaits its response, with the count of its body's bytes that were given, and
--- whether its end was reported
+-- a request that was handed out like this and awaits its response, with the count of its body's bytes that were given,
+-- and whether its end was reported
 abbrev pub open_slot : HandedOut → Request → ℕ → Bool → Slot
 open_slot h r given end_reported =
     record (new_slot h.date (Asks r))
@@ -291,7 +291,7 @@ pub record NextHead (client : Feed) (k : Kept) (last : Option Slot) (rest : List
       → PlaceIn client k.profile (is_past_last k.input_state) (behind_body (last_body k.requests) k.feed) rest
 
 -- how the input relates to the bodies and to the rest of the pipeline, after this much of the client's feed
-pub record InputStands (client : Feed) (k : Kept) (slots : List Slot) (rest : List Item) : Type 0 where
+pub record InputMatches (client : Feed) (k : Kept) (slots : List Slot) (rest : List Item) : Type 0 where
   pub settled : AreSettled k.requests
   pub gives : GivesRest (last_body k.requests) (last_slot slots) k.feed
   pub next : k.asking_ended ≡ false → NextHead client k (last_slot slots) rest
@@ -314,10 +314,10 @@ OutputAt before sink ended slots flushed (Some f) =
     × (ended ≡ true)
 
 -- the connection represents this state, after this much of the client's feed and over a writer that stated this before
-pub record Stands (client : Feed) (before : Sink) (k : Kept) (s : State) : Type 0 where
+pub record Represents (client : Feed) (before : Sink) (k : Kept) (s : State) : Type 0 where
   pub numbers : AreKept s.reached.slots k.marks k.requests
   pub shape : AreInShape k.marks
   pub in_turn : AreSentInTurn s.reached.slots
   pub asking_ended : s.reached.asking_ended ≡ k.asking_ended
-  pub reader : InputStands client k s.reached.slots s.reached.rest
+  pub reader : InputMatches client k s.reached.slots s.reached.rest
   pub output : OutputAt before k.sink k.output_ended s.reached.slots s.flushed s.failure

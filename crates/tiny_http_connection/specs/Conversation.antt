@@ -1,6 +1,6 @@
 -- Whole conversations: which replies and which output a list of steps may have. The laws of `InShort` use the fields
--- `items`, `pipeline` and `end` of `IsConversation`, which `run` guarantees; they can be read without the rest of this
--- file.
+-- `items`, `pipeline` and `end` of `IsConversation`, which `run` guarantees; they can be understood without the rest of
+-- this file.
 use Rattle.std.specs.Prelude.{◌≡◌, ℕ, ◌+◌, ◌-◌, ◌^◌, ◌<◌, ◌⊎◌, Bool, true, false, not, ◌&&◌, ◌||◌, List, [], ◌∷◌}
 use Rattle.std.specs.Prelude.{◌++◌, map, length, Option, Some, None, is_some, unwrap_or, option_map, MatchBool}
 use Rattle.std.specs.Prelude.{slice_get, if◌then◌else◌}

@@ -1,5 +1,5 @@
 -- A run over a feed by the rules of tiny_http, computed for a writer that takes everything: a plain reading that tests
--- the definitions. The laws of `InShort` can be read without this file.
+-- the definitions. The laws of `InShort` can be understood without this file.
 use Rattle.std.specs.Prelude.{ℕ, Bool, true, List, [], ◌∷◌, if◌then◌else◌}
 use Rattle.std.specs.Prelude.{false}
 use Rattle.tiny_http_io.specs.Device.{Feed}

@@ -1,4 +1,4 @@
--- The effects of the calls of a `Connection`. The laws of `InShort` can be read without this file.
+-- The effects of the calls of a `Connection`. The laws of `InShort` can be understood without this file.
 use Rattle.std.specs.Prelude.{◌≡◌, ◌⊎◌, ◌||◌, ℕ, ◌+◌, Bool, true, false, List, [], ◌∷◌, ◌++◌, length, replicate}
 use Rattle.std.specs.Prelude.{Option, Some, None, IsSome, MatchBool, drop, slice_get, slice_set, if◌then◌else◌}
 use Rattle.std.specs.Prelude.{string_bytes, ◌<◌, ◌≤◌, ◌^◌, ⊤, nat_lt}
@@ -49,7 +49,7 @@ use Rattle.tiny_http_connection.specs.Seen.{IsStep, IsAnswered, IsOfWriter, Repo
 use Rattle.tiny_http_connection.specs.Outcomes.{fault_reply}
 use Rattle.tiny_http_connection.specs.Giving.{TakesNext}
 use Rattle.tiny_http_connection.specs.Replies.{StepReplies, can_take, is_in_turn}
-use Rattle.tiny_http_connection.specs.Connection.{ConnectionState, kept, Stands}
+use Rattle.tiny_http_connection.specs.Connection.{ConnectionState, kept, Represents}
 
 -- A connection of this profile, over this client's feed and a fresh writer, took these steps with these replies: they
 -- are a run over the pipeline of the feed, and the connection represents the state that the run reaches.
@@ -61,7 +61,7 @@ pub record HasDone {R W : Type 0} (p : Profile) (client : Feed) (before : Sink) 
   pub pipeline : Pipeline p (Some client.bytes) client.stop items
   pub at : State
   pub run : Run (start_state items) steps replies at
-  pub stands : Stands client before (kept c) at
+  pub represents : Represents client before (kept c) at
   pub memory : HasAskOutOfMemory steps replies
       → (at.reached.asking_ended ≡ true)
       × (at.reached.rest ≡ [] → BeginsBehind p (Some client.bytes) client.stop items)
@@ -219,13 +219,13 @@ abbrev pub LetsGo : {R W : Type 0} → ℕ → ConnectionState R W → Connectio
 LetsGo k old new =
     (new.requests ≡ slice_set old.requests k None) × GivesUpKept k old new × SendsInTurn k old new
 
--- this open number is finished, and so are the left ones directly after it
+-- this open number is finished, and so are those directly after it that were left
 abbrev pub FinishesNumber : ℕ → List Mark → List Mark → Type 0
 FinishesNumber k old new =
     (front rest : List Mark) → old ≡ front ++ (Open ∷ rest) → length front ≡ k → FinishesFront front rest new
 
--- Nothing is kept of this number any more; it is finished if it was open, and its body was given up. The last number
--- closes the connection, if it awaits its response and this response asks for that.
+-- Nothing is kept of this number any more; it is finished if it was open, and its body was given up. The last number's
+-- response says that the connection closes, if it isn't made yet and this response asks for that.
 abbrev pub LetsGoAnswered : {R W : Type 0} → ℕ → Bool → ConnectionState R W → ConnectionState R W → Type 0
 LetsGoAnswered k closes old new =
     (new.requests ≡ slice_set (closing_if_asked closes old.requests) k None)
@@ -287,8 +287,8 @@ AskLeaves now old new _ = ⊥
 
 -- A read from the body of a request that leaves this of it. If the body is read from the source, the source's input
 -- state follows what is left of it; else the source is unchanged.
-abbrev pub StandsAfter : {R : Type 0} → UnreadBody → UnreadBody → SourceState R → SourceState R → Type 0
-StandsAfter was body old new =
+abbrev pub InputStateAfter : {R : Type 0} → UnreadBody → UnreadBody → SourceState R → SourceState R → Type 0
+InputStateAfter was body old new =
     MatchBool (is_streaming was) (new.input_state ≡ body_input_state body old.input_state) (new ≡ old)
 
 -- the 100 of this number's request was sent and flushed, and none is owed any more
@@ -357,7 +357,7 @@ ReadsKept k n old new reply =
     × (slice_get old.requests k ≡ Some (Some u))
     × (kept_body (Some u) ≡ Some was)
     × (new.requests ≡ slice_set old.requests k (Some (number_with_body body u)))
-    × StandsAfter was body old.source new.source
+    × InputStateAfter was body old.source new.source
     × TakesNext n (remaining was old.source.feed) reply (remaining body new.source.feed)
     × (0 < n → ReadsOn was (given_count reply) (nat_lt (given_count reply) n) body)
     × ClosesBody n reply body
@@ -374,7 +374,7 @@ ReadLeaves k n old new Memory = (is_readable (slice_get old.requests k) ≡ true
 ReadLeaves k n old new _ = ⊥
 
 -- What a step leaves of requests, source and output. An AsReader sends the 100 that its request is owed. A read changes
--- at most the body of its request, and the source if the body is read from it. A response, a drop and a Finish remove
+-- at most the body of its request, and the source if the body is read from it. A Respond, a Drop and a Finish remove
 -- their request. An IntoWriter gives up the body.
 abbrev pub StepLeaves : {R W : Type 0} → Step (Option Feed) → HttpDate → ConnectionState R W → ConnectionState R W
     → ReplyValue → Type 0

@@ -1,5 +1,5 @@
--- The reply and the effects of each step. The laws of `InShort` can be read without this file: whatever it defines,
--- they state what is handed out, read and sent.
+-- The reply and the effects of each step. The laws of `InShort` can be understood without this file: whatever it
+-- defines, they state what is handed out, read and sent.
 use Rattle.std.specs.Prelude.{ℕ, ◌+◌, Bool, true, false, not, ◌&&◌, ◌||◌, ◌==◌, nat_lt, List, [], ◌∷◌, ◌++◌, length}
 use Rattle.std.specs.Prelude.{take, Option, Some, None, if◌then◌else◌, slice_get, slice_set}
 use Rattle.std.specs.declared.io.ErrorKind.{ErrorKind}
@@ -161,8 +161,8 @@ ends_asking ends o = record o { asking_ended = o.asking_ended || ends }
 abbrev pub ends_with_stream : Request → Bool → ℕ → Bool → Bool
 ends_with_stream r owed given end_reported = holds_next_head r || ends_when_finished r owed given end_reported
 
--- A response asks to close the connection: no further head is read, and the last number that was reached closes the
--- connection by its response, if that isn't made yet.
+-- A response asks to close the connection: no further head is read, and the response of the last number that was
+-- reached says that the connection closes, if it isn't made yet.
 abbrev pub asked_to_close : Bool → Reached → Reached
 asked_to_close closes old =
     if closes then record old { slots = with_last closing_slot old.slots; asking_ended = true } else old

@@ -1,4 +1,4 @@
--- Numbers whose turn comes, and what is sent then. The laws of `InShort` can be read without this file.
+-- Numbers whose turn comes, and what is sent then. The laws of `InShort` can be understood without this file.
 use Rattle.std.specs.Prelude.{◌≡◌, ◌==◌, ◌<◌, ◌^◌, ◌+◌, ℕ, Bool, true, false, not, ◌||◌, List, [], ◌∷◌, ◌++◌, length}
 use Rattle.std.specs.Prelude.{Option, Some, None, MatchBool, is_err, slice_get, if◌then◌else◌}
 use Rattle.tiny_http_io.specs.Device.{Sink}
@@ -23,7 +23,7 @@ use Rattle.tiny_http_turns.specs.TurnsCalls.{Finishes}
 use Rattle.tiny_http_turns.specs.declared.turns.Finishing.{Finishing}
 use Rattle.tiny_http_turns.specs.declared.turns.Finishing.TheVariants.{Go}
 
--- the texts of the left numbers at the front
+-- the texts of the numbers at the front that were left
 abbrev pub left_text : List Mark → List ℕ
 left_text [] = []
 left_text (Open ∷ marks) = []
@@ -31,7 +31,7 @@ left_text (Held ∷ marks) = []
 left_text (Left text ∷ marks) = text ++ left_text marks
 left_text (Finished ∷ marks) = []
 
--- the left numbers at the front are finished
+-- the numbers at the front that were left are finished
 abbrev pub with_left_finished : List Mark → List Mark
 with_left_finished [] = []
 with_left_finished (Open ∷ marks) = Open ∷ marks
@@ -47,20 +47,19 @@ begins_left (Held ∷ marks) = false
 begins_left (Left text ∷ marks) = true
 begins_left (Finished ∷ marks) = false
 
--- when the turn passes to these numbers, the texts of the left ones at their front are sent; without any, nothing is
--- done
+-- when the turn passes to these numbers, the texts of those at their front that were left are sent; if there is none,
+-- nothing is done
 abbrev pub SendsLeft : List Mark → Bool → Sink → Sink → Bool → Type 0
 SendsLeft rest was old new ended =
     MatchBool (begins_left rest) (SendsUnlessEnded was old new ended (left_text rest)
     × IsFlushed new) ((new ≡ old)
     × (ended ≡ was))
 
--- the held number is finished, and so are the left ones directly after it
+-- the held number is finished, and so are those directly after it that were left
 abbrev pub FinishesFront : List Mark → List Mark → List Mark → Type 0
 FinishesFront front rest new = new ≡ front ++ (Finished ∷ with_left_finished rest)
 
--- An open number is left with a text. In its turn the text is sent, with those of the left numbers after it; else it
--- waits.
+-- An open number is left with a text. In its turn the text is sent, with those after it that were left; else it waits.
 abbrev pub LeavesText : Bool → List Mark → List Mark → List Mark → List ℕ → Bool → Sink → Sink → Bool → Type 0
 LeavesText in_turn front rest marks text was old new ended =
     MatchBool in_turn
@@ -140,7 +139,7 @@ refuses_upgrade_at protocol code None = false
 abbrev pub is_last_with_stream_at : Option (Option Unfinished) → Bool
 is_last_with_stream_at o = holds_next_head_at o || is_last_once_finished_at o
 
--- the number with a response that closes the connection, if it awaits one
+-- the number, whose response says that the connection closes, if it awaits one
 abbrev pub closing_number : Option Unfinished → Option Unfinished
 closing_number (Some (still.Waiting w)) = Some (still.Waiting (closing w))
 closing_number (Some still.Raw) = Some still.Raw

@@ -1,4 +1,4 @@
--- Whether each step is done, by what is kept of its number. The laws of `InShort` can be read without this file.
+-- Whether each step is done, by what is kept of its number. The laws of `InShort` can be understood without this file.
 use Rattle.std.specs.Prelude.{◌≡◌, ⊤, ℕ, ◌==◌, Bool, true, false, not, ◌&&◌, Option, Some, is_some, slice_get}
 use Rattle.std.specs.Prelude.{string_bytes}
 use Rattle.tiny_http_io.specs.Device.{Feed}

@@ -1,4 +1,4 @@
--- The result of a run of a list of steps. The laws of `InShort` can be read without this file.
+-- The result of a run of a list of steps. The laws of `InShort` can be understood without this file.
 use Rattle.std.specs.Prelude.{◌≡◌, ℕ, List, map, true, false, [], ◌∷◌, length, Option, Some, None}
 use Rattle.std.specs.List.{AllZip}
 use Rattle.tiny_http_io.specs.Device.{Feed, Sink, HoldsNothing}

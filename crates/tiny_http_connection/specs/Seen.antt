@@ -1,4 +1,5 @@
--- The program's steps and replies as values of the definitions. The laws of `InShort` can be read without this file.
+-- The program's steps and replies as values of the definitions. The laws of `InShort` can be understood without this
+-- file.
 use Rattle.std.specs.Prelude.{◌≡◌, ◌⊎◌, ◌<◌, ◌^◌, List, [], ◌∷◌, length, Option, Some, Bool, true, false, not, ◌&&◌}
 use Rattle.std.specs.Prelude.{◌||◌, Result, Ok, Err, string_bytes}
 use Rattle.std.specs.IoError.{error_kind}

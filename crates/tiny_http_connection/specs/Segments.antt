@@ -26,8 +26,8 @@ pub data Stage : Type 0 where
 
 -- A number that was reached: its item, the date of its Ask, and that of its 100, if one was sent; whether a 100 is
 -- still owed; how many bytes of its body were given out, whether the body's end or fault was reported, and whether the
--- body was given up; whether under Standard its response closes the connection (while it waits: a response asked for
--- that; then: as decided when it finished); and its stage.
+-- body was given up; whether under Standard its response says that the connection closes (while it waits: a response
+-- asked for that; then: as decided when it finished); and its stage.
 pub record Slot : Type 0 where
   pub item : Item
   pub date : HttpDate

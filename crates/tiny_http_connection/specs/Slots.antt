@@ -1,6 +1,6 @@
 -- What a step depends on in the numbers: which is the last, what is left of a body, and how a request ends the
--- connection. The laws of `InShort` can be read without this file: it defines when a step is refused, has to wait, or
--- ends the requests.
+-- connection. The laws of `InShort` can be understood without this file: it defines when a step is refused, has to
+-- wait, or ends the requests.
 use Rattle.std.specs.Prelude.{ℕ, ◌-◌, nat_lt, Bool, true, false, not, ◌&&◌, ◌||◌, List, [], ◌∷◌, ◌++◌, take, drop}
 use Rattle.std.specs.Prelude.{Option, Some, None, is_err, if◌then◌else◌}
 use Rattle.std.specs.List.{last_or, list_all}
@@ -117,13 +117,14 @@ abbrev pub ends_when_finished : Request → Bool → ℕ → Bool → Bool
 ends_when_finished r owed given end_reported =
     ends_once_finished r.framing.by_standard owed (remainder_of r given end_reported)
 
--- Under Standard the response to a request that is finished now closes the connection: its head ended it, a response
--- asked for that, its 100 is owed, or the rest of its body isn't skipped, since it is long or its end isn't known.
+-- Under Standard the response to a request that is finished now says that the connection closes: its head ended it, a
+-- response asked for that, its 100 is owed, or the rest of its body isn't skipped, since it is long or its end isn't
+-- known.
 abbrev pub closes_now : Request → Bool → Bool → ℕ → Bool → Bool
 closes_now r closes owed given end_reported =
     r.framing.is_last || closes_once_answered closes owed (remainder_of r given end_reported)
 
--- the number's response closes the connection, if it isn't made yet
+-- the number's response will say that the connection closes, if it isn't made yet
 abbrev pub closing_slot : Slot → Slot
 closing_slot s = if is_unanswered s.stage then record s { closes = true } else s
 

@@ -41,9 +41,9 @@ use tiny_http_response::sending::reported;
 #[derive(Drop)]
 pub enum Step<D> {
     /// Reads the next request head and hands it out. It is `NotYet` while the body of the last request holds the
-    /// reader: a counted or chunked body that was neither read to its end nor given up, of a request that isn't the
-    /// connection's last. Under `Standard` it is also `NotYet` while a request that asks for an upgrade awaits its
-    /// response. No head follows a chunked body that was given up before its end was reported.
+    /// reader: one with a content length or in chunks that was neither read to its end nor given up, of a request that
+    /// isn't the connection's last. Under `Standard` it is also `NotYet` while a request that asks for an upgrade
+    /// awaits its response. No head follows a chunked body that was given up before its end was reported.
     Ask,
     /// Sends the 100 that is owed to the request of this number. It is `NotYet` before its turn.
     AsReader(u64),
@@ -72,7 +72,7 @@ pub enum Step<D> {
 /// A step and its date.
 #[derive(Drop)]
 pub struct Timed<D> {
-    /// The `Date` of what the step sends. The 500 for a dropped request has the date of its `Ask`.
+    /// The `Date` of the response that the step sends. The 500 for a dropped request has the date of its `Ask`.
     pub now: HttpDate,
     /// The step.
     pub step: Step<D>,
@@ -197,8 +197,8 @@ fn zeros(alloc: Global, count: u16) -> Result<Vec<u8>, AllocError>
 }
 
 impl<R: ReadDevice, W: WriteDevice> Connection<R, W> {
-    /// Returns a connection under `Lenient`. Its theorem requires a reader that states its bytes, and a writer that has
-    /// taken nothing, has not ended and can count a failure.
+    /// Returns a connection under `Lenient`. The connection theorem requires a reader that states its bytes, and a
+    /// writer that has taken nothing, has not ended and can count a failure.
     pub fn new(alloc: Global, reader: R, writer: W) -> Connection<R, W>
         ensures profile { result.profile ≡ Profile.Lenient }
         ensures begins { (client : Feed)
@@ -214,7 +214,7 @@ impl<R: ReadDevice, W: WriteDevice> Connection<R, W> {
         Connection::new_with(alloc, Profile::Lenient, reader, writer)
     }
 
-    /// Returns a connection whose heads are read by this profile. Its theorem has the premises of `new`.
+    /// Returns a connection whose heads are read by this profile. The connection theorem has the premises of `new`.
     pub fn new_with(alloc: Global, profile: Profile, reader: R, writer: W) -> Connection<R, W>
         ensures profile { result.profile ≡ profile }
         ensures begins { (client : Feed)
@@ -265,10 +265,10 @@ impl<R: ReadDevice, W: WriteDevice> Connection<R, W> {
     /// last request awaits its response and its head says `asks_upgrade`, unless that request is the connection's last:
     /// what follows may be bytes of the other protocol (RFC 9110, section 7.8).
     ///
-    /// It is `Ended`, for good, once the connection has no further request; `end_of_requests` returns why. A refused
-    /// head gets an error response under its own number, in its turn, and ends the requests. A 505 does so only if its
-    /// head names an upgrade, its body is chunked or the profile is `Standard`; after any other 505 the same call reads
-    /// the next head.
+    /// It is `Ended`, and stays so, once the connection has no further request; `end_of_requests` returns why. A
+    /// refused head gets an error response under its own number, in its turn, and ends the requests. A 505 does so only
+    /// if its head names an upgrade, its body is chunked or the profile is `Standard`; after any other 505 the same
+    /// call reads the next head.
     ///
     /// `Memory` ends the requests too, as does a chunked body that was given up before its end. Under `Standard` they
     /// also end after a request that asked for an upgrade, once it is upgraded or gives its raw writer, and after one
@@ -276,8 +276,8 @@ impl<R: ReadDevice, W: WriteDevice> Connection<R, W> {
     /// are unread.
     ///
     /// The call waits for the client only until the head and a body of up to 1024 bytes have come, or the head alone if
-    /// it expects a 100. Before that it waits for the rest of a counted body that was given up or passed over. After
-    /// the last request it doesn't call the reader.
+    /// it expects a 100. Before that it waits for the rest of a body with a content length that was given up or
+    /// skipped. After the last request it doesn't call the reader.
     #[inline(never)]
     pub fn ask(&mut self, alloc: Global, now: HttpDate) -> Reply
         ensures step { TakesStep self.old self.new now Step.Ask (seen result) }
@@ -420,12 +420,13 @@ impl<R: ReadDevice, W: WriteDevice> Connection<R, W> {
     /// or before it, if the status code is below 200 or above 999, or 2xx to `CONNECT`; then the request is dropped.
     ///
     /// Under `Standard` the response says `Connection: close` if the request is the last by its head, its 100 is owed,
-    /// more than 65,536 bytes of its counted body weren't given out, or the end of its body isn't known. What a later
-    /// `ask` meets doesn't change it.
+    /// more than 65,536 bytes of its body's content length weren't given out, or the end of its body isn't known. What
+    /// a later `ask` meets doesn't change it.
     ///
     /// After a response that was made by `with_close` no further head is read: a later `ask` is `Ended`. Under
     /// `Standard` the response to the last number says `Connection: close`: this response, or that of a later request
-    /// or refused head. A later request that was dropped before, is upgraded or gives its raw writer doesn't say it.
+    /// or refused head. A later request doesn't say it if it was already dropped, is upgraded, or its raw writer is
+    /// taken.
     #[inline(never)]
     pub fn respond<D: ReadDevice + Drop>(
         &mut self,
@@ -527,8 +528,8 @@ impl<R: ReadDevice, W: WriteDevice> Connection<R, W> {
     /// It is `Refused` if the protocol isn't ASCII, in its turn or before it; then the request is dropped. Under
     /// `Standard` it is also `Refused` if the request doesn't ask for this protocol or is its connection's last, if the
     /// status code isn't 101, and if the body wasn't read until its end was reported, or was cut or is broken. An empty
-    /// body, or one of up to 1024 bytes that came with its head, needn't be read, and a counted one only to its last
-    /// byte. `NotYet` and `NoSuch` are as for `respond`.
+    /// body, or one of up to 1024 bytes that came with its head, needn't be read, and one with a content length only to
+    /// its last byte. `NotYet` and `NoSuch` are as for `respond`.
     #[inline(never)]
     pub fn upgrade<D: ReadDevice + Drop>(
         &mut self,
@@ -580,7 +581,7 @@ impl<R: ReadDevice, W: WriteDevice> Connection<R, W> {
     // The calls aren't inlined here: each step would zero the stack space of all of them.
     pub fn step<D: ReadDevice + Drop>(&mut self, alloc: Global, timed: Timed<D>) -> Reply
         ensures step { TakesStep self.old self.new timed.now (stated_step D.feed timed.step) (seen result) }
-        // How many ends and faults of the client's reader a Read meets. The other steps are left open.
+        // The number of ends and faults of the client's reader that a Read meets. The other steps are unrestricted.
         ensures meets { StepMeets R.stop_count (stated_step D.feed timed.step) self.old self.new (seen result) }
     {
         let Timed { now, step } = timed;

@@ -351,8 +351,8 @@ impl Pending {
         self.turns.take(number).is_some()
     }
 
-    /// Finishes a number that is held, and each left number directly after it, whose text it sends. No reply reports a
-    /// fault that is met there.
+    /// Finishes a number that is held, and those directly after it that were left, whose texts it sends. No reply
+    /// reports a fault that is met there.
     pub fn pass<W: WriteDevice>(&mut self, outlet: &mut Outlet<W>, number: u64)
         ensures passes { (front rest : List Mark)
             → self.old.turns.marks ≡ front ++ (Held ∷ rest)
@@ -478,7 +478,7 @@ impl<W: WriteDevice> HeldTurn<Turns<()>, Outlet<W>> for HeldNumber {
     }
 }
 
-// Writes the text of a number that is held and finishes it, and likewise each left number directly after it.
+// Writes the text of a number that is held and finishes it, and likewise those directly after it that were left.
 fn write_texts<W: WriteDevice>(
     turns: &mut Turns<()>,
     outlet: &mut Outlet<W>,

@@ -22,9 +22,9 @@ use Rattle.tiny_http_connection_laws.specs.Accounts.{Account, untouched, account
 use Rattle.tiny_http_connection_laws.proofs.InShortReads.{same-some, get-set, get-other, get-append}
 use Rattle.tiny_http_connection_laws.proofs.InShortHanded.{run-moves}
 use Rattle.tiny_http_connection_laws.proofs.RunFronts.{not-true}
-use Rattle.tiny_http_connection_laws.proofs.StepsAdd.{stop_count, by-asreader, by-respond, by-writer, by-upgrade, by-drop}
+use Rattle.tiny_http_connection_laws.proofs.StepsAdd.{accounts, by-asreader, by-respond, by-writer, by-upgrade, by-drop}
 use Rattle.tiny_http_connection_laws.proofs.CloseSteps.{upgrade-holds}
-use Rattle.tiny_http_connection_laws.proofs.AccountsHold.{Told, IsTold, AllTold, Alike, IsOwn, is_given_up, stop_count-at, last-stop_count, own-answers, planned-alike, outcome-tells, step-stop_count, none-stop_count}
+use Rattle.tiny_http_connection_laws.proofs.AccountsHold.{Told, IsTold, AllTold, Alike, IsOwn, is_given_up, accounts-at, last-accounts, own-answers, planned-alike, outcome-tells, step-accounts, none-accounts}
 use Rattle.tiny_http_connection_laws.proofs.AccountsTurns.{own-planned, run-found, matches-length}
 use Rattle.tiny_http_connection_laws.proofs.AccountsWaits.{last-number}
 
@@ -176,10 +176,10 @@ answered-ends found date old r s a k response at is u h =
 
 asked-ends : (f : ℕ → Account) (found : Bool) (date : HttpDate) (old : Reached) (r : Request) (s : Slot) (k : ℕ) (response : ResponseValue) (closes : Bool) → response.answer.closes ≡ closes → AllTold old.slots f → slice_get old.slots k ≡ Some s → s.item ≡ Asks r → s.stage ≡ Unanswered
     → Ends old (Respond k response) (answers found date (asked_to_close closes old) r k response)
-asked-ends f found date old r s k response false c h at is u = (answered-ends found date old r s (f k) k response at is u (stop_count-at old.slots f k s r h at is)).0
+asked-ends f found date old r s k response false c h at is u = (answered-ends found date old r s (f k) k response at is u (accounts-at old.slots f k s r h at is)).0
 asked-ends f found date old r s k response true c h at is u =
-    let t = stop_count s old.slots k at in
-    let e = answered-ends found date (asked_to_close true old) r t.slot (f k) k response t.get (t.item ∙ is) (t.stage ∙ u) (stop_count-at (with_last closing_slot old.slots) f k t.slot r (last-stop_count old.slots f h) t.get (t.item ∙ is)) in
+    let t = accounts s old.slots k at in
+    let e = answered-ends found date (asked_to_close true old) r t.slot (f k) k response t.get (t.item ∙ is) (t.stage ∙ u) (accounts-at (with_last closing_slot old.slots) f k t.slot r (last-accounts old.slots f h) t.get (t.item ∙ is)) in
     record { keeps = λ one. e.0.keeps (one-closing old.slots one); begins = λ x. inr (inr (inr (λ y alike. (alike.done ∙ e.1, c)))) }
 
 -- ---- a raw writer or a stream goes on
@@ -257,14 +257,14 @@ effect-ends f found date old r s turn (AsReader k) h at is takes =
 effect-ends f found date old r s turn (Read k n) h at is takes =
     let left = (rest_of r s.given).bytes in
     let t : Slot = record s { given = s.given + length (take n left); end_reported = s.end_reported || nat_lt (length left) n } in
-    let i = stop_count-at old.slots f k s r h at is in
+    let i = accounts-at old.slots f k s r h at is in
     ends-if old (Read k n) (n == 0) (unchanged old (Given [])) (changes old k t (read_reply n left r.body.stop) Unused)
     (λ e. ends-none old (Read k n) (Given []))
     (λ e. ends-kept old (Read k n) k s t (read_reply n left r.body.stop) Unused at (λ st. stops-item t s.item r refl is (read-stops s t r s.stage s.owed k n i.given_up takes (item-stops s r is st))))
 effect-ends f found date old r s turn (Respond k response) h at is takes =
     let u = by-respond s.stage s.owed k response takes in
     ends-if old (Respond k response) (refuses_response r response) (ends_asking (ends_when_finished r s.owed s.given s.end_reported) (changes old k (finished_as (closes_now r s.closes s.owed s.given s.end_reported) s ByServer) Refused (use_in_turn turn))) (answers found date (asked_to_close response.answer.closes old) r k response)
-    (λ e. finished-ends old (Respond k response) k r s (f k) Refused (use_in_turn turn) at is u (stop_count-at old.slots f k s r h at is))
+    (λ e. finished-ends old (Respond k response) k r s (f k) Refused (use_in_turn turn) at is u (accounts-at old.slots f k s r h at is))
     (λ e. asked-ends f found date old r s k response response.answer.closes refl h at is u)
 effect-ends f found date old r s turn (IntoWriter k) h at is takes =
     let t : Slot = record s { stage = Raw [] false; given_up = true; owed = false } in
@@ -272,7 +272,7 @@ effect-ends f found date old r s turn (IntoWriter k) h at is takes =
     ends-set old (IntoWriter k) k s t Done Unused (ends_with_stream r s.owed s.given s.end_reported) at (quiet-keeps s t r is u)
     (λ last. stops-item t s.item r refl is (⊎_elim
     (λ holds. or-left r.framing.asks_upgrade (was_cut_short t r) (stream-asks r holds))
-    (λ once. or-right r.framing.asks_upgrade (was_cut_short t r) (cut-short k r s (f k) (body_was_abandoned t (Asks r)) (stop_count-at old.slots f k s r h at is) u once))
+    (λ once. or-right r.framing.asks_upgrade (was_cut_short t r) (cut-short k r s (f k) (body_was_abandoned t (Asks r)) (accounts-at old.slots f k s r h at is) u once))
     (or-cases (holds_next_head r) (ends_when_finished r s.owed s.given s.end_reported) last)))
 effect-ends f found date old r s turn (Write k bytes) h at is takes =
     let t : Slot = record s { stage = written_to bytes s.stage } in
@@ -284,7 +284,7 @@ effect-ends f found date old r s turn (Upgrade k protocol response) h at is take
     let t = upgraded_slot r s stage in
     let goes = ends_with_stream r s.owed s.given s.end_reported in
     ends-if old (Upgrade k protocol response) (refuses_upgrade r s protocol response) (ends_asking (ends_when_finished r s.owed s.given s.end_reported) (changes old k (finished_as (closes_now r s.closes s.owed s.given s.end_reported) s ByServer) Refused (use_in_turn turn))) (ends_asking goes (changes old k t Done Unreported))
-    (λ e. finished-ends old (Upgrade k protocol response) k r s (f k) Refused (use_in_turn turn) at is u (stop_count-at old.slots f k s r h at is))
+    (λ e. finished-ends old (Upgrade k protocol response) k r s (f k) Refused (use_in_turn turn) at is u (accounts-at old.slots f k s r h at is))
     (λ e. ends-set old (Upgrade k protocol response) k s t Done Unreported goes at (quiet-keeps s t r is u)
     (λ last. upgraded-stops r s stage protocol response date refl is (stream-asks r (⊎_elim
     (λ holds. holds)
@@ -294,7 +294,7 @@ effect-ends f found date old r s turn (Finish k) h at is takes =
     let t = finished_as s.closes s (stage_closed s.stage) in
     ends-kept old (Finish k) k s t Done (use_in_turn turn) at (λ st. stops-item t s.item r refl is (closed-stops s t r s.stage refl refl refl refl (item-stops s r is st)))
 effect-ends f found date old r s turn (Drop k) h at is takes =
-    finished-ends old (Drop k) k r s (f k) Done (use_in_turn turn) at is (by-drop s.stage s.owed k takes) (stop_count-at old.slots f k s r h at is)
+    finished-ends old (Drop k) k r s (f k) Done (use_in_turn turn) at is (by-drop s.stage s.owed k takes) (accounts-at old.slots f k s r h at is)
 
 number-ends : (f : ℕ → Account) (found : Bool) (date : HttpDate) (old : Reached) (step : StepValue) → AllTold old.slots f → Ends old step (at_number found date old (number_of step) step)
 number-ends f found date old step h = go (slice_get old.slots (number_of step)) refl
@@ -424,7 +424,7 @@ ended-run f old new (s ∷ steps) [] h run e why = elim run [ ]
 ended-run f old new (s ∷ steps) (x ∷ replies) h run e why =
     let stay = steps-stay old s.0 s.1 x run.0 e run.1 in
     let step = step-ends f old s.0 s.1 x run.0 h run.1 in
-    ended-run (λ k. account_now k s.0 s.1 x (f k)) run.0 new steps replies (step-stop_count f old s.0 s.1 x run.0 h run.1) run.2 stay.0
+    ended-run (λ k. account_now k s.0 s.1 x (f k)) run.0 new steps replies (step-accounts f old s.0 s.1 x run.0 h run.1) run.2 stay.0
     (⊎_elim (λ all. inl (stay.1 ∙ all)) (λ one. inr (step.keeps one)) why)
 
 run-ends : (f : ℕ → Account) (old new : State) (steps : List TimedValue) (replies : List ReplyValue) → AllTold old.reached.slots f → Run old steps replies new → old.reached.asking_ended ≡ false → new.reached.asking_ended ≡ true
@@ -441,7 +441,7 @@ run-ends f old new (s ∷ steps) (x ∷ replies) h run goes e = by (λ on. run-e
     g k = account_now k s.0 s.1 x (f k)
 
     told_mid : AllTold mid.reached.slots g
-    told_mid = step-stop_count f old s.0 s.1 x mid h run.1
+    told_mid = step-accounts f old s.0 s.1 x mid h run.1
 
     from : (mid.reached.rest ≡ []) ⊎ OneStops mid.reached.slots → mid.reached.asking_ended ≡ true → (new.reached.rest ≡ []) ⊎ (OneStops new.reached.slots ⊎ OneEndsRequests (s ∷ steps) (x ∷ replies))
     from why ended = ⊎_elim (λ all. inl all) (λ one. inr (inl one)) (ended-run g mid new steps replies told_mid run.2 ended why)
@@ -531,4 +531,4 @@ end-has_reason p feed before after steps replies held ended unread c e =
     let whole : c.items ≡ f.reached = f.splits ∙ ap (λ l. f.reached ++ l) all ∙ append-nil f.reached in
     inl ((run-moves start c.end steps replies c.run).requests ∙ ap (λ l. handed replies ++ requests_from (length c.end.reached.slots) l) all ∙ append-nil (handed replies), sym (matches-length c.end.reached.slots f.reached f.matches) ∙ ap length (sym whole)))
     (λ more. inr more)
-    (run-ends (λ k. untouched) start c.end steps replies none-stop_count c.run refl over)
+    (run-ends (λ k. untouched) start c.end steps replies none-accounts c.run refl over)

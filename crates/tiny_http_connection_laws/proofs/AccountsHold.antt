@@ -22,7 +22,7 @@ use Rattle.tiny_http_connection_laws.specs.Accounts.{Condition, Waits, Writes, F
 use Rattle.tiny_http_connection_laws.proofs.InShortSlots.{written-made, closed-made}
 use Rattle.tiny_http_connection_laws.proofs.InShortReads.{same-some, get-set, get-other}
 use Rattle.tiny_http_connection_laws.proofs.RunFronts.{not-true}
-use Rattle.tiny_http_connection_laws.proofs.StepsAdd.{stop_count, by-asreader, by-respond, by-writer, by-upgrade, by-drop}
+use Rattle.tiny_http_connection_laws.proofs.StepsAdd.{accounts, by-asreader, by-respond, by-writer, by-upgrade, by-drop}
 
 -- ---- what is known of the numbers
 
@@ -56,8 +56,8 @@ pub record AllTold (slots : List Slot) (f : ℕ → Account) : Type 0 where
   pub here : (k : ℕ) (s : Slot) → slice_get slots k ≡ Some s → IsTold k s s.item (f k)
   pub none : (k : ℕ) → slice_get slots k ≡ None → f k ≡ untouched
 
-stop_count-as : (slots : List Slot) (f g : ℕ → Account) → ((k : ℕ) → f k ≡ g k) → AllTold slots f → AllTold slots g
-stop_count-as slots f g same h = record {
+accounts-as : (slots : List Slot) (f g : ℕ → Account) → ((k : ℕ) → f k ≡ g k) → AllTold slots f → AllTold slots g
+accounts-as slots f g same h = record {
   here = λ k s e. subst (λ a. IsTold k s s.item a) (same k) (h.here k s e);
   none = λ k e. sym (same k) ∙ h.none k e;
 }
@@ -153,12 +153,12 @@ planned-alike o old reply new m has = part-tells o.writer old o.reply reply o.sl
 
 -- the numbers after a step are as their accounts say, by the reply that is planned
 pub record Tells (f : ℕ → Account) (date : HttpDate) (step : StepValue) (o : Outcome) : Type 0 where
-  pub stop_count : AllTold o.slots (λ k. account_now k date step o.reply (f k))
+  pub accounts : AllTold o.slots (λ k. account_now k date step o.reply (f k))
   pub may : MayTell o.writer o.reply
 
 tells-none : (f : ℕ → Account) (date : HttpDate) (step : StepValue) (old : Reached) (x : ReplyValue) → IsIdle x → AllTold old.slots f → Tells f date step (unchanged old x)
 tells-none f date step old x idle h = record {
-  stop_count = stop_count-as old.slots f (λ k. account_now k date step x (f k)) (λ k. sym (now-idle k date step x (f k) idle)) h;
+  accounts = accounts-as old.slots f (λ k. account_now k date step x (f k)) (λ k. sym (now-idle k date step x (f k) idle)) h;
   may = tt;
 }
 
@@ -167,7 +167,7 @@ tells-if f date step true x y h g = h refl
 tells-if f date step false x y h g = g refl
 
 tells-ended : (f : ℕ → Account) (date : HttpDate) (step : StepValue) (ends : Bool) (o : Outcome) → Tells f date step o → Tells f date step (ends_asking ends o)
-tells-ended f date step ends o h = record { stop_count = h.stop_count; may = h.may }
+tells-ended f date step ends o h = record { accounts = h.accounts; may = h.may }
 
 if-true : {A : Type 0} (b : Bool) (x y : A) → b ≡ true → (if b then x else y) ≡ x
 if-true true x y e = refl
@@ -185,9 +185,9 @@ set-past (x ∷ xs) (suc j) zero t e = cc
 set-past (x ∷ xs) (suc j) (suc k) t e = set-past xs j k t e
 
 -- the number of the step is changed so, and the others stay
-stop_count-set : (f : ℕ → Account) (date : HttpDate) (step : StepValue) (x : ReplyValue) (slots : List Slot) (s t : Slot) → slice_get slots (number_of step) ≡ Some s → IsTold (number_of step) t t.item (account_after date step x (f (number_of step))) → AllTold slots f
+accounts-set : (f : ℕ → Account) (date : HttpDate) (step : StepValue) (x : ReplyValue) (slots : List Slot) (s t : Slot) → slice_get slots (number_of step) ≡ Some s → IsTold (number_of step) t t.item (account_after date step x (f (number_of step))) → AllTold slots f
     → AllTold (slice_set slots (number_of step) t) (λ k. account_now k date step x (f k))
-stop_count-set f date step x slots s t at is h = record {
+accounts-set f date step x slots s t at is h = record {
   here = λ k u e.
       ⊎_elim
       (λ yes.
@@ -210,9 +210,9 @@ stop_count-set f date step x slots s t at is h = record {
 }
 
 -- nothing is changed, but the account of the step's number
-stop_count-kept : (f : ℕ → Account) (date : HttpDate) (step : StepValue) (x : ReplyValue) (slots : List Slot) (s : Slot) → slice_get slots (number_of step) ≡ Some s → IsTold (number_of step) s s.item (account_after date step x (f (number_of step))) → AllTold slots f
+accounts-kept : (f : ℕ → Account) (date : HttpDate) (step : StepValue) (x : ReplyValue) (slots : List Slot) (s : Slot) → slice_get slots (number_of step) ≡ Some s → IsTold (number_of step) s s.item (account_after date step x (f (number_of step))) → AllTold slots f
     → AllTold slots (λ k. account_now k date step x (f k))
-stop_count-kept f date step x slots s at is h = record {
+accounts-kept f date step x slots s at is h = record {
   here = λ k u e.
       ⊎_elim
       (λ yes.
@@ -233,8 +233,8 @@ stop_count-kept f date step x slots s at is h = record {
 }
 
 -- the account of a number of a request
-pub stop_count-at : (slots : List Slot) (f : ℕ → Account) (k : ℕ) (s : Slot) (r : Request) → AllTold slots f → slice_get slots k ≡ Some s → s.item ≡ Asks r → Told k r s (f k)
-stop_count-at slots f k s r h at is = let P : Item → Type 0 = λ i. IsTold k s i (f k) in subst P is (h.here k s at)
+pub accounts-at : (slots : List Slot) (f : ℕ → Account) (k : ℕ) (s : Slot) (r : Request) → AllTold slots f → slice_get slots k ≡ Some s → s.item ≡ Asks r → Told k r s (f k)
+accounts-at slots f k s r h at is = let P : Item → Type 0 = λ i. IsTold k s i (f k) in subst P is (h.here k s at)
 
 -- the same item
 as-item : (k : ℕ) (t : Slot) (item : Item) (r : Request) (a : Account) → t.item ≡ item → item ≡ Asks r → Told k r t a → IsTold k t t.item a
@@ -246,8 +246,8 @@ closing-keeps : (k : ℕ) (s : Slot) (item : Item) (a : Account) → IsTold k s 
 closing-keeps k s (Asks r) a h = by-closing (λ t. Told k r t a) s (λ u. record { condition = h.condition; by = h.by; written = h.written; continued = h.continued; owed = h.owed; given_up = h.given_up }) h
 closing-keeps k s (Refuses refusal manner no_body last) a h = by-closing (λ t. Untold t a) s (λ u. record { stage = h.stage; account = h.account; continued = h.continued }) h
 
-closing-stop_count : (k : ℕ) (s : Slot) (a : Account) → IsTold k s s.item a → IsTold k (closing_slot s) (closing_slot s).item a
-closing-stop_count k s a h =
+closing-accounts : (k : ℕ) (s : Slot) (a : Account) → IsTold k s s.item a → IsTold k (closing_slot s) (closing_slot s).item a
+closing-accounts k s a h =
     let same : (closing_slot s).item ≡ s.item = by-closing (λ t. t.item ≡ s.item) s (λ u. refl) refl in
     let P : Item → Type 0 = λ i. IsTold k (closing_slot s) i a in
     subst P (sym same) (closing-keeps k s s.item a h)
@@ -266,12 +266,12 @@ closing-none (s ∷ []) (suc k) e = e
 closing-none (s ∷ t ∷ slots) zero e = cc
 closing-none (s ∷ t ∷ slots) (suc k) e = closing-none (t ∷ slots) k e
 
-pub last-stop_count : (slots : List Slot) (f : ℕ → Account) → AllTold slots f → AllTold (with_last closing_slot slots) f
-last-stop_count slots f h = record {
+pub last-accounts : (slots : List Slot) (f : ℕ → Account) → AllTold slots f → AllTold (with_last closing_slot slots) f
+last-accounts slots f h = record {
   here = λ k u e.
       let g = closing-get slots k u e in
       let I : Slot → Type 0 = λ y. IsTold k y y.item (f k) in
-      ⊎_elim (λ same. subst I same (h.here k g.0 g.1)) (λ stop_count. subst I stop_count (closing-stop_count k g.0 (f k) (h.here k g.0 g.1))) g.2;
+      ⊎_elim (λ same. subst I same (h.here k g.0 g.1)) (λ accounts. subst I accounts (closing-accounts k g.0 (f k) (h.here k g.0 g.1))) g.2;
   none = λ k e. h.none k (closing-none slots k e);
 }
 
@@ -284,9 +284,9 @@ unanswered-of : (stage : Stage) → stage ≡ Unanswered → is_unanswered stage
 unanswered-of stage u = ap is_unanswered u
 
 -- a number that waits is finished, by an answer or by the server
-pub stop_count-finished : (k : ℕ) (r : Request) (s t : Slot) (a : Account) (b : Option TimedValue) → s.stage ≡ Unanswered → maker k t.stage ≡ b → t.continued ≡ s.continued → t.given_up ≡ true → condition_of t.stage ≡ Finished → written_in t.stage ≡ [] → is_unanswered t.stage ≡ false → is_given_up t.stage ≡ true → Told k r s a
+pub accounts-finished : (k : ℕ) (r : Request) (s t : Slot) (a : Account) (b : Option TimedValue) → s.stage ≡ Unanswered → maker k t.stage ≡ b → t.continued ≡ s.continued → t.given_up ≡ true → condition_of t.stage ≡ Finished → written_in t.stage ≡ [] → is_unanswered t.stage ≡ false → is_given_up t.stage ≡ true → Told k r s a
     → Told k r t (record a { condition = Finished; by = b })
-stop_count-finished k r s t a b u made continued given_up finished empty answered given h = record {
+accounts-finished k r s t a b u made continued given_up finished empty answered given h = record {
   condition = finished;
   by = made;
   written = empty ∙ ap written_in (sym u) ∙ h.written;
@@ -296,9 +296,9 @@ stop_count-finished k r s t a b u made continued given_up finished empty answere
 }
 
 -- it gets a raw writer or a stream
-stop_count-writes : (k : ℕ) (r q : Request) (s t : Slot) (a : Account) (b : Option TimedValue) → s.stage ≡ Unanswered → maker k t.stage ≡ b → t.continued ≡ s.continued → t.given_up ≡ is_given_up t.stage → condition_of t.stage ≡ Writes → written_in t.stage ≡ [] → is_unanswered t.stage ≡ false → q.framing.owes_continue ≡ r.framing.owes_continue → Told k r s a
+accounts-writes : (k : ℕ) (r q : Request) (s t : Slot) (a : Account) (b : Option TimedValue) → s.stage ≡ Unanswered → maker k t.stage ≡ b → t.continued ≡ s.continued → t.given_up ≡ is_given_up t.stage → condition_of t.stage ≡ Writes → written_in t.stage ≡ [] → is_unanswered t.stage ≡ false → q.framing.owes_continue ≡ r.framing.owes_continue → Told k r s a
     → Told k q t (record a { condition = Writes; by = b })
-stop_count-writes k r q s t a b u made continued given_up writes empty answered owes h = record {
+accounts-writes k r q s t a b u made continued given_up writes empty answered owes h = record {
   condition = writes;
   by = made;
   written = empty ∙ ap written_in (sym u) ∙ h.written;
@@ -316,8 +316,8 @@ some-first None date = refl
 some-first (Some first) date = refl
 
 -- the 100 is sent
-stop_count-continued : (k : ℕ) (r : Request) (s : Slot) (date : HttpDate) (a : Account) → s.stage ≡ Unanswered → s.owed ≡ true → Told k r s a → Told k r (record s { owed = false; continued = Some date }) (record a { asked = first_date a.asked date })
-stop_count-continued k r s date a u owed h =
+accounts-continued : (k : ℕ) (r : Request) (s : Slot) (date : HttpDate) (a : Account) → s.stage ≡ Unanswered → s.owed ≡ true → Told k r s a → Told k r (record s { owed = false; continued = Some date }) (record a { asked = first_date a.asked date })
+accounts-continued k r s date a u owed h =
     let parts = and_parts r.framing.owes_continue (not (is_some a.asked)) (sym (h.owed (unanswered-of s.stage u)) ∙ owed) in
     record {
       condition = h.condition;
@@ -333,8 +333,8 @@ stop_count-continued k r s date a u owed h =
     first (Some d) e = never e
 
 -- none is owed
-stop_count-unowed : (k : ℕ) (r : Request) (s : Slot) (date : HttpDate) (a : Account) → s.stage ≡ Unanswered → s.owed ≡ false → Told k r s a → Told k r s (record a { asked = first_date a.asked date })
-stop_count-unowed k r s date a u owed h = record {
+accounts-unowed : (k : ℕ) (r : Request) (s : Slot) (date : HttpDate) (a : Account) → s.stage ≡ Unanswered → s.owed ≡ false → Told k r s a → Told k r s (record a { asked = first_date a.asked date })
+accounts-unowed k r s date a u owed h = record {
   condition = h.condition;
   by = h.by;
   written = h.written;
@@ -352,8 +352,8 @@ stop_count-unowed k r s date a u owed h = record {
     kept false o e = refl
 
 -- a body is read
-stop_count-read : (k : ℕ) (r : Request) (s : Slot) (given : ℕ) (reported : Bool) (a : Account) → Told k r s a → Told k r (record s { given = given; end_reported = reported }) a
-stop_count-read k r s given reported a h = record { condition = h.condition; by = h.by; written = h.written; continued = h.continued; owed = h.owed; given_up = h.given_up }
+accounts-read : (k : ℕ) (r : Request) (s : Slot) (given : ℕ) (reported : Bool) (a : Account) → Told k r s a → Told k r (record s { given = given; end_reported = reported }) a
+accounts-read k r s given reported a h = record { condition = h.condition; by = h.by; written = h.written; continued = h.continued; owed = h.owed; given_up = h.given_up }
 
 -- bytes are written
 record IsWritten (stage new : Stage) (bytes : List ℕ) : Type 0 where
@@ -369,8 +369,8 @@ written-stage ByServer owed k bytes e = never e
 written-stage (Raw written ends) owed k bytes e = record { condition = refl; written = refl; answered = refl; given_up = refl }
 written-stage (Upgraded protocol response date written ends) owed k bytes e = record { condition = refl; written = refl; answered = refl; given_up = refl }
 
-stop_count-written : (r : Request) (s : Slot) (k : ℕ) (bytes : List ℕ) (a : Account) → accepts_step s.stage s.owed (Write k bytes) ≡ true → Told k r s a → Told k r (record s { stage = written_to bytes s.stage }) (record a { written = a.written ++ bytes })
-stop_count-written r s k bytes a takes h =
+accounts-written : (r : Request) (s : Slot) (k : ℕ) (bytes : List ℕ) (a : Account) → accepts_step s.stage s.owed (Write k bytes) ≡ true → Told k r s a → Told k r (record s { stage = written_to bytes s.stage }) (record a { written = a.written ++ bytes })
+accounts-written r s k bytes a takes h =
     let w = written-stage s.stage s.owed k bytes takes in
     record {
       condition = w.condition ∙ h.condition;
@@ -395,8 +395,8 @@ closed-stage ByServer owed k e = never e
 closed-stage (Raw written ends) owed k e = record { condition = refl; written = refl; answered = refl; given_up = refl }
 closed-stage (Upgraded protocol response date written ends) owed k e = record { condition = refl; written = refl; answered = refl; given_up = refl }
 
-stop_count-closed : (r : Request) (s : Slot) (k : ℕ) (a : Account) → accepts_step s.stage s.owed (Finish k) ≡ true → Told k r s a → Told k r (finished_as s.closes s (stage_closed s.stage)) (record a { condition = Finished })
-stop_count-closed r s k a takes h =
+accounts-closed : (r : Request) (s : Slot) (k : ℕ) (a : Account) → accepts_step s.stage s.owed (Finish k) ≡ true → Told k r s a → Told k r (finished_as s.closes s (stage_closed s.stage)) (record a { condition = Finished })
+accounts-closed r s k a takes h =
     let c = closed-stage s.stage s.owed k takes in
     record {
       condition = c.condition;
@@ -412,7 +412,7 @@ stop_count-closed r s k a takes h =
 -- the number of a step is changed
 tells-set : (f : ℕ → Account) (date : HttpDate) (step : StepValue) (old : Reached) (s t : Slot) (x : ReplyValue) (w : WriterUse) → slice_get old.slots (number_of step) ≡ Some s → MayTell w x → IsTold (number_of step) t t.item (account_after date step x (f (number_of step))) → AllTold old.slots f
     → Tells f date step (changes old (number_of step) t x w)
-tells-set f date step old s t x w at may is h = record { stop_count = stop_count-set f date step x old.slots s t at is h; may = may }
+tells-set f date step old s t x w at may is h = record { accounts = accounts-set f date step x old.slots s t at is h; may = may }
 
 answered-tells : (f : ℕ → Account) (found : Bool) (date : HttpDate) (old : Reached) (r : Request) (s : Slot) (k : ℕ) (response : ResponseValue) → AllTold old.slots f → slice_get old.slots k ≡ Some s → s.item ≡ Asks r → s.stage ≡ Unanswered
     → Tells f date (Respond k response) (answers found date old r k response)
@@ -425,14 +425,14 @@ answered-tells f found date old r s k response h at is u =
     subst P (sym at)
     (tells-ended f date (Respond k response) (ends_when_finished r s.owed s.given s.end_reported) (changes old k t Done w)
     (tells-set f date (Respond k response) old s t Done w at fault-done
-    (as-item k t s.item r (record (f k) { condition = Finished; by = Some (date, Respond k response) }) refl is (stop_count-finished k r s t (f k) (Some (date, Respond k response)) u refl refl refl refl refl refl refl (stop_count-at old.slots f k s r h at is))) h))
+    (as-item k t s.item r (record (f k) { condition = Finished; by = Some (date, Respond k response) }) refl is (accounts-finished k r s t (f k) (Some (date, Respond k response)) u refl refl refl refl refl refl refl (accounts-at old.slots f k s r h at is))) h))
 
 asked-tells : (f : ℕ → Account) (found : Bool) (date : HttpDate) (old : Reached) (r : Request) (s : Slot) (k : ℕ) (response : ResponseValue) (closes : Bool) → AllTold old.slots f → slice_get old.slots k ≡ Some s → s.item ≡ Asks r → s.stage ≡ Unanswered
     → Tells f date (Respond k response) (answers found date (asked_to_close closes old) r k response)
 asked-tells f found date old r s k response false h at is u = answered-tells f found date old r s k response h at is u
 asked-tells f found date old r s k response true h at is u =
-    let t = stop_count s old.slots k at in
-    answered-tells f found date (asked_to_close true old) r t.slot k response (last-stop_count old.slots f h) t.get (t.item ∙ is) (t.stage ∙ u)
+    let t = accounts s old.slots k at in
+    answered-tells f found date (asked_to_close true old) r t.slot k response (last-accounts old.slots f h) t.get (t.item ∙ is) (t.stage ∙ u)
 
 refused-tells : (f : ℕ → Account) (date : HttpDate) (step : StepValue) (old : Reached) (r : Request) (s : Slot) (turn : Bool) (x : ReplyValue) → AllTold old.slots f → slice_get old.slots (number_of step) ≡ Some s → s.item ≡ Asks r → s.stage ≡ Unanswered
     → account_after date step x (f (number_of step)) ≡ record (f (number_of step)) { condition = Finished }
@@ -442,12 +442,12 @@ refused-tells f date step old r s turn x h at is u after =
     let t = finished_as (closes_now r s.closes s.owed s.given s.end_reported) s ByServer in
     tells-ended f date step (ends_when_finished r s.owed s.given s.end_reported) (changes old (number_of step) t x (use_in_turn turn))
     (tells-set f date step old s t x (use_in_turn turn) at (tell-turn turn x)
-    (let i = stop_count-at old.slots f (number_of step) s r h at is in
-    as-item (number_of step) t s.item r (account_after date step x a) refl is (subst (λ b. Told (number_of step) r t b) (sym after) (stop_count-finished (number_of step) r s t a a.by u (unmade (number_of step) r s a u i) refl refl refl refl refl refl i))) h)
+    (let i = accounts-at old.slots f (number_of step) s r h at is in
+    as-item (number_of step) t s.item r (account_after date step x a) refl is (subst (λ b. Told (number_of step) r t b) (sym after) (accounts-finished (number_of step) r s t a a.by u (unmade (number_of step) r s a u i) refl refl refl refl refl refl i))) h)
 
-upgraded-stop_count : (k : ℕ) (r : Request) (s : Slot) (stage : Stage) (a : Account) (b : Option TimedValue) → s.item ≡ Asks r → s.stage ≡ Unanswered → maker k stage ≡ b → condition_of stage ≡ Writes → written_in stage ≡ [] → is_unanswered stage ≡ false → is_given_up stage ≡ false → Told k r s a
+upgraded-accounts : (k : ℕ) (r : Request) (s : Slot) (stage : Stage) (a : Account) (b : Option TimedValue) → s.item ≡ Asks r → s.stage ≡ Unanswered → maker k stage ≡ b → condition_of stage ≡ Writes → written_in stage ≡ [] → is_unanswered stage ≡ false → is_given_up stage ≡ false → Told k r s a
     → IsTold k (upgraded_slot r s stage) (upgraded_slot r s stage).item (record a { condition = Writes; by = b })
-upgraded-stop_count k r s stage a by is u made writes empty answered given h = go r.framing.by_standard
+upgraded-accounts k r s stage a by is u made writes empty answered given h = go r.framing.by_standard
   where
     kept : s.given_up ≡ is_given_up stage
     kept = h.given_up ∙ ap is_given_up u ∙ sym given
@@ -459,22 +459,22 @@ upgraded-stop_count k r s stage a by is u made writes empty answered given h = g
     plain = record s { stage = stage; owed = false }
 
     go : (b : Bool) → IsTold k (if b then stream else plain) (if b then stream else plain).item (record a { condition = Writes; by = by })
-    go true = stop_count-writes k r (as_stream r) s stream a by u made refl kept writes empty answered refl h
-    go false = as-item k plain s.item r (record a { condition = Writes; by = by }) refl is (stop_count-writes k r r s plain a by u made refl kept writes empty answered refl h)
+    go true = accounts-writes k r (as_stream r) s stream a by u made refl kept writes empty answered refl h
+    go false = as-item k plain s.item r (record a { condition = Writes; by = by }) refl is (accounts-writes k r r s plain a by u made refl kept writes empty answered refl h)
 
 effect-tells : (f : ℕ → Account) (found : Bool) (date : HttpDate) (old : Reached) (r : Request) (s : Slot) (turn : Bool) (step : StepValue) → AllTold old.slots f → slice_get old.slots (number_of step) ≡ Some s → s.item ≡ Asks r → accepts_step s.stage s.owed step ≡ true
     → Tells f date step (effect found date old r s turn step)
 effect-tells f found date old r s turn Ask h at is takes = tells-none f date Ask old NoSuch (record { done = refl; refused = refl }) h
 effect-tells f found date old r s turn (AsReader k) h at is takes =
-    let i = stop_count-at old.slots f k s r h at is in
+    let i = accounts-at old.slots f k s r h at is in
     let u = by-asreader s.stage s.owed k takes in
     let t : Slot = record s { owed = false; continued = Some date } in
     let a : Account = record (f k) { asked = first_date (f k).asked date } in
     tells-if f date (AsReader k) s.owed (changes old k t Done Unreported) (unchanged old Done)
-    (λ owed. tells-set f date (AsReader k) old s t Done Unreported at tt (as-item k t s.item r a refl is (stop_count-continued k r s date (f k) u owed i)) h)
-    (λ owed. record { stop_count = stop_count-kept f date (AsReader k) Done old.slots s at (as-item k s s.item r a refl is (stop_count-unowed k r s date (f k) u owed i)) h; may = tt })
+    (λ owed. tells-set f date (AsReader k) old s t Done Unreported at tt (as-item k t s.item r a refl is (accounts-continued k r s date (f k) u owed i)) h)
+    (λ owed. record { accounts = accounts-kept f date (AsReader k) Done old.slots s at (as-item k s s.item r a refl is (accounts-unowed k r s date (f k) u owed i)) h; may = tt })
 effect-tells f found date old r s turn (Read k n) h at is takes =
-    let i = stop_count-at old.slots f k s r h at is in
+    let i = accounts-at old.slots f k s r h at is in
     let left = (rest_of r s.given).bytes in
     let given = s.given + length (take n left) in
     let reported = s.end_reported || nat_lt (length left) n in
@@ -482,7 +482,7 @@ effect-tells f found date old r s turn (Read k n) h at is takes =
     let reply = read_reply n left r.body.stop in
     tells-if f date (Read k n) (n == 0) (unchanged old (Given [])) (changes old k t reply Unused)
     (λ e. tells-none f date (Read k n) old (Given []) (record { done = refl; refused = refl }) h)
-    (λ e. tells-set f date (Read k n) old s t reply Unused at tt (as-item k t s.item r (f k) refl is (stop_count-read k r s given reported (f k) i)) h)
+    (λ e. tells-set f date (Read k n) old s t reply Unused at tt (as-item k t s.item r (f k) refl is (accounts-read k r s given reported (f k) i)) h)
 effect-tells f found date old r s turn (Respond k response) h at is takes =
     let u = by-respond s.stage s.owed k response takes in
     tells-if f date (Respond k response) (refuses_response r response) (ends_asking (ends_when_finished r s.owed s.given s.end_reported) (changes old k (finished_as (closes_now r s.closes s.owed s.given s.end_reported) s ByServer) Refused (use_in_turn turn))) (answers found date (asked_to_close response.answer.closes old) r k response)
@@ -492,13 +492,13 @@ effect-tells f found date old r s turn (IntoWriter k) h at is takes =
     let t : Slot = record s { stage = Raw [] false; given_up = true; owed = false } in
     tells-ended f date (IntoWriter k) (ends_with_stream r s.owed s.given s.end_reported) (changes old k t Done Unused)
     (tells-set f date (IntoWriter k) old s t Done Unused at tt
-    (let i = stop_count-at old.slots f k s r h at is in
+    (let i = accounts-at old.slots f k s r h at is in
     let u = by-writer s.stage s.owed k takes in
-    as-item k t s.item r (record (f k) { condition = Writes }) refl is (stop_count-writes k r r s t (f k) (f k).by u (unmade k r s (f k) u i) refl refl refl refl refl refl i)) h)
+    as-item k t s.item r (record (f k) { condition = Writes }) refl is (accounts-writes k r r s t (f k) (f k).by u (unmade k r s (f k) u i) refl refl refl refl refl refl i)) h)
 effect-tells f found date old r s turn (Write k bytes) h at is takes =
     let t : Slot = record s { stage = written_to bytes s.stage } in
     tells-set f date (Write k bytes) old s t Done (Reported bytes None false Fault) at (λ kind. record { done = refl; refused = refl })
-    (as-item k t s.item r (record (f k) { written = (f k).written ++ bytes }) refl is (stop_count-written r s k bytes (f k) takes (stop_count-at old.slots f k s r h at is))) h
+    (as-item k t s.item r (record (f k) { written = (f k).written ++ bytes }) refl is (accounts-written r s k bytes (f k) takes (accounts-at old.slots f k s r h at is))) h
 effect-tells f found date old r s turn (Flush k) h at is takes =
     tells-set f date (Flush k) old s s Done (Reported [] None true Fault) at (λ kind. record { done = refl; refused = refl }) (h.here k s at) h
 effect-tells f found date old r s turn (Upgrade k protocol response) h at is takes =
@@ -509,11 +509,11 @@ effect-tells f found date old r s turn (Upgrade k protocol response) h at is tak
     tells-if f date (Upgrade k protocol response) (refuses_upgrade r s protocol response) (ends_asking (ends_when_finished r s.owed s.given s.end_reported) (changes old k (finished_as (closes_now r s.closes s.owed s.given s.end_reported) s ByServer) Refused (use_in_turn turn))) (ends_asking goes (changes old k t Done Unreported))
     (λ e. refused-tells f date (Upgrade k protocol response) old r s turn Refused h at is u refl)
     (λ e. tells-ended f date (Upgrade k protocol response) goes (changes old k t Done Unreported)
-    (tells-set f date (Upgrade k protocol response) old s t Done Unreported at tt (upgraded-stop_count k r s stage (f k) (Some (date, Upgrade k protocol response)) is u refl refl refl refl refl (stop_count-at old.slots f k s r h at is)) h))
+    (tells-set f date (Upgrade k protocol response) old s t Done Unreported at tt (upgraded-accounts k r s stage (f k) (Some (date, Upgrade k protocol response)) is u refl refl refl refl refl (accounts-at old.slots f k s r h at is)) h))
 effect-tells f found date old r s turn (Finish k) h at is takes =
     let t = finished_as s.closes s (stage_closed s.stage) in
     tells-set f date (Finish k) old s t Done (use_in_turn turn) at (tell-turn turn Done)
-    (as-item k t s.item r (record (f k) { condition = Finished }) refl is (stop_count-closed r s k (f k) takes (stop_count-at old.slots f k s r h at is))) h
+    (as-item k t s.item r (record (f k) { condition = Finished }) refl is (accounts-closed r s k (f k) takes (accounts-at old.slots f k s r h at is))) h
 effect-tells f found date old r s turn (Drop k) h at is takes =
     refused-tells f date (Drop k) old r s turn Done h at is (by-drop s.stage s.owed k takes) refl
 
@@ -552,8 +552,8 @@ none-more [] t (suc k) e = refl
 none-more (x ∷ xs) t zero e = cc
 none-more (x ∷ xs) t (suc k) e = none-more xs t k e
 
-new-stop_count : (k : ℕ) (date : HttpDate) (item : Item) → IsTold k (new_slot date item) (new_slot date item).item untouched
-new-stop_count k date (Asks r) = record {
+new-accounts : (k : ℕ) (date : HttpDate) (item : Item) → IsTold k (new_slot date item) (new_slot date item).item untouched
+new-accounts k date (Asks r) = record {
   condition = refl;
   by = refl;
   written = refl;
@@ -565,24 +565,24 @@ new-stop_count k date (Asks r) = record {
     owes : (b : Bool) → (b && true) ≡ b
     owes true = refl
     owes false = refl
-new-stop_count k date (Refuses refusal manner no_body last) = record { stage = refl; account = refl; continued = refl }
+new-accounts k date (Refuses refusal manner no_body last) = record { stage = refl; account = refl; continued = refl }
 
-stop_count-more : (f : ℕ → Account) (date : HttpDate) (slots : List Slot) (item : Item) → AllTold slots f → AllTold (slots ++ new_slot date item ∷ []) f
-stop_count-more f date slots item h = record {
+accounts-more : (f : ℕ → Account) (date : HttpDate) (slots : List Slot) (item : Item) → AllTold slots f → AllTold (slots ++ new_slot date item ∷ []) f
+accounts-more f date slots item h = record {
   here = λ k s e.
       ⊎_elim
       (λ was. h.here k s was)
       (λ new.
-      let untold : IsTold k (new_slot date item) (new_slot date item).item (f k) = subst (λ a. IsTold k (new_slot date item) (new_slot date item).item a) (sym (h.none k new.0)) (new-stop_count k date item) in
+      let untold : IsTold k (new_slot date item) (new_slot date item).item (f k) = subst (λ a. IsTold k (new_slot date item) (new_slot date item).item a) (sym (h.none k new.0)) (new-accounts k date item) in
       subst (λ (y : Slot). IsTold k y y.item (f k)) new.1 untold)
       (one-more-at slots (new_slot date item) k s e);
   none = λ k e. h.none k (none-more slots (new_slot date item) k e);
 }
 
-stop_count-all : (f : ℕ → Account) (date : HttpDate) (slots : List Slot) (items : List Item) → AllTold slots f → AllTold (slots ++ map (new_slot date) items) f
-stop_count-all f date slots [] h = subst (λ (x : List Slot). AllTold x f) (sym (append-nil slots)) h
-stop_count-all f date slots (item ∷ items) h =
-    subst (λ (x : List Slot). AllTold x f) (append_assoc slots (new_slot date item ∷ []) (map (new_slot date) items)) (stop_count-all f date (slots ++ new_slot date item ∷ []) items (stop_count-more f date slots item h))
+accounts-all : (f : ℕ → Account) (date : HttpDate) (slots : List Slot) (items : List Item) → AllTold slots f → AllTold (slots ++ map (new_slot date) items) f
+accounts-all f date slots [] h = subst (λ (x : List Slot). AllTold x f) (sym (append-nil slots)) h
+accounts-all f date slots (item ∷ items) h =
+    subst (λ (x : List Slot). AllTold x f) (append_assoc slots (new_slot date item ∷ []) (map (new_slot date) items)) (accounts-all f date (slots ++ new_slot date item ∷ []) items (accounts-more f date slots item h))
 
 -- texts of the server's own are never reported
 abbrev pub IsOwn : WriterUse → Type 0
@@ -608,16 +608,16 @@ own-tells Unreported planned o = tt
 own-tells (Reported own broken flushes report) planned o = elim o [ ]
 
 -- an Ask, whatever it answers
-asked-stop_count : (f : ℕ → Account) (date : HttpDate) (x : ReplyValue) (slots : List Slot) → AllTold slots f → AllTold slots (λ k. account_now k date Ask x (f k))
-asked-stop_count f date x slots h = stop_count-as slots f (λ k. account_now k date Ask x (f k)) (λ k. sym (now-ask k date x (f k))) h
+asked-accounts : (f : ℕ → Account) (date : HttpDate) (x : ReplyValue) (slots : List Slot) → AllTold slots f → AllTold slots (λ k. account_now k date Ask x (f k))
+asked-accounts f date x slots h = accounts-as slots f (λ k. account_now k date Ask x (f k)) (λ k. sym (now-ask k date x (f k))) h
 
 asks-tell : (f : ℕ → Account) (date : HttpDate) (w : WriterUse) (slots : List Slot) (items : List Item) → IsOwn w → AllTold slots f → Tells f date Ask (asks_from date w slots items)
-asks-tell f date w slots [] o h = record { stop_count = asked-stop_count f date Ended slots h; may = own-tells w Ended o }
-asks-tell f date w slots (Asks r ∷ items) o h = record { stop_count = asked-stop_count f date (Handed (length slots) r.message r.framing) (slots ++ new_slot date (Asks r) ∷ []) (stop_count-more f date slots (Asks r) h); may = own-tells w (Handed (length slots) r.message r.framing) o }
+asks-tell f date w slots [] o h = record { accounts = asked-accounts f date Ended slots h; may = own-tells w Ended o }
+asks-tell f date w slots (Asks r ∷ items) o h = record { accounts = asked-accounts f date (Handed (length slots) r.message r.framing) (slots ++ new_slot date (Asks r) ∷ []) (accounts-more f date slots (Asks r) h); may = own-tells w (Handed (length slots) r.message r.framing) o }
 asks-tell f date w slots (Refuses refusal manner no_body last ∷ items) o h =
     let item = Refuses refusal manner no_body last in
     let turn = turn_has_come (length slots) slots in
-    asks-tell f date (if turn then Unreported else w) (slots ++ new_slot date item ∷ []) items (own-if turn w o) (stop_count-more f date slots item h)
+    asks-tell f date (if turn then Unreported else w) (slots ++ new_slot date item ∷ []) items (own-if turn w o) (accounts-more f date slots item h)
 
 ask-tells : (f : ℕ → Account) (date : HttpDate) (old : Reached) → AllTold old.slots f → Tells f date Ask (ask date old)
 ask-tells f date old h =
@@ -628,7 +628,7 @@ ask-tells f date old h =
     (λ e. tells-if f date Ask (last_holds_reader (last_slot old.slots)) (unchanged old NotYet) (if last_was_abandoned (last_slot old.slots) then left else goes)
     (λ e. tells-none f date Ask old NotYet (record { done = refl; refused = refl }) h)
     (λ e. tells-if f date Ask (last_was_abandoned (last_slot old.slots)) left goes
-    (λ e. record { stop_count = asked-stop_count f date Ended old.slots h; may = tt })
+    (λ e. record { accounts = asked-accounts f date Ended old.slots h; may = tt })
     (λ e. asks-tell f date Unused old.slots old.rest tt h)))
 
 pub outcome-tells : (f : ℕ → Account) (found : Bool) (date : HttpDate) (old : Reached) (step : StepValue) → AllTold old.slots f → Tells f date step (outcome found date old step)
@@ -645,45 +645,45 @@ outcome-tells f found date old (Drop k) h = number-tells f found date old (Drop 
 
 -- ---- a run
 
-outcome-stop_count : (f : ℕ → Account) (date : HttpDate) (step : StepValue) (o : Outcome) (old : State) (reply : ReplyValue) (new : State) → Tells f date step o → HasOutcome o old reply new → AllTold new.reached.slots (λ k. account_now k date step reply (f k))
-outcome-stop_count f date step o old reply new h has =
+outcome-accounts : (f : ℕ → Account) (date : HttpDate) (step : StepValue) (o : Outcome) (old : State) (reply : ReplyValue) (new : State) → Tells f date step o → HasOutcome o old reply new → AllTold new.reached.slots (λ k. account_now k date step reply (f k))
+outcome-accounts f date step o old reply new h has =
     let alike = planned-alike o old reply new h.may has in
     let P : Reached → Type 0 = λ x. AllTold x.slots (λ k. account_now k date step reply (f k)) in
-    let stop_count = stop_count-as o.slots (λ k. account_now k date step o.reply (f k)) (λ k. account_now k date step reply (f k)) (λ k. sym (now-alike k date step reply o.reply (f k) alike)) h.stop_count in
-    subst P (sym has.0) stop_count
+    let accounts = accounts-as o.slots (λ k. account_now k date step o.reply (f k)) (λ k. account_now k date step reply (f k)) (λ k. sym (now-alike k date step reply o.reply (f k) alike)) h.accounts in
+    subst P (sym has.0) accounts
 
-no-memory-stop_count : (f : ℕ → Account) (date : HttpDate) (old : State) (step : StepValue) (reply : ReplyValue) (new : State) → AllTold old.reached.slots f → FindsNoMemory date old step reply new → AllTold new.reached.slots (λ k. account_now k date step reply (f k))
-no-memory-stop_count f date old Ask reply new h n =
+no-memory-accounts : (f : ℕ → Account) (date : HttpDate) (old : State) (step : StepValue) (reply : ReplyValue) (new : State) → AllTold old.reached.slots f → FindsNoMemory date old step reply new → AllTold new.reached.slots (λ k. account_now k date step reply (f k))
+no-memory-accounts f date old Ask reply new h n =
     let slots = old.reached.slots ++ map (new_slot date) n.4 in
     let w = answers_to old.reached.slots n.4 in
     let o : Outcome = record { reply = Memory; slots = slots; rest = n.5; asking_ended = true; writer = w } in
-    outcome-stop_count f date Ask o old reply new (record { stop_count = asked-stop_count f date Memory slots (stop_count-all f date old.reached.slots n.4 h); may = own-tells w Memory (own-answers old.reached.slots n.4) }) n.8
-no-memory-stop_count f date old (Read k n) reply new h m =
+    outcome-accounts f date Ask o old reply new (record { accounts = asked-accounts f date Memory slots (accounts-all f date old.reached.slots n.4 h); may = own-tells w Memory (own-answers old.reached.slots n.4) }) n.8
+no-memory-accounts f date old (Read k n) reply new h m =
     let P : State → Type 0 = λ x. AllTold x.reached.slots (λ j. account_now j date (Read k n) reply (f j)) in
-    subst P (sym m.3) (stop_count-as old.reached.slots f (λ j. account_now j date (Read k n) reply (f j)) (λ j. sym (if-same (k == j) (f j))) h)
-no-memory-stop_count f date old (AsReader k) reply new h m = elim m [ ]
-no-memory-stop_count f date old (Respond k a) reply new h m = elim m [ ]
-no-memory-stop_count f date old (IntoWriter k) reply new h m = elim m [ ]
-no-memory-stop_count f date old (Write k b) reply new h m = elim m [ ]
-no-memory-stop_count f date old (Flush k) reply new h m = elim m [ ]
-no-memory-stop_count f date old (Upgrade k p a) reply new h m = elim m [ ]
-no-memory-stop_count f date old (Finish k) reply new h m = elim m [ ]
-no-memory-stop_count f date old (Drop k) reply new h m = elim m [ ]
+    subst P (sym m.3) (accounts-as old.reached.slots f (λ j. account_now j date (Read k n) reply (f j)) (λ j. sym (if-same (k == j) (f j))) h)
+no-memory-accounts f date old (AsReader k) reply new h m = elim m [ ]
+no-memory-accounts f date old (Respond k a) reply new h m = elim m [ ]
+no-memory-accounts f date old (IntoWriter k) reply new h m = elim m [ ]
+no-memory-accounts f date old (Write k b) reply new h m = elim m [ ]
+no-memory-accounts f date old (Flush k) reply new h m = elim m [ ]
+no-memory-accounts f date old (Upgrade k p a) reply new h m = elim m [ ]
+no-memory-accounts f date old (Finish k) reply new h m = elim m [ ]
+no-memory-accounts f date old (Drop k) reply new h m = elim m [ ]
 
-pub step-stop_count : (f : ℕ → Account) (old : State) (date : HttpDate) (step : StepValue) (reply : ReplyValue) (new : State) → AllTold old.reached.slots f → StepsTo old date step reply new → AllTold new.reached.slots (λ k. account_now k date step reply (f k))
-step-stop_count f old date step reply new h s =
+pub step-accounts : (f : ℕ → Account) (old : State) (date : HttpDate) (step : StepValue) (reply : ReplyValue) (new : State) → AllTold old.reached.slots f → StepsTo old date step reply new → AllTold new.reached.slots (λ k. account_now k date step reply (f k))
+step-accounts f old date step reply new h s =
     ⊎_elim
-    (λ g. outcome-stop_count f date step (outcome g.0 date old.reached step) old reply new (outcome-tells f g.0 date old.reached step h) g.2)
-    (λ m. no-memory-stop_count f date old step reply new h m)
+    (λ g. outcome-accounts f date step (outcome g.0 date old.reached step) old reply new (outcome-tells f g.0 date old.reached step h) g.2)
+    (λ m. no-memory-accounts f date old step reply new h m)
     s
 
-pub run-stop_count : (f : ℕ → Account) (old new : State) (steps : List TimedValue) (replies : List ReplyValue) → AllTold old.reached.slots f → Run old steps replies new → AllTold new.reached.slots (λ k. account_from k (f k) steps replies)
-run-stop_count f old new [] [] h run = let P : State → Type 0 = λ x. AllTold x.reached.slots f in subst P (sym run) h
-run-stop_count f old new [] (x ∷ replies) h run = elim run [ ]
-run-stop_count f old new (s ∷ steps) [] h run = elim run [ ]
-run-stop_count f old new (s ∷ steps) (x ∷ replies) h run =
-    run-stop_count (λ k. account_now k s.0 s.1 x (f k)) run.0 new steps replies (step-stop_count f old s.0 s.1 x run.0 h run.1) run.2
+pub run-accounts : (f : ℕ → Account) (old new : State) (steps : List TimedValue) (replies : List ReplyValue) → AllTold old.reached.slots f → Run old steps replies new → AllTold new.reached.slots (λ k. account_from k (f k) steps replies)
+run-accounts f old new [] [] h run = let P : State → Type 0 = λ x. AllTold x.reached.slots f in subst P (sym run) h
+run-accounts f old new [] (x ∷ replies) h run = elim run [ ]
+run-accounts f old new (s ∷ steps) [] h run = elim run [ ]
+run-accounts f old new (s ∷ steps) (x ∷ replies) h run =
+    run-accounts (λ k. account_now k s.0 s.1 x (f k)) run.0 new steps replies (step-accounts f old s.0 s.1 x run.0 h run.1) run.2
 
 -- no number is reached
-pub none-stop_count : AllTold [] (λ k. untouched)
-none-stop_count = record { here = λ k s e. cc; none = λ k e. refl }
+pub none-accounts : AllTold [] (λ k. untouched)
+none-accounts = record { here = λ k s e. cc; none = λ k e. refl }

@@ -18,8 +18,8 @@ use Rattle.tiny_http_connection_laws.specs.Accounts.{Condition, Waits, Writes, F
 use Rattle.tiny_http_connection_laws.proofs.InShortReads.{same-some}
 use Rattle.tiny_http_connection_laws.proofs.InShortHanded.{run-moves}
 use Rattle.tiny_http_connection_laws.proofs.InShortSlots.{Matches, matches-get, run-fits}
-use Rattle.tiny_http_connection_laws.proofs.StepsAdd.{stop_count}
-use Rattle.tiny_http_connection_laws.proofs.AccountsHold.{Told, IsTold, AllTold, Alike, IsOwn, planned-alike, outcome-tells, run-stop_count, none-stop_count}
+use Rattle.tiny_http_connection_laws.proofs.StepsAdd.{accounts}
+use Rattle.tiny_http_connection_laws.proofs.AccountsHold.{Told, IsTold, AllTold, Alike, IsOwn, planned-alike, outcome-tells, run-accounts, none-accounts}
 
 -- ---- a run in two parts
 
@@ -216,7 +216,7 @@ answered-taken found date old r k response s at =
 
 asked-taken : (found : Bool) (date : HttpDate) (old : Reached) (r : Request) (k : ℕ) (response : ResponseValue) (s : Slot) (closes : Bool) → slice_get old.slots k ≡ Some s → IsTaken (Respond k response) (answers found date (asked_to_close closes old) r k response).reply
 asked-taken found date old r k response s false at = answered-taken found date old r k response s at
-asked-taken found date old r k response s true at = let t = stop_count s old.slots k at in answered-taken found date (asked_to_close true old) r k response t.slot t.get
+asked-taken found date old r k response s true at = let t = accounts s old.slots k at in answered-taken found date (asked_to_close true old) r k response t.slot t.get
 
 effect-taken : (found : Bool) (date : HttpDate) (old : Reached) (r : Request) (s : Slot) (turn : Bool) (step : StepValue) → is_ask step ≡ false → slice_get old.slots (number_of step) ≡ Some s → IsTaken step (effect found date old r s turn step).reply
 effect-taken found date old r s turn Ask other at = never (sym other)
@@ -416,12 +416,12 @@ step-taken old date r s step reply new f h other read at is accepts comes (inr m
     by (Drop k) a b m = elim m [ ]
 
 -- where a run stands after its first steps, and what is known there of its numbers
-pub record Stands (items : List Item) (steps : List TimedValue) (replies : List ReplyValue) (mid : State) : Type 0 where
+pub record Represents (items : List Item) (steps : List TimedValue) (replies : List ReplyValue) (mid : State) : Type 0 where
   pub found : Found items replies mid
-  pub stop_count : AllTold mid.reached.slots (λ j. account j steps replies)
+  pub accounts : AllTold mid.reached.slots (λ j. account j steps replies)
 
-pub stands-at : (items : List Item) (steps : List TimedValue) (replies : List ReplyValue) (mid : State) → Run (start_state items) steps replies mid → Stands items steps replies mid
-stands-at items steps replies mid run = record { found = run-found items mid steps replies run; stop_count = run-stop_count (λ j. untouched) (start_state items) mid steps replies none-stop_count run }
+pub represents-at : (items : List Item) (steps : List TimedValue) (replies : List ReplyValue) (mid : State) → Run (start_state items) steps replies mid → Represents items steps replies mid
+represents-at items steps replies mid run = record { found = run-found items mid steps replies run; accounts = run-accounts (λ j. untouched) (start_state items) mid steps replies none-accounts run }
 
 -- the number of a request that was handed out
 pub record HandedSlot (items : List Item) (steps : List TimedValue) (replies : List ReplyValue) (mid : State) (k : ℕ) : Type 0 where
@@ -429,9 +429,9 @@ pub record HandedSlot (items : List Item) (steps : List TimedValue) (replies : L
   pub request : Request
   pub at : slice_get mid.reached.slots k ≡ Some slot
   pub is : slot.item ≡ Asks request
-  pub stop_count : Told k request slot (account k steps replies)
+  pub accounts : Told k request slot (account k steps replies)
 
-pub handed-slot : (items : List Item) (steps : List TimedValue) (replies : List ReplyValue) (mid : State) (k : ℕ) → Stands items steps replies mid → IsHanded k (handed replies) → HandedSlot items steps replies mid k
+pub handed-slot : (items : List Item) (steps : List TimedValue) (replies : List ReplyValue) (mid : State) (k : ℕ) → Represents items steps replies mid → IsHanded k (handed replies) → HandedSlot items steps replies mid k
 handed-slot items steps replies mid k st known =
     let at = handed-item 0 st.found.reached k (subst (λ l. IsHanded k l) st.found.handed known) in
     let place = at.2 in
@@ -440,10 +440,10 @@ handed-slot items steps replies mid k st known =
     let slot = matches-slot mid.reached.slots st.found.reached k (Asks at.1) st.found.matches there in
     let q = one-head-asks slot.0.item at.1 slot.2 in
     let S : Item → Type 0 = λ i. IsTold k slot.0 i (account k steps replies) in
-    record { slot = slot.0; request = q.0; at = slot.1; is = q.1; stop_count = subst S q.1 (st.stop_count.here k slot.0 slot.1) }
+    record { slot = slot.0; request = q.0; at = slot.1; is = q.1; accounts = subst S q.1 (st.accounts.here k slot.0 slot.1) }
 
 -- each number of a request was handed out
-pub slot-handed : (items : List Item) (steps : List TimedValue) (replies : List ReplyValue) (mid : State) (k : ℕ) (s : Slot) (r : Request) → Stands items steps replies mid → slice_get mid.reached.slots k ≡ Some s → s.item ≡ Asks r → IsHanded k (handed replies)
+pub slot-handed : (items : List Item) (steps : List TimedValue) (replies : List ReplyValue) (mid : State) (k : ℕ) (s : Slot) (r : Request) → Represents items steps replies mid → slice_get mid.reached.slots k ≡ Some s → s.item ≡ Asks r → IsHanded k (handed replies)
 slot-handed items steps replies mid k s r st at is =
     let g = matches-get mid.reached.slots st.found.reached [] k s st.found.matches at in
     let W : Item → Type 0 = λ i. AreOfOneHead i g.0 in
@@ -455,7 +455,7 @@ slot-handed items steps replies mid k s r st at is =
 pub handed-reached : (p : Profile) (feed : Feed) (before after : Sink) (steps : List TimedValue) (replies : List ReplyValue) (held : List ℕ) (ended : Bool) (unread : Option Feed) (c : IsConversation p feed before steps replies after held ended unread) (k : ℕ) → IsHanded k (handed replies)
     → (s : Slot) × (slice_get c.end.reached.slots k ≡ Some s)
 handed-reached p feed before after steps replies held ended unread c k known =
-    let h = handed-slot c.items steps replies c.end k (stands-at c.items steps replies c.end c.run) known in
+    let h = handed-slot c.items steps replies c.end k (represents-at c.items steps replies c.end c.run) known in
     (h.slot, h.at)
 
 pub step-done : (p : Profile) (feed : Feed) (before after : Sink) (steps later : List TimedValue) (replies more : List ReplyValue) (held : List ℕ) (ended : Bool) (unread : Option Feed) (date : HttpDate) (step : StepValue) (reply : ReplyValue)
@@ -469,8 +469,8 @@ step-done p feed before after steps later replies more held ended unread date st
     parts : Parts (start_state c.items) steps ((date, step) ∷ later) replies (reply ∷ more) c.end
     parts = run-parts (start_state c.items) c.end steps ((date, step) ∷ later) replies (reply ∷ more) count c.run
 
-    st : Stands c.items steps replies parts.mid
-    st = stands-at c.items steps replies parts.mid parts.first
+    st : Represents c.items steps replies parts.mid
+    st = represents-at c.items steps replies parts.mid parts.first
 
     h : HandedSlot c.items steps replies parts.mid k
     h = handed-slot c.items steps replies parts.mid k st known
@@ -479,12 +479,12 @@ step-done p feed before after steps later replies more held ended unread date st
     turn late = turn-of parts.mid.reached.slots k (λ j s low e.
         let m = matches-get parts.mid.reached.slots st.found.reached parts.mid.reached.rest j s st.found.matches e in
         let T : Option Item → Type 0 = λ o. IsThrough o (account j steps replies) in
-        through-finished j s s.item m.0 (account j steps replies) refl m.2 (st.stop_count.here j s e) (subst T (ap (λ l. slice_get l j) st.found.splits ∙ m.1) (through late j low)))
+        through-finished j s s.item m.0 (account j steps replies) refl m.2 (st.accounts.here j s e) (subst T (ap (λ l. slice_get l j) st.found.splits ∙ m.1) (through late j low)))
 
     goes : is_ask step ≡ false → is_read step ≡ false → IsTaken step reply
     goes other read =
-        let accepts = stage-accepts h.slot.stage h.slot.owed step read (ap (λ x. takes x step) h.stop_count.condition ∙ can) in
-        step-taken parts.mid date h.request h.slot step reply parts.second.0 (λ j. account j steps replies) st.stop_count other read h.at h.is accepts turn parts.second.1
+        let accepts = stage-accepts h.slot.stage h.slot.owed step read (ap (λ x. takes x step) h.accounts.condition ∙ can) in
+        step-taken parts.mid date h.request h.slot step reply parts.second.0 (λ j. account j steps replies) st.accounts other read h.at h.is accepts turn parts.second.1
 
     by : (x : StepValue) → step ≡ x → IsTaken step reply
     by Ask e = never (sym (ask-takes (account k steps replies).condition) ∙ sym (ap (λ y. takes (account k steps replies).condition y) e) ∙ can)
@@ -570,10 +570,10 @@ pub step-known : (p : Profile) (feed : Feed) (before after : Sink) (steps later 
     → IsHanded (number_of step) (handed replies) → takes (account (number_of step) steps replies).condition step ≡ true → reply ≡ NoSuch → ⊥
 step-known p feed before after steps later replies more held ended unread date step reply c count other read known can =
     let parts = run-parts (start_state c.items) c.end steps ((date, step) ∷ later) replies (reply ∷ more) count c.run in
-    let st = stands-at c.items steps replies parts.mid parts.first in
+    let st = represents-at c.items steps replies parts.mid parts.first in
     let h = handed-slot c.items steps replies parts.mid (number_of step) st known in
-    let accepts = stage-accepts h.slot.stage h.slot.owed step read (ap (λ x. takes x step) h.stop_count.condition ∙ can) in
-    step-answered parts.mid date h.request h.slot step reply parts.second.0 (λ j. account j steps replies) st.stop_count other read h.at h.is accepts parts.second.1
+    let accepts = stage-accepts h.slot.stage h.slot.owed step read (ap (λ x. takes x step) h.accounts.condition ∙ can) in
+    step-answered parts.mid date h.request h.slot step reply parts.second.0 (λ j. account j steps replies) st.accounts other read h.at h.is accepts parts.second.1
 
 -- ---- a step that finds no number
 
@@ -631,9 +631,9 @@ pub step-found : (p : Profile) (feed : Feed) (before after : Sink) (steps later 
     → IsHanded (number_of step) (handed replies) × (takes (account (number_of step) steps replies).condition step ≡ true)
 step-found p feed before after steps later replies more held ended unread date step reply c count other some =
     let parts = run-parts (start_state c.items) c.end steps ((date, step) ∷ later) replies (reply ∷ more) count c.run in
-    let st = stands-at c.items steps replies parts.mid parts.first in
+    let st = represents-at c.items steps replies parts.mid parts.first in
     let f = step-finds parts.mid date step reply parts.second.0 other some parts.second.1 in
     let k = number_of step in
     let I : Item → Type 0 = λ i. IsTold k f.0 i (account k steps replies) in
-    let mine : Told k f.1 f.0 (account k steps replies) = subst I f.3 (st.stop_count.here k f.0 f.2) in
+    let mine : Told k f.1 f.0 (account k steps replies) = subst I f.3 (st.accounts.here k f.0 f.2) in
     (slot-handed c.items steps replies parts.mid k f.0 f.1 st f.2 f.3, ap (λ x. takes x step) (sym mine.condition) ∙ accepts-takes f.0.stage f.0.owed step other f.4)

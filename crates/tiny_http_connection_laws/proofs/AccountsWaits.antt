@@ -18,9 +18,9 @@ use Rattle.std.proofs.lemmas.Option.{slice_get_within}
 use Rattle.tiny_http_connection_laws.specs.Accounts.{Finished, Account, account, condition_of, waits_its_turn, is_ask, IsThrough, IsHanded}
 use Rattle.tiny_http_connection_laws.proofs.InShortReads.{same-some}
 use Rattle.tiny_http_connection_laws.proofs.InShortSlots.{matches-get}
-use Rattle.tiny_http_connection_laws.proofs.StepsAdd.{stop_count}
+use Rattle.tiny_http_connection_laws.proofs.StepsAdd.{accounts}
 use Rattle.tiny_http_connection_laws.proofs.AccountsHold.{Told, IsTold, AllTold, Alike, IsOwn, is_given_up, own-answers, planned-alike, outcome-tells}
-use Rattle.tiny_http_connection_laws.proofs.AccountsTurns.{Parts, run-parts, if-finished, never, own-part, own-planned, and-none, Stands, stands-at, handed-slot, slot-handed, step-finds}
+use Rattle.tiny_http_connection_laws.proofs.AccountsTurns.{Parts, run-parts, if-finished, never, own-part, own-planned, and-none, Represents, represents-at, handed-slot, slot-handed, step-finds}
 
 -- ---- a step that is done in its turn alone
 
@@ -124,15 +124,15 @@ pub done-in_turn : (p : Profile) (feed : Feed) (before after : Sink) (steps late
     → (j : ℕ) → j < number_of step → IsThrough (slice_get c.items j) (account j steps replies)
 done-in_turn p feed before after steps later replies more held ended unread date step reply c count waits done j low =
     let parts = run-parts (start_state c.items) c.end steps ((date, step) ∷ later) replies (reply ∷ more) count c.run in
-    let st = stands-at c.items steps replies parts.mid parts.first in
+    let st = represents-at c.items steps replies parts.mid parts.first in
     let slots = parts.mid.reached.slots in
-    let turn = step-in_turn parts.mid date step reply parts.second.0 (λ i. account i steps replies) st.stop_count waits done parts.second.1 in
+    let turn = step-in_turn parts.mid date step reply parts.second.0 (λ i. account i steps replies) st.accounts waits done parts.second.1 in
     let f = step-finds parts.mid date step reply parts.second.0 (waits-other step waits) (λ e. never (sym (ap is_done e) ∙ done)) parts.second.1 in
     let within = slice_get_within slots (number_of step) f.0 f.2 in
     let x = at-within slots j (omega (arith, low, within)) in
     let m = matches-get slots st.found.reached parts.mid.reached.rest j x.0 st.found.matches x.1 in
     let T : Option Item → Type 0 = λ o. IsThrough o (account j steps replies) in
-    subst T (sym (ap (λ l. slice_get l j) st.found.splits ∙ m.1)) (finished-through j x.0 x.0.item m.0 (account j steps replies) m.2 (st.stop_count.here j x.0 x.1) (turn-slot slots (number_of step) j x.0 turn low x.1))
+    subst T (sym (ap (λ l. slice_get l j) st.found.splits ∙ m.1)) (finished-through j x.0 x.0.item m.0 (account j steps replies) m.2 (st.accounts.here j x.0 x.1) (turn-slot slots (number_of step) j x.0 turn low x.1))
   where
     waits-other : (x : StepValue) → waits_its_turn x ≡ true → is_ask x ≡ false
     waits-other Ask w = never w
@@ -225,8 +225,8 @@ ask-waits-for p feed before after steps later replies more held ended unread dat
     parts : Parts (start_state c.items) steps ((date, Ask) ∷ later) replies (NotYet ∷ more) c.end
     parts = run-parts (start_state c.items) c.end steps ((date, Ask) ∷ later) replies (NotYet ∷ more) count c.run
 
-    st : Stands c.items steps replies parts.mid
-    st = stands-at c.items steps replies parts.mid parts.first
+    st : Represents c.items steps replies parts.mid
+    st = represents-at c.items steps replies parts.mid parts.first
 
     no-later : (k : ℕ) → suc k ≡ length parts.mid.reached.slots → (j : ℕ) → IsHanded j (handed replies) → j ≤ k
     no-later k last j known =
@@ -243,4 +243,4 @@ ask-waits-for p feed before after steps later replies more held ended unread dat
     by None e holds = let no : false ≡ true = ap last_holds_reader (sym e) ∙ holds in cc
     by (Some s) e holds =
         let n = last-number parts.mid.reached.slots s e in
-        at s s.item n.0 n.1 n.2 refl (st.stop_count.here n.0 s n.1) (ap last_holds_reader (sym e) ∙ holds)
+        at s s.item n.0 n.1 n.2 refl (st.accounts.here n.0 s n.1) (ap last_holds_reader (sym e) ∙ holds)

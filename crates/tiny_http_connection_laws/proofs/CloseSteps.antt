@@ -22,7 +22,7 @@ use Rattle.tiny_http_connection.specs.Outcomes.{WriterUse, Unused, Unreported, O
 use Rattle.tiny_http_connection.specs.Conversation.{State, FindsNoMemory, IsPassedOver, StepsTo, Run, start_state, IsConversation}
 use Rattle.tiny_http_connection.proofs.ConnectionReader.{last-snoc}
 use Rattle.tiny_http_connection_laws.specs.Closes.{says_close_by, NoneFollowsClose}
-use Rattle.tiny_http_connection_laws.proofs.StepsAdd.{stop_count, by-respond, by-upgrade, by-drop}
+use Rattle.tiny_http_connection_laws.proofs.StepsAdd.{accounts, by-respond, by-upgrade, by-drop}
 use Rattle.tiny_http_connection_laws.proofs.PipelineEnds.{lasts, AllEnd, Owes, pipeline-ends, pipeline-owes}
 use Rattle.tiny_http_connection_laws.proofs.CloseIsLast.{IsPassedRequest, IsPassed, IsLastRequest, IsLastItem, Fit, Inv, InvAt, InvOf, no-both, so-false, or-none, not-true, weaken, snoc-fit, closing-fit, fit-none, change, change-kept, finishes, streams}
 
@@ -92,7 +92,7 @@ asked-inv : (found : Bool) (date : HttpDate) (old : Reached) (r : Request) (s : 
     → InvOf (answers found date (asked_to_close closes old) r k response)
 asked-inv found date old r s k response false h here is u = answers-inv found date old r s k response h here is u
 asked-inv found date old r s k response true h here is u =
-    let t = stop_count s old.slots k here in
+    let t = accounts s old.slots k here in
     answers-inv found date (asked_to_close true old) r t.slot k response (record { ends = h.ends; owes = h.owes; fit = closing-fit old.asking_ended old.rest old.slots h.fit }) t.get (t.item ∙ is) (t.stage ∙ u)
 
 read-short : (f : Form) (n given more : ℕ) (reported now : Bool) → (is_counted f ≡ true → (reported ≡ true) ⊎ (n ≤ given)) → is_counted f ≡ true → ((reported || now) ≡ true) ⊎ (n ≤ given + more)

@@ -80,8 +80,8 @@ record Ahead (k : ℕ) (r : Request) (feed : Feed) (slots : List Slot) (rest : L
   get : slice_get rest behind ≡ Some (Asks r)
   left : feed ≡ r.body
 
-abbrev Stands : ℕ → Request → Feed → List Slot → List Item → Type 0
-Stands k r feed slots rest = Under k r feed slots ⊎ Ahead k r feed slots rest
+abbrev Represents : ℕ → Request → Feed → List Slot → List Item → Type 0
+Represents k r feed slots rest = Under k r feed slots ⊎ Ahead k r feed slots rest
 
 -- a number whose body is left alone
 record Same (s t : Slot) : Type 0 where
@@ -104,7 +104,7 @@ ahead-of : (k : ℕ) (r : Request) (feed : Feed) (slots : List Slot) (rest : Lis
 ahead-of k r feed slots rest a now e = record { behind = a.behind; place = a.place ∙ ap (λ n. n + a.behind) (sym e); get = a.get; left = a.left }
 
 -- another number is changed
-elsewhere : (k : ℕ) (r : Request) (feed : Feed) (slots : List Slot) (rest : List Item) (j : ℕ) (t : Slot) → (j ≡ k → ⊥) → Stands k r feed slots rest → Stands k r feed (slice_set slots j t) rest
+elsewhere : (k : ℕ) (r : Request) (feed : Feed) (slots : List Slot) (rest : List Item) (j : ℕ) (t : Slot) → (j ≡ k → ⊥) → Represents k r feed slots rest → Represents k r feed (slice_set slots j t) rest
 elsewhere k r feed slots rest j t n h =
     ⊎_elim
     (λ u. inl (same-under k r feed slots u (slice_set slots j t) u.slot (get-other slots j k t n ∙ u.get) (record { item = refl; given = refl; stage = λ e. e })))
@@ -112,7 +112,7 @@ elsewhere k r feed slots rest j t n h =
     h
 
 -- a number is changed, and its body is left alone
-stays : (k : ℕ) (r : Request) (feed : Feed) (slots : List Slot) (rest : List Item) (j : ℕ) (s t : Slot) → slice_get slots j ≡ Some s → Same s t → Stands k r feed slots rest → Stands k r feed (slice_set slots j t) rest
+stays : (k : ℕ) (r : Request) (feed : Feed) (slots : List Slot) (rest : List Item) (j : ℕ) (s t : Slot) → slice_get slots j ≡ Some s → Same s t → Represents k r feed slots rest → Represents k r feed (slice_set slots j t) rest
 stays k r feed slots rest j s t here same h =
     ⊎_elim
     (λ yes.
@@ -139,14 +139,14 @@ Planned (Reported own broken flushes report) planned reply = ⊤
 record Reads (k : ℕ) (r : Request) (feed : Feed) (step : StepValue) (o : Outcome) : Type 0 where
   next : Feed
   leaves : (reply : ReplyValue) → Planned o.writer o.reply reply → LeavesBody k r feed step reply next
-  stands : Stands k r next o.slots o.rest
+  represents : Represents k r next o.slots o.rest
 
 reads-if : (k : ℕ) (r : Request) (feed : Feed) (step : StepValue) (b : Bool) (x y : Outcome) → (b ≡ true → Reads k r feed step x) → (b ≡ false → Reads k r feed step y) → Reads k r feed step (if b then x else y)
 reads-if k r feed step true x y h g = h refl
 reads-if k r feed step false x y h g = g refl
 
 reads-ended : (k : ℕ) (r : Request) (feed : Feed) (step : StepValue) (ends : Bool) (o : Outcome) → Reads k r feed step o → Reads k r feed step (ends_asking ends o)
-reads-ended k r feed step ends o h = record { next = h.next; leaves = h.leaves; stands = h.stands }
+reads-ended k r feed step ends o h = record { next = h.next; leaves = h.leaves; represents = h.represents }
 
 either : (b : Bool) {A : Type 0} → A → MatchBool b A A
 either true a = a
@@ -176,19 +176,19 @@ not-yet k r feed (Upgrade j p a) = refl
 not-yet k r feed (Finish j) = refl
 not-yet k r feed (Drop j) = refl
 
-idle : (k : ℕ) (r : Request) (feed : Feed) (step : StepValue) (old : Reached) (reply : ReplyValue) → LeavesBody k r feed step reply feed → Stands k r feed old.slots old.rest → Reads k r feed step (unchanged old reply)
+idle : (k : ℕ) (r : Request) (feed : Feed) (step : StepValue) (old : Reached) (reply : ReplyValue) → LeavesBody k r feed step reply feed → Represents k r feed old.slots old.rest → Reads k r feed step (unchanged old reply)
 idle k r feed step old reply l h =
     let L : ReplyValue → Type 0 = λ x. LeavesBody k r feed step x feed in
-    record { next = feed; leaves = λ x p. subst L (sym p) l; stands = h }
+    record { next = feed; leaves = λ x p. subst L (sym p) l; represents = h }
 
 -- the steps that don't read
 abbrev IsQuiet : ℕ → Request → Feed → StepValue → Type 0
 IsQuiet k r feed step = (reply : ReplyValue) → LeavesBody k r feed step reply feed
 
 changed : (k : ℕ) (r : Request) (feed : Feed) (step : StepValue) (old : Reached) (j : ℕ) (s t : Slot) (reply : ReplyValue) (w : WriterUse)
-    → IsQuiet k r feed step → slice_get old.slots j ≡ Some s → Same s t → Stands k r feed old.slots old.rest → Reads k r feed step (changes old j t reply w)
+    → IsQuiet k r feed step → slice_get old.slots j ≡ Some s → Same s t → Represents k r feed old.slots old.rest → Reads k r feed step (changes old j t reply w)
 changed k r feed step old j s t reply w q here same h =
-    record { next = feed; leaves = λ x p. q x; stands = stays k r feed old.slots old.rest j s t here same h }
+    record { next = feed; leaves = λ x p. q x; represents = stays k r feed old.slots old.rest j s t here same h }
 
 never : {G : Type 0} (s : Stage) → s ≡ Unanswered → s ≡ ByServer → G
 never s e f = cc
@@ -220,27 +220,27 @@ record Told (s : Slot) (slots : List Slot) (k : ℕ) : Type 0 where
   get : slice_get (with_last closing_slot slots) k ≡ Some slot
   same : Same s slot
 
-stop_count : (s : Slot) (slots : List Slot) (k : ℕ) → slice_get slots k ≡ Some s → Told s slots k
-stop_count s [] k e = cc
-stop_count s (x ∷ []) zero e =
+accounts : (s : Slot) (slots : List Slot) (k : ℕ) → slice_get slots k ≡ Some s → Told s slots k
+accounts s [] k e = cc
+accounts s (x ∷ []) zero e =
     let is : x ≡ s = same-some x s e in
     let same : Same x (closing_slot x) = by-closing (λ t. Same x t) x (λ u. record { item = refl; given = refl; stage = λ v. v }) (record { item = refl; given = refl; stage = λ v. v }) in
     let T : Slot → Type 0 = λ y. Told y (x ∷ []) zero in
     subst T is (record { slot = closing_slot x; get = refl; same = same })
-stop_count s (x ∷ []) (suc k) e = cc
-stop_count s (x ∷ y ∷ slots) zero e = record { slot = s; get = e; same = record { item = refl; given = refl; stage = λ v. v } }
-stop_count s (x ∷ y ∷ slots) (suc k) e = let t = stop_count s (y ∷ slots) k e in record { slot = t.slot; get = t.get; same = t.same }
+accounts s (x ∷ []) (suc k) e = cc
+accounts s (x ∷ y ∷ slots) zero e = record { slot = s; get = e; same = record { item = refl; given = refl; stage = λ v. v } }
+accounts s (x ∷ y ∷ slots) (suc k) e = let t = accounts s (y ∷ slots) k e in record { slot = t.slot; get = t.get; same = t.same }
 
-asked-stands : (k : ℕ) (r : Request) (feed : Feed) (old : Reached) (closes : Bool) → Stands k r feed old.slots old.rest → Stands k r feed (asked_to_close closes old).slots (asked_to_close closes old).rest
-asked-stands k r feed old false h = h
-asked-stands k r feed old true h =
+asked-represents : (k : ℕ) (r : Request) (feed : Feed) (old : Reached) (closes : Bool) → Represents k r feed old.slots old.rest → Represents k r feed (asked_to_close closes old).slots (asked_to_close closes old).rest
+asked-represents k r feed old false h = h
+asked-represents k r feed old true h =
     ⊎_elim
-    (λ u. let t = stop_count u.slot old.slots k u.get in inl (same-under k r feed old.slots u (with_last closing_slot old.slots) t.slot t.get t.same))
+    (λ u. let t = accounts u.slot old.slots k u.get in inl (same-under k r feed old.slots u (with_last closing_slot old.slots) t.slot t.get t.same))
     (λ a. inr (ahead-of k r feed old.slots old.rest a (with_last closing_slot old.slots) (closing-length old.slots)))
     h
 
 answered-reads : (k : ℕ) (r : Request) (feed : Feed) (found : Bool) (date : HttpDate) (old : Reached) (q : Request) (j : ℕ) (response : ResponseValue)
-    → Stands k r feed old.slots old.rest → Reads k r feed (Respond j response) (answers found date old q j response)
+    → Represents k r feed old.slots old.rest → Reads k r feed (Respond j response) (answers found date old q j response)
 answered-reads k r feed found date old q j response h = go (slice_get old.slots j) refl
   where
     go : (o : Option Slot) → slice_get old.slots j ≡ o → Reads k r feed (Respond j response) (answers_slot found date old q j response o)
@@ -299,7 +299,7 @@ else-or : (b : Bool) (A B : Type 0) → b ≡ false → B → MatchBool b A B
 else-or true A B e a = cc
 else-or false A B e a = a
 
-read-here : (k : ℕ) (r : Request) (feed : Feed) (old : Reached) (q : Request) (s : Slot) (n : ℕ) → slice_get old.slots k ≡ Some s → s.item ≡ Asks q → (n == 0) ≡ false → (k == k) ≡ true → Stands k r feed old.slots old.rest
+read-here : (k : ℕ) (r : Request) (feed : Feed) (old : Reached) (q : Request) (s : Slot) (n : ℕ) → slice_get old.slots k ≡ Some s → s.item ≡ Asks q → (n == 0) ≡ false → (k == k) ≡ true → Represents k r feed old.slots old.rest
     → Reads k r feed (Read k n) (changes old k (record s { given = s.given + length (take n (rest_of q s.given).bytes); end_reported = s.end_reported || nat_lt (length (rest_of q s.given).bytes) n }) (read_reply n (rest_of q s.given).bytes q.body.stop) Unused)
 read-here k r feed old q s n here is e self h =
     let left = rest_of q s.given in
@@ -323,11 +323,11 @@ read-here k r feed old q s n here is e self h =
       left = g.is ∙ read-on q s.given n;
       own = λ x. sym asked_is ∙ u.own (ap (λ (y : Slot). y.stage) slot_is ∙ x);
     } in
-    record { next = g.next; leaves = λ x p. subst L (sym p) leaves; stands = inl under })
+    record { next = g.next; leaves = λ x p. subst L (sym p) leaves; represents = inl under })
     (λ a. elim (get-past old.slots a.behind s (ap (λ x. slice_get old.slots x) (sym a.place) ∙ here)) [ ])
     h
 
-read-effect : (k : ℕ) (r : Request) (feed : Feed) (old : Reached) (q : Request) (s : Slot) (j n : ℕ) → slice_get old.slots j ≡ Some s → s.item ≡ Asks q → (n == 0) ≡ false → Stands k r feed old.slots old.rest
+read-effect : (k : ℕ) (r : Request) (feed : Feed) (old : Reached) (q : Request) (s : Slot) (j n : ℕ) → slice_get old.slots j ≡ Some s → s.item ≡ Asks q → (n == 0) ≡ false → Represents k r feed old.slots old.rest
     → Reads k r feed (Read j n) (changes old j (record s { given = s.given + length (take n (rest_of q s.given).bytes); end_reported = s.end_reported || nat_lt (length (rest_of q s.given).bytes) n }) (read_reply n (rest_of q s.given).bytes q.body.stop) Unused)
 read-effect k r feed old q s j n here is e h =
     let left = rest_of q s.given in
@@ -336,13 +336,13 @@ read-effect k r feed old q s j n here is e h =
     ⊎_elim
     (λ yes.
     let P : ℕ → Type 0 = λ x. Reads x r feed (Read j n) (changes old j t reply Unused) in
-    let S : ℕ → Type 0 = λ x. Stands x r feed old.slots old.rest in
+    let S : ℕ → Type 0 = λ x. Represents x r feed old.slots old.rest in
     subst P yes.1 (read-here j r feed old q s n here is e (eq-eqb j j refl) (subst S (sym yes.1) h)))
     (λ no.
     record {
       next = feed;
       leaves = λ x p. else-or (j == k) (ReadsNext n feed x feed) (feed ≡ feed) no.0 refl;
-      stands = elsewhere k r feed old.slots old.rest j t no.1 h;
+      represents = elsewhere k r feed old.slots old.rest j t no.1 h;
     })
     (eqb_tells j k)
 
@@ -375,7 +375,7 @@ upgraded-under k r slots s stage here e never = go r.framing.by_standard e
     go false f = cc
 
 upgrade-here : (k : ℕ) (r : Request) (feed : Feed) (old : Reached) (q : Request) (s : Slot) (protocol : List ℕ) (response : ResponseValue) (stage : Stage)
-    → slice_get old.slots k ≡ Some s → s.item ≡ Asks q → s.stage ≡ Unanswered → (stage ≡ Unanswered → ⊥) → (k == k) ≡ true → Stands k r feed old.slots old.rest
+    → slice_get old.slots k ≡ Some s → s.item ≡ Asks q → s.stage ≡ Unanswered → (stage ≡ Unanswered → ⊥) → (k == k) ≡ true → Represents k r feed old.slots old.rest
     → Reads k r feed (Upgrade k protocol response) (changes old k (upgraded_slot q s stage) Done Unreported)
 upgrade-here k r feed old q s protocol response stage here is u never self h =
     ⊎_elim
@@ -399,7 +399,7 @@ upgrade-here k r feed old q s protocol response stage here is u never self h =
         record {
           next = r.behind;
           leaves = λ x p. subst (L r.behind) (sym p) next;
-          stands = inl (upgraded-under k r old.slots s stage here e never);
+          represents = inl (upgraded-under k r old.slots s stage here e never);
         }
     go false e =
         let both : (k == k && r.framing.by_standard) ≡ false = ap (λ x. x && r.framing.by_standard) self ∙ e in
@@ -407,18 +407,18 @@ upgrade-here k r feed old q s protocol response stage here is u never self h =
         record {
           next = feed;
           leaves = λ x p. subst (L feed) (sym p) next;
-          stands = stays k r feed old.slots old.rest k s (upgraded_slot r s stage) here (upgraded-same r s stage e (λ x. u)) h;
+          represents = stays k r feed old.slots old.rest k s (upgraded_slot r s stage) here (upgraded-same r s stage e (λ x. u)) h;
         }
 
 upgrade-effect : (k : ℕ) (r : Request) (feed : Feed) (old : Reached) (q : Request) (s : Slot) (j : ℕ) (protocol : List ℕ) (response : ResponseValue) (stage : Stage)
-    → slice_get old.slots j ≡ Some s → s.item ≡ Asks q → s.stage ≡ Unanswered → (stage ≡ Unanswered → ⊥) → Stands k r feed old.slots old.rest
+    → slice_get old.slots j ≡ Some s → s.item ≡ Asks q → s.stage ≡ Unanswered → (stage ≡ Unanswered → ⊥) → Represents k r feed old.slots old.rest
     → Reads k r feed (Upgrade j protocol response) (changes old j (upgraded_slot q s stage) Done Unreported)
 upgrade-effect k r feed old q s j protocol response stage here is u never h =
     let t = upgraded_slot q s stage in
     ⊎_elim
     (λ yes.
     let P : ℕ → Type 0 = λ x. Reads x r feed (Upgrade j protocol response) (changes old j t Done Unreported) in
-    let S : ℕ → Type 0 = λ x. Stands x r feed old.slots old.rest in
+    let S : ℕ → Type 0 = λ x. Represents x r feed old.slots old.rest in
     subst P yes.1 (upgrade-here j r feed old q s protocol response stage here is u never (eq-eqb j j refl) (subst S (sym yes.1) h)))
     (λ no.
     let L : ReplyValue → Type 0 = λ x. LeavesBody k r feed (Upgrade j protocol response) x feed in
@@ -426,14 +426,14 @@ upgrade-effect k r feed old q s j protocol response stage here is u never h =
     record {
       next = feed;
       leaves = λ x p. subst L (sym p) other;
-      stands = elsewhere k r feed old.slots old.rest j t no.1 h;
+      represents = elsewhere k r feed old.slots old.rest j t no.1 h;
     })
     (eqb_tells j k)
 
 refused-reads : (k : ℕ) (r : Request) (feed : Feed) (old : Reached) (j : ℕ) (s t : Slot) (protocol : List ℕ) (response : ResponseValue) (turn : Bool)
-    → slice_get old.slots j ≡ Some s → Same s t → Stands k r feed old.slots old.rest → Reads k r feed (Upgrade j protocol response) (changes old j t Refused (use_in_turn turn))
+    → slice_get old.slots j ≡ Some s → Same s t → Represents k r feed old.slots old.rest → Reads k r feed (Upgrade j protocol response) (changes old j t Refused (use_in_turn turn))
 refused-reads k r feed old j s t protocol response turn here same h =
-    record { next = feed; leaves = λ x p. by turn x p; stands = stays k r feed old.slots old.rest j s t here same h }
+    record { next = feed; leaves = λ x p. by turn x p; represents = stays k r feed old.slots old.rest j s t here same h }
   where
     by : (b : Bool) (x : ReplyValue) → Planned (use_in_turn b) Refused x → LeavesBody k r feed (Upgrade j protocol response) x feed
     by true x p = let L : ReplyValue → Type 0 = λ y. LeavesBody k r feed (Upgrade j protocol response) y feed in subst L (sym p) refl
@@ -442,7 +442,7 @@ refused-reads k r feed old j s t protocol response turn here same h =
 -- ---- what a number does in its time
 
 effect-reads : (k : ℕ) (r : Request) (feed : Feed) (found : Bool) (date : HttpDate) (old : Reached) (q : Request) (s : Slot) (turn : Bool) (step : StepValue)
-    → slice_get old.slots (number_of step) ≡ Some s → s.item ≡ Asks q → accepts_step s.stage s.owed step ≡ true → Stands k r feed old.slots old.rest
+    → slice_get old.slots (number_of step) ≡ Some s → s.item ≡ Asks q → accepts_step s.stage s.owed step ≡ true → Represents k r feed old.slots old.rest
     → Reads k r feed step (effect found date old q s turn step)
 effect-reads k r feed found date old q s turn Ask here is takes h = idle k r feed Ask old NoSuch refl h
 effect-reads k r feed found date old q s turn (AsReader j) here is takes h =
@@ -465,7 +465,7 @@ effect-reads k r feed found date old q s turn (Respond j response) here is takes
     let refused = changes old j d Refused (use_in_turn turn) in
     reads-if k r feed step (refuses_response q response) (ends_asking ends refused) (answers found date (asked_to_close response.answer.closes old) q j response)
     (λ e. reads-ended k r feed step ends refused (changed k r feed step old j s d Refused (use_in_turn turn) (λ x. refl) here (dropped-same closes s) h))
-    (λ e. answered-reads k r feed found date (asked_to_close response.answer.closes old) q j response (asked-stands k r feed old response.answer.closes h))
+    (λ e. answered-reads k r feed found date (asked_to_close response.answer.closes old) q j response (asked-represents k r feed old response.answer.closes h))
 effect-reads k r feed found date old q s turn (IntoWriter j) here is takes h =
     let step = IntoWriter j in
     let t : Slot = record s { stage = Raw [] false; given_up = true; owed = false } in
@@ -502,7 +502,7 @@ pub not-true : {b : Bool} → not b ≡ false → b ≡ true
 not-true {b = true} e = refl
 not-true {b = false} e = cc
 
-number-reads : (k : ℕ) (r : Request) (feed : Feed) (found : Bool) (date : HttpDate) (old : Reached) (step : StepValue) → Stands k r feed old.slots old.rest → Reads k r feed step (at_number found date old (number_of step) step)
+number-reads : (k : ℕ) (r : Request) (feed : Feed) (found : Bool) (date : HttpDate) (old : Reached) (step : StepValue) → Represents k r feed old.slots old.rest → Reads k r feed step (at_number found date old (number_of step) step)
 number-reads k r feed found date old step h = go (slice_get old.slots (number_of step)) refl
   where
     item : (s : Slot) (i : Item) → slice_get old.slots (number_of step) ≡ Some s → s.item ≡ i → Reads k r feed step (at_item found date old (number_of step) step s i)
@@ -530,7 +530,7 @@ new-under k r feed slots date item place is left =
     subst U (sym is) (record { slot = s; asked = r; get = get; item = refl; left = left; own = λ x. refl })
 
 further : (k : ℕ) (r : Request) (feed : Feed) (slots : List Slot) (rest : List Item) (date : HttpDate) (item : Item) (behind : ℕ)
-    → k ≡ length slots + behind → slice_get (item ∷ rest) behind ≡ Some (Asks r) → feed ≡ r.body → Stands k r feed (slots ++ new_slot date item ∷ []) rest
+    → k ≡ length slots + behind → slice_get (item ∷ rest) behind ≡ Some (Asks r) → feed ≡ r.body → Represents k r feed (slots ++ new_slot date item ∷ []) rest
 further k r feed slots rest date item zero place get left =
     let is : item ≡ Asks r = cc in
     inl (new-under k r feed slots date item place is left)
@@ -538,28 +538,28 @@ further k r feed slots rest date item (suc n) place get left =
     let more = one-more slots (new_slot date item) in
     inr (record { behind = n; place = omega (arith, place, more); get = get; left = left })
 
-one-on : (k : ℕ) (r : Request) (feed : Feed) (slots : List Slot) (rest : List Item) (date : HttpDate) (item : Item) → Stands k r feed slots (item ∷ rest) → Stands k r feed (slots ++ new_slot date item ∷ []) rest
+one-on : (k : ℕ) (r : Request) (feed : Feed) (slots : List Slot) (rest : List Item) (date : HttpDate) (item : Item) → Represents k r feed slots (item ∷ rest) → Represents k r feed (slots ++ new_slot date item ∷ []) rest
 one-on k r feed slots rest date item h =
     ⊎_elim
     (λ u. inl (same-under k r feed slots u (slots ++ new_slot date item ∷ []) u.slot (get-append slots (new_slot date item ∷ []) k u.slot u.get) (record { item = refl; given = refl; stage = λ v. v })))
     (λ a. further k r feed slots rest date item a.behind a.place a.get a.left)
     h
 
-asks-stand : (k : ℕ) (r : Request) (feed : Feed) (date : HttpDate) (w : WriterUse) (slots : List Slot) (items : List Item) → Stands k r feed slots items
-    → Stands k r feed (asks_from date w slots items).slots (asks_from date w slots items).rest
+asks-stand : (k : ℕ) (r : Request) (feed : Feed) (date : HttpDate) (w : WriterUse) (slots : List Slot) (items : List Item) → Represents k r feed slots items
+    → Represents k r feed (asks_from date w slots items).slots (asks_from date w slots items).rest
 asks-stand k r feed date w slots [] h = h
 asks-stand k r feed date w slots (Asks q ∷ items) h = one-on k r feed slots items date (Asks q) h
 asks-stand k r feed date w slots (Refuses refusal manner no_body last ∷ items) h =
     let item = Refuses refusal manner no_body last in
     asks-stand k r feed date (if turn_has_come (length slots) slots then Unreported else w) (slots ++ new_slot date item ∷ []) items (one-on k r feed slots items date item h)
 
-all-on : (k : ℕ) (r : Request) (feed : Feed) (slots : List Slot) (rest : List Item) (date : HttpDate) (items : List Item) → Stands k r feed slots (items ++ rest) → Stands k r feed (slots ++ map (new_slot date) items) rest
-all-on k r feed slots rest date [] h = subst (λ (x : List Slot). Stands k r feed x rest) (sym (append-nil slots)) h
+all-on : (k : ℕ) (r : Request) (feed : Feed) (slots : List Slot) (rest : List Item) (date : HttpDate) (items : List Item) → Represents k r feed slots (items ++ rest) → Represents k r feed (slots ++ map (new_slot date) items) rest
+all-on k r feed slots rest date [] h = subst (λ (x : List Slot). Represents k r feed x rest) (sym (append-nil slots)) h
 all-on k r feed slots rest date (item ∷ items) h =
     let more = all-on k r feed (slots ++ new_slot date item ∷ []) rest date items (one-on k r feed slots (items ++ rest) date item h) in
-    subst (λ (x : List Slot). Stands k r feed x rest) (append_assoc slots (new_slot date item ∷ []) (map (new_slot date) items)) more
+    subst (λ (x : List Slot). Represents k r feed x rest) (append_assoc slots (new_slot date item ∷ []) (map (new_slot date) items)) more
 
-ask-reads : (k : ℕ) (r : Request) (feed : Feed) (date : HttpDate) (old : Reached) → Stands k r feed old.slots old.rest → Reads k r feed Ask (ask date old)
+ask-reads : (k : ℕ) (r : Request) (feed : Feed) (date : HttpDate) (old : Reached) → Represents k r feed old.slots old.rest → Reads k r feed Ask (ask date old)
 ask-reads k r feed date old h =
     let left : Outcome = record { reply = Ended; slots = old.slots; rest = old.rest; asking_ended = true; writer = Unused } in
     let goes = asks_from date Unused old.slots old.rest in
@@ -568,10 +568,10 @@ ask-reads k r feed date old h =
     (λ e. reads-if k r feed Ask (last_holds_reader (last_slot old.slots)) (unchanged old NotYet) (if last_was_abandoned (last_slot old.slots) then left else goes)
     (λ e. idle k r feed Ask old NotYet refl h)
     (λ e. reads-if k r feed Ask (last_was_abandoned (last_slot old.slots)) left goes
-    (λ e. record { next = feed; leaves = λ x p. refl; stands = h })
-    (λ e. record { next = feed; leaves = λ x p. refl; stands = asks-stand k r feed date Unused old.slots old.rest h })))
+    (λ e. record { next = feed; leaves = λ x p. refl; represents = h })
+    (λ e. record { next = feed; leaves = λ x p. refl; represents = asks-stand k r feed date Unused old.slots old.rest h })))
 
-outcome-reads : (k : ℕ) (r : Request) (feed : Feed) (found : Bool) (date : HttpDate) (old : Reached) (step : StepValue) → Stands k r feed old.slots old.rest → Reads k r feed step (outcome found date old step)
+outcome-reads : (k : ℕ) (r : Request) (feed : Feed) (found : Bool) (date : HttpDate) (old : Reached) (step : StepValue) → Represents k r feed old.slots old.rest → Reads k r feed step (outcome found date old step)
 outcome-reads k r feed found date old Ask h = ask-reads k r feed date old h
 outcome-reads k r feed found date old (AsReader j) h = number-reads k r feed found date old (AsReader j) h
 outcome-reads k r feed found date old (Read j n) h = number-reads k r feed found date old (Read j n) h
@@ -597,31 +597,31 @@ part-planned (Reported own broken flushes report) old planned reply slots failur
 record StepReads (k : ℕ) (r : Request) (feed : Feed) (step : StepValue) (reply : ReplyValue) (new : State) : Type 0 where
   next : Feed
   leaves : LeavesBody k r feed step reply next
-  stands : Stands k r next new.reached.slots new.reached.rest
+  represents : Represents k r next new.reached.slots new.reached.rest
 
 outcome-step : (k : ℕ) (r : Request) (feed : Feed) (step : StepValue) (o : Outcome) (old : State) (reply : ReplyValue) (new : State) → Reads k r feed step o → HasOutcome o old reply new → StepReads k r feed step reply new
 outcome-step k r feed step o old reply new h has =
     let planned = part-planned o.writer old o.reply reply o.slots new.failure (writes_nothing o.writer old) has.2 in
-    let S : Reached → Type 0 = λ x. Stands k r h.next x.slots x.rest in
-    record { next = h.next; leaves = h.leaves reply planned; stands = subst S (sym has.0) h.stands }
+    let S : Reached → Type 0 = λ x. Represents k r h.next x.slots x.rest in
+    record { next = h.next; leaves = h.leaves reply planned; represents = subst S (sym has.0) h.represents }
 
 memory-leaves : (k : ℕ) (r : Request) (feed : Feed) (j n : ℕ) → LeavesBody k r feed (Read j n) Memory feed
 memory-leaves k r feed j n = either (j == k) refl
 
 no-memory-reads : (k : ℕ) (r : Request) (feed : Feed) (date : HttpDate) (old : State) (step : StepValue) (reply : ReplyValue) (new : State)
-    → Stands k r feed old.reached.slots old.reached.rest → FindsNoMemory date old step reply new → StepReads k r feed step reply new
+    → Represents k r feed old.reached.slots old.reached.rest → FindsNoMemory date old step reply new → StepReads k r feed step reply new
 no-memory-reads k r feed date old Ask reply new h f =
     let refused = f.4 in
     let rest = f.5 in
     let slots = old.reached.slots ++ map (new_slot date) refused in
     let o : Outcome = record { reply = Memory; slots = slots; rest = rest; asking_ended = true; writer = answers_to old.reached.slots refused } in
-    let S : List Item → Type 0 = λ x. Stands k r feed old.reached.slots x in
-    let stands = all-on k r feed old.reached.slots rest date refused (subst S f.6 h) in
-    outcome-step k r feed Ask o old reply new (record { next = feed; leaves = λ x p. refl; stands = stands }) f.8
+    let S : List Item → Type 0 = λ x. Represents k r feed old.reached.slots x in
+    let represents = all-on k r feed old.reached.slots rest date refused (subst S f.6 h) in
+    outcome-step k r feed Ask o old reply new (record { next = feed; leaves = λ x p. refl; represents = represents }) f.8
 no-memory-reads k r feed date old (Read j n) reply new h f =
     let L : ReplyValue → Type 0 = λ x. LeavesBody k r feed (Read j n) x feed in
-    let S : State → Type 0 = λ x. Stands k r feed x.reached.slots x.reached.rest in
-    record { next = feed; leaves = subst L (sym f.2) (memory-leaves k r feed j n); stands = subst S (sym f.3) h }
+    let S : State → Type 0 = λ x. Represents k r feed x.reached.slots x.reached.rest in
+    record { next = feed; leaves = subst L (sym f.2) (memory-leaves k r feed j n); represents = subst S (sym f.3) h }
 no-memory-reads k r feed date old (AsReader j) reply new h f = elim f [ ]
 no-memory-reads k r feed date old (Respond j a) reply new h f = elim f [ ]
 no-memory-reads k r feed date old (IntoWriter j) reply new h f = elim f [ ]
@@ -632,7 +632,7 @@ no-memory-reads k r feed date old (Finish j) reply new h f = elim f [ ]
 no-memory-reads k r feed date old (Drop j) reply new h f = elim f [ ]
 
 step-reads : (k : ℕ) (r : Request) (feed : Feed) (old : State) (date : HttpDate) (step : StepValue) (reply : ReplyValue) (new : State)
-    → Stands k r feed old.reached.slots old.reached.rest → StepsTo old date step reply new → StepReads k r feed step reply new
+    → Represents k r feed old.reached.slots old.reached.rest → StepsTo old date step reply new → StepReads k r feed step reply new
 step-reads k r feed old date step reply new h s =
     ⊎_elim
     (λ g. outcome-step k r feed step (outcome g.0 date old.reached step) old reply new (outcome-reads k r feed g.0 date old.reached step h) g.2)
@@ -640,13 +640,13 @@ step-reads k r feed old date step reply new h s =
     s
 
 run-reads : (k : ℕ) (r : Request) (feed : Feed) (old new : State) (steps : List TimedValue) (replies : List ReplyValue)
-    → Stands k r feed old.reached.slots old.reached.rest → Run old steps replies new → ReadsInOrder k r feed steps replies
+    → Represents k r feed old.reached.slots old.reached.rest → Run old steps replies new → ReadsInOrder k r feed steps replies
 run-reads k r feed old new [] [] h run = tt
 run-reads k r feed old new [] (x ∷ replies) h run = elim run [ ]
 run-reads k r feed old new (s ∷ steps) [] h run = elim run [ ]
 run-reads k r feed old new (s ∷ steps) (x ∷ replies) h run =
     let one = step-reads k r feed old s.0 s.1 x run.0 h run.1 in
-    (one.next, one.leaves, run-reads k r one.next run.0 new steps replies one.stands run.2)
+    (one.next, one.leaves, run-reads k r one.next run.0 new steps replies one.represents run.2)
 
 pub conversation-reads : (p : Profile) (client : Feed) (before after : Sink) (steps : List TimedValue) (replies : List ReplyValue) (held : List ℕ) (ended : Bool) (unread : Option Feed)
     → (c : IsConversation p client before steps replies after held ended unread) (k : ℕ) (r : Request) → slice_get c.items k ≡ Some (Asks r) → ReadsInOrder k r r.body steps replies

@@ -148,8 +148,8 @@ answered-fits found date old r j response = go (slice_get old.slots j) refl
         (changed made old j s t Done w e (kept j made s t refl (λ x m. inl (same-some made x m))))
 
 -- what a step finds of numbers that were told, it finds of them as they were
-stop_count-fits : (made : TimedValue) (old : Reached) (o : Outcome) → Fits made (with_last closing_slot old.slots) old.rest o → Fits made old.slots old.rest o
-stop_count-fits made old o h =
+accounts-fits : (made : TimedValue) (old : Reached) (o : Outcome) → Fits made (with_last closing_slot old.slots) old.rest o → Fits made old.slots old.rest o
+accounts-fits made old o h =
     record {
       goes = λ items m. h.goes items (matches-closing old.slots items m);
       comes = λ k s x e m.
@@ -164,7 +164,7 @@ stop_count-fits made old o h =
 asked-fits : (found : Bool) (date : HttpDate) (old : Reached) (r : Request) (j : ℕ) (response : ResponseValue) (closes : Bool) → Fits (date, Respond j response) old.slots old.rest (answers found date (asked_to_close closes old) r j response)
 asked-fits found date old r j response false = answered-fits found date old r j response
 asked-fits found date old r j response true =
-    stop_count-fits (date, Respond j response) old (answers found date (asked_to_close true old) r j response) (answered-fits found date (asked_to_close true old) r j response)
+    accounts-fits (date, Respond j response) old (answers found date (asked_to_close true old) r j response) (answered-fits found date (asked_to_close true old) r j response)
 
 pub written-made : (k : ℕ) (bytes : List ℕ) (stage : Stage) → maker k (written_to bytes stage) ≡ maker k stage
 written-made k bytes Unanswered = refl

@@ -230,30 +230,30 @@ pub record Told (s : Slot) (slots : List Slot) (k : ℕ) : Type 0 where
   pub item : slot.item ≡ s.item
   pub stage : slot.stage ≡ s.stage
 
-pub stop_count : (s : Slot) (slots : List Slot) (k : ℕ) → slice_get slots k ≡ Some s → Told s slots k
-stop_count s [] k e = cc
-stop_count s (x ∷ []) zero e =
+pub accounts : (s : Slot) (slots : List Slot) (k : ℕ) → slice_get slots k ≡ Some s → Told s slots k
+accounts s [] k e = cc
+accounts s (x ∷ []) zero e =
     let same : x ≡ s = cc in
     let T : Slot → Type 0 = λ y. Told y (x ∷ []) zero in
     subst T same (record { slot = closing_slot x; get = refl; item = closing-item x; stage = closing-stage x })
-stop_count s (x ∷ []) (suc k) e = cc
-stop_count s (x ∷ y ∷ slots) zero e = record { slot = s; get = e; item = refl; stage = refl }
-stop_count s (x ∷ y ∷ slots) (suc k) e = let t = stop_count s (y ∷ slots) k e in record { slot = t.slot; get = t.get; item = t.item; stage = t.stage }
+accounts s (x ∷ []) (suc k) e = cc
+accounts s (x ∷ y ∷ slots) zero e = record { slot = s; get = e; item = refl; stage = refl }
+accounts s (x ∷ y ∷ slots) (suc k) e = let t = accounts s (y ∷ slots) k e in record { slot = t.slot; get = t.get; item = t.item; stage = t.stage }
 
 -- what is kept of the numbers doesn't see it
-keeps-stop_count : (bs : Bool) (old : Reached) (o : Outcome) → Keeps bs (asked_to_close true old) o → Keeps bs old o
-keeps-stop_count bs old o h =
+keeps-accounts : (bs : Bool) (old : Reached) (o : Outcome) → Keeps bs (asked_to_close true old) o → Keeps bs old o
+keeps-accounts bs old o h =
     let F : List ℕ → Type 0 = λ j. IsFront j (joined o.slots) in
     record {
-      adds = record { front = subst F (joined-closing old.slots) h.adds.front; own = own-stop_count o.writer old.slots o.slots h.adds.own };
+      adds = record { front = subst F (joined-closing old.slots) h.adds.front; own = own-accounts o.writer old.slots o.slots h.adds.own };
       slots = h.slots;
       rest = h.rest;
     }
   where
-    own-stop_count : (w : WriterUse) (was slots : List Slot) → AddsOwn w (with_last closing_slot was) slots → AddsOwn w was slots
-    own-stop_count Unused was slots a = a
-    own-stop_count Unreported was slots a = a
-    own-stop_count (Reported own broken flushes report) was slots a =
+    own-accounts : (w : WriterUse) (was slots : List Slot) → AddsOwn w (with_last closing_slot was) slots → AddsOwn w was slots
+    own-accounts Unused was slots a = a
+    own-accounts Unreported was slots a = a
+    own-accounts (Reported own broken flushes report) was slots a =
         λ none. subst (λ j. IsFront (j ++ own) (joined slots)) (joined-closing was) (a (broken-closing was ∙ none))
 
 -- a request that waits, in its turn, is answered by a response that may ask that the connection ends
@@ -261,8 +261,8 @@ asked-keeps : (bs : Bool) (found : Bool) (date : HttpDate) (old : Reached) (r : 
     → s.stage ≡ Unanswered → turn_has_come k old.slots ≡ true → Keeps bs old (answers found date (asked_to_close closes old) r k response)
 asked-keeps bs found date old r s k response false h here is u turn = answered-keeps bs found date old r s k response h here is u turn
 asked-keeps bs found date old r s k response true h here is u turn =
-    let t = stop_count s old.slots k here in
-    keeps-stop_count bs old (answers found date (asked_to_close true old) r k response)
+    let t = accounts s old.slots k here in
+    keeps-accounts bs old (answers found date (asked_to_close true old) r k response)
     (answered-keeps bs found date (asked_to_close true old) r t.slot k response (record { slots = sound-closing bs old.slots h.slots; rest = h.rest }) t.get (t.item ∙ is) (t.stage ∙ u) (turn-closing k old.slots ∙ turn))
 
 -- a step that a number takes in its time

@@ -21,7 +21,7 @@ use Rattle.tiny_http_connection.specs.Segments.{server_response, stage_text, seg
 use Rattle.tiny_http_connection.specs.Steps.{StepValue, Respond, IntoWriter, Upgrade, TimedValue}
 use Rattle.tiny_http_client.specs.ClientAnswer.{ClientAnswer, ReadsAnswers}
 use Rattle.tiny_http_client.specs.ClientText.{stated_length, received_answer}
-use Rattle.tiny_http_client.specs.SentTexts.{SentText, methods, StandIn}
+use Rattle.tiny_http_client.specs.SentTexts.{SentText, methods, AreIn}
 
 -- The method by which a client reads a number's text: that of the request. A refused head counts as a GET, the 505 to a
 -- HEAD as a HEAD.
@@ -111,7 +111,7 @@ pub record ReadsNumbers (slots : List Slot) (out : List ℕ) : Type 0 where
   pub answers : List ClientAnswer
   pub rest : List ℕ
   pub reads : ReadsAnswers (methods (sent_texts slots)) out answers rest
-  pub stand : StandIn (sent_texts slots) out answers rest
+  pub stand : AreIn (sent_texts slots) out answers rest
 
 -- each of these numbers has this response
 abbrev pub HaveAnswers : List Slot → List ClientAnswer → Type 0

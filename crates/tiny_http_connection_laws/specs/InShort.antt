@@ -1,7 +1,7 @@
 -- The connection theorem in short. The laws of this crate that use these definitions are on three fields of an
 -- `IsConversation`: `items`, which are the pipeline of the bytes by its field `pipeline`; `end.reached.slots`, the
--- numbers that were reached; and its replies and output. They can be read with the definitions of what the bytes hold
--- (`Pipeline`) and what a number sends (`segment`) alone, without those of a step's outcome and of what the driver
+-- numbers that were reached; and its replies and output. They can be understood with the definitions of what the bytes
+-- hold (`Pipeline`) and what a number sends (`segment`) alone, without those of a step's outcome and of what the driver
 -- keeps.
 use Rattle.std.specs.Prelude.{◌≡◌, ℕ, ◌+◌, ◌⊎◌, ⊤, ◌==◌, Bool, not, ◌&&◌, List, [], ◌∷◌, ◌++◌, MatchBool}
 use Rattle.std.specs.Prelude.{Option, Some, None, if◌then◌else◌}

@@ -41,9 +41,9 @@ pub fn requests_begin_the_pipeline()
 {}
 
 /// THE READS ARE THE BODY'S: the reads of each request give the next bytes of its own body, one after another. They
-/// report an end or a fault only after the last byte, and it is the one that the body has. (A counted body that the
-/// client's end cuts has an end under `Lenient` and `Strict`, a fault under `Standard`.) After an upgrade under
-/// `Standard` they give what follows the request.
+/// report an end or a fault only after the last byte, and it is the one that the body has. (A body with a content
+/// length that the client's end cuts has an end under `Lenient` and `Strict`, a fault under `Standard`.) After an
+/// upgrade under `Standard` they give what follows the request.
 pub fn reads_give_the_body()
     ensures next { (p : Profile) (feed : Feed) (before after : Sink) (steps : List TimedValue)
         (replies : List ReplyValue) (held : List ℕ) (ended : Bool) (unread : Option Feed)
@@ -97,7 +97,7 @@ pub fn numbers_are_as_told()
         → (k : ℕ)
         → IsHanded k (handed replies)
         → (s : Slot) × (slice_get c.end.reached.slots k ≡ Some s) }
-    ensures stop_count { (p : Profile) (feed : Feed) (before after : Sink) (steps : List TimedValue)
+    ensures accounts { (p : Profile) (feed : Feed) (before after : Sink) (steps : List TimedValue)
         (replies : List ReplyValue) (held : List ℕ) (ended : Bool) (unread : Option Feed)
         → (c : IsConversation p feed before steps replies after held ended unread)
         → (k : ℕ) (s : Slot)
@@ -224,8 +224,8 @@ pub fn conversation_is_read()
         × ReadsAnswers (methods (sent_texts c.end.reached.slots)) out answers [] }
 {}
 
-/// The constant that the definitions of a request's end take from the code: how many bytes of a counted body are
-/// skipped.
+/// The constant that the definitions of a request's end take from the code: how many bytes of a body with a content
+/// length are skipped.
 pub fn size_of_what_is_skipped()
     ensures { MOST_SKIPPED ≡ 65536 }
 {}

@@ -1,9 +1,9 @@
--- The date of a file, and the one that a client has.
+-- Modification dates of files, and those that clients have.
 use Rattle.std.specs.Prelude.{ℕ, Bool, false, List, Option, Some, None, nat_le}
 use Rattle.httpdate.specs.declared.date.HttpDate.{HttpDate}
 use Rattle.httpdate.specs.Date.{unix_secs, parse_secs}
 
--- a date that is none asks for nothing
+-- a value that isn't a date is ignored
 abbrev pub is_no_later : ℕ → Option ℕ → Bool
 is_no_later modified None = false
 is_no_later modified (Some since) = nat_le modified since

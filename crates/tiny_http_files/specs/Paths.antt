@@ -1,4 +1,4 @@
--- Paths below a folder.
+-- Paths within a folder.
 use Rattle.std.specs.Prelude.{ℕ, Bool, not, false, ◌||◌, ◌==◌, List, [], ◌∷◌, ◌++◌, Option, Some, None, codes}
 use Rattle.std.specs.Prelude.{if◌then◌else◌}
 use Rattle.std.specs.List.{list_any}
@@ -9,11 +9,11 @@ use Rattle.tiny_http_text.specs.Bytes.{parts}
 abbrev pub slash : ℕ
 slash = 47
 
--- no file of the folder has this name: a NUL ends it, and a backslash (92) divides it elsewhere
+-- a byte that isn't allowed in a file name: a NUL ends it, and a backslash (92) separates parts on some systems
 abbrev pub is_unsafe_byte : ℕ → Bool
 is_unsafe_byte b = b == 0 || b == 92
 
--- the folder itself, the one above it, or no name of a file
+-- the folder itself, its parent, or no file name
 abbrev pub is_unsafe_part : List ℕ → Bool
 is_unsafe_part part = bytes_eq part (codes ".") || (bytes_eq part (codes "..") || list_any is_unsafe_byte part)
 
@@ -21,7 +21,7 @@ abbrev pub begins_with_slash : List ℕ → Bool
 begins_with_slash [] = false
 begins_with_slash (b ∷ bs) = b == slash
 
--- the folder and the path joined, where the path leads to nothing else
+-- the folder and the path joined, unless the path may lead out
 abbrev pub below_folder : List ℕ → List ℕ → Option (List ℕ)
 below_folder folder path =
     if not (begins_with_slash path) || list_any is_unsafe_part (parts slash path) then None else Some (folder ++ path)

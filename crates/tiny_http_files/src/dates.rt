@@ -1,14 +1,15 @@
-//! The date of a file, and the one that a client has (RFC 9110, sections 8.8.2 and 13.1.3).
+//! Modification dates of files, and those that clients have (RFC 9110, sections 8.8.2 and 13.1.3).
 ghost use Rattle.std.specs.Prelude.{◌≡◌};
 ghost use Rattle.std.specs.Option.{option_copied};
 ghost use Rattle.tiny_http_files.specs.Dates.{is_not_modified};
 
 use httpdate::HttpDate;
 
-/// Whether a client has the file of this date: its `If-Modified-Since` (`since`) is a date, and the file is no later.
-/// Then the answer is a 304 without content (`Response::contentless`). A value that is no date asks for nothing (RFC
-/// 9110, section 13.1.3). The caller passes the header over where the request has `If-None-Match`, or a method other
-/// than `GET` and `HEAD`.
+/// Returns whether a client's copy is current: its `If-Modified-Since` (`since`) is a date, and the file is no later.
+///
+/// The response is then a 304 without content (`Response::contentless`). A value that isn't a date is ignored (RFC
+/// 9110, section 13.1.3). The caller ignores the field if the request has `If-None-Match`, or a method other than `GET`
+/// and `HEAD`.
 pub fn is_not_modified(since: Option<&str>, modified: HttpDate) -> bool
     ensures { result ≡ is_not_modified (option_copied since.entry) modified }
 {

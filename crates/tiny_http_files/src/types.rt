@@ -1,7 +1,7 @@
-//! The types of files (RFC 9110, section 8.3).
+//! Media types of files (RFC 9110, section 8.3).
 
-/// The media type that is said of a file of this name, by what stands behind its last point. That has to be in lower
-/// case: any other name is `application/octet-stream`.
+/// Returns the media type for a file name, by its extension after the last point. The extension must be in lower case;
+/// any other name gives `application/octet-stream`.
 pub fn type_of(name: &str) -> &'static str {
     let Some((_, extension)) = name.rsplit_once('.') else {
         return "application/octet-stream";

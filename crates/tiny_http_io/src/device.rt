@@ -219,7 +219,7 @@ impl<S: Write> WriteDevice for Metered<S> {
         self.failures
     }
 
-    /// Writes once to the stream. If the stream takes none of some bytes, it fails with `WriteZero`.
+    /// Writes once to the stream. If the stream takes nothing from a nonempty buffer, it fails with `WriteZero`.
     fn write_out(&mut self, buf: &[u8]) -> Result<usize, io::Error>
         ensures puts { PutsFront (metered_sink self.old) (metered_sink self.new) result buf.now }
         // The stream took these bytes, and none if it failed, if it states its bytes.
@@ -475,8 +475,8 @@ impl<R: ReadDevice> ReadDevice for ByPieces<R> {
     }
 }
 
-/// A reader or writer one call of which fails, once. That call doesn't reach the inner stream; every other does. It is
-/// a `ReadDevice` over a `ReadDevice`, and a `Write` over a `Write`. It is for tests of code that reads and writes.
+/// A reader or writer with one failing call. That call doesn't reach the inner stream; every other does. It is a
+/// `ReadDevice` over a `ReadDevice`, and a `Write` over a `Write`. It is for tests of code that reads and writes.
 #[derive(Drop)]
 pub struct FailsAt<S> {
     inner: S,

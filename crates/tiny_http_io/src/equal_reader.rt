@@ -12,7 +12,7 @@ use std::io::Read;
 // The size of the buffer, in bytes, into which the rest is discarded.
 const PIECE: usize = 512;
 
-/// A reader of exactly n bytes of another. If that gives fewer, this one stops as it does.
+/// A reader of the next n bytes of another. If that gives fewer, this one stops as it does.
 ///
 /// When dropped or finished it reads and discards the rest of its bytes, through a buffer of a fixed size, up to an end
 /// or a fault.

@@ -193,7 +193,7 @@ impl<W: WriteDevice> Outlet<W> {
         self.ended
     }
 
-    /// Sends the buffered bytes, flushes the writer, and ends the outlet, whether or not that fails.
+    /// Sends the buffered bytes and flushes the writer. The outlet ends even if the writer fails.
     pub fn end(&mut self) -> Result<(), io::Error>
         ensures ends { EndsOutlet (output_of self.old) (output_of self.new) result }
         ensures held { outlet_held self.new ≡ [] }

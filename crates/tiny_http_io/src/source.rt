@@ -146,7 +146,7 @@ impl<R: ReadDevice> Source<R> {
     }
 
     /// Sets the position among heads and bodies. It is for the crates above, which read heads and bodies.
-    pub fn stand_at(&mut self, input_state: InputState)
+    pub fn set_input_state(&mut self, input_state: InputState)
         ensures { self.new ≡ record self.old { input_state = input_state } }
     {
         self.input_state = input_state;
@@ -203,7 +203,7 @@ impl<R: ReadDevice> Source<R> {
     /// Reads the next line if it ends within `left` bytes, its CR LF included.
     ///
     /// Otherwise it fails with `TooLong` as soon as `left` bytes came, and the source ends. No more than `left` bytes
-    /// are buffered. The other faults are those of `read_line`.
+    /// of the line are gathered. The other faults are those of `read_line`.
     pub fn read_line_within(&mut self, alloc: Global, left: usize) -> Result<AsciiString, LineFault>
         ensures reads { ReadsOneLine (Some left) self.old self.new result }
         ensures calls { CallsReader R.stop_count self.old self.new }

@@ -38,7 +38,7 @@ use Rattle.tiny_http_open_request.specs.Pipeline.{Manner, plainly, place_feed, i
 use Rattle.tiny_http_open_request.specs.PipelineReading.{BodyRead, Headings, chunked_read, sized_read, body_read, cut_heading, whole_heading, is_full, all_after, faulty, heading, heading_of, items_at, items_from, items_of}
 use Rattle.tiny_http_body.proofs.FramingLemmas.{framing-is, framing-one, rest-last}
 use Rattle.tiny_http_open_request.proofs.StandardLemmas.{IsStandardHeads, standard-parts}
-use Rattle.tiny_http_open_request.proofs.WithinLemmas.{seen-stands, stands-seen, seen-all}
+use Rattle.tiny_http_open_request.proofs.WithinLemmas.{seen-represents, represents-seen, seen-all}
 
 pub cut-with_head : (form : Form) (n : ℕ) (after : List ℕ) → is_cut_with_head form n after ≡ true → IsCutWithHead form n after
 cut-with_head WithHead n after c = ltb-true (length after) n c
@@ -82,12 +82,12 @@ framed-is p m after stop bytes (Ok f) h = pipeline-cut-step p m after stop bytes
 -- a head that stands among the bytes that are looked at
 seen-within : (limit : Option ℕ) (bytes : List ℕ) (m : Message) (after : List ℕ) → BeginsWithRequestHead (seen_within limit bytes) m after → BeginsWithin limit bytes m (all_after limit bytes after)
 seen-within None bytes m after h = h
-seen-within (Some limit) bytes m after h = seen-stands limit bytes m after h
+seen-within (Some limit) bytes m after h = seen-represents limit bytes m after h
 
 within-seen : (limit : Option ℕ) (bytes : List ℕ) (m : Message) (after : List ℕ) → BeginsWithin limit bytes m after
     → (front : List ℕ) × BeginsWithRequestHead (seen_within limit bytes) m front × (after ≡ all_after limit bytes front)
 within-seen None bytes m after h = (after, h, refl)
-within-seen (Some limit) bytes m after h = stands-seen limit bytes m after h.0 h.1 h.2 h.3
+within-seen (Some limit) bytes m after h = represents-seen limit bytes m after h.0 h.1 h.2 h.3
 
 -- a head that is only cut is too large, or isn't finished
 abbrev CutOrFull : Option ℕ → List ℕ → Option HTTPVersion → Bool → Type 0

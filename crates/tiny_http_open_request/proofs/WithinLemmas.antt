@@ -56,9 +56,9 @@ head-text bytes m after h =
     )
 
 -- a head that stands among the first bytes stands in all, and keeps the limit
-pub seen-stands : (limit : ℕ) (bytes : List ℕ) (m : Message) (front : List ℕ) → BeginsWithRequestHead (take limit bytes) m front
+pub seen-represents : (limit : ℕ) (bytes : List ℕ) (m : Message) (front : List ℕ) → BeginsWithRequestHead (take limit bytes) m front
     → BeginsWithRequestHead bytes m (front ++ drop limit bytes) × (head : List ℕ) × (bytes ≡ head ++ (front ++ drop limit bytes)) × (length head ≤ limit)
-seen-stands limit bytes m front h =
+seen-represents limit bytes m front h =
     let text = head-text (take limit bytes) m front h in
     let all : text.0 ++ (front ++ drop limit bytes) ≡ bytes = joined-all text.0 front (drop limit bytes) (take limit bytes) text.1 ∙ take-append-drop limit bytes in
     let P : List ℕ → Type 0 = λ y. BeginsWithRequestHead y m (front ++ drop limit bytes) in
@@ -85,9 +85,9 @@ unseen-of limit bytes text after e le =
     ap (λ x. drop limit x) e ∙ ap (λ n. drop n (text ++ after)) reaches ∙ drop-append-add text after (limit - length text)
 
 -- and one that keeps the limit stands among them
-pub stands-seen : (limit : ℕ) (bytes : List ℕ) (m : Message) (after : List ℕ) → BeginsWithRequestHead bytes m after → (head : List ℕ) → bytes ≡ head ++ after → length head ≤ limit
+pub represents-seen : (limit : ℕ) (bytes : List ℕ) (m : Message) (after : List ℕ) → BeginsWithRequestHead bytes m after → (head : List ℕ) → bytes ≡ head ++ after → length head ≤ limit
     → (front : List ℕ) × BeginsWithRequestHead (take limit bytes) m front × (after ≡ front ++ drop limit bytes)
-stands-seen limit bytes m after h head joins fits =
+represents-seen limit bytes m after h head joins fits =
     let text = head-text bytes m after h in
     let long : length bytes ≡ length text.0 + length after = ap length text.1 ∙ length-append text.0 after in
     let whole : length bytes ≡ length head + length after = ap length joins ∙ length-append head after in

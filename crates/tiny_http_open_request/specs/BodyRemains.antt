@@ -1,5 +1,4 @@
--- What is left of a body from a place within it.
--- Nobody needs this file to believe the laws of `InShort`.
+-- What is left of a body from a position within it. The laws of `InShort` can be trusted without this file.
 use Rattle.std.specs.Prelude.{◌≡◌, ℕ, Bool, ◌<◌, ◌⊎◌, List, [], ◌++◌, length, Some, None}
 use Rattle.std.specs.declared.io.ErrorKind.{ErrorKind}
 use Rattle.tiny_http_io.specs.declared.device.Stop.{Stop}
@@ -15,7 +14,7 @@ use Rattle.tiny_http_open_request.specs.Pipeline.{Place, BodyAt}
 abbrev pub breaking : List ℕ → ErrorKind → Feed
 breaking bytes kind = record { bytes = bytes; stop = Faults kind }
 
--- Within a chunk, so many bytes of its data are left: they, CR LF and a chunked body; or they, and no CR LF; or fewer.
+-- Within a chunk, `left` bytes of its data are left: they, CR LF and a chunked body; or they, and no CR LF; or fewer.
 abbrev pub WithinChunk : Bool → ℕ → List ℕ → Stop → Feed → Place → Type 0
 WithinChunk standard left bytes stop body next =
     ((part : List ℕ)
@@ -40,8 +39,8 @@ abbrev pub IsMet : List ℕ → Feed → Place → Type 0
 IsMet bytes body next =
     ((body ≡ whole_feed []) × (next ≡ Some bytes)) ⊎ ((kind : ErrorKind) × (body ≡ breaking [] kind) × (next ≡ None))
 
--- WHAT IS LEFT OF A BODY, of which so many bytes are left where it is counted. Of a chunked one: what is left of a
--- chunk, and a chunked body; or a chunked body; or nothing. Of another: a body of its form.
+-- WHAT IS LEFT OF A BODY, of which n bytes are left if it is counted. Of a chunked one: the rest of a chunk, and a
+-- chunked body; or a chunked body; or nothing. Of any other: a body of its form.
 abbrev pub RemainsAt : Bool → Form → ℕ → List ℕ → Stop → Feed → Place → Type 0
 RemainsAt standard Chunked n bytes stop body next =
     BodyAt standard Chunked n bytes stop body next

@@ -15,15 +15,15 @@ use Rattle.tiny_http_response.specs.declared.response_context.ResponseContext.{R
 use Rattle.tiny_http_open_request.specs.TextState.{drop_text}
 use Rattle.tiny_http_body.specs.Body.{Remaining, remaining, remainder, is_streaming, is_whole, Fits, GivesUp}
 
--- a request of this head, of which this is kept
+-- a request with this head, and what is kept of it
 abbrev pub exchange_of : Head → OpenRequest UnreadBody → Exchange
 exchange_of head request = record { head = head; open_request = request }
 
--- what the request's head says
+-- the head of the request
 abbrev pub exchange_head : Exchange → Head
 exchange_head x = x.head
 
--- what is kept of it until it is answered
+-- what is kept of it until the response
 abbrev pub exchange_open : Exchange → OpenRequest UnreadBody
 exchange_open x = x.open_request
 
@@ -31,11 +31,11 @@ exchange_open x = x.open_request
 abbrev pub exchange_body : Exchange → UnreadBody
 exchange_body x = x.open_request.body
 
--- what is still to come of its body, where the input still gives this, and what stands after it
+-- what is still to come of its body, if the input still gives this, and what follows it
 abbrev pub exchange_left : Exchange → Option Feed → Option Remaining
 exchange_left x feed = remaining x.open_request.body feed
 
--- how a 100 of this date is printed, and the answer of an upgrade
+-- how a 100 with this date is printed, and the response of an upgrade
 abbrev pub exchange_printing : Exchange → HttpDate → Printing
 exchange_printing x date = printing_in x.open_request.response_context date
 
@@ -43,7 +43,7 @@ exchange_printing x date = printing_in x.open_request.response_context date
 abbrev pub exchange_context : Exchange → ResponseContext
 exchange_context x = final_context x.open_request (remainder x.open_request.body)
 
--- its body is read from the input, which has to stand after it before the next head is read
+-- its body is read from the input, which must be after it before the next head is read
 abbrev pub exchange_streams : Exchange → Bool
 exchange_streams x = is_streaming x.open_request.body
 
@@ -51,7 +51,7 @@ exchange_streams x = is_streaming x.open_request.body
 abbrev pub exchange_owes_continue : Exchange → Bool
 exchange_owes_continue x = x.open_request.owes_continue
 
--- the text that answers it if it is dropped; no byte, once that was taken
+-- the text that is sent if it is dropped; no bytes, once that was taken
 abbrev pub exchange_drop_text : Exchange → List ℕ
 exchange_drop_text x = drop_text x.open_request.dropped (exchange_context x)
 
@@ -59,16 +59,16 @@ exchange_drop_text x = drop_text x.open_request.dropped (exchange_context x)
 abbrev pub exchange_check : Exchange → List ℕ → ℕ → Result ⊤ UpgradeError
 exchange_check x protocol code = request_check x.open_request protocol code (is_whole x.open_request.body)
 
--- its head is the same, and of what is kept of it this has changed
+-- its head is unchanged, and what is kept of it has changed in this way
 abbrev pub Changes : (OpenRequest UnreadBody → OpenRequest UnreadBody → Type 0) → Exchange → Exchange → Type 0
 Changes P old new = (new.head ≡ old.head) × P old.open_request new.open_request
 
--- nothing but how far its body was read has changed
+-- nothing has changed except how far its body was read
 abbrev pub KeepsButBody : Exchange → Exchange → Type 0
 KeepsButBody old new =
     (body : UnreadBody) × (new ≡ record old { open_request = record old.open_request { body = body } })
 
--- its body is given up
+-- the rest of its body is discarded
 abbrev pub GivesUpBody : {R : Type 0} → Exchange → SourceState R → SourceState R → Type 0
 GivesUpBody x old new = GivesUp x.open_request.body old new
 

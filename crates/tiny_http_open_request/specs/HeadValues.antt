@@ -12,8 +12,8 @@ is_rest WithHead = false
 is_rest Counted = false
 is_rest Chunked = false
 
--- The head asks for an upgrade that its profile takes: by the standard as RFC 9110, section 7.8, says, unless the
--- connection ends after the request; else by a first `Connection` that names one.
+-- The head asks for an upgrade that its profile accepts: under `Standard` as RFC 9110, section 7.8, requires, unless
+-- the connection ends after the request; otherwise by a first `Connection` that names one.
 abbrev pub is_upgrade : Head → Bool
 is_upgrade h =
     if h.framing.by_standard then h.framing.asks_upgrade && not h.framing.is_last else is_rest h.framing.form

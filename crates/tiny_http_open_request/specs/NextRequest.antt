@@ -1,4 +1,4 @@
--- One head after another: those are passed that are refused and have another behind them.
+-- One head after another: refused heads that are followed by another are passed.
 use Rattle.std.specs.Prelude.{◌≡◌, ℕ, zero, suc, ◌^◌, ◌⊎◌, Bool, true, false, List, Option, Some, None, Result, Ok, Err}
 use Rattle.std.specs.declared.alloc.AllocError.{AllocError}
 use Rattle.httpdate.specs.declared.date.HttpDate.{HttpDate}
@@ -13,7 +13,7 @@ use Rattle.tiny_http_open_request.specs.declared.next_request.NextRequest.{NextR
 use Rattle.tiny_http_open_request.specs.declared.next_request.NextRequest.TheVariants as next
 use Rattle.tiny_http_open_request.specs.HeadReads.{TakesHead}
 
--- where the reading stands: the source, the place where refusals go, and the output that is lent for that
+-- the state of the reading: the source, the place for refusals, and the output that is lent for that
 pub record At (R P O : Type 0) : Type 0 where
   pub source : SourceState R
   pub place : P
@@ -22,20 +22,20 @@ pub record At (R P O : Type 0) : Type 0 where
 abbrev pub at : {R P O : Type 0} → SourceState R → P → O → At R P O
 at source place output = record { source = source; place = place; output = output }
 
--- How a text is put where refusals go: the flag says whether it was. A trait's relation.
+-- How a text is put into the place for refusals; the flag is true if it was. A trait's relation.
 abbrev pub Refuses : Type 0 → Type 0 → Type 1
 Refuses P O = P → O → List ℕ → Bool → P → O → Type 0
 
--- what is found: a request or the end; or, where there is none, another head stands behind
+-- what is found: a request or the end; or None, if another head follows
 abbrev pub Found : Type 0
 Found = Option (Result NextRequest AllocError)
 
--- what follows a refused head whose answer went where it goes: the end after the last one, or the next head
+-- what follows a refused head whose response was put in its place: the end after the last one, or the next head
 abbrev pub after_refused : StatusCode → Bool → Found
 after_refused status true = Some (Ok (next.Ended (because.Refused status)))
 after_refused status false = None
 
--- the answer of a refused head went where it goes; or memory was refused for that
+-- the response to a refused head was put in its place; or memory was refused for that
 abbrev pub FollowsRefusal : StatusCode → Bool → Bool → Found → Type 0
 FollowsRefusal status last true found = found ≡ after_refused status last
 FollowsRefusal status last false found = (e : AllocError) × (found ≡ Some (Err e))
@@ -44,11 +44,11 @@ FollowsRefusal status last false found = (e : AllocError) × (found ≡ Some (Er
 abbrev pub next_of : Exchange → NextRequest
 next_of x = next.Request x.head x.open_request
 
--- place and output are as they were
+-- place and output are unchanged
 abbrev pub Stays : {R P O : Type 0} → At R P O → At R P O → Type 0
 Stays here there = (there.place ≡ here.place) × (there.output ≡ here.output)
 
--- What follows what was read of a head. Place and output change only where the head is refused.
+-- What follows a read of a head. Place and output change only if the head is refused.
 abbrev pub Follows : {R P O : Type 0} → Refuses P O → Result HeadRead AllocError → At R P O → Found → At R P O → Type 0
 Follows refuses (Ok (read.Request x)) here found there = (found ≡ Some (Ok (next_of x))) × Stays here there
 Follows refuses (Ok (read.Ended why)) here found there = (found ≡ Some (Ok (next.Ended why))) × Stays here there
@@ -65,7 +65,7 @@ FindsHead refuses profile date here found there =
     × TakesHead profile date here.source there.source r
     × Follows refuses r here found there
 
--- so many heads were refused, and another stands behind each
+-- n heads were refused, and another follows each
 abbrev pub PassesHeads : {R P O : Type 0} → Refuses P O → Profile → HttpDate → ℕ → At R P O → At R P O → Type 0
 PassesHeads refuses profile date zero here there = there ≡ here
 PassesHeads {R = R} {P = P} {O = O} refuses profile date (suc n) here there =
@@ -75,7 +75,7 @@ PassesHeads {R = R} {P = P} {O = O} refuses profile date (suc n) here there =
 abbrev pub PassesTooMany : {R P O : Type 0} → ℕ → At R P O → Result NextRequest AllocError → At R P O → Type 0
 PassesTooMany passed here r there = (passed ≡ 2 ^ 64) × ((e : AllocError) × (r ≡ Err e)) × (there ≡ here)
 
--- THE NEXT REQUEST, over the heads that are passed before it
+-- THE NEXT REQUEST, after the heads that are passed before it
 pub record FindsNext {R P O : Type 0} (refuses : Refuses P O) (profile : Profile) (date : HttpDate) (here : At R P O)
     (r : Result NextRequest AllocError) (there : At R P O) : Type 0 where
   pub passed : ℕ

@@ -30,57 +30,57 @@ use Rattle.tiny_http_open_request.specs.declared.upgrading.UpgradeError.TheVaria
 use Rattle.tiny_http_open_request.specs.ErrorResponse.{persistence_of}
 use Rattle.tiny_http_open_request.specs.Pipeline.{is_head_method, is_connect_method}
 
--- the coding that the headers of a request ask for: by the standard, chunks or none
+-- the coding that the headers of a request ask for: under `Standard`, chunked or none
 abbrev pub coding_for : Bool → List Header → Option Coding
 coding_for by_standard headers =
     if by_standard then (if asks_chunked headers then Some Chunked else None) else coding_asked headers
 
--- a final answer has a code of three digits, and no 1xx (RFC 9110, section 15)
+-- a final response has a code of three digits that isn't 1xx (RFC 9110, section 15)
 abbrev pub is_final : ℕ → Bool
 is_final code = not (nat_lt code 200) && nat_lt code 1000
 
--- an answer with this code is refused: by the standard it has to be final, and one to CONNECT is no 2xx, which would
--- open a tunnel
+-- a response with this code is refused: under `Standard` it must be final, and to CONNECT it must not be 2xx, which
+-- would open a tunnel
 abbrev pub refuses_code : Bool → Bool → ℕ → Bool
 refuses_code by_standard is_connect code = by_standard && (not (is_final code) || (is_connect && nat_lt code 300))
 
--- No head is read after a request that is finished now: by the standard its 100 is owed, so that the client may leave
--- the body out, or send it; or more is left of its body than is skipped.
+-- No head is read after a request that is finished now: under `Standard` its 100 is owed, so that the client may omit
+-- the body, or send it; or more is left of its body than is skipped.
 abbrev pub ends_once_finished : Bool → Bool → Remainder → Bool
 ends_once_finished by_standard owed left = by_standard && (owed || is_long left)
 
 abbrev pub is_last_once_finished : {B : Type 0} → OpenRequest B → Remainder → Bool
 is_last_once_finished w left = ends_once_finished w.by_standard w.owes_continue left
 
--- none is read behind a request that gets the connection's stream now
+-- none is read after a request that takes over the connection's stream now
 abbrev pub is_last_with_stream : {B : Type 0} → OpenRequest B → Remainder → Bool
 is_last_with_stream w left = w.holds_next_head || is_last_once_finished w left
 
--- By the standard the answer to a request says that the connection ends where an answer asked for that, its 100 is
--- owed, or what is left of its body isn't skipped: it is long, or its end isn't known.
+-- Under `Standard` the response to a request says that the connection closes if a response asked for that, its 100 is
+-- owed, or the rest of its body isn't skipped: it is long, or its end isn't known.
 abbrev pub closes_once_answered : Bool → Bool → Remainder → Bool
 closes_once_answered closes owed left = closes || (owed || not (is_skipped left))
 
--- how it is answered now; where the request is the last by its head, its context says so already
+-- how it is answered now; if the request is the last by its head, its context says so already
 abbrev pub final_context : {B : Type 0} → OpenRequest B → Remainder → ResponseContext
 final_context w left =
     if w.by_standard && closes_once_answered w.closes w.owes_continue left then record w.response_context
     { persistence = Some Close } else w.response_context
 
--- a body that goes on up to the end of the connection
+-- a body that the end of the connection ends
 abbrev pub is_plain : StreamedForm → Bool
 is_plain Plain = true
 is_plain _ = false
 
--- How the head of an answer is printed to this request whose body grows: by the standard it says that the connection
--- ends where another answer would, and where the body goes on up to that end.
+-- How the head of a response with a growing body is printed: under `Standard` it says that the connection closes if any
+-- other response would, or if the end of the connection ends the body.
 abbrev pub streaming_context : {B : Type 0} → OpenRequest B → ℕ → Remainder → ResponseContext
 streaming_context w status left =
     if w.by_standard && is_plain (streamed_form w.response_context status) then record (final_context w left)
     { persistence = Some Close } else final_context w left
 
--- A connection can be upgraded to this protocol by an answer with this code, or why not. By the standard the request
--- has to ask for it, and its body has to be whole (RFC 9110, section 7.8).
+-- Whether a response with this code can upgrade a connection to this protocol, or why not. Under `Standard` the request
+-- must ask for it, and its body must be whole (RFC 9110, section 7.8).
 abbrev pub upgrade_check : Bool → Bool → List ℕ → ℕ → Bool → Result ⊤ UpgradeError
 upgrade_check by_standard is_asked protocol code is_whole =
     if not (list_all is_ascii protocol) then Err Protocol else
@@ -89,12 +89,12 @@ upgrade_check by_standard is_asked protocol code is_whole =
     if not (code == 101) then Err Status else
     if not is_whole then Err UnfinishedBody else Ok tt
 
--- the same of a request that waits, by how far its body was read
+-- the same for an open request, by how far its body was read
 abbrev pub request_check : {B : Type 0} → OpenRequest B → List ℕ → ℕ → Bool → Result ⊤ UpgradeError
 request_check w protocol code is_whole =
     upgrade_check w.by_standard (w.holds_next_head && names_protocol w.upgrades.items protocol) protocol code is_whole
 
--- the same request, with this in the place of its body
+-- the same request, with this body
 abbrev pub with_body : {A B : Type 0} → OpenRequest A → B → OpenRequest B
 with_body w body = record {
   response_context = w.response_context;
@@ -108,24 +108,24 @@ with_body w body = record {
   body = body;
 }
 
--- the same request, behind which the connection ends
+-- the same request, after which the connection closes
 abbrev pub closing : {B : Type 0} → OpenRequest B → OpenRequest B
 closing w = record w { closes = true }
 
--- nothing has changed but that no 100 is owed any more
+-- nothing has changed except that no 100 is owed
 abbrev pub OwesNoContinue : {B : Type 0} → OpenRequest B → OpenRequest B → Type 0
 OwesNoContinue old new = new ≡ record old { owes_continue = false }
 
--- nothing has changed but that no 100 is owed any more, and that its body is what an upgraded connection reads
+-- nothing has changed except that no 100 is owed, and that its body is what an upgraded connection reads
 abbrev pub HasBecomeStream : OpenRequest UnreadBody → OpenRequest UnreadBody → Type 0
 HasBecomeStream old new = new ≡ record old { owes_continue = false; body = stream_body old.by_standard old.body }
 
--- nothing has changed but that the text of its drop was taken, and that no 100 is owed any more
+-- nothing has changed except that the text of its drop was taken, and that no 100 is owed
 abbrev pub HasNoDropText : {B : Type 0} → OpenRequest B → OpenRequest B → Type 0
 HasNoDropText old new = new ≡ record old { owes_continue = false; dropped = record old.dropped { is_taken = true } }
 
--- nothing has changed but that its body reports its end from now on, that no 100 is owed any more, and that no
--- upgrade of it is taken
+-- nothing has changed except that its body reports its end from now on, that no 100 is owed, and that no upgrade of it
+-- is accepted
 abbrev pub HasNoBodyLeft : OpenRequest UnreadBody → OpenRequest UnreadBody → Type 0
 HasNoBodyLeft old new = new ≡ record old { body = Over End; owes_continue = false; holds_next_head = false }
 

@@ -1,9 +1,9 @@
--- What a writer into room of its own reports.
+-- What a writer into memory of its own states.
 use Rattle.std.specs.Prelude.{Some, None, false}
 use Rattle.tiny_http_io.specs.Device.{Sink}
 use Rattle.tiny_http_open_request.specs.declared.error_response.OwnPage.{OwnPage}
 
--- nothing is held back
+-- no bytes are held back
 abbrev pub page_sink : OwnPage → Sink
 page_sink p =
     record

@@ -1,4 +1,4 @@
--- What a connection's bytes ask: requests with their bodies, and heads that are refused.
+-- What the bytes of a connection ask: requests with their bodies, and heads that are refused.
 use Rattle.std.specs.Prelude.{◌≡◌, ℕ, ◌<◌, ◌≤◌, ◌⊎◌, ⊤, Bool, true, false, ◌&&◌, nat_lt, List, [], ◌∷◌, ◌++◌, length}
 use Rattle.std.specs.Prelude.{take, drop, Option, Some, None, Result, Ok, Err, unwrap_or, if◌then◌else◌}
 use Rattle.std.specs.declared.io.ErrorKind.{ErrorKind}
@@ -32,7 +32,7 @@ use Rattle.tiny_http_body.specs.Body.{cut_stop, chunk_rules}
 use Rattle.tiny_http_body.specs.Framing.{Frames, head_limit}
 use Rattle.tiny_http_body.specs.FramingReading.{sized_form}
 
--- a request that is handed out: its head, its framing, what its body reader gives and how that closes, and all that
+-- a request that is handed out: its head, its framing, what its body reader gives and how that stops, and all that
 -- follows its body
 pub record Request : Type 0 where
   pub message : Message
@@ -44,7 +44,7 @@ pub record Request : Type 0 where
 pub data Refusal : Type 0 where
   -- it is no head by the grammar, or its framing or its host is invalid
   BadRequest : Refusal
-  -- the reader timed out before it had come
+  -- the reader timed out before it had arrived
   RequestTimeout : Refusal
   -- what it expects can't be met
   ExpectationFailed : Refusal
@@ -52,14 +52,15 @@ pub data Refusal : Type 0 where
   HeaderFieldsTooLarge : Refusal
   -- its version is above 1.1
   VersionNotSupported : Refusal
-  -- it is larger than the standard profile allows, in its request line
+  -- it is larger than `Standard` allows, in its request line
   RequestLineTooLong : Refusal
-  -- its codings aren't understood
+  -- its transfer codings are unknown
   CodingNotImplemented : Refusal
-  -- its major version isn't 1, by the standard
+  -- its major version isn't 1, under `Standard`
   MajorVersionNotSupported : Refusal
 
--- the status that says so (RFC 9110, sections 15.5.1, 15.5.9, 15.5.15, 15.5.18, 15.6.2 and 15.6.6; RFC 6585, section 5)
+-- the status of the refusal (RFC 9110, sections 15.5.1, 15.5.9, 15.5.15, 15.5.18, 15.6.2 and 15.6.6; RFC 6585, section
+-- 5)
 abbrev pub refusal_status : Refusal → ℕ
 refusal_status BadRequest = 400
 refusal_status RequestTimeout = 408
@@ -70,7 +71,7 @@ refusal_status RequestLineTooLong = 414
 refusal_status CodingNotImplemented = 501
 refusal_status MajorVersionNotSupported = 505
 
--- in which version a head is refused, and whether that is printed by the standard
+-- the version in which a head is refused, and whether that is printed under `Standard`
 pub record Manner : Type 0 where
   pub version : HTTPVersion
   pub by_standard : Bool
@@ -81,13 +82,13 @@ plainly v = record { version = v; by_standard = false }
 abbrev pub by_the_standard : Manner
 by_the_standard = record { version = version 1 1; by_standard = true }
 
--- how a head is refused whose framing is
+-- the refusal for invalid framing
 abbrev pub framing_refusal : FramingFault → Refusal
 framing_refusal Invalid = BadRequest
 framing_refusal Expectation = ExpectationFailed
 
--- a head of the connection: handed out, or refused in this manner; no_body says that it is a HEAD, which is told by a
--- 505 alone; last says that the refusal itself ends the connection
+-- a head of the connection: handed out, or refused in this manner; no_body marks a HEAD, which only a 505 depends on;
+-- last means that the refusal itself ends the connection
 pub data Item : Type 0 where
   Asks : (request : Request) → Item
   Refuses : (refusal : Refusal) (manner : Manner) (no_body last : Bool) → Item
@@ -96,7 +97,7 @@ pub data Item : Type 0 where
 abbrev pub Place : Type 0
 Place = Option (List ℕ)
 
--- the feed at a place; nothing where no head follows
+-- the feed at a position; empty if no head follows
 abbrev pub place_feed : Stop → Place → Feed
 place_feed stop None = whole_feed []
 place_feed stop (Some bytes) = record { bytes = bytes; stop = stop }
@@ -113,7 +114,7 @@ abbrev pub is_connect_method : Method → Bool
 is_connect_method Connect = true
 is_connect_method _ = false
 
--- BY THE RULES OF TINY_HTTP: the bytes begin with a head of at most so many bytes; what follows it is after
+-- BY THE RULES OF TINY_HTTP: the bytes begin with a head of at most `limit` bytes; `after` follows it
 abbrev pub BeginsWithin : Option ℕ → List ℕ → Message → List ℕ → Type 0
 BeginsWithin None bytes m after = BeginsWithRequestHead bytes m after
 BeginsWithin (Some limit) bytes m after =
@@ -124,13 +125,12 @@ abbrev pub IsUnfinishedHead : Option ℕ → List ℕ → Option HTTPVersion →
 IsUnfinishedHead None bytes v = FaultyHead bytes v Cut
 IsUnfinishedHead (Some limit) bytes v = FaultyHead bytes v Cut × (length bytes < limit)
 
--- as many bytes as the limit came, or more; each line that ends among so many is good, and the head doesn't end among
--- them
+-- at least `limit` bytes came; each line that ends among the first `limit` is good, and the head doesn't end among them
 abbrev pub IsTooLarge : Option ℕ → List ℕ → Option HTTPVersion → Type 0
 IsTooLarge None bytes v = ⊥
 IsTooLarge (Some limit) bytes v = (limit ≤ length bytes) × FaultyHead (take limit bytes) v Cut
 
--- the bytes begin with a whole head, and this is how it is framed, or why it isn't
+-- the bytes begin with a whole head, and this is its framing, or why that is invalid
 pub record IsWholeHead (p : HeadRules) (bytes : List ℕ) (m : Message) (after : List ℕ)
     (framed : Result Framing FramingFault) : Type 0 where
   pub begins : BeginsWithin (head_limit p) bytes m after
@@ -139,7 +139,7 @@ pub record IsWholeHead (p : HeadRules) (bytes : List ℕ) (m : Message) (after :
 abbrev pub body_length_or_0 : Framing → ℕ
 body_length_or_0 f = unwrap_or f.body_length 0
 
--- a body that is read with its head is cut short
+-- a body that is read with its head is cut
 abbrev pub IsCutWithHead : Form → ℕ → List ℕ → Type 0
 IsCutWithHead WithHead n after = length after < n
 IsCutWithHead _ n after = ⊥
@@ -165,13 +165,13 @@ IsCutHead p bytes =
 abbrev pub IsNotAsciiHead : HeadRules → List ℕ → Type 0
 IsNotAsciiHead p bytes = (line : Option HTTPVersion) × FaultyHead (seen_within (head_limit p) bytes) line NotAscii
 
--- NO ITEM: the head, or a body that is read with it, is cut, and not by a time-out; or its first faulty line isn't
+-- NO ITEM: the head, or a body that is read with it, is cut, and not by a timeout; or its first faulty line isn't
 -- ASCII.
 abbrev pub HasNoItem : HeadRules → List ℕ → Stop → Type 0
 HasNoItem p bytes stop = (IsCutHead p bytes × (is_timed_out stop ≡ false)) ⊎ IsNotAsciiHead p bytes
 
--- A REFUSAL in this manner, its version that of the request line, or 1.1 where that hasn't ended; a 408 is always in
--- 1.1. A version that is too new is judged by `item_of`, since a body follows it.
+-- A REFUSAL in this manner, with the version of the request line, or 1.1 if that hasn't ended; a 408 is always in 1.1.
+-- A version that is too new is left to `item_of`, since a body follows it.
 abbrev pub IsRefused : HeadRules → List ℕ → Stop → Refusal → Manner → Type 0
 IsRefused p bytes stop BadRequest v =
     ((line : Option HTTPVersion)
@@ -188,23 +188,23 @@ IsRefused p bytes stop RequestLineTooLong v = ⊥
 IsRefused p bytes stop CodingNotImplemented v = ⊥
 IsRefused p bytes stop MajorVersionNotSupported v = ⊥
 
--- A REQUEST's head, framed so: a body that is read with it has come.
+-- The head of A REQUEST with this framing: a body that is read with it has arrived.
 pub record IsRequestHead (p : HeadRules) (bytes : List ℕ) (m : Message) (f : Framing) (after : List ℕ) : Type 0 where
   pub whole : IsWholeHead p bytes m after (Ok f)
   pub uncut : IsCutWithHead f.form (body_length_or_0 f) after → ⊥
 
--- BY THE STANDARD the first bytes are read, as many as a head may have.
+-- UNDER `STANDARD` the first bytes are read, as many as a head may have.
 abbrev pub standard_front : List ℕ → List ℕ
 standard_front bytes = take STANDARD_HEAD bytes
 
--- version 1.0 stays, and each later one counts as 1.1
+-- version 1.0 is kept, and any later one counts as 1.1
 abbrev pub served_version : HTTPVersion → HTTPVersion
 served_version v = if is_1_0 v then version 1 0 else version 1 1
 
 abbrev pub served_message : Message → Message
 served_message m = record { method = m.method; path = m.path; version = served_version m.version; headers = m.headers }
 
--- how a head frames its message: an upgrade frames nothing
+-- how a head frames its message: an upgrade has no framing of its own
 abbrev pub standard_form : Bool → Bool → Option ℕ → Form
 standard_form true owed n = Chunked
 standard_form false owed n = sized_form owed n
@@ -220,31 +220,31 @@ standard_framing s =
       is_last = s.is_last;
     }
 
--- how a head is refused by its judgement
+-- the refusal for each head error
 abbrev pub standard_refusal : HeadError → Refusal
 standard_refusal validated.UnsupportedVersion = MajorVersionNotSupported
 standard_refusal validated.InvalidHead = BadRequest
 standard_refusal validated.UnknownCoding = CodingNotImplemented
 standard_refusal validated.UnknownExpectation = ExpectationFailed
 
--- as many bytes came as a head may have, and it hasn't ended: in its request line, or behind it
+-- as many bytes came as a head may have, and it hasn't ended: in its request line, or after it
 abbrev pub long_refusal : Bool → Refusal
 long_refusal false = RequestLineTooLong
 long_refusal true = HeaderFieldsTooLarge
 
--- what the bytes at a head's place are
+-- what the bytes at the position of a head are
 pub data Heading : Type 0 where
   Silence : Heading
   Refused : (refusal : Refusal) (manner : Manner) → Heading
   Heads : (message : Message) (framing : Framing) (after : List ℕ) → Heading
 
--- WHAT STANDS THERE by the rules of tiny_http
+-- THE HEADING there by the rules of tiny_http
 abbrev pub RulesHeadAt : HeadRules → List ℕ → Stop → Heading → Type 0
 RulesHeadAt p bytes stop Silence = HasNoItem p bytes stop
 RulesHeadAt p bytes stop (Refused refusal v) = IsRefused p bytes stop refusal v
 RulesHeadAt p bytes stop (Heads m f after) = IsRequestHead p bytes m f after
 
--- a head, or a body that is read with it, is cut: it is answered where it has begun and the reader timed out
+-- a head, or a body that is read with it, is cut: it gets a response if it has begun and the reader timed out
 abbrev pub standard_cut : Bool → Stop → Heading
 standard_cut has_begun stop =
     if (has_begun && is_timed_out stop) then Refused RequestTimeout by_the_standard else Silence
@@ -255,12 +255,12 @@ standard_open behind_request_line bytes stop =
     if nat_lt (length bytes) STANDARD_HEAD then standard_cut (is_begun bytes) stop
     else Refused (long_refusal behind_request_line) by_the_standard
 
--- a whole head that is framed so; a short body of a known length is read with it
+-- a whole head with this framing; a short body of known length is read with it
 abbrev pub standard_heads : Message → Framing → List ℕ → Stop → Heading
 standard_heads m f after stop =
     if is_cut_with_head f.form (body_length_or_0 f) after then standard_cut true stop else Heads m f after
 
--- WHAT STANDS THERE by the standard, by what the first bytes are read as. All refusals are in version 1.1.
+-- THE HEADING there under `Standard`, by how the first bytes are read. All refusals are in version 1.1.
 abbrev pub standard_heading : Reading → List ℕ → Stop → Heading
 standard_heading ReadBad bytes stop = Refused BadRequest by_the_standard
 standard_heading ReadTooMany bytes stop = Refused HeaderFieldsTooLarge by_the_standard
@@ -272,7 +272,7 @@ standard_heading (ReadWhole m after (Ok s)) bytes stop =
 abbrev pub StandardHeadAt : List ℕ → Stop → Heading → Type 0
 StandardHeadAt bytes stop h = (r : Reading) × AreReadAs (standard_front bytes) r × (h ≡ standard_heading r bytes stop)
 
--- WHAT STANDS at a head's place
+-- THE HEADING at the position of a head
 abbrev pub HeadAt : Profile → List ℕ → Stop → Heading → Type 0
 HeadAt Lenient bytes stop h = RulesHeadAt rules.Lenient bytes stop h
 HeadAt Strict bytes stop h = RulesHeadAt rules.Strict bytes stop h
@@ -288,7 +288,7 @@ abbrev pub SizedBody : ℕ → List ℕ → Feed → Place → Type 0
 SizedBody n after body next =
     (rest : List ℕ) × (after ≡ body.bytes ++ rest) × (length body.bytes ≡ n) × (body.stop ≡ End) × (next ≡ Some rest)
 
--- The body that stands after a head, how it closes, and where the next head begins.
+-- The body after a head, how it stops, and where the next head begins.
 abbrev pub BodyAt : Bool → Form → ℕ → List ℕ → Stop → Feed → Place → Type 0
 BodyAt standard Nothing n after stop body next = (body ≡ record { bytes = []; stop = End }) × (next ≡ Some after)
 BodyAt standard WithHead n after stop body next = SizedBody n after body next
@@ -311,8 +311,7 @@ abbrev pub place_after : Bool → Place → Place
 place_after true next = None
 place_after false next = next
 
--- a version above 1.1 is refused, and the next head stands behind the body, where that is neither chunked nor all the
--- rest
+-- a version above 1.1 is refused, and the next head follows the body, if that is neither chunked nor all the rest
 abbrev pub ends_too_new : Form → Bool
 ends_too_new Rest = true
 ends_too_new Chunked = true
@@ -323,11 +322,11 @@ item_of m f body behind =
     if is_too_new m.version then Refuses VersionNotSupported (plainly (version 1 1)) (is_head_method m.method)
     (ends_too_new f.form) else Asks (record { message = m; framing = f; body = body; behind = behind })
 
--- where the next head begins after one of this message and framing
+-- where the next head begins after one with this message and framing
 abbrev pub next_place : Message → Framing → Place → Place
 next_place m f next = place_after (if is_too_new m.version then ends_too_new f.form else f.is_last) next
 
--- what a heading is: an item, if any, and where the next one begins
+-- what a heading gives: an item, if any, and where the next one begins
 abbrev pub FoundAt : Stop → Heading → Option Item → Place → Type 0
 FoundAt stop Silence item next = (item ≡ None) × (next ≡ None)
 FoundAt stop (Refused refusal v) item next = (item ≡ Some (Refuses refusal v false true)) × (next ≡ None)
@@ -338,12 +337,12 @@ FoundAt stop (Heads m f after) item next =
     × (item ≡ Some (item_of m f body (place_feed stop behind)))
     × (next ≡ next_place m f behind)
 
--- One head: the item that it is, if any, and where the next one begins.
+-- One head: its item, if any, and where the next one begins.
 abbrev pub OneHead : Profile → List ℕ → Stop → Option Item → Place → Type 0
 OneHead p bytes stop item next = (heading : Heading) × HeadAt p bytes stop heading × FoundAt stop heading item next
 
--- The pipeline: the items that stand from a place on, one head after another, until the connection has ended (RFC 9112,
--- section 9.3.2).
+-- The pipeline: the items from a position on, one head after another, until the connection has ended (RFC 9112, section
+-- 9.3.2).
 abbrev pub Pipeline : Profile → Place → Stop → List Item → Type 0
 Pipeline p None stop [] = ⊤
 Pipeline p None stop (item ∷ items) = ⊥

@@ -1,4 +1,4 @@
--- What the calls that read a head by the standard make of the input.
+-- The effect of the calls that read a head under `Standard` on the input.
 use Rattle.std.specs.Prelude.{◌≡◌, ◌&&◌, Bool, Result, Ok, MatchBool}
 use Rattle.std.specs.declared.alloc.AllocError.{AllocError}
 use Rattle.httpdate.specs.declared.date.HttpDate.{HttpDate}
@@ -11,11 +11,11 @@ use Rattle.tiny_http_open_request.specs.declared.exchange.HeadRead.TheVariants a
 use Rattle.tiny_http_open_request.specs.Pipeline.{is_timed_out, by_the_standard, served_message}
 use Rattle.tiny_http_open_request.specs.HeadReads.{RefusesWith, cut_end, head_message}
 
--- the head that is handed out says what was read, in the version in which it is served
+-- the head that is handed out is the one read, in the version in which it is served
 abbrev pub IsHeadOf : StandardHead → Head → Type 0
 IsHeadOf read h = head_message h ≡ served_message (message_of read)
 
--- What a head is answered that is cut by this stop: 408 where it has begun and the reader timed out, else nothing,
+-- The result for a head that is cut by this stop: 408 if it has begun and the reader timed out, otherwise no response,
 -- for this reason.
 abbrev pub AnswersStandardCut : Stop → Bool → HttpDate → Result HeadRead AllocError → Type 0
 AnswersStandardCut stop has_begun date r =

@@ -1,4 +1,4 @@
-//! How a body begins after its head (RFC 9112, section 6).
+//! The start of a body after its head (RFC 9112, section 6).
 ghost use Rattle.std.specs.Prelude.{◌≡◌, None, IfOk, IfSome, IsSome};
 ghost use Rattle.tiny_http_io.specs.Source.{GoesOn, IsCutOff};
 ghost use Rattle.tiny_http_open_request.specs.HeadReads.{Begins, FitsFraming};
@@ -10,8 +10,8 @@ use tiny_http_body::framing::{Form, Framing};
 use tiny_http_io::device::{ReadDevice, Stop};
 use tiny_http_io::source::Source;
 
-/// The body after a head that is so framed. One of up to 1024 bytes is read at once, unless a 100 is owed: `None`
-/// where it is cut, by the source's end or by a fault. It is an error where memory for it was refused.
+/// Begins the body after a head with this framing. A body of up to 1024 bytes is read at once, unless a 100 is owed;
+/// the result is `None` if it is cut, by the source's end or by a fault. Fails if memory for it is refused.
 #[inline(always)]
 pub fn begin_body<R: ReadDevice>(
     alloc: Global,

@@ -1,5 +1,5 @@
-//! Answers of the server's own: the text of a refused head, and the text of a dropped request, which is printed as it
-//! is dropped.
+//! Error responses of the server: the response to a refused head, and that to a dropped request, which is printed when
+//! it is dropped.
 ghost use Rattle.std.specs.Prelude.{◌≡◌, ◌<◌, ◌≤◌, ◌^◌, true, false, [], Some, IfOk, length, vec_len, vec_capacity};
 ghost use Rattle.httpdate.specs.Date.{date_text};
 ghost use Rattle.tiny_http_response.specs.ResponseValue.{printing_in};
@@ -25,10 +25,10 @@ use tiny_http_response::response::Response;
 use tiny_http_response::response_context::{Persistence, ResponseContext};
 use tiny_http_response::sending::send;
 
-/// How many bytes are kept for the text of an empty answer of the server's own, which has 162 at most.
+/// The number of bytes reserved for an empty error response, which has at most 162.
 pub const OWN_ANSWER: usize = 168;
 
-// The text of an answer to a head that is refused. An error where there is no memory for it.
+// Prints the response to a refused head. Fails if memory is refused.
 fn refused_text<D: ReadDevice + Drop>(
     alloc: Global,
     answer: Response<D>,
@@ -56,8 +56,8 @@ fn refused_text<D: ReadDevice + Drop>(
     }
 }
 
-/// The text of the answer to a head that is refused, in this version: this code, no headers of its own and no data.
-/// By the standard it says that the connection ends. An error where there is no memory for it.
+/// Prints the response to a refused head in this version, with this code, no headers of its own and no data. Under
+/// `Standard` it says that the connection closes. Fails if memory is refused.
 pub fn error_response(
     alloc: Global,
     status: StatusCode,
@@ -72,8 +72,8 @@ pub fn error_response(
     refused_text(alloc, answer, version, by_standard, false, now)
 }
 
-/// What an answer says of its connection, by the standard: that it ends behind the last request, and that it persists
-/// behind another.
+/// Returns what a response says about its connection under `Standard`: that it closes after the last request, and
+/// persists after any other.
 pub(crate) fn persistence_of(by_standard: bool, is_last: bool) -> Option<Persistence>
     ensures { result ≡ persistence_of by_standard is_last }
 {
@@ -84,12 +84,11 @@ pub(crate) fn persistence_of(by_standard: bool, is_last: bool) -> Option<Persist
     }
 }
 
-// What a version above 1.1 is told.
+// The body of the response to a version above 1.1.
 const TOO_NEW: &str = "This server only supports HTTP versions 1.0 and 1.1";
 
-/// The text of the answer to a head whose version is above 1.1: 505 in version 1.1, and a text that says which
-/// versions are served, which is withheld for `no_body` (as tiny_http; RFC 9110, section 15.6.6). An error where
-/// there is no memory for it.
+/// Prints the response to a head whose version is above 1.1: a 505 in version 1.1 with a text that names the supported
+/// versions, which is withheld for `no_body` (as tiny_http; RFC 9110, section 15.6.6). Fails if memory is refused.
 pub fn too_new_answer(alloc: Global, no_body: bool, now: HttpDate) -> Result<Vec<u8>, AllocError>
     ensures { IfOk result
         (λ text. text.items ≡ refused_text (refusal_response VersionNotSupported) (plainly (version 1 1)) no_body
@@ -100,8 +99,8 @@ pub fn too_new_answer(alloc: Global, no_body: bool, now: HttpDate) -> Result<Vec
     refused_text(alloc, answer, HTTPVersion(1, 1), false, no_body, now)
 }
 
-// Sends an answer of the server's own to a request, and flushes it: this code, no headers of its own and no data. It
-// takes no memory. No reply reports a fault that is met there; an outlet that has ended sends nothing.
+// Sends a response to a request with this code, no headers of its own and no data, and flushes it. A fault isn't
+// reported. An outlet that has ended sends nothing. Allocates nothing.
 pub(crate) fn send_own_quietly<W: WriteDevice>(
     alloc: Global,
     outlet: &mut Outlet<W>,
@@ -121,7 +120,7 @@ pub(crate) fn send_own_quietly<W: WriteDevice>(
     let _ = send(alloc, outlet, answer, context, now);
 }
 
-// A writer into room that was taken before: it takes `OWN_ANSWER` bytes, and then each write of a byte fails.
+// A writer into memory allocated earlier. It takes `OWN_ANSWER` bytes, after which each nonempty write fails.
 #[derive(Drop)]
 struct OwnPage {
     bytes: Vec<u8>,
@@ -136,12 +135,12 @@ impl WriteDevice for OwnPage {
 
     ghost sink = { page_sink };
 
-    /// The count.
+    /// Returns the number of failed writes.
     fn failures(&self) -> u64 {
         self.failures
     }
 
-    /// Takes as many bytes as there is room for.
+    /// Takes as many bytes as fit. If `buf` isn't empty and none fit, the error is `OutOfMemory`.
     fn write_out(&mut self, buf: &[u8]) -> Result<usize, io::Error> {
         let n = buf.len().min(OWN_ANSWER - self.bytes.len());
         if n == 0 && !buf.is_empty() {
@@ -154,13 +153,13 @@ impl WriteDevice for OwnPage {
         }
     }
 
-    /// Nothing is held back.
+    /// Does nothing: no bytes are held back.
     fn flush_out(&mut self) -> Result<(), io::Error> {
         Ok(())
     }
 }
 
-// The length of a date's text: 29.
+// Returns the length of a date's text, 29.
 fn date_length(now: HttpDate) -> usize
     ensures length { result ≡ length (date_text now) }
     ensures value { result ≡ 29 }
@@ -169,7 +168,7 @@ fn date_length(now: HttpDate) -> usize
     date.len()
 }
 
-// An empty 500, printed into this room. It takes no memory.
+// Prints an empty 500 into this memory. Allocates nothing.
 fn print_drop(room: Vec<u8>, context: ResponseContext, now: HttpDate) -> Vec<u8>
     requires empty { (room.items ≡ []) × (vec_len room ≡ 0) }
     requires room { OWN_ANSWER ≤ vec_capacity room }
@@ -189,8 +188,8 @@ fn print_drop(room: Vec<u8>, context: ResponseContext, now: HttpDate) -> Vec<u8>
     }
 }
 
-/// The text that is sent if a request is dropped: an empty 500; or, once it was taken, no byte. Its room is taken as
-/// it is made, and it is printed as the request is dropped.
+/// The text that is sent if a request is dropped: an empty 500, or no bytes once it was taken. Its memory is allocated
+/// when it is created; it is printed when the request is dropped.
 #[derive(Drop)]
 pub struct DropText {
     room: Vec<u8>,
@@ -213,7 +212,7 @@ impl Model for DropText {
 }
 
 impl DropText {
-    /// `now` dates it. An error where there is no memory for it.
+    /// Creates the text with the date `now`. Fails if memory is refused.
     pub fn new(alloc: Global, now: HttpDate) -> Result<DropText, AllocError>
         ensures { IfOk result (λ text. text ≡ record { is_taken = false; date = now }) }
     {
@@ -225,7 +224,7 @@ impl DropText {
         })
     }
 
-    /// Takes the text, printed in this context: no byte is left of it. It takes no memory.
+    /// Takes the text, printed in this context. A later call returns no bytes. Allocates nothing.
     pub fn take_text(&mut self, context: ResponseContext) -> Vec<u8>
         ensures text { result.items ≡ drop_text self.old context }
         ensures taken { self.new ≡ record self.old { is_taken = true } }
@@ -239,7 +238,7 @@ impl DropText {
         print_drop(room, context, self.now)
     }
 
-    /// The text itself, printed in this context. It takes no memory.
+    /// Returns the text, printed in this context. Allocates nothing.
     pub fn into_text(self, context: ResponseContext) -> Vec<u8>
         ensures { result.items ≡ drop_text self context }
     {

@@ -1,4 +1,4 @@
-//! A request without locks: its head, its body on the connection's input, and what becomes of both.
+//! A request without locks: its head, its body on the connection's input, and its response.
 ghost use Rattle.std.specs.Prelude.{◌≡◌, ◌+◌, ◌≤◌, true, false, [], OnOk, OnErr};
 ghost use Rattle.tiny_http_response.specs.ResponseValue.{printing_in, upgrade_text};
 ghost use Rattle.tiny_http_io.specs.Source.{GoesOn};
@@ -26,66 +26,68 @@ use tiny_http_io::source::{InputState, Source};
 use tiny_http_response::response::Response;
 use tiny_http_text::ascii::AsciiString;
 
-/// What a request's head says.
+/// The head of a request.
 #[derive(Drop)]
 pub struct Head {
-    /// What is asked for.
+    /// The request method.
     pub method: Method,
-    /// The request's target, as it was sent; it may be empty.
+    /// The request target as it was sent; it may be empty.
     pub path: AsciiString,
-    /// The version of the request line; under `Standard` 1.1 for each later one with major version 1.
+    /// The version in the request line; under `Standard` any later one with major version 1 is 1.1.
     pub version: HTTPVersion,
-    /// The headers, in their order.
+    /// The headers, in order.
     pub headers: Vec<Header>,
     /// How the message is framed, by its version and headers.
     pub framing: Framing,
 }
 
-/// A request that was read from a source, whose body is read from that source.
+/// One request and its response on a connection, without threads. The body is read from the source that the head was
+/// read from.
 #[derive(Drop)]
 pub struct Exchange {
     head: Head,
     open_request: OpenRequest<UnreadBody>,
 }
 
-/// Why no further request comes.
+/// Why no further request follows.
 #[derive(Clone, Copy, Debug, PartialEq, Eq)]
 pub enum EndOfRequests {
-    /// The last request was read: its version or its `Connection` header ends the connection after it. Under
-    /// `Standard` its method `CONNECT` does, too, as does whatever finished it while its 100 was owed or more than
-    /// 65,536 bytes of its counted body weren't given out, and, if it asked for an upgrade, its raw writer or its
-    /// upgrade. Under each profile an answer by `Response::with_close` does.
+    /// The last request was read: its version or its `Connection` header ends the connection after it. Under `Standard`
+    /// its method `CONNECT` does, too. So does finishing it while its 100 was owed or more than 65,536 bytes of its
+    /// counted body were unread, and, if it asked for an upgrade, its raw writer or its upgrade. Under each profile a
+    /// response by `Response::with_close` does.
     LastRequest,
-    /// The client's bytes ended, and no byte of a further head had come. So it is too where they ended within a body
-    /// of a known length (under `Standard` that is `BrokenBody`, once it was read up to there), or, by an end or a
-    /// fault, within what was left of one that was given up or passed over.
+    /// The input ended before any byte of a further head. This includes an end within a body of known length (under
+    /// `Standard` that is `BrokenBody` once it was read up to there), and an end or a fault within the rest of one that
+    /// was discarded or skipped.
     Closed,
-    /// They ended within a head, or within a body that is read with its head.
+    /// The input ended within a head, or within a body that is read with its head.
     Cut,
     /// A line of the head has a byte from 128 on.
     NotAscii,
-    /// A head was refused with this status, and ended the requests.
+    /// A head was refused with this status, which ended the requests.
     Refused(StatusCode),
-    /// The reader failed so before the head, and a body that is read with it, had come. A time-out is `Refused` with
-    /// 408 in its place; under `Standard` only where a byte of the head had come.
+    /// The reader failed with this kind before the head, and a body that is read with it, had arrived. A timeout is
+    /// `Refused` with 408 instead; under `Standard` only if a byte of the head had arrived.
     Fault(ErrorKind),
-    /// The body before was read to this fault, the reader's or the body's own.
+    /// The previous body was read up to this fault, of the reader or of the body itself.
     BrokenBody(ErrorKind),
-    /// The chunked body before was given up before its end was read, so where the head begins isn't known.
+    /// The previous body was chunked, and was discarded before its end was read, so the start of the next head isn't
+    /// known.
     AbandonedBody,
-    /// The body before was neither read to its end nor given up.
+    /// The previous body was neither read to its end nor discarded.
     UnreadBody,
-    /// Memory for the head or its answer was refused.
+    /// Memory for the head or its response was refused.
     Memory,
 }
 
-/// What stands at the place of a head.
+/// The result of reading a head.
 #[derive(Drop)]
 pub enum HeadRead {
     /// A request.
     Request(Exchange),
-    /// A head that is refused with this status: the whole text of its answer, to be sent in its turn. If it is the
-    /// last, no head follows.
+    /// A head that is refused with this status: the whole text of its response, to be sent in its turn. If `last` is
+    /// set, no head follows.
     Refused {
         status: StatusCode,
         text: Vec<u8>,
@@ -96,7 +98,7 @@ pub enum HeadRead {
 }
 
 impl Exchange {
-    // The request of this head, not answered yet.
+    // Creates the request with this head, without a response so far.
     pub(crate) fn new(head: Head, open_request: OpenRequest<UnreadBody>) -> Exchange
         ensures head { result.head ≡ head }
         ensures open { result.open_request ≡ open_request }
@@ -111,19 +113,21 @@ impl Exchange {
     ghost use Rattle.tiny_http_open_request.specs.OpenRequest.{OwesNoContinue, HasBecomeStream, HasNoDropText};
     ghost use Rattle.tiny_http_open_request.specs.OpenRequest.{HasNoBodyLeft};
 
-    /// What the request's head says.
+    /// Returns the head of the request.
     pub fn head(&self) -> &Head
         ensures { result.now ≡ exchange_head self.now }
     {
         &self.head
     }
 
-    /// Reads some bytes of the body into the front of `buf`, and says how many: fewer than `buf` has room for also
-    /// where more follow, and 0 where `buf` is empty. After the last byte each call answers 0, or the fault by which
-    /// the body is cut or broken (RFC 9112, sections 6.2 and 7.1): the reader's own; or InvalidData or UnexpectedEof
-    /// of a chunked body. A body of a known length that is cut by the end of the input ends there; under `Standard`
-    /// that is UnexpectedEof. The source must be the one that the request was read from; after a fault the source has
-    /// ended. A body that was given up answers 0. No memory is taken.
+    /// Reads some bytes of the body into the front of `buf`, and returns how many: possibly fewer than fit although
+    /// more follow, and 0 if `buf` is empty. The source must be the one that the request was read from. After the last
+    /// byte each call returns 0, or the fault that cuts or breaks the body (RFC 9112, sections 6.2 and 7.1). Allocates
+    /// nothing.
+    ///
+    /// The fault is the reader's own, or `InvalidData` or `UnexpectedEof` of a chunked body; after it the source has
+    /// ended. A body of known length that is cut by the end of input ends there; under `Standard` that is
+    /// `UnexpectedEof`. A discarded body returns 0.
     pub fn read_body<R: ReadDevice>(
         &mut self,
         source: &mut Source<R>,
@@ -132,23 +136,24 @@ impl Exchange {
         ensures reads { ReadsBody (exchange_body self.old) (exchange_body self.new) source.old source.new result
             buf.new }
         ensures kept { KeepsButBody self.old self.new }
-        // The source's reader is asked for no second end or fault, nor for more than the bytes that came.
+        // The source's reader isn't called for a second end or fault, nor for more than the bytes that arrived.
         ensures stop_count { Tells (R.stop_count source.old.reader) (R.stop_count source.new.reader) result }
-        // It is asked for none where the body has its own end.
+        // It isn't called for an end or fault if the body has its own end.
         ensures whole { R.stop_count source.new.reader ≤ R.stop_count source.old.reader
             + ends_met (exchange_body self.old) (bytes_given result) (exchange_body self.new) }
     {
         self.open_request.read(source, buf)
     }
 
-    /// Sends the answer to this request, printed for it and dated `now`, and flushes it. No 100 is owed any more. The
-    /// caller answers each request once, in the order of the requests, and gives the body up. Under `Standard` the
-    /// answer says that the connection ends where the request is the last by its head, its 100 is owed, more than
-    /// 65,536 bytes of its body are unread, or the end of its body isn't known. Then the caller reads no further
-    /// head. A body that was given up before this call counts as read. What `Response::with_close` asks is passed
-    /// over. On an outlet that has ended nothing is sent, the data aren't read, and the result is `Ok`. The first
-    /// fault is the error: the data's, or the writer's. Where both fail, either may be reported. Then the outlet has
-    /// ended, and what was held before a fault of the data is sent.
+    /// Sends the response to this request, dated `now`, and flushes it. No 100 is owed afterwards. The caller answers
+    /// each request once, in order, and then discards the body. Under `Standard` the response says that the connection
+    /// closes if the request is the last by its head, its 100 is owed, more than 65,536 bytes of its body are unread,
+    /// or the end of its body isn't known; the caller then reads no further head. A body discarded before this call
+    /// counts as read. `Response::with_close` is ignored.
+    ///
+    /// On an outlet that has ended nothing is sent, the data aren't read, and the result is `Ok`. The error is the
+    /// first fault, of the data or of the writer; if both fail, either may be reported. The outlet has then ended, and
+    /// what was held before a fault of the data is sent.
     pub fn respond_on<W: WriteDevice, D: ReadDevice + Drop>(
         &mut self,
         alloc: Global,
@@ -165,17 +170,18 @@ impl Exchange {
             .respond(alloc, outlet, response, left, now)
     }
 
-    /// Sends the answer that upgrades the connection to this protocol (RFC 9110, section 7.8), printed for this
-    /// request and dated `now`, and flushes it: its head alone, with `Connection: upgrade` and `Upgrade: PROTOCOL` in
-    /// front of the other headers (as tiny_http). No 100 is owed any more. The caller does so in the turn of the
-    /// request, in the place of an answer; then the output is the protocol's, and what the body gives is its input:
-    /// the request's body, or by the standard all that follows it. After it the caller sends neither an answer nor
-    /// the text of a drop. It is an error where the protocol isn't ASCII. By the standard it is one, too, where the
-    /// request doesn't ask for this protocol or is its connection's last, where the code isn't 101, and where the
-    /// body isn't whole: cut, broken, or not read to its end; or the body was given up. Then nothing has changed, and
-    /// the caller drops the request. By the standard the caller reads no head behind an upgrade. The data are let go
-    /// unread. A fault of the writer ends the outlet, and isn't reported. On an outlet that has ended nothing is
-    /// sent. The call takes no memory.
+    /// Sends the response that upgrades the connection to `protocol` (RFC 9110, section 7.8), dated `now`, and flushes
+    /// it: the head alone, with `Connection: upgrade` and `Upgrade: PROTOCOL` before the other headers (as tiny_http).
+    /// The data are dropped unread, and no 100 is owed afterwards. A fault of the writer ends the outlet, and isn't
+    /// reported. An outlet that has ended sends nothing. Allocates nothing.
+    ///
+    /// The caller makes this call in the request's turn, in place of a response, and sends neither a response nor the
+    /// text of a drop afterwards. The output is then the protocol's, and `read_body` gives its input: the request's
+    /// body, or under `Standard` all that follows it. Under `Standard` the caller reads no head after an upgrade.
+    ///
+    /// # Errors Fails if the protocol isn't ASCII. Under `Standard` it also fails if the request doesn't ask for this
+    /// protocol or is its connection's last, if the code isn't 101, and if the body isn't whole (cut, broken, or not
+    /// read to its end) or was discarded. Then nothing has changed, and the caller drops the request.
     pub fn upgrade_on<W: WriteDevice, D: Drop>(
         &mut self,
         alloc: Global,
@@ -186,7 +192,7 @@ impl Exchange {
     ) -> Result<(), UpgradeError>
         ensures checked { result ≡ exchange_check self.old protocol.now response.answer.status }
         ensures refused { OnErr result ((self.new ≡ self.old) × (outlet.new ≡ outlet.old)) }
-        // Whatever the data are.
+        // Holds for any data.
         ensures sends { OnOk result ((content : Feed) → SendsQuietlyOn outlet.old outlet.new
             (upgrade_text (record { answer = response.answer; content = content }) protocol.now
             (exchange_printing self.old now))) }
@@ -205,10 +211,10 @@ impl Exchange {
         Ok(())
     }
 
-    /// Sends the 100 that is owed to this request, and flushes (RFC 9110, section 10.1.1). Where none is owed it
-    /// changes nothing. The caller sends it in the turn of the request, before the body is read and before the
-    /// answer. The call takes no memory. A fault of the writer ends the outlet, and isn't reported; on an outlet that
-    /// has ended nothing is sent.
+    /// Sends the 100 that is owed to this request, and flushes (RFC 9110, section 10.1.1). If none is owed, it changes
+    /// nothing. The caller makes this call in the request's turn, before the body is read and before the response. A
+    /// fault of the writer ends the outlet, and isn't reported. An outlet that has ended sends nothing. Allocates
+    /// nothing.
     pub fn send_continue<W: WriteDevice>(
         &mut self,
         alloc: Global,
@@ -225,9 +231,8 @@ impl Exchange {
         self.open_request.send_continue(alloc, outlet, now);
     }
 
-    /// Gives the body up: each later read answers 0, and no 100 is owed any more. The rest of a body of a known
-    /// length is skipped before the next head; after a chunked one whose end or fault wasn't reported the source has
-    /// ended.
+    /// Discards the rest of the body: each later read returns 0, and no 100 is owed. The rest of a body of known length
+    /// is skipped before the next head. After a chunked body whose end or fault wasn't reported the source has ended.
     pub fn give_up<R: ReadDevice>(&mut self, source: &mut Source<R>)
         ensures gives_up { GivesUpBody self.old source.old source.new }
         ensures kept { Changes HasNoBodyLeft self.old self.new }
@@ -236,10 +241,10 @@ impl Exchange {
         self.open_request.give_up(source);
     }
 
-    /// Takes the text that answers this request if it is dropped: an empty 500, printed for its version, its headers
-    /// and its method, on the date on which it was read (as tiny_http). No byte of it is left, and no 100 is owed any
-    /// more. The caller sends it in the turn of the request, in the place of an answer, and gives the body up. The
-    /// call takes no memory.
+    /// Takes the text that is sent if this request is dropped: an empty 500, printed for its version, headers and
+    /// method, with the date on which it was read (as tiny_http). A later call returns no bytes, and no 100 is owed
+    /// afterwards. The caller sends the text in the request's turn, in place of a response, and discards the body.
+    /// Allocates nothing.
     pub fn text_of_drop(&mut self) -> Vec<u8>
         ensures text { result.items ≡ exchange_drop_text self.old }
         ensures once { Changes HasNoDropText self.old self.new }
@@ -248,7 +253,8 @@ impl Exchange {
         self.open_request.take_drop_text(left)
     }
 
-    /// The head, and what is kept of the request until it is answered, each by itself; for the crates above.
+    /// Splits the request into its head and what is kept of it until the response; for the crates that build on this
+    /// one.
     pub fn into_parts(self) -> (Head, OpenRequest<UnreadBody>)
         ensures { self ≡ exchange_of result.0 result.1 }
     {
@@ -256,7 +262,7 @@ impl Exchange {
     }
 }
 
-// Where a source stands after the head of this request.
+// Returns the input state of a source after the head of this request.
 pub(crate) fn input_state_of(exchange: &Exchange) -> InputState
     ensures { result ≡ input_state_of exchange.now }
 {

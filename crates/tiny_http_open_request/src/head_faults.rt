@@ -1,4 +1,4 @@
-//! What is answered where a head has a fault, or is cut.
+//! Results for heads that have a fault or are cut.
 ghost use Rattle.std.specs.Prelude.{◌≡◌, true, false, Some, Ok, IfSome, OnOk};
 ghost use Rattle.tiny_http_io.specs.Source.{GoesOn};
 ghost use Rattle.tiny_http_open_request.specs.Pipeline.{is_timed_out, ends_too_new, refusal_status, framing_refusal};
@@ -17,7 +17,8 @@ use tiny_http_head::common::{HTTPVersion, StatusCode};
 use tiny_http_io::device::{ReadDevice, Stop};
 use tiny_http_io::source::Source;
 
-// Why no request comes from a source that stopped so before the head, or a body that is read with it, had come.
+// Returns why no request comes from a source that stopped in this way before the head, or a body that is read with it,
+// had arrived.
 pub(crate) fn cut_end(stop: Option<Stop>, has_begun: bool) -> EndOfRequests
     ensures { IfSome stop (λ stop. result ≡ cut_end stop has_begun) }
 {
@@ -28,14 +29,14 @@ pub(crate) fn cut_end(stop: Option<Stop>, has_begun: bool) -> EndOfRequests
     }
 }
 
-// Whether the input stopped by a time-out.
+// Returns whether the input stopped with a timeout.
 pub(crate) fn is_timed_out(stop: Option<Stop>) -> bool
     ensures { IfSome stop (λ stop. result ≡ is_timed_out stop) }
 {
     matches!(stop, Some(Stop::Fault(ErrorKind::TimedOut)))
 }
 
-// Refuses a head by this status, in this version: the answer is empty, and no head follows.
+// Refuses a head with this status, in this version: the response is empty, and no head follows.
 pub(crate) fn refused_with(
     alloc: Global,
     status: StatusCode,
@@ -53,7 +54,7 @@ pub(crate) fn refused_with(
     })
 }
 
-// The status by which a head is refused whose framing is.
+// Returns the status that refuses a head with this framing fault.
 pub(crate) fn refusal_of(fault: FramingFault) -> StatusCode
     ensures { result.0 ≡ refusal_status (framing_refusal fault) }
 {
@@ -63,15 +64,14 @@ pub(crate) fn refusal_of(fault: FramingFault) -> StatusCode
     }
 }
 
-// Whether no head follows after a version above 1.1: an upgrade is named, or the body is chunked.
+// Returns whether no head follows after a version above 1.1: an upgrade is named, or the body is chunked.
 fn ends_too_new(form: Form) -> bool
     ensures { result ≡ ends_too_new form }
 {
     matches!(form, Form::Rest | Form::Chunked)
 }
 
-// Passes over a body of which nothing was read. It doesn't call the reader, unless 2^64 bytes and more are to be
-// skipped.
+// Skips a body of which nothing was read. It doesn't call the reader, unless 2^64 bytes or more are to be skipped.
 fn skip<R: ReadDevice>(source: &mut Source<R>, body: &UnreadBody)
     ensures passes { PassesOver body.now source.old source.new }
     ensures goes_on { GoesOn source.old.feed source.new.feed }
@@ -86,7 +86,7 @@ fn skip<R: ReadDevice>(source: &mut Source<R>, body: &UnreadBody)
     }
 }
 
-// Refuses a head for its version. Where a head follows its body is passed over.
+// Refuses a head for its version. If another head follows, its body is skipped.
 pub(crate) fn refuse_too_new<R: ReadDevice>(
     alloc: Global,
     source: &mut Source<R>,
@@ -111,7 +111,7 @@ pub(crate) fn refuse_too_new<R: ReadDevice>(
     Ok(HeadRead::Refused { status, text, last })
 }
 
-// What a head is answered from a source that stopped so before it, or a body that is read with it, had come.
+// Returns the result for a source that stopped in this way before a head, or a body that is read with it, had arrived.
 pub(crate) fn answer_cut(
     alloc: Global,
     stop: Option<Stop>,
@@ -127,7 +127,8 @@ pub(crate) fn answer_cut(
     Ok(HeadRead::Ended(cut_end(stop, has_begun)))
 }
 
-// What a faulty head is answered, or why it ends the requests, where the source stopped so if the head is cut.
+// Returns the result for a faulty head: a refusal, or why the requests end. `stop` is how the source stopped if the
+// head is cut.
 pub(crate) fn answer_fault(
     alloc: Global,
     version: Option<HTTPVersion>,

@@ -43,7 +43,7 @@ fn head_fault(fault: LineFault) -> HeadFault
     }
 }
 
-// The next line within the limit: held by the source, or taken off.
+// Finds the next line within the limit: held by the source, or taken from it.
 fn find_text_line<R: ReadDevice>(
     alloc: Global,
     source: &mut Source<R>,
@@ -62,7 +62,7 @@ fn find_text_line<R: ReadDevice>(
     }
 }
 
-// What is left of the limit after a line of so many bytes and its CR LF.
+// Returns what is left of the limit after a line of `n` bytes and its CR LF.
 fn left_after(n: usize, left: Option<usize>) -> Option<usize>
     requires { IsWithin left n }
     ensures { result ≡ left_after n left }
@@ -73,7 +73,7 @@ fn left_after(n: usize, left: Option<usize>) -> Option<usize>
     }
 }
 
-// The request line that this text is.
+// Parses a request line.
 fn start_in(alloc: Global, text: &[u8]) -> Result<(Method, AsciiString, HTTPVersion), HeadFault>
     ensures { StartIn text.now result }
 {
@@ -87,7 +87,7 @@ fn start_in(alloc: Global, text: &[u8]) -> Result<(Method, AsciiString, HTTPVers
     }
 }
 
-// The request line, within the limit.
+// Reads the request line, within the limit.
 fn read_start<R: ReadDevice>(
     alloc: Global,
     source: &mut Source<R>,
@@ -115,7 +115,7 @@ fn read_start<R: ReadDevice>(
     }
 }
 
-// The header that this text is, or None where it is empty.
+// Parses a header line. Returns `None` for an empty one.
 fn field_in(alloc: Global, text: &[u8]) -> Result<Option<Header>, HeadFault>
     ensures { FieldIn text.now result }
 {
@@ -132,7 +132,7 @@ fn field_in(alloc: Global, text: &[u8]) -> Result<Option<Header>, HeadFault>
     }
 }
 
-// The next header, or None at the empty line, within the limit.
+// Reads the next header, or `None` at the empty line, within the limit.
 fn read_field<R: ReadDevice>(
     alloc: Global,
     source: &mut Source<R>,
@@ -159,7 +159,7 @@ fn read_field<R: ReadDevice>(
     }
 }
 
-// The headers, up to the empty line, within the limit.
+// Reads the headers up to the empty line, within the limit.
 fn read_fields<R: ReadDevice>(
     alloc: Global,
     source: &mut Source<R>,
@@ -186,7 +186,7 @@ fn read_fields<R: ReadDevice>(
     }
 }
 
-/// Reads a whole head of at most `limit` bytes, its empty line included; or answers its fault, under its version if
+/// Reads a whole head of at most `limit` bytes, including its empty line. The error is its fault, with its version if
 /// that was read.
 pub(crate) fn read_message<R: ReadDevice>(
     alloc: Global,

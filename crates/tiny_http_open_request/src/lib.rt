@@ -1,6 +1,6 @@
-//! One request of a connection, without locks (RFC 9112): its head read from the connection's input, what it owes and
-//! where its body stands, its answer, and the server's own answers. It stands on `tiny_http_standard_head` and
-//! `tiny_http_response`; `tiny_http_core` names what programs use.
+//! One request of a connection, without locks (RFC 9112): its head, read from the connection's input; what is still
+//! owed; how far its body was read; its response; and the server's own error responses. This crate builds on
+//! `tiny_http_standard_head` and `tiny_http_response`; `tiny_http_core` re-exports what programs use.
 #![tactic(auto)]
 
 pub mod body_start;

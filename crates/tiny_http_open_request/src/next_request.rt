@@ -1,4 +1,4 @@
-//! The next request of a connection. Heads are read up to it, over those that are refused and have another behind them.
+//! The next request of a connection. Refused heads that are followed by another head are skipped.
 ghost use Rattle.std.specs.Prelude.{ℕ, List, Bool, is_ok};
 ghost use Rattle.tiny_http_open_request.specs.NextRequest.{at, FindsHead, FindsNext};
 
@@ -14,28 +14,28 @@ use tiny_http_io::source::Source;
 /// What follows on a connection.
 #[derive(Drop)]
 pub enum NextRequest {
-    /// A request: its head, and what is kept of it until it is answered.
+    /// A request: its head, and what is kept of it until the response.
     Request(Head, OpenRequest<UnreadBody>),
     /// No further request, for this reason.
     Ended(EndOfRequests),
 }
 
-/// A place where the answers to refused heads go, each in the turn of its head. `O` is the output that is lent for
-/// that.
+/// A destination for the responses to refused heads, each sent in the turn of its head. `O` is the output that is lent
+/// for that.
 pub trait RefusalPlace<O> {
-    /// This text was put there; or, where the flag is false, it wasn't.
+    /// States that the text was put there, or, if the flag is false, that it wasn't.
     ghost refuses: { Self → O → List ℕ → Bool → Self → O → Type 0 };
 
-    /// Puts the whole text of the answer to a refused head there. It is sent in the turn of the head, and nobody is
-    /// waited for. An error where memory was refused.
+    /// Accepts the whole text of the response to a refused head. It is sent in the turn of the head, and the call
+    /// doesn't block. Fails if memory is refused.
     fn refuse(&mut self, output: &mut O, text: Vec<u8>) -> Result<(), AllocError>
         ensures { refuses self.old output.old text.items (is_ok result) self.new output.new };
 }
 
-/// Reads heads up to that of the next request. Where one is refused its answer goes to this place. A refused head
-/// ends the requests; but behind a 505 the next head is read, unless its head names an upgrade or its body is chunked
-/// (as tiny_http), or the profile is `Standard`. `now` dates the answers to refused heads, and the 500 of a request
-/// that is dropped. It is an error where memory was refused, or 2^64 heads were passed.
+/// Reads heads up to that of the next request, and passes the response to each refused head to `place`. A refused head
+/// ends the requests, except that after a 505 the next head is read, unless the refused head names an upgrade, its body
+/// is chunked (as tiny_http), or the profile is `Standard`. `now` dates the responses to refused heads, and the 500 of
+/// a dropped request. Fails if memory is refused, or after 2^64 heads.
 pub fn next_request<R: ReadDevice, O, P: RefusalPlace<O>>(
     alloc: Global,
     source: &mut Source<R>,

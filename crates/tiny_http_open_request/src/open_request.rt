@@ -1,6 +1,6 @@
-//! A request that was handed out and isn't answered yet: what it owes, how its answer is printed, and its body. A
-//! `Connection` keeps it under its number, a `Request` beside its turn. They see to the turn; what is sent, and what
-//! is owed after it, is decided here.
+//! A request that was handed out and has no response yet: what it owes, how its response is printed, and its body. A
+//! `Connection` keeps it under its number, a `Request` next to its turn. They manage the turn; this module decides what
+//! is sent, and what is owed afterwards.
 ghost use Rattle.std.specs.Prelude.{◌≡◌, ◌+◌, ◌≤◌, ℕ, List, true, false, IfOk};
 ghost use Rattle.tiny_http_standard_head.specs.Validation.{names_protocol};
 ghost use Rattle.std.specs.List.{list_all};
@@ -38,33 +38,33 @@ use tiny_http_response::response_context::{Persistence, ResponseContext};
 use tiny_http_response::sending::send_unless_ended;
 use tiny_http_standard_head::validation::{asks_chunked, names_protocol};
 
-/// A request that was handed out and isn't answered yet. Its head isn't part of it.
+/// A request that was handed out and has no response yet, without its head.
 #[derive(Drop)]
 pub struct OpenRequest<B> {
-    /// How its answer is printed.
+    /// How its response is printed.
     pub response_context: ResponseContext,
     /// Whether a 100 is owed that wasn't sent yet.
     pub owes_continue: bool,
-    /// Whether the next head isn't read before the answer: the request asks for an upgrade, and isn't its
-    /// connection's last. What follows it may be bytes of the other protocol (RFC 9110, section 7.8).
+    /// Whether the next head isn't read before the response: the request asks for an upgrade, and isn't its
+    /// connection's last. The bytes after it may belong to the other protocol (RFC 9110, section 7.8).
     pub holds_next_head: bool,
     /// Whether its head was read under `Standard`.
     pub by_standard: bool,
     /// Whether its method is `CONNECT`.
     pub is_connect: bool,
-    /// Whether an answer asked that the connection ends behind this request.
+    /// Whether a response asked for the connection to close after this request.
     pub closes: bool,
     /// The `Upgrade` headers of a request that holds the next head.
     pub upgrades: Vec<Header>,
     /// What is sent if the request is dropped.
     pub dropped: DropText,
-    /// Its body, and how far that was read.
+    /// Its body, and how far it was read.
     pub body: B,
 }
 
 impl<B: Drop> OpenRequest<B> {
-    /// A request with this head and this body. `now` dates the 500 that is sent if it is dropped. It is an error
-    /// where memory for that was refused.
+    /// Creates a request with this head and this body. `now` dates the 500 that is sent if it is dropped. Fails if
+    /// memory for that is refused.
     #[inline(always)]
     pub fn new(
         alloc: Global,
@@ -101,7 +101,7 @@ impl<B: Drop> OpenRequest<B> {
         })
     }
 
-    /// The same request, with the body that this function makes of its own.
+    /// Replaces the body by what this function makes of it.
     #[inline(always)]
     pub fn map_body<C: Drop, F: FnOnce(B) -> C>(self, map: F) -> OpenRequest<C>
         requires { F.pre map self.body }
@@ -121,7 +121,7 @@ impl<B: Drop> OpenRequest<B> {
         }
     }
 
-    /// Has the answer to this request say, by the standard, that the connection ends behind it (RFC 9112, section
+    /// Makes the response to this request say, under `Standard`, that the connection closes after it (RFC 9112, section
     /// 9.6). The caller reads no further head.
     pub fn close(&mut self)
         ensures { self.new ≡ closing self.old }
@@ -129,25 +129,25 @@ impl<B: Drop> OpenRequest<B> {
         self.closes = true;
     }
 
-    /// Whether no head is read behind this request if it is answered now or dropped, or its raw writer taken, where
-    /// this is left of its body. By the standard that is so while its 100 is owed: the client may leave the body out,
-    /// or send it, and both are right (RFC 9110, section 10.1.1). It is so, too, where more is left than is skipped.
+    /// Returns whether no head is read after this request if it is answered now, dropped, or its raw writer taken, with
+    /// `left` of its body unread. Under `Standard` this holds while its 100 is owed, since the client may omit the body
+    /// or send it, and both are right (RFC 9110, section 10.1.1). It also holds if more is left than is skipped.
     pub fn is_last_once_finished(&self, left: Remainder) -> bool
         ensures { result ≡ is_last_once_finished self.now left }
     {
         self.by_standard && (self.owes_continue || left == Remainder::Long)
     }
 
-    /// Whether no head is read behind this request once it gets the connection's stream, by its raw writer or an
-    /// upgrade: it holds the next head, or would be the last if it were answered.
+    /// Returns whether no head is read after this request once its raw writer or an upgrade takes over the connection's
+    /// stream: it holds the next head, or would be the last if it were answered.
     pub fn is_last_with_stream(&self, left: Remainder) -> bool
         ensures { result ≡ is_last_with_stream self.now left }
     {
         self.holds_next_head || self.is_last_once_finished(left)
     }
 
-    // How it is answered now, where this is left of its body: by the standard the answer says that the connection
-    // ends where the request is the last by its head, `close` was called, its 100 is owed, or what is left isn't
+    // Returns how it is answered now, with `left` of its body unread. Under `Standard` the response says that the
+    // connection closes if the request is the last by its head, `close` was called, its 100 is owed, or the rest isn't
     // skipped: it is long, or its end isn't known (RFC 9112, section 9.6).
     fn final_context(&self, left: Remainder) -> ResponseContext
         ensures { result ≡ final_context self.now left }
@@ -160,9 +160,9 @@ impl<B: Drop> OpenRequest<B> {
         context
     }
 
-    /// Whether an answer with this code is refused: by the standard, one that isn't final, since the client would
-    /// take a later answer for this request's (RFC 9110, section 15.2), or whose code hasn't three digits; and a 2xx
-    /// to `CONNECT`, since it would open a tunnel (section 9.3.6).
+    /// Returns whether a response with this code is refused. Under `Standard` that is a code that isn't final, since
+    /// the client would take a later response for this request's (RFC 9110, section 15.2), or that hasn't three digits;
+    /// and a 2xx to `CONNECT`, since it would open a tunnel (section 9.3.6).
     pub fn refuses(&self, status: StatusCode) -> bool
         ensures { result ≡ refuses_code self.now.by_standard self.now.is_connect status.0 }
     {
@@ -170,10 +170,10 @@ impl<B: Drop> OpenRequest<B> {
         self.by_standard && (!is_final || (self.is_connect && status.0 < 300))
     }
 
-    /// Whether the connection can be upgraded to this protocol by an answer with this code, where the body is whole
-    /// or isn't: the first error that holds. By the standard the request has to ask for the protocol, without being
-    /// its connection's last, the code has to be 101, and the body has to be whole (RFC 9110, section 7.8). An
-    /// element of `Upgrade` with a percent sign isn't taken for a protocol.
+    /// Checks whether a response with this code can upgrade the connection to this protocol; `is_whole` means that the
+    /// whole body was read. Returns the first error that applies. Under `Standard` the request must ask for the
+    /// protocol and not be its connection's last, the code must be 101, and the body must be whole (RFC 9110, section
+    /// 7.8). An element of `Upgrade` with a percent sign is not taken for a protocol.
     pub fn check_upgrade(
         &self,
         protocol: &str,
@@ -186,13 +186,14 @@ impl<B: Drop> OpenRequest<B> {
         check_upgrade(self.by_standard, is_asked, protocol, status, is_whole)
     }
 
-    /// Sends the answer to this request, of whose body this is left, printed for it and dated `now`, and flushes it.
-    /// By the standard it says that the connection ends where the request is the last by its head, `close` was
-    /// called, its 100 is owed, or what is left isn't skipped (RFC 9112, section 9.6). What the response itself asks
-    /// of the connection is the caller's. No 100 is owed any more. The caller does so in the turn of the request, and
-    /// then gives the body up. On an outlet that has ended nothing is sent, the data aren't read, and the result is
-    /// `Ok`. The first fault is the error: the data's, or the writer's. Where both fail, either may be reported. Then
-    /// the outlet has ended, and what was held before a fault of the data is sent.
+    /// Sends the response to this request, dated `now`, with `left` of its body unread, and flushes it. Under
+    /// `Standard` it says that the connection closes if the request is the last by its head, `close` was called, its
+    /// 100 is owed, or the rest isn't skipped (RFC 9112, section 9.6). The caller handles `Response::with_close`. No
+    /// 100 is owed afterwards. The caller makes this call in the request's turn, and then discards the body.
+    ///
+    /// On an outlet that has ended nothing is sent, the data aren't read, and the result is `Ok`. The error is the
+    /// first fault, of the data or of the writer; if both fail, either may be reported. The outlet has then ended, and
+    /// what was held before a fault of the data is sent.
     pub fn respond<W: WriteDevice, D: ReadDevice + Drop>(
         &mut self,
         alloc: Global,
@@ -210,16 +211,16 @@ impl<B: Drop> OpenRequest<B> {
         send_unless_ended(alloc, outlet, response, context, now)
     }
 
-    /// How a body is sent that grows behind the answer to this request with this code, as
-    /// `ResponseContext::streamed_form` says.
+    /// Returns how a body is sent that grows after the head of a response to this request with this code, as
+    /// `ResponseContext::streamed_form` does.
     pub fn streamed_form(&self, status: StatusCode) -> StreamedForm
         ensures { result ≡ streamed_form self.now.response_context status.0 }
     {
         self.response_context.streamed_form(status)
     }
 
-    // How the head of an answer is printed whose body grows. By the standard it says that the connection ends where
-    // it would else, and where the body goes on up to that end.
+    // Returns how the head of a response with a growing body is printed. Under `Standard` it says that the connection
+    // closes if any other response would, or if the end of the connection ends the body.
     fn streaming_context(&self, status: StatusCode, left: Remainder) -> ResponseContext
         ensures { result ≡ streaming_context self.now status.0 left }
     {
@@ -230,12 +231,13 @@ impl<B: Drop> OpenRequest<B> {
         context
     }
 
-    /// Writes the head of the answer to this request, of whose body this is left, where the answer's own body comes
-    /// later, and grows while it is sent: `streamed_form` says how that is to be sent. The head is dated `now`; the
-    /// answer's data and their length are passed over. By the standard it says that the connection ends where that of
-    /// `respond` would, and where the body goes on up to that end. No 100 is owed any more. It doesn't flush. The
-    /// caller does so in the turn of the request, and then gives the body up. The error is the writer's first fault.
-    /// On an outlet that has ended nothing is written, and the result is `Ok`.
+    /// Writes the head of a response, dated `now`, whose body follows and grows while it is sent, as `streamed_form`
+    /// says; `left` of the request's body is unread. The response's data and their length are ignored. Under `Standard`
+    /// it says that the connection closes if that of `respond` would, or if the end of the connection ends the body. No
+    /// 100 is owed afterwards. Doesn't flush.
+    ///
+    /// The caller makes this call in the request's turn, and then discards the body. The error is the writer's first
+    /// fault. On an outlet that has ended nothing is written, and the result is `Ok`.
     pub fn begin_streaming<W: WriteDevice, D>(
         &mut self,
         outlet: &mut Outlet<W>,
@@ -252,10 +254,10 @@ impl<B: Drop> OpenRequest<B> {
         response.print_head(outlet, context, now)
     }
 
-    /// Sends the 100 that is owed to this request, and flushes (RFC 9110, section 10.1.1). Where none is owed it
-    /// changes nothing. The caller does so in the turn of the request, before the body is read and before the answer.
-    /// The call takes no memory. A fault of the writer ends the outlet, and isn't reported; on an outlet that has
-    /// ended nothing is sent.
+    /// Sends the 100 that is owed to this request, and flushes (RFC 9110, section 10.1.1). If none is owed, it changes
+    /// nothing. The caller makes this call in the request's turn, before the body is read and before the response. A
+    /// fault of the writer ends the outlet, and isn't reported. An outlet that has ended sends nothing. Allocates
+    /// nothing.
     pub fn send_continue<W: WriteDevice>(
         &mut self,
         alloc: Global,
@@ -276,12 +278,13 @@ impl<B: Drop> OpenRequest<B> {
         }
     }
 
-    /// Sends the answer that upgrades the connection to this protocol (RFC 9110, section 7.8), printed for this
-    /// request and dated `now`, and flushes it: its head alone, with `Connection: upgrade` and `Upgrade: PROTOCOL` in
-    /// front of the other headers (as tiny_http). No 100 is owed any more. The caller asks `check_upgrade` first. It
-    /// makes this call in the turn of the request, in the place of an answer; then the output is the protocol's, and
-    /// what the body gives after `become_stream` is its input. The data are let go unread. A fault of the writer ends
-    /// the outlet, and isn't reported. On an outlet that has ended nothing is sent. The call takes no memory.
+    /// Sends the response that upgrades the connection to `protocol` (RFC 9110, section 7.8), dated `now`, and flushes
+    /// it: the head alone, with `Connection: upgrade` and `Upgrade: PROTOCOL` before the other headers (as tiny_http).
+    /// The data are dropped unread, and no 100 is owed afterwards. A fault of the writer ends the outlet, and isn't
+    /// reported. An outlet that has ended sends nothing. Allocates nothing.
+    ///
+    /// The caller calls `check_upgrade` first. It makes this call in the request's turn, in place of a response. The
+    /// output is then the protocol's, and its input is what the body gives after `become_stream`.
     pub fn upgrade<W: WriteDevice, D: Drop>(
         &mut self,
         alloc: Global,
@@ -291,7 +294,7 @@ impl<B: Drop> OpenRequest<B> {
         now: HttpDate,
     )
         requires { list_all is_ascii protocol.now ≡ true }
-        // Whatever the data are.
+        // Holds for any data.
         ensures sends { (content : Feed) → SendsQuietlyOn outlet.old outlet.new
             (upgrade_text (record { answer = response.answer; content = content }) protocol.now
             (printing_in self.old.response_context now)) }
@@ -310,10 +313,10 @@ impl<B: Drop> OpenRequest<B> {
         );
     }
 
-    /// Takes the text that answers this request if it is dropped: an empty 500, printed for its version, its headers
-    /// and its method, on the date on which it was read (as tiny_http). No byte of it is left, and no 100 is owed any
-    /// more. The caller sends it in the turn of the request, in the place of an answer, and gives the body up. The
-    /// call takes no memory.
+    /// Takes the text that is sent if this request is dropped: an empty 500, printed for its version, headers and
+    /// method, with the date on which it was read (as tiny_http). A later call returns no bytes, and no 100 is owed
+    /// afterwards. The caller sends the text in the request's turn, in place of a response, and discards the body.
+    /// Allocates nothing.
     pub fn take_drop_text(&mut self, left: Remainder) -> Vec<u8>
         ensures text { result.items ≡ drop_text self.old.dropped (final_context self.old left) }
         ensures once { HasNoDropText self.old self.new }
@@ -323,8 +326,8 @@ impl<B: Drop> OpenRequest<B> {
         self.dropped.take_text(context)
     }
 
-    /// The text that answers this request, as it is dropped, and the body, which the caller gives up once it has left
-    /// the text in the turn of the request.
+    /// Returns the text that is sent when this request is dropped, and the body. The caller discards the body once it
+    /// has left the text in the request's turn.
     pub fn into_drop_text(self, left: Remainder) -> (Vec<u8>, B)
         ensures text { result.0.items ≡ drop_text self.dropped (final_context self left) }
         ensures body { result.1 ≡ self.body }
@@ -336,8 +339,8 @@ impl<B: Drop> OpenRequest<B> {
 }
 
 impl OpenRequest<UnreadBody> {
-    /// Reads some bytes of the body into the front of `buf`, and says how many. The source must be the one that the
-    /// request was read from. Errors and ends are those of `Exchange::read_body`. No memory is taken.
+    /// Reads some bytes of the body into the front of `buf`, and returns how many. The source must be the one that the
+    /// request was read from. Errors and ends are those of `Exchange::read_body`. Allocates nothing.
     pub fn read<R: ReadDevice>(
         &mut self,
         source: &mut Source<R>,
@@ -345,17 +348,17 @@ impl OpenRequest<UnreadBody> {
     ) -> Result<usize, io::Error>
         ensures reads { ReadsBody self.old.body self.new.body source.old source.new result buf.new }
         ensures kept { self.new ≡ record self.old { body = self.new.body } }
-        // The source's reader is asked for no second end or fault, nor for more than the bytes that came.
+        // The source's reader isn't called for a second end or fault, nor for more than the bytes that arrived.
         ensures stop_count { Tells (R.stop_count source.old.reader) (R.stop_count source.new.reader) result }
-        // It is asked for none where the body has its own end.
+        // It isn't called for an end or fault if the body has its own end.
         ensures whole { R.stop_count source.new.reader
             ≤ R.stop_count source.old.reader + ends_met self.old.body (bytes_given result) self.new.body }
     {
         self.body.read(source, buf)
     }
 
-    /// Gives the body up: each later read answers 0, no 100 is owed any more, and by the standard no upgrade is
-    /// taken. The rest of a body of a known length is skipped before the next head; after a chunked one whose end or
+    /// Discards the rest of the body: each later read returns 0, no 100 is owed, and under `Standard` no upgrade is
+    /// accepted. The rest of a body of known length is skipped before the next head. After a chunked body whose end or
     /// fault wasn't reported the source has ended.
     pub fn give_up<R: ReadDevice>(&mut self, source: &mut Source<R>)
         ensures gives_up { GivesUp self.old.body source.old source.new }
@@ -367,7 +370,8 @@ impl OpenRequest<UnreadBody> {
     }
 }
 
-// The coding that the headers of a request ask for: by the standard, chunks or none (RFC 9110, section 10.1.4).
+// Returns the coding that the headers of a request ask for: under `Standard`, chunked or none (RFC 9110, section
+// 10.1.4).
 #[inline(always)]
 fn coding_for(by_standard: bool, headers: &[Header]) -> Option<Coding>
     ensures { result ≡ coding_for by_standard headers.now }
@@ -382,7 +386,7 @@ fn coding_for(by_standard: bool, headers: &[Header]) -> Option<Coding>
     }
 }
 
-// The `Upgrade` headers among these. An error where there is no memory for them.
+// Copies the `Upgrade` headers among these. Fails if memory is refused.
 fn upgrade_headers(alloc: Global, headers: &[Header]) -> Result<Vec<Header>, AllocError>
     ensures { IfOk result (λ upgrades. (protocol : List ℕ)
         → names_protocol upgrades.items protocol ≡ names_protocol headers.now protocol) }
@@ -396,7 +400,7 @@ fn upgrade_headers(alloc: Global, headers: &[Header]) -> Result<Vec<Header>, All
     Ok(upgrades)
 }
 
-// Whether only the head is asked for (RFC 9110, section 9.3.2).
+// Returns whether the method is `HEAD` (RFC 9110, section 9.3.2).
 pub(crate) fn is_head(method: &Method) -> bool
     ensures { result ≡ is_head_method method.now }
 {

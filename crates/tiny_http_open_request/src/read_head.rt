@@ -1,4 +1,4 @@
-//! Reads one head from a source, by each profile (RFC 9112, sections 2 to 6).
+//! Reading one head from a source, under each profile (RFC 9112, sections 2 to 6).
 ghost use Rattle.std.specs.Prelude.{◌≡◌, IfOk};
 ghost use Rattle.tiny_http_io.specs.Source.{GoesOn, IsAtEnd};
 ghost use Rattle.tiny_http_open_request.specs.Pipeline.{profile_of};
@@ -18,7 +18,7 @@ use tiny_http_body::framing::{Framing, HeadRules, Profile, framing_of, is_too_ne
 use tiny_http_io::device::ReadDevice;
 use tiny_http_io::source::{InputState, Source};
 
-// The head that a message and its framing make.
+// Makes a head of a message and its framing.
 #[inline(always)]
 fn head_of(message: MessageHead, framing: Framing) -> Head
     ensures message { head_message result ≡ message_of message }
@@ -33,7 +33,7 @@ fn head_of(message: MessageHead, framing: Framing) -> Head
     }
 }
 
-// What stands at the source's standing, by the rules of tiny_http. After anything but a request the source may stand
+// Reads the head at the source's position, by the rules of tiny_http. After any result but a request the source may be
 // within a head or its body.
 fn read_by_rules<R: ReadDevice>(
     alloc: Global,
@@ -80,7 +80,7 @@ fn read_by_rules<R: ReadDevice>(
     }
 }
 
-// What stands at the source's standing. After anything but a request the source may stand within a head or its body.
+// Reads the head at the source's position. After any result but a request the source may be within a head or its body.
 fn read_item<R: ReadDevice>(
     alloc: Global,
     source: &mut Source<R>,
@@ -105,7 +105,7 @@ fn read_item<R: ReadDevice>(
     read_by_rules(alloc, source, rules, now)
 }
 
-// Why no request comes from this standing, where the input at that standing ends for this reason.
+// Returns why no request follows in this input state, if the input alone ends for this reason.
 fn end_at(input_state: InputState, why: EndOfRequests) -> EndOfRequests
     ensures { result ≡ end_at input_state why }
 {
@@ -116,32 +116,31 @@ fn end_at(input_state: InputState, why: EndOfRequests) -> EndOfRequests
     }
 }
 
-/// Reads one head, and with it a body of up to 1024 bytes (RFC 9112, sections 2 to 6). It answers a request, whose
-/// body is then read from the source; or a head that is refused; or the end, with its reason. A head is refused by
-/// 400 for a bad line, by 408 where the reader timed out, also before its first byte, by 417 for an expectation that
-/// can't be met, and by 505 for a version above 1.1, with a text that says which are served (as tiny_http). Under
-/// `Strict` it is refused by 431, too, where as many bytes of it came as it may have and it hasn't ended (RFC 6585,
-/// section 5), and by 400 where its framing is invalid (RFC 9112, section 6.3). The first bad line is judged first,
-/// then the size, then the framing, then the expectation, then a body that is read with its head and cut, then the
-/// version. `now` dates the answer to a refused head, and the 500 of a request that is dropped. It is an error where
-/// memory was refused.
+/// Reads one head, and with it a body of up to 1024 bytes (RFC 9112, sections 2 to 6). Returns a request, whose body is
+/// then read from the source; a refused head; or the end, with its reason. `now` dates the response to a refused head,
+/// and the 500 of a dropped request. Fails if memory is refused.
 ///
-/// Under `Standard` a head is read by `tiny_http_standard_head`. It is refused by 400, 408, 414, 417, 431, 501 or
-/// 505, each with an empty answer in version 1.1 after which no head follows. A client that times out before a byte
-/// of a head isn't answered. The order is: the first bad line, the size, the version, the host and what frames the
-/// body, its coding, the expectation, and a body that is read with its head and cut.
+/// Under `Lenient` and `Strict` a head is refused with 400 for a bad line, 408 if the reader timed out, even before the
+/// first byte, 417 for an expectation that can't be met, and 505 for a version above 1.1, with a text that names the
+/// supported ones (as tiny_http). `Strict` also refuses with 431 a head that hasn't ended when its maximum size is
+/// reached (RFC 6585, section 5), and with 400 invalid framing (RFC 9112, section 6.3). The order is: the first bad
+/// line, the size, the framing, the expectation, a cut body that is read with its head, the version.
 ///
-/// By the other profiles, after a 505 the next head stands behind the body, which is passed over, unless the head
-/// names an upgrade or the body is chunked. After anything else but a request the source has ended, but after the
-/// last request: then nothing is read, and its body can be read on.
+/// Under `Standard` `tiny_http_standard_head` reads the head. It is refused with 400, 408, 414, 417, 431, 501 or 505,
+/// each an empty response in version 1.1 after which no head follows. A timeout before the first byte of a head gets no
+/// response. The order is: the first bad line, the size, the version, the host and the framing of the body, its coding,
+/// the expectation, a cut body that is read with its head.
+///
+/// Under the other profiles the next head after a 505 follows the body, which is skipped, unless the head names an
+/// upgrade or the body is chunked. After any other result but a request the source has ended, except after the last
+/// request: then nothing is read, and its body can still be read.
 ///
 /// Under `Standard` the caller reads no head before a request that asks for an upgrade is answered or dropped, none
-/// behind its upgrade or raw writer, and none behind a request that was finished while its 100 was owed, or while
-/// more than 65,536 bytes of its body were unread: `Connection` sees to that.
+/// after its upgrade or raw writer, and none after a request that was finished while its 100 was owed or more than
+/// 65,536 bytes of its body were unread. `Connection` ensures that.
 ///
-/// By `read_head`, `read_body` and `give_up` on one source bytes of a body are never read as a head. Where the body
-/// of the request before was neither read to its end nor given up the answer is `UnreadBody`, and the source ends
-/// there.
+/// `read_head`, `read_body` and `give_up` on one source never read bytes of a body as a head. If the previous body was
+/// neither read to its end nor discarded, the result is `UnreadBody`, and the source ends.
 pub fn read_head_with<R: ReadDevice>(
     alloc: Global,
     source: &mut Source<R>,
@@ -161,7 +160,7 @@ pub fn read_head_with<R: ReadDevice>(
     }
     let read = read_item(alloc, source, profile, now);
     match &read {
-        Ok(HeadRead::Request(exchange)) => source.stand_at(input_state_of(exchange)),
+        Ok(HeadRead::Request(exchange)) => source.set_input_state(input_state_of(exchange)),
         Ok(HeadRead::Ended(why)) => {
             source.end();
             return Ok(HeadRead::Ended(end_at(input_state, *why)));
@@ -170,7 +169,7 @@ pub fn read_head_with<R: ReadDevice>(
             if *last {
                 source.end();
             } else {
-                source.stand_at(InputState::Head);
+                source.set_input_state(InputState::Head);
             }
         }
         Err(_) => source.end(),
@@ -178,7 +177,7 @@ pub fn read_head_with<R: ReadDevice>(
     read
 }
 
-/// `read_head_with` under `Lenient`.
+/// Reads one head under `Lenient`, as `read_head_with` does.
 pub fn read_head<R: ReadDevice>(
     alloc: Global,
     source: &mut Source<R>,

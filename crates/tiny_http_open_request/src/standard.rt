@@ -1,4 +1,4 @@
-//! Heads by the standard: what `tiny_http_standard_head` reads of a source, answered or handed out.
+//! Heads under `Standard`: what `tiny_http_standard_head` reads from a source is handed out or refused.
 ghost use Rattle.std.specs.Prelude.{◌≡◌, IfOk, IfSome};
 ghost use Rattle.tiny_http_io.specs.Source.{GoesOn, IsAtEnd};
 ghost use Rattle.tiny_http_head.specs.Heads.{version};
@@ -24,7 +24,7 @@ use tiny_http_standard_head::heads::{StandardFault, StandardHead, StandardRead};
 use tiny_http_standard_head::source_heads::read_head_from;
 use tiny_http_standard_head::validation::HeadSummary;
 
-// The version in which a request is served: each one after 1.0 counts as 1.1.
+// Returns the version in which a request is served: any after 1.0 counts as 1.1.
 fn served_version(version: HTTPVersion) -> HTTPVersion
     ensures { result ≡ served_version version }
 {
@@ -34,7 +34,7 @@ fn served_version(version: HTTPVersion) -> HTTPVersion
     HTTPVersion(1, 1)
 }
 
-// How the body is read: an upgrade frames nothing.
+// Returns how the body is read. An upgrade has no framing of its own.
 fn form_of(is_chunked: bool, owed: bool, length: Option<usize>) -> Form
     ensures { result ≡ standard_form is_chunked owed length }
 {
@@ -44,7 +44,7 @@ fn form_of(is_chunked: bool, owed: bool, length: Option<usize>) -> Form
     sized_form(owed, length)
 }
 
-// How a head frames its message.
+// Returns how a head frames its message.
 fn framing_of(summary: HeadSummary) -> Framing
     ensures { result ≡ standard_framing summary }
 {
@@ -62,7 +62,7 @@ fn framing_of(summary: HeadSummary) -> Framing
     }
 }
 
-// The head that is handed out.
+// Returns the head that is handed out.
 fn head_of(head: StandardHead, framing: Framing) -> Head
     ensures message { IsHeadOf head result }
     ensures framing { head_framing result ≡ framing }
@@ -76,7 +76,7 @@ fn head_of(head: StandardHead, framing: Framing) -> Head
     }
 }
 
-// What a head is answered that is cut: nothing, where it hasn't begun.
+// Returns the result for a head that is cut: no response if it hasn't begun.
 fn answer_standard_cut(
     alloc: Global,
     stop: Option<Stop>,
@@ -91,7 +91,7 @@ fn answer_standard_cut(
     Ok(HeadRead::Ended(cut_end(stop, false)))
 }
 
-// Refuses a head by the status of its fault, in version 1.1: the answer is empty, and no head follows.
+// Refuses a head with the status of its fault, in version 1.1: the response is empty, and no head follows.
 fn refuse(alloc: Global, fault: StandardFault, now: HttpDate) -> Result<HeadRead, AllocError>
     ensures { RefusesWith (status_of fault) by_the_standard now result }
 {
@@ -99,7 +99,7 @@ fn refuse(alloc: Global, fault: StandardFault, now: HttpDate) -> Result<HeadRead
     refused_with(alloc, status, HTTPVersion(1, 1), true, now)
 }
 
-/// What stands at the source's standing, by the standard. After anything but a request the source may stand within a
+/// Reads the head at the source's position, under `Standard`. After any result but a request the source may be within a
 /// head or its body.
 pub(crate) fn read_standard<R: ReadDevice>(
     alloc: Global,

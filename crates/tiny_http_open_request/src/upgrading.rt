@@ -24,23 +24,24 @@ pub enum UpgradeError {
     /// The name of the protocol isn't ASCII.
     #[error("the protocol's name is not ASCII")]
     Protocol,
-    /// By the standard: the request doesn't ask for this protocol, or no upgrade of it is taken, as it is its
-    /// connection's last.
+    /// Under `Standard`: the request doesn't ask for this protocol, or can't be upgraded because it is its connection's
+    /// last.
     #[error("the request does not ask for this protocol, or is the last")]
     NotAsked,
-    /// By the standard: the answer's code isn't 101.
+    /// Under `Standard`: the response's code isn't 101.
     #[error("the status code of an upgrade is 101")]
     Status,
-    /// By the standard: the request's body wasn't read to its end, or it was cut or is broken.
+    /// Under `Standard`: the request's body wasn't read to its end, or it was cut or is broken.
     #[error("the request's body is not whole")]
     UnfinishedBody,
-    /// On a server with limits: as many connections are upgraded as may be.
+    /// On a server with limits: the maximum number of upgraded connections is reached.
     #[error("too many connections are upgraded")]
     TooMany,
 }
 
-/// Whether a connection can be upgraded to a protocol of this name by an answer with this code: the first error that
-/// holds. By the standard the request has to ask for it, and its body has to be whole (RFC 9110, section 7.8).
+/// Checks whether a response with this code can upgrade a connection to a protocol of this name, and returns the first
+/// error that applies. Under `Standard` the request must ask for it, and its body must be whole (RFC 9110, section
+/// 7.8).
 pub fn check_upgrade(
     by_standard: bool,
     is_asked: bool,
@@ -68,9 +69,9 @@ pub fn check_upgrade(
     Ok(())
 }
 
-// Sends the answer that upgrades a connection to this protocol, and flushes it: its head alone, with `Connection:
-// upgrade` and `Upgrade: PROTOCOL` in front of the other headers (as tiny_http). Its data are let go unread. No reply
-// reports a fault of the writer; an outlet that has ended sends nothing. It takes no memory.
+// Sends the response that upgrades a connection to this protocol, and flushes it: the head alone, with `Connection:
+// upgrade` and `Upgrade: PROTOCOL` before the other headers (as tiny_http). Its data are dropped unread. A fault of the
+// writer isn't reported. An outlet that has ended sends nothing. Allocates nothing.
 pub(crate) fn send_upgrade_quietly<W: WriteDevice, D: Drop>(
     alloc: Global,
     outlet: &mut Outlet<W>,
@@ -80,7 +81,7 @@ pub(crate) fn send_upgrade_quietly<W: WriteDevice, D: Drop>(
     now: HttpDate,
 )
     requires { list_all is_ascii protocol.now ≡ true }
-    // Whatever the data are.
+    // Holds for any data.
     ensures sends { (content : Feed) → SendsQuietlyOn outlet.old outlet.new
         (upgrade_text (record { answer = response.answer; content = content }) protocol.now (printing_in context now)) }
     ensures fails_once { FailsOnce outlet.old outlet.new }

@@ -38,39 +38,39 @@ StandsAt left taken Rest = ⊥
 some-same : (n m : ℕ) → Some n ≡ Some m → n ≡ m
 some-same n m e = cc
 
-pub stands-begin : (b : UnreadBody) (count left : ℕ) → left ≡ count → is_streaming b ≡ true → bytes_left b ≡ Some count → StandsAt left 0 b
-stands-begin (Over stop) count left l s e = tt
-stands-begin (WithHead bytes) count left l s e = cc
-stands-begin (Counted n standard) count left l s e = (some-same n count e ∙ sym l, λ z. refl)
-stands-begin (Chunked d) count left l s e = cc
-stands-begin Rest count left l s e = cc
+pub represents-begin : (b : UnreadBody) (count left : ℕ) → left ≡ count → is_streaming b ≡ true → bytes_left b ≡ Some count → StandsAt left 0 b
+represents-begin (Over stop) count left l s e = tt
+represents-begin (WithHead bytes) count left l s e = cc
+represents-begin (Counted n standard) count left l s e = (some-same n count e ∙ sym l, λ z. refl)
+represents-begin (Chunked d) count left l s e = cc
+represents-begin Rest count left l s e = cc
 
-over-stands : (b : UnreadBody) (left taken : ℕ) → IsBodyOver b → StandsAt left taken b
-over-stands (Over stop) left taken h = tt
-over-stands (WithHead bytes) left taken h = absurd h
-over-stands (Counted n standard) left taken h = absurd h
-over-stands (Chunked d) left taken h = absurd h
-over-stands Rest left taken h = absurd h
+over-represents : (b : UnreadBody) (left taken : ℕ) → IsBodyOver b → StandsAt left taken b
+over-represents (Over stop) left taken h = tt
+over-represents (WithHead bytes) left taken h = absurd h
+over-represents (Counted n standard) left taken h = absurd h
+over-represents (Chunked d) left taken h = absurd h
+over-represents Rest left taken h = absurd h
 
 counted-on : (t has_come : Bool) (new : UnreadBody) (m n left taken : ℕ) (standard : Bool) → left ≡ m - n → MatchBool t (IsCountedOver standard has_come new) ((new ≡ Counted (m - n) standard) × (n < m)) → StandsAt left taken new
-counted-on true has_come new m n left taken standard e h = over-stands new left taken (counted-over standard has_come new h)
+counted-on true has_come new m n left taken standard e h = over-represents new left taken (counted-over standard has_come new h)
 counted-on false has_come new m n left taken standard e h = subst (StandsAt left taken) (sym h.0) (sym e, λ z. absurd (omega (arith, e, z, h.1)))
 
-pub stands-on : (b new : UnreadBody) (n left taken left_then taken_then : ℕ) → (n == 0) ≡ false → left_then ≡ left - n → 0 < n → StandsAt left taken b → ReadsOn b n (n == 0) new → StandsAt left_then taken_then new
-stands-on (Over stop) new n left taken left_then taken_then some e p h m = absurd (omega (arith, p, m.1))
-stands-on (WithHead bytes) new n left taken left_then taken_then some e p h m = absurd h
-stands-on (Counted k standard) new n left taken left_then taken_then some e p h m =
+pub represents-on : (b new : UnreadBody) (n left taken left_then taken_then : ℕ) → (n == 0) ≡ false → left_then ≡ left - n → 0 < n → StandsAt left taken b → ReadsOn b n (n == 0) new → StandsAt left_then taken_then new
+represents-on (Over stop) new n left taken left_then taken_then some e p h m = absurd (omega (arith, p, m.1))
+represents-on (WithHead bytes) new n left taken left_then taken_then some e p h m = absurd h
+represents-on (Counted k standard) new n left taken left_then taken_then some e p h m =
     let k_is : k ≡ left = h.0 in
     counted-on (n == k) (n == k) new k n left_then taken_then standard (omega (arith, e, k_is)) (subst (λ (t : Bool). MatchBool (t || n == k) (IsCountedOver standard (n == k) new) ((new ≡ Counted (k - n) standard) × (n < k))) some m)
-stands-on (Chunked d) new n left taken left_then taken_then some e p h m = absurd h
-stands-on Rest new n left taken left_then taken_then some e p h m = absurd h
+represents-on (Chunked d) new n left taken left_then taken_then some e p h m = absurd h
+represents-on Rest new n left taken left_then taken_then some e p h m = absurd h
 
-pub stands-end : (b : UnreadBody) (left taken count : ℕ) → left ≡ 0 → taken ≡ count → StandsAt left taken b → (count ≡ 0) ⊎ IsBodyOver b
-stands-end (Over stop) left taken count z t h = inr tt
-stands-end (WithHead bytes) left taken count z t h = absurd h
-stands-end (Counted n standard) left taken count z t h = inl (sym t ∙ h.1 z)
-stands-end (Chunked d) left taken count z t h = absurd h
-stands-end Rest left taken count z t h = absurd h
+pub represents-end : (b : UnreadBody) (left taken count : ℕ) → left ≡ 0 → taken ≡ count → StandsAt left taken b → (count ≡ 0) ⊎ IsBodyOver b
+represents-end (Over stop) left taken count z t h = inr tt
+represents-end (WithHead bytes) left taken count z t h = absurd h
+represents-end (Counted n standard) left taken count z t h = inl (sym t ∙ h.1 z)
+represents-end (Chunked d) left taken count z t h = absurd h
+represents-end Rest left taken count z t h = absurd h
 
 length-zero : (xs : List ℕ) → length xs ≡ 0 → xs ≡ []
 length-zero [] e = refl

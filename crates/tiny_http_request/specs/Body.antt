@@ -1,4 +1,4 @@
--- What a clause says of a request's body, and of a read of it.
+-- The state of a request's body, and of a read of it.
 use Rattle.std.specs.Prelude.{◌≡◌, ◌<◌, ◌==◌, ◌&&◌, ◌||◌, ℕ, Bool, true, false, List, length, take, Option, Some, None}
 use Rattle.std.specs.Prelude.{Result, Ok, IfOk, IfErr, IfSome}
 use Rattle.std.specs.Option.{option_map}
@@ -17,29 +17,29 @@ use Rattle.tiny_http_request.specs.declared.body.GivesOn.TheVariants.{AfterBody,
 use Rattle.tiny_http_body.specs.Body.{Remaining, is_streaming, body_stop, BodyStops, ReadsOn, remaining, prepended_body}
 use Rattle.tiny_http_body.specs.Body.{is_whole, stream_body}
 
--- the input isn't given on as the body ends
+-- the input isn't passed on when the body ends
 abbrev pub outlasts_body : GivesOn → Bool
 outlasts_body AfterBody = false
 outlasts_body AfterAnswer = true
 outlasts_body Never = false
 
--- What is seen of a body.
+-- The view of a body.
 pub record BodyState : Type 0 where
   -- how far it was read
   pub unread : UnreadBody
-  -- What the connection's input still gives, if the body holds it. If it gave it on, what the input gave as the body
-  -- was made. If it never held it, an ended feed.
+  -- What the connection's input still gives, if the body holds it. After it passed the input on: what the input gave
+  -- when the body was made. If it never held it: an ended feed.
   pub input : Option Feed
-  -- whether it holds the input; and whether it does so behind its own end, until its request is answered or dropped
+  -- whether it holds the input, and whether it does so after its own end, until its request is answered or dropped
   pub holds_input : Bool
   pub outlasts : Bool
 
--- what the input gave as a body was made; an ended feed, where the body held no input
+-- what the input gave when a body was made; an ended feed if the body held no input
 abbrev pub begun_feed : {R : Type 0} → Option (Remembered (SourceState R)) → Option Feed
 begun_feed (Some source) = source.value.feed
 begun_feed None = Some (stopped End)
 
--- what the input gives that is held; or what it gave at first
+-- what the input that is held gives, or what it gave at first
 abbrev pub input_of : {R Rt : Type 0} → Option (HeldReader (SourceState R) Rt) → Option (Remembered (SourceState R))
     → Option Feed
 input_of (Some reader) begun = (held_item reader).feed
@@ -49,7 +49,7 @@ input_of None begun = begun_feed begun
 abbrev pub body_part : Remaining → Feed
 body_part r = r.body
 
--- WHAT IS LEFT OF A BODY, if the connection's reader states its feed, or the body never held the input
+-- WHAT IS LEFT OF A BODY, if the connection's reader states its feed or the body never held the input
 abbrev pub body_left : BodyState → Option Feed
 body_left b = option_map body_part (remaining b.unread b.input)
 
@@ -58,19 +58,19 @@ pub record KeepsLeft (old new : BodyState) : Type 0 where
   pub unread : new.unread ≡ old.unread
   pub left : body_left new ≡ body_left old
 
--- the body that a connection reads once it is upgraded: by the standard all that comes, if the body holds the input
+-- the body that a connection reads once it is upgraded: under Standard all that comes, if the body holds the input
 abbrev pub upgraded_body : Bool → BodyState → BodyState
 upgraded_body by_standard b = record b { unread = stream_body (by_standard && b.holds_input) b.unread }
 
--- the input is given on once the body isn't read from it any more, unless the next head waits for the answer
+-- the input is passed on once the body isn't read from it any more, unless the next head waits for the response
 pub record GivesOnInput (old new : BodyState) : Type 0 where
   pub outlasts : new.outlasts ≡ old.outlasts
   pub holds_input : new.holds_input ≡ (is_streaming new.unread || old.outlasts)
 
--- ONE READ OF A BODY: how far the body was read, and what holds where the connection's reader states no feed; the
--- bytes of what is left stand in `Reads`. A body that came with its head gives its next bytes, and none only at its
--- end. A body whose end is answered is read no more, and no fault ended it. A body that is over answers its end or
--- fault again. A read into no room changes nothing.
+-- ONE READ OF A BODY: how far the body was read, and what holds if the connection's reader states no feed; `Reads`
+-- gives the bytes. A body that came with its head gives its next bytes, and none only at its end. A body that reports
+-- its end is read no further, and no fault ended it. A body that is over reports its end or fault again. A read into an
+-- empty buffer changes nothing.
 pub record ReadsUnread (old new : BodyState) (r : Result ℕ Error) (buf : List ℕ) : Type 0 where
   pub held : is_streaming old.unread ≡ false → (feed : Option Feed)
       → IfOk r (λ n. remaining old.unread feed ≡ prepended_body (take n buf) (remaining new.unread feed))

@@ -35,12 +35,12 @@ client_secure c = c.client.secure
 abbrev pub client_address : {R : Type 0} → {W : Type 0} → {Rt : Type 0} → ClientConnection R W Rt → Option SocketAddr
 client_address c = c.client.remote_addr
 
--- by what profile its heads are read
+-- the profile by which its heads are read
 abbrev pub client_profile : {R : Type 0} → {W : Type 0} → {Rt : Type 0} → ClientConnection R W Rt → Profile
 client_profile c = c.profile
 
 -- A request that was handed out on this date, whose body fits its head, and whether another may follow. It holds the
--- input while its body is read from there, and if the next head waits for its answer.
+-- input while its body is read from there, or if the next head waits for its response.
 pub record HandsOut {R W Rt : Type 0} (old new : ClientConnection R W Rt) (date : HttpDate)
     (r : Request R W Rt) : Type 0 where
   pub framed : IsFramed r (client_profile old) date
@@ -70,7 +70,7 @@ pub record IsFreshSource {R : Type 0} (stated : R → Option Feed) (reader : R) 
     pub nothing_held : source.held ≡ []
     pub input_state : source.input_state ≡ AtHead
 
--- so many heads are refused one after another, and another head stands behind each
+-- n heads are refused one after another, and another head follows each
 abbrev pub PassesRefused : {R : Type 0} → Profile → HttpDate → ℕ → SourceState R → SourceState R → Type 0
 PassesRefused p date zero here there = there ≡ here
 PassesRefused {R = R} p date (suc n) here there =
@@ -80,7 +80,7 @@ PassesRefused {R = R} p date (suc n) here there =
     × PassesRefused p date n here mid
     × TakesHead p date mid there (Ok (read.Refused status text false))
 
--- THE NEXT REQUEST of an input, behind the heads that are refused before it, and what the input gives after its head
+-- THE NEXT REQUEST of an input, after the heads that are refused before it, and the input after its head
 pub record FindsRequest {R : Type 0} (p : Profile) (date : HttpDate) (here : SourceState R) (x : Exchange)
     (there : SourceState R) : Type 0 where
   pub passed : ℕ
@@ -88,13 +88,13 @@ pub record FindsRequest {R : Type 0} (p : Profile) (date : HttpDate) (here : Sou
   pub passes : PassesRefused p date passed here at
   pub reads : TakesHead p date at there (Ok (read.Request x))
 
--- who holds the input once a request was handed out: its body, or else the connection, if there is a next head
+-- the holder of the input once a request was handed out: its body, or else the connection, if there is a next head
 abbrev pub GivesInput : {R W Rt : Type 0} → SourceState R → ClientConnection R W Rt → Request R W Rt → Type 0
 GivesInput source new r =
     MatchBool (request_body r).holds_input ((request_body r).input ≡ source.feed)
     ((request_head r).framing.is_last ≡ false → client_source new ≡ Some source)
 
--- Where the connection holds the input, a request that is handed out on this date is the next that stands there.
+-- If the connection holds the input, a request that is handed out on this date is the next one in it.
 abbrev pub HandsOutNext : {R W Rt : Type 0} → ClientConnection R W Rt → ClientConnection R W Rt → HttpDate
     → Request R W Rt → Type 0
 HandsOutNext {R = R} old new date r = (source : SourceState R)

@@ -1,4 +1,4 @@
--- What clauses read of a request, and of why none is made.
+-- What clauses read of a request, and of the errors of making one.
 use Rattle.std.specs.Prelude.{◌≡◌, ⊤, ℕ, Bool, true, false, ◌&&◌, List, Option, None, Some, Result, Ok, Err, codes}
 use Rattle.std.specs.IoError.{error_kind}
 use Rattle.std.specs.declared.io.Error.{Error}
@@ -33,7 +33,7 @@ use Rattle.tiny_http_request.specs.declared.request.RequestCreationError.{Reques
 use Rattle.tiny_http_request.specs.declared.request.RequestCreationError.TheVariants.{ExpectationFailed}
 use Rattle.tiny_http_request.specs.declared.request.RequestCreationError.TheVariants.{CreationIoError, Memory}
 
--- what the request's head says
+-- the request's head
 abbrev pub request_head : {R : Type 0} → {W : Type 0} → {Rt : Type 0} → Request R W Rt → Head
 request_head r = r.head
 
@@ -53,54 +53,54 @@ request_open r = with_body r.open_request r.open_request.body.unread
 abbrev pub request_body : {R : Type 0} → {W : Type 0} → {Rt : Type 0} → Request R W Rt → BodyState
 request_body r = r.open_request.body
 
--- an answer is refused
+-- a response is refused
 abbrev pub IsInvalidInput : {T : Type 0} → Result T Error → Type 0
 IsInvalidInput (Ok x) = ⊥
 IsInvalidInput (Err e) = error_kind e ≡ InvalidInput
 
--- whether no request is made since its expectation can't be met
+-- whether no request is made because its expectation can't be met
 abbrev pub is_expectation_failed : RequestCreationError → Bool
 is_expectation_failed ExpectationFailed = true
 is_expectation_failed (CreationIoError e) = false
 is_expectation_failed Memory = false
 
--- this, of the fault by which a body couldn't be read
+-- this holds for the fault by which a body couldn't be read, if that is the error
 abbrev pub IfCreationIo : RequestCreationError → (Error → Type 0) → Type 0
 IfCreationIo ExpectationFailed P = ⊤
 IfCreationIo (CreationIoError e) P = P e
 IfCreationIo Memory P = ⊤
 
--- the kind of error of a body that ends early because its reader stopped so
+-- the kind of error of a body that ends early because its reader stopped by this
 abbrev pub cut_kind : Stop → ErrorKind
 cut_kind End = ConnectionAborted
 cut_kind (Fault kind) = kind
 
--- the body that is so framed is read at once and cut short, and this kind of error says so
+-- the body with this framing is read at once and cut short, and is reported by this kind of error
 abbrev pub IsCutShort : Framing → Option Feed → ErrorKind → Type 0
 IsCutShort f None kind = ⊤
 IsCutShort f (Some x) kind = IsCutWithHead f.form (body_length_or_0 f) x.bytes × (kind ≡ cut_kind x.stop)
 
--- the same of the body after a head of these headers
+-- the same for the body after a head with these headers
 abbrev pub CutsShort : HTTPVersion → List Header → Option Feed → ErrorKind → Type 0
 CutsShort v headers feed kind = (f : Framing) × (framing Lenient v headers ≡ Ok f) × IsCutShort f feed kind
 
--- the body that is so framed, and fits that, begins where the reader gives this
+-- the body fits this framing, and begins at this feed of the reader
 abbrev pub BeginsWith : Framing → Option Feed → UnreadBody → Type 0
 BeginsWith f feed body = (left : Option Feed) × Begins f feed left (Some body) × FitsFraming f body
 
--- of its client, and of its request line, a request says this
+-- the request has this client, and this request line
 abbrev pub Says : {R : Type 0} → {W : Type 0} → {Rt : Type 0} → Request R W Rt → Bool → Option SocketAddr → Method
     → List ℕ → HTTPVersion → Type 0
 Says r secure address method path version =
     (request_secure r ≡ secure) × (request_address r ≡ address)
     × ((request_head r).method ≡ method) × ((request_head r).path ≡ path) × ((request_head r).version ≡ version)
 
--- a request is framed as its version and headers say, and what is kept for its answer is that of its head, on this date
+-- a request is framed by its version and headers, and what is kept for its response is that of its head, on this date
 abbrev pub IsFramed : {R : Type 0} → {W : Type 0} → {Rt : Type 0} → Request R W Rt → Profile → HttpDate → Type 0
 IsFramed r profile date = IsFramedBy profile date (request_head r) (request_open r)
 
--- Why no request is made of these headers: what they expect can't be met; or a body that is read at once is cut
--- short; or memory was refused, of which nothing is said.
+-- Why no request is made of these headers: what they expect can't be met, a body that is read at once is cut short, or
+-- memory was refused, which is unrestricted.
 abbrev pub FailsBy : RequestCreationError → HTTPVersion → List Header → Option Feed → Type 0
 FailsBy e version headers feed =
     (is_expectation_failed e ≡ true → framing Lenient version headers ≡ Err Expectation)
@@ -110,12 +110,12 @@ FailsBy e version headers feed =
 abbrev pub asks_for : Head → List ℕ → Bool
 asks_for h protocol = is_upgrade h && has_element (codes "Upgrade") protocol h.headers.items
 
--- the reader of an upgrade's stream gives what is left of the request's body; by the standard all that comes, if the
+-- the reader of an upgrade's stream gives what is left of the request's body; under Standard all that comes, if the
 -- body holds the input
 abbrev pub ReadsStream : {R : Type 0} → {W : Type 0} → {Rt : Type 0} → Request R W Rt → BodyState → Type 0
 ReadsStream r body = KeepsLeft (upgraded_body (request_open r).by_standard (request_body r)) body
 
--- why an upgrade was refused: by what was found wrong; or nothing was, and as many connections are upgraded as may be
+-- why an upgrade was refused: by the failed check; or none failed, and the limit of upgraded connections is reached
 abbrev pub RefusesUpgrade : Result ⊤ UpgradeError → UpgradeError → Type 0
 RefusesUpgrade (Ok u) error = error ≡ TooMany
 RefusesUpgrade (Err found) error = found ≡ error

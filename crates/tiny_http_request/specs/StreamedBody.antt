@@ -1,4 +1,4 @@
--- What a contract sees of the body of an answer that grows while it is sent.
+-- What a contract reads of the body of a response that grows while it is sent.
 use Rattle.tiny_http_body.specs.declared.streamed.StreamedForm.{StreamedForm}
 use Rattle.tiny_http_request.specs.declared.streamed_body.StreamedBody.{StreamedBody}
 

@@ -9,11 +9,11 @@ use Rattle.tiny_http_request.specs.declared.test.TestBody.{TestBody}
 use Rattle.tiny_http_request.specs.declared.test.TestBody.TheVariants.{Text, Bytes}
 use Rattle.tiny_http_request.specs.declared.test.TestRequest.{TestRequest}
 
--- what a writer states that takes all bytes and keeps none: it never fails
+-- what a writer that takes all bytes and keeps none states: it never fails
 abbrev pub nowhere_sink : Nowhere → Sink
 nowhere_sink _ = record { taken = None; sent = []; failures = 0; last_kind = None; has_ended = false }
 
--- what a writer states whose bytes lie behind a lock: its own failures alone
+-- what a writer whose bytes are under a lock states: only its own failures
 abbrev pub recorder_sink : {Rt : Type 0} → Recorder Rt → Sink
 recorder_sink w = record { taken = None; sent = []; failures = w.failures; last_kind = None; has_ended = false }
 
@@ -22,7 +22,7 @@ abbrev pub body_bytes : TestBody → List ℕ
 body_bytes (Text text) = text.now
 body_bytes (Bytes bytes) = bytes.items
 
--- the two are the same but for their headers and their bodies
+-- the two differ only in their headers and their bodies
 pub record IsLike (old new : TestRequest) : Type 0 where
   pub remote_addr : new.remote_addr ≡ old.remote_addr
   pub secure : new.secure ≡ old.secure
@@ -30,11 +30,11 @@ pub record IsLike (old new : TestRequest) : Type 0 where
   pub path : new.path ≡ old.path
   pub version : new.version ≡ old.version
 
--- the header that says this length
+-- the header with this length
 abbrev pub length_header : ℕ → Header
 length_header n = record { field = codes "Content-Length"; value = decimal n }
 
--- the headers, and behind them the one that says this length, if they have none of that name
+-- the headers, with one of this length appended if they have none of that name
 abbrev pub with_length : ℕ → List Header → List Header
 with_length n headers =
     if is_some (value_of (codes "Content-Length") headers) then headers else headers ++ (length_header n ∷ [])

@@ -1,4 +1,4 @@
--- What a clause says of a body that is read whole.
+-- What clauses state of a body that is read whole.
 use Rattle.std.specs.Prelude.{◌≡◌, ◌⊎◌, ◌<◌, ⊤, ℕ, true, List, Option, Some, None}
 use Rattle.std.specs.IoError.{error_kind}
 use Rattle.std.specs.declared.io.Error.{Error}
@@ -18,7 +18,7 @@ abbrev pub IsWholeOf : List ℕ → Option Feed → Type 0
 IsWholeOf bytes None = ⊤
 IsWholeOf bytes (Some left) = left ≡ whole_feed bytes
 
--- what is reported of a fault of this kind of a body of this form
+-- the error for a fault of this kind of a body of this form
 abbrev pub error_by : Form → ErrorKind → Error → BodyError
 error_by Chunked InvalidData e = Broken
 error_by Chunked UnexpectedEof e = Cut
@@ -28,8 +28,8 @@ error_by _ _ e = Io e
 abbrev pub fault_error : Form → Error → BodyError
 fault_error form e = error_by form (error_kind e) e
 
--- Why reading on ended, whatever the form: the bytes are more than may be read, where no length is known; or those of
--- a known length ended early; or a fault was reported.
+-- Why reading on ended, whatever the form: more bytes than the limit, of unknown length; or the bytes of a known length
+-- ended early; or a fault was reported.
 abbrev pub FailsReading : UnreadBody → UnreadBody → BodyError → Type 0
 FailsReading old new TooLong = (bytes_left old ≡ None) × ((kind : ErrorKind) → body_stop old ≡ Some (Fault kind) → ⊥)
 FailsReading old new Cut = (is_streaming old ≡ true) × IsBodyOver new
@@ -41,9 +41,9 @@ FailsReading old new Memory = ⊤
 abbrev pub HasAnEnd : Form → Type 0
 HasAnEnd form = (form ≡ Counted) ⊎ (form ≡ Chunked)
 
--- WHY A BODY OF THIS FORM ISN'T READ WHOLE, where so many bytes may be read: its length is above that, or isn't known
--- and no fault was reported before; its bytes ended early; it reported this fault, which each later read reports; or
--- memory was refused, of which nothing is said.
+-- WHY A BODY OF THIS FORM ISN'T READ WHOLE, with this limit: its length is above it, or unknown with no fault reported
+-- before; its bytes ended early; it reported this fault, which each later read reports; or memory was refused, which is
+-- unrestricted.
 abbrev pub FailsWhole : Form → ℕ → UnreadBody → UnreadBody → BodyError → Type 0
 FailsWhole form most old new TooLong =
     ((n : ℕ) → bytes_left old ≡ Some n → most < n) × ((kind : ErrorKind) → body_stop old ≡ Some (Fault kind) → ⊥)
@@ -53,7 +53,7 @@ FailsWhole form most old new Broken = (form ≡ Chunked) × (body_stop new ≡ S
 FailsWhole form most old new (Io e) = (fault_error form e ≡ Io e) × (body_stop new ≡ Some (Fault (error_kind e)))
 FailsWhole form most old new Memory = ⊤
 
--- which fault an error of a body becomes
+-- the fault for an error of a body
 abbrev pub IsFaultOfBody : BodyError → Error → Type 0
 IsFaultOfBody TooLong fault = error_kind fault ≡ InvalidInput
 IsFaultOfBody Cut fault = error_kind fault ≡ UnexpectedEof

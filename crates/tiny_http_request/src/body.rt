@@ -1,4 +1,4 @@
-//! The body of a request that a thread may read, while the connection reads on.
+//! The body of a request that a thread may read while the connection reads on.
 ghost use Rattle.std.specs.Prelude.{◌≡◌, ◌+◌, ◌≤◌, ◌<◌, ◌==◌, ◌||◌, false, length, take, drop, Option, is_some, Ok};
 ghost use Rattle.std.specs.Prelude.{true, Some, None, IfOk, IfErr, IfSome, OnOk};
 ghost use Rattle.std.specs.IoError.{error_kind};
@@ -19,43 +19,47 @@ use tiny_http_io::device::ReadDevice;
 use tiny_http_io::source::{InputState, Source};
 use tiny_http_threads::held_reader::HeldReader;
 
-// When the connection's input is given on to the next head.
+// When the body passes the connection's input to the next head.
 #[derive(Drop)]
 pub(crate) enum GivesOn {
     // Once the body was read to its end or given up.
     AfterBody,
-    // Once the request was answered or dropped: it asks for an upgrade.
+    // Once the request, which asks for an upgrade, was answered or dropped.
     AfterAnswer,
-    // Once the body was read to its end or given up; but no head follows.
+    // Once the body was read to its end or given up, but no head follows.
     Never,
 }
 
-// Has no head read behind this reader, and drops it.
+// Ends the requests after this reader, and drops it.
 fn end_behind<R: ReadDevice + Drop, Rt: Wait + Drop>(reader: HeldReader<Source<R>, Rt>) {
     let mut reader = reader;
-    reader.turn.item.stand_at(InputState::Last);
+    reader.turn.item.set_input_state(InputState::Last);
 }
 
-/// The body of a request. While bytes of it are to be read from the connection it holds the connection's input, and
-/// the next head waits: a counted body gives the input on with its last byte, a chunked one once a read has answered
-/// 0. A dropped body gives it on too; but after a chunked one whose end wasn't reported, and after one that is cut or
-/// broken, no head follows. Under `Standard` the body of a request that asks for an upgrade holds the input until the
-/// request is answered or dropped, and no head follows if its raw writer is taken or it is upgraded. None follows,
-/// too, where a request is finished while its 100 is owed, or while more than 65,536 bytes of its body are unread.
-/// Once it is upgraded its body reads all that follows.
+/// The body of a request, as a `Read`.
 ///
-/// After its end each read answers 0. A fault, the client's or the body's own, is answered by each read from then on,
-/// and so is one of kind `Interrupted`. The standard library's `read_to_end` and `read_to_string` try again after
-/// that kind, without an end: where the client's reader may be interrupted use `read` or `read_exact`.
+/// While bytes of it are to be read from the connection it holds the connection's input, and the next head waits. A
+/// body with a content length passes the input on with its last byte, a chunked one once a read has returned 0, and a
+/// dropped one at once. No head follows a dropped chunked body whose end wasn't reported, or one that is cut or broken.
+///
+/// Under `Standard` the body of a request that asks for an upgrade holds the input until the request is answered or
+/// dropped, and no head follows if its raw writer is taken or it is upgraded; once upgraded, its body reads all that
+/// follows. Nor does one follow a request that is finished while its 100 is owed, or while more than 65,536 bytes of
+/// its body are unread.
+///
+/// After the end each read returns 0. After a fault, the client's or the body's own, each read returns that fault, even
+/// one of kind `Interrupted`. The standard library's `read_to_end` and `read_to_string` retry that kind without end: if
+/// the client's reader may be interrupted, use `read` or `read_exact`.
 pub struct Body<R: ReadDevice + Drop, Rt: Wait + Drop> {
     unread: UnreadBody,
     reader: Option<HeldReader<Source<R>, Rt>>,
     gives_on: GivesOn,
-    // The input as the body was made, if it held it then. Contracts alone see it.
+    // The input when the body was made, if it held it then. Only contracts see it.
     begun: Option<Remembered<Source<R>>>,
 }
 
-// Gives the input on, where the body isn't read from it any more and no answer is waited for; else it comes back.
+// Passes the input on if the body isn't read from it any more and the next head needn't wait for the response; else
+// returns it.
 fn give_on<R: ReadDevice + Drop, Rt: Wait + Drop>(
     reader: HeldReader<Source<R>, Rt>,
     is_read: bool,
@@ -94,14 +98,14 @@ impl<R: ReadDevice + Drop, Rt: Wait + Drop> Model for Body<R, Rt> {
       outlasts = outlasts_body b.gives_on;
     } };
 
-    // It holds the input exactly while it is read from there, or the next head waits for the answer. And the input
-    // states its feed exactly if it did at first.
+    // It holds the input exactly while it is read from there, or the next head waits for the response. The input states
+    // its feed exactly if it did at first.
     ghost invariant = { λ b. (is_some b.reader ≡ (is_streaming b.unread || outlasts_body b.gives_on))
         × (is_some (input_of b.reader b.begun) ≡ is_some (begun_feed b.begun)) };
 }
 
 impl<R: ReadDevice + Drop, Rt: Wait + Drop> Body<R, Rt> {
-    /// A body with the reader of the input, if it is read from there or the next head waits for the answer.
+    /// Returns a body with the reader of the input, if it is read from there or the next head waits for the response.
     pub(crate) fn new(
         unread: UnreadBody,
         reader: Option<HeldReader<Source<R>, Rt>>,
@@ -127,28 +131,30 @@ impl<R: ReadDevice + Drop, Rt: Wait + Drop> Body<R, Rt> {
         }
     }
 
-    /// Whether no more of it is read from the connection, and no fault ended it; by `Lenient` also of a cut one.
+    /// Returns whether no more of it is read from the connection and no fault ended it. Under `Lenient` and `Strict` a
+    /// cut body with a content length is whole, too.
     pub(crate) fn is_whole(&self) -> bool
         ensures { result ≡ is_whole self.now.unread }
     {
         self.unread.is_whole()
     }
 
-    /// How many bytes of it are left, where a length says so.
+    /// Returns how many bytes of it are left, if a length states it.
     pub(crate) fn left(&self) -> Option<usize>
         ensures { result ≡ bytes_left self.now.unread }
     {
         self.unread.left()
     }
 
-    /// What is left of it, if its request is finished now.
+    /// Returns what is left of it if its request is finished now.
     pub(crate) fn remainder(&self) -> Remainder
         ensures { result ≡ remainder self.now.unread }
     {
         self.unread.remainder()
     }
 
-    /// The connection was upgraded: by the standard all that comes is read from now on, if the body holds the input.
+    /// Makes the body the stream of an upgrade: under `Standard`, if it holds the input, it reads all that comes from
+    /// now on.
     pub(crate) fn become_stream(&mut self, by_standard: bool)
         ensures { self.new ≡ upgraded_body by_standard self.old }
     {
@@ -157,9 +163,9 @@ impl<R: ReadDevice + Drop, Rt: Wait + Drop> Body<R, Rt> {
         }
     }
 
-    /// Has no head follow this request: it asks for an upgrade, owes a 100, or has more of its body unread than is
-    /// skipped, so that its body holds the input. Where the body isn't read from there any more, the input is given
-    /// on at once.
+    /// Ends the requests after this one, which asks for an upgrade, owes a 100, or has more of its body unread than is
+    /// skipped, so that its body holds the input. If the body isn't read from there any more, the input is passed on at
+    /// once.
     pub(crate) fn end_requests(&mut self)
         ensures { KeepsLeft self.old self.new }
     {
@@ -173,7 +179,7 @@ impl<R: ReadDevice + Drop, Rt: Wait + Drop> Body<R, Rt> {
         }
     }
 
-    // Reads some bytes into a buffer that has room.
+    // Reads some bytes into a buffer that isn't empty.
     fn read_some(&mut self, buf: &mut [u8]) -> Result<usize, io::Error>
         requires room { 0 < length buf.old }
         ensures reads { Reads (body_left self.old) (body_left self.new) result buf.new }
@@ -205,8 +211,8 @@ impl<R: ReadDevice + Drop, Rt: Wait + Drop> Body<R, Rt> {
 impl<R: ReadDevice + Drop, Rt: Wait + Drop> ReadDevice for Body<R, Rt> {
     ghost feed = { body_left };
 
-    /// Reads some bytes of the body: 0 after its last one, or the fault by which it is cut or broken. After the end
-    /// or a fault each later read answers the same.
+    /// Reads some bytes of the body. Returns 0 after its last one, or the fault by which it is cut or broken, and the
+    /// same from then on.
     fn read_in(&mut self, buf: &mut [u8]) -> Result<usize, io::Error>
         ensures reads { Reads (body_left self.old) (body_left self.new) result buf.new }
         ensures body { ReadsUnread self.old self.new result buf.new }
@@ -229,7 +235,7 @@ fn read_behind<R: ReadDevice>(reader: &mut R, buf: &mut [u8], at: usize) -> io::
     reader.read_in(&mut buf[at..])
 }
 
-// Reads until the buffer is full, or an end or a fault comes: the end as one of kind `UnexpectedEof`.
+// Reads until the buffer is full. Fails at the first fault, or at the end with `UnexpectedEof`.
 fn read_whole<R: ReadDevice>(reader: &mut R, buf: &mut [u8]) -> io::Result<()>
     ensures { OnOk result (R.feed reader.old ≡ prepended buf.new (R.feed reader.new)) }
 {
@@ -250,7 +256,7 @@ impl<R: ReadDevice + Drop, Rt: Wait + Drop> Read for Body<R, Rt> {
 
     ghost remaining = { λ b. bytes_of (body_left b) };
 
-    /// Reads some bytes of the body, as `read_in`.
+    /// Reads some bytes of the body, like `read_in`.
     fn read(&mut self, buf: &mut [u8]) -> io::Result<usize>
         ensures bound { ReadsAtMost result buf.new }
         ensures bytes { ReadConsumes (bytes_of (body_left self.old)) (bytes_of (body_left self.new)) result buf.new }
@@ -260,8 +266,8 @@ impl<R: ReadDevice + Drop, Rt: Wait + Drop> Read for Body<R, Rt> {
         self.read_in(buf)
     }
 
-    /// Fills the buffer. The first fault is the error, also one of kind `Interrupted`; a body that ends before is one
-    /// of kind `UnexpectedEof`.
+    /// Fills the buffer. Fails with the first fault, even one of kind `Interrupted`, or with `UnexpectedEof` if the
+    /// body ends before.
     fn read_exact(&mut self, buf: &mut [u8]) -> io::Result<()>
         ensures bytes { OnOk result (Consumes (bytes_of (body_left self.old)) (bytes_of (body_left self.new)) buf.new) }
         ensures reads { OnOk result (body_left self.old ≡ prepended buf.new (body_left self.new)) }
@@ -271,7 +277,7 @@ impl<R: ReadDevice + Drop, Rt: Wait + Drop> Read for Body<R, Rt> {
 }
 
 impl<R: ReadDevice + Drop, Rt: Wait + Drop> Drop for Body<R, Rt> {
-    /// Gives the body up.
+    /// Gives up the body.
     fn drop(self) {
         let Self {
             mut unread,
@@ -283,7 +289,7 @@ impl<R: ReadDevice + Drop, Rt: Wait + Drop> Drop for Body<R, Rt> {
             let source = &mut *reader.turn.item;
             unread.give_up(source);
             if matches!(gives_on, GivesOn::Never) {
-                source.stand_at(InputState::Last);
+                source.set_input_state(InputState::Last);
             }
         }
     }

@@ -1,4 +1,4 @@
-//! A connection whose requests threads may hold.
+//! A connection whose requests any thread may hold.
 ghost use Rattle.std.specs.Prelude.{◌≡◌, ◌↔◌, ◌||◌, ⊤, true, false, Ok, None, Some, IfOk, OnErr};
 ghost use Rattle.std.specs.Prelude.{IsSome, IfSome, IfNone};
 ghost use Rattle.tiny_http_socket.specs.Stream.{MayHavePeer};
@@ -33,30 +33,30 @@ use tiny_http_threads::sequential::{
 pub(crate) struct Client {
     /// Whether its connection is encrypted.
     pub secure: bool,
-    /// Its address, where it has one and the system knows it.
+    /// Its address, if it has one and the system knows it.
     pub remote_addr: Option<SocketAddr>,
 }
 
 /// State that a request shares with its connection.
 #[derive(Drop)]
 pub(crate) struct Links {
-    /// Whether the connection's flushes may leave their bytes, where they ever may.
+    /// Whether the connection's flushes may hold their bytes, if they ever may.
     pub flush_policy: Option<Arc<FlushPolicy>>,
-    /// What the reads of the connection are told, where the request reads from it and they are to know.
+    /// The connection's timers, if the request reads from the connection and timers are set.
     pub timers: Option<Arc<ConnectionTimers>>,
 }
 
-/// A connection, whose requests are handed out one after another. Any thread may hold one, also while the next is read.
+/// A connection that hands out its requests one after another. Any thread may hold one, even while the next is read.
 #[derive(Drop)]
 pub struct ClientConnection<R: ReadDevice + Drop, W: WriteDevice + Drop, Rt: Wait + Drop> {
     alloc: Global,
     profile: Profile,
     client: Client,
-    // What it shares with its requests, where somebody wants to know.
+    // State that it shares with its requests.
     links: Links,
     source: SequentialReaderBuilder<Source<R>, Rt>,
     sink: SequentialWriterBuilder<Outlet<W>, Rt>,
-    // None once the connection has no further request.
+    // `None` once the connection has no further request.
     next_head: Option<NextHead<R, Rt>>,
 }
 
@@ -65,14 +65,14 @@ pub struct ClientConnection<R: ReadDevice + Drop, W: WriteDevice + Drop, Rt: Wai
 enum NextHead<R: ReadDevice + Drop, Rt: Wait + Drop> {
     // On the input, which the connection holds.
     Here(HeldReader<Source<R>, Rt>),
-    // Behind the request before, which took the input.
+    // After the request before, which took the input.
     Behind(SequentialReader<Source<R>, Rt>),
 }
 
 impl<R: ReadDevice + Drop, Rt: Wait + Drop> NextHead<R, Rt> {
     ghost use Rattle.tiny_http_request.specs.Client.{source_here};
 
-    // Waits until the request before gives the input on.
+    // Waits until the request before passes the input on.
     fn hold(self) -> HeldReader<Source<R>, Rt>
         ensures { IfSome (source_here self) (λ source. held_item result ≡ source) }
     {
@@ -83,7 +83,7 @@ impl<R: ReadDevice + Drop, Rt: Wait + Drop> NextHead<R, Rt> {
     }
 }
 
-// The client's address, where there is one and the system knows it.
+// Returns the client's address, if there is one and the system knows it.
 fn peer_if_known(socket: &RefinedTcpStream) -> Option<SocketAddr>
     ensures { MayHavePeer socket.now result }
 {
@@ -99,9 +99,9 @@ impl<Rt: Wait + Copy> ClientConnection<RefinedTcpStream, RefinedTcpStream, Rt> {
     ghost use Rattle.tiny_http_request.specs.Client.{IsOver, client_secure, client_address, client_profile};
     ghost use Rattle.tiny_http_request.specs.Client.{client_source, IsFreshSource};
 
-    /// A connection over the two halves of a client's socket, on which nothing was read yet, under `Lenient`. Its
-    /// requests say the client's address; none of a Unix socket, or where the system no longer knows it. An error
-    /// where memory was refused.
+    /// Returns a connection over the two halves of a client's socket, before its first read, under `Lenient`. Its
+    /// requests have the client's address, or none for a Unix socket, or if the system no longer knows it. Fails if
+    /// memory is refused.
     pub fn new(
         rt: Rt,
         alloc: Global,
@@ -117,7 +117,7 @@ impl<Rt: Wait + Copy> ClientConnection<RefinedTcpStream, RefinedTcpStream, Rt> {
         ClientConnection::new_with(rt, alloc, Profile::Lenient, write_socket, read_socket)
     }
 
-    /// The same under this profile, by which its heads are read.
+    /// Returns a connection like `new`, whose heads are read by this profile.
     pub fn new_with(
         rt: Rt,
         alloc: Global,
@@ -141,8 +141,8 @@ impl<R: ReadDevice + Drop, W: WriteDevice + Drop, Rt: Wait + Copy> ClientConnect
     ghost use Rattle.tiny_http_request.specs.Client.{IsOver, HandsOut, client_secure, client_address, client_profile};
     ghost use Rattle.tiny_http_request.specs.Client.{client_source, IsFreshSource, HandsOutNext, GivesInput};
 
-    /// A connection over a writer and a reader, on which nothing was read yet, under `Lenient`. `remote_addr` and
-    /// `secure` are what its requests say. An error where memory was refused.
+    /// Returns a connection over a writer and a reader, before its first read, under `Lenient`. Its requests have this
+    /// `remote_addr` and `secure`. Fails if memory is refused.
     pub fn over(
         rt: Rt,
         alloc: Global,
@@ -160,7 +160,7 @@ impl<R: ReadDevice + Drop, W: WriteDevice + Drop, Rt: Wait + Copy> ClientConnect
         ClientConnection::over_with(rt, alloc, profile, writer, reader, remote_addr, secure)
     }
 
-    /// The same under this profile, by which its heads are read.
+    /// Returns a connection like `over`, whose heads are read by this profile.
     pub fn over_with(
         rt: Rt,
         alloc: Global,
@@ -195,18 +195,19 @@ impl<R: ReadDevice + Drop, W: WriteDevice + Drop, Rt: Wait + Copy> ClientConnect
         })
     }
 
-    /// Whether the connection is encrypted.
+    /// Returns whether the connection is encrypted.
     pub fn secure(&self) -> bool
         ensures { result ≡ client_secure self.now }
     {
         self.client.secure
     }
 
-    /// Has answers leave together: flushes leave their bytes where this lets them. It does for a request whose turn
-    /// has come as it is handed out, whose body isn't read from the connection, and which asks for no upgrade under
-    /// `Standard`; else it doesn't, from the moment at which the request is handed out. A raw writer, an upgrade and
-    /// a 100 end it too. The caller has what was left sent by the `Cork` of this policy: by `send_unless_leaving`
-    /// after each `next`, and by `send` at the end.
+    /// Lets responses leave together: flushes hold their bytes while this policy lets them.
+    ///
+    /// It does for a request whose turn has come when it is handed out, whose body isn't read from the connection, and
+    /// which asks for no upgrade under `Standard`; it stops when any other request is handed out. A raw writer, an
+    /// upgrade and a 100 end it too. The caller has the held bytes sent by the `Cork` of this policy: by
+    /// `send_unless_leaving` after each `next`, and by `send` at the end.
     pub fn set_flush_policy(&mut self, flush_policy: Arc<FlushPolicy>)
         ensures over { IsOver self.new ↔ IsOver self.old }
         ensures input { client_source self.new ≡ client_source self.old }
@@ -217,12 +218,13 @@ impl<R: ReadDevice + Drop, W: WriteDevice + Drop, Rt: Wait + Copy> ClientConnect
         self.links.flush_policy = Some(flush_policy);
     }
 
-    /// Has `next` say here when it waits for a head and when it hands out a request. It keeps the limit of open
-    /// requests from now on, 2 at least: in front of a head, and of the answer to a refused one, it waits until fewer
-    /// are open. Once this was stopped, `next` answers `None`. A `TimedReader` and a `TimedWriter` keep the other
-    /// limits. With limits `next` answers `None`, too, once an answer ended the output without being whole: its data
-    /// were too short or failed, or the writer did. The client of a socket sees the end then. An error where no
-    /// handle is left.
+    /// Has `next` report to these timers when it waits for a head and when it hands out a request, and apply their
+    /// limit of open requests, at least 2: before a head, and before the response to a refused one, it waits until
+    /// fewer are open. A `TimedReader` and a `TimedWriter` apply the other limits.
+    ///
+    /// `next` returns `None` once the timers were stopped. With limits it also does once a response ended the output
+    /// without being whole: its data were too short or failed, or the writer did; the client of a socket then sees end
+    /// of file. Fails if no handle is left.
     pub fn set_timers(&mut self, timers: Arc<ConnectionTimers>) -> Result<(), AllocError>
         ensures over { IsOver self.new ↔ IsOver self.old }
         ensures input { client_source self.new ≡ client_source self.old }
@@ -238,27 +240,30 @@ impl<R: ReadDevice + Drop, W: WriteDevice + Drop, Rt: Wait + Copy> ClientConnect
         Ok(())
     }
 
-    /// Goes to the next request, and hands it out; `None` once the connection has no further one, from then on. It
-    /// waits for the client, and while the last request's body holds the input: until that was read to its end or
-    /// given up. Under `Standard` it waits, too, until a request that asks for an upgrade is answered or dropped: a
-    /// program does that before it makes this call on the same thread. It answers `None` behind such a request whose
-    /// raw writer was taken or which was upgraded; if the stream of an upgrade still reads, once that has ended.
-    /// Under `Standard` it answers `None`, too, behind a request that was finished while its 100 was owed, or while
-    /// more than 65,536 bytes of its body were unread. It does so, too, once an answer was sent that was made by
-    /// `with_close`; a call that waits for the client then answers `None` when the client sends a head or ends. The
-    /// client of a socket sees the end behind the last answer, as `Request::respond` tells. Refused heads are
-    /// answered in their turn, without waiting for it, and end the requests; but behind one of a version above 1.1
-    /// the next head is read, unless it names an upgrade or its body is chunked. An error where memory was refused;
-    /// then each later call answers `None`. `now` dates the answers to refused heads, and the 500 of this request if
-    /// it is dropped.
+    /// Reads the next request and hands it out, or returns `None`, from then on, if the connection has no further one.
+    /// `now` dates the responses to refused heads, and the 500 of this request if it is dropped. Fails if memory is
+    /// refused; then each later call returns `None`.
+    ///
+    /// It waits for the client, and until the last request's body, if it holds the input, is read to its end or given
+    /// up. Under `Standard` it also waits until a request that asks for an upgrade is answered or dropped: a program
+    /// does that before it makes this call on the same thread. It returns `None` after such a request whose raw writer
+    /// was taken or which was upgraded; if the stream of an upgrade still reads, once that has ended. Under `Standard`
+    /// it also returns `None` after a request that was finished while its 100 was owed, or while more than 65,536 bytes
+    /// of its body were unread.
+    ///
+    /// It returns `None` too once a response that was made by `with_close` was sent; a call that waits for the client
+    /// then returns when the client sends a head or ends. The client of a socket sees end of file after the last
+    /// response, as `Request::respond` says. Refused heads are answered in their turn, without waiting for it, and end
+    /// the requests; but after one with a version above 1.1 the next head is read, unless it names an upgrade or its
+    /// body is chunked.
     pub fn next(&mut self, now: HttpDate) -> Result<Option<Request<R, W, Rt>>, AllocError>
         ensures over { IsOver self.old → (result ≡ Ok None) × IsOver self.new }
         ensures none { IfOk result (λ r. IfNone r (IsOver self.new)) }
         ensures err { OnErr result (IsOver self.new) }
-        // Whether a request that was handed out has closed the connection is known behind a lock. So no clause says
-        // when a request is handed out: `None` may be answered where one stands in the input.
+        // Whether a request that was handed out has closed the connection is known only under a lock. So no clause
+        // states when a request is handed out: the result may be `None` although one is in the input.
         ensures handed { IfOk result (λ r. IfSome r (HandsOut self.old self.new now)) }
-        // Where the connection holds the input, it is the next request that stands in what the input gives.
+        // If the connection holds the input, it is the next request in what the input gives.
         ensures reads { IfOk result (λ r. IfSome r (HandsOutNext self.old self.new now)) }
         ensures same { (client_secure self.new ≡ client_secure self.old)
             × (client_address self.new ≡ client_address self.old)
@@ -301,8 +306,8 @@ impl<R: ReadDevice + Drop, W: WriteDevice + Drop, Rt: Wait + Copy> ClientConnect
     }
 
     /// Waits until all that was handed out is answered: each request was answered or dropped, or its raw writer or
-    /// stream was, and the refused heads were answered. Nobody reads or writes the connection then, if no further
-    /// request is asked for. An error where memory was refused.
+    /// stream was dropped, and the refused heads were answered. Then nothing reads or writes the connection, unless a
+    /// further request is asked for. Fails if memory is refused.
     pub fn wait_for_answers(&mut self) -> Result<(), AllocError>
         ensures over { IsOver self.new ↔ IsOver self.old }
         ensures input { client_source self.new ≡ client_source self.old }
@@ -315,8 +320,8 @@ impl<R: ReadDevice + Drop, W: WriteDevice + Drop, Rt: Wait + Copy> ClientConnect
         Ok(())
     }
 
-    // Hands out a request that was read by this reader, and answers on this writer. The reader goes with a body that
-    // is read from it, and with a request before whose answer the next head isn't read.
+    // Hands out a request that was read by this reader and responds on this writer. The request takes the reader if its
+    // body is read from it, or if the next head waits for its response.
     fn hand_out(
         &mut self,
         reader: HeldReader<Source<R>, Rt>,
@@ -363,7 +368,8 @@ impl<R: ReadDevice + Drop, W: WriteDevice + Drop, Rt: Wait + Copy> ClientConnect
     }
 }
 
-// Where the head after a request is read, if one is: on the input that is held, or behind the request that took it.
+// Returns where the head after a request is read, if one is: on the input that is held, or after the request that took
+// it.
 fn next_head<R: ReadDevice + Drop, Rt: Wait + Copy>(
     source: &mut SequentialReaderBuilder<Source<R>, Rt>,
     is_last: bool,
@@ -382,7 +388,7 @@ fn next_head<R: ReadDevice + Drop, Rt: Wait + Copy>(
     }
 }
 
-// The next head is to be read from here. False where the connection was stopped.
+// Starts the wait for the next head. Returns false if the connection was stopped.
 fn begins_head<R: ReadDevice>(timers: &Option<Arc<ConnectionTimers>>, source: &Source<R>) -> bool {
     match timers {
         Some(timers) => timers.begin_head(!source.held().is_empty()),
@@ -390,7 +396,7 @@ fn begins_head<R: ReadDevice>(timers: &Option<Arc<ConnectionTimers>>, source: &S
     }
 }
 
-// Notes the status by which a head was refused, if the requests ended so.
+// Records the status with which a head was refused, if that ended the requests.
 fn note_end(timers: &Option<Arc<ConnectionTimers>>, end: EndOfRequests) {
     if let Some(timers) = timers
         && let EndOfRequests::Refused(status) = end
@@ -399,7 +405,8 @@ fn note_end(timers: &Option<Arc<ConnectionTimers>>, end: EndOfRequests) {
     }
 }
 
-// A request is handed out. Another handle for it, if it reads from the connection. An error where no handle is left.
+// Records that a request is handed out, and returns another handle for it if it reads from the connection. Fails if no
+// handle is left.
 fn begin_body(
     timers: &Option<Arc<ConnectionTimers>>,
     holds_reader: bool,
@@ -414,7 +421,7 @@ fn begin_body(
     Ok(Some(Arc::try_clone(timers)?))
 }
 
-// Sets this policy, if there is one, and gives another handle of it, for a request. An error where no handle is left.
+// Sets this policy, if there is one, and returns another handle of it, for a request. Fails if no handle is left.
 fn set_policy(
     flush_policy: &Option<Arc<FlushPolicy>>,
     may_leave: bool,
@@ -430,7 +437,7 @@ fn set_policy(
     Ok(Some(Arc::try_clone(flush_policy)?))
 }
 
-// Where as many requests and refused heads are open as may be, waits until one of them is finished.
+// Waits, at the limit of open requests and refused heads, until one of them is finished.
 fn wait_if_full<W: WriteDevice + Drop, Rt: Wait + Copy>(
     sink: &SequentialWriterBuilder<Outlet<W>, Rt>,
     timers: &Option<Arc<ConnectionTimers>>,
@@ -442,7 +449,7 @@ fn wait_if_full<W: WriteDevice + Drop, Rt: Wait + Copy>(
     }
 }
 
-// Where refused heads are answered: each by the next writer. It waits where as many are open as may be.
+// Sends the responses to refused heads, each by the next writer. It waits at the limit of open requests.
 #[derive(Drop)]
 struct NextWriter<'a> {
     timers: &'a Option<Arc<ConnectionTimers>>,
@@ -450,11 +457,11 @@ struct NextWriter<'a> {
 
 impl<W: WriteDevice + Drop, Rt: Wait + Copy> RefusalPlace<SequentialWriterBuilder<Outlet<W>, Rt>>
     for NextWriter<'_> {
-    // Nothing is stated of what goes behind a lock.
+    // No contract states what is under a lock.
     ghost refuses = { λ _ _ _ _ _ _. ⊤ };
 
-    // Takes the next turn, and leaves the answer in it. An error where memory was refused, or 2^64 - 1 writers were
-    // given out, or the connection is to end.
+    // Takes the next turn, and leaves the response in it. Fails if memory is refused, 2^64 - 1 writers were issued, or
+    // the connection is to end.
     fn refuse(
         &mut self,
         sink: &mut SequentialWriterBuilder<Outlet<W>, Rt>,

@@ -64,7 +64,7 @@ use tiny_http_threads::sequential::{
     SequentialReaderBuilder, SequentialWriter, SequentialWriterBuilder,
 };
 
-/// An error of `new_request`: no request is made of its parts.
+/// An error of making a request from its parts.
 #[derive(Debug, Drop, Error)]
 pub enum RequestCreationError {
     /// The headers expect something other than a 100 (RFC 9110, section 10.1.1).
@@ -385,7 +385,7 @@ impl<R: ReadDevice + Drop, W: WriteDevice + Drop, Rt: Wait + Drop> Request<R, W,
     /// is sent on the connection, and a server with limits ends the connection and hands out no further request.
     ///
     /// A fault of kind `BrokenPipe`, `ConnectionAborted`, `ConnectionRefused` or `ConnectionReset` isn't reported, even
-    /// if the data's. Data that end before their stated length are `UnexpectedEof`; in chunks only under `Standard`.
+    /// from the data. Data that end before their stated length are `UnexpectedEof`, in chunks only under `Standard`.
     /// There a status code below 200 or above 999, or 2xx to `CONNECT`, is `InvalidInput`, and the request is dropped.
     ///
     /// Under `Standard` no request follows one that is answered or dropped while its 100 is owed, or while more than
@@ -394,11 +394,11 @@ impl<R: ReadDevice + Drop, W: WriteDevice + Drop, Rt: Wait + Drop> Request<R, W,
     ///
     /// After a response that was made by `with_close` no further request is handed out. Under `Standard` the response
     /// to the last number says `Connection: close`: this response, or that of a later request or refused head. A later
-    /// request that was dropped before, is upgraded or gives its raw writer doesn't say it.
+    /// request doesn't say it if it was already dropped, is upgraded, or its raw writer is taken.
     ///
-    /// Under each profile the output ends once that last response is flushed: the client of a socket then sees end of
-    /// file, even while a thread waits for the next head. It doesn't end so after a raw writer or an upgrade, nor after
-    /// a text that was left and is written when their turn ends.
+    /// Under each profile the writer signals that no byte follows once that last response is flushed: the client of a
+    /// socket then sees end of file, even while a thread waits for the next head. It signals nothing after a raw writer
+    /// or an upgrade, nor after a text that was left and is written when their turn ends.
     pub fn respond<D: ReadDevice + Drop>(
         self,
         response: Response<D>,
@@ -489,8 +489,8 @@ impl<R: ReadDevice + Drop, W: WriteDevice + Drop, Rt: Wait + Drop> Request<R, W,
     /// It is an error if the protocol isn't ASCII. Under `Standard` it is also an error if the request doesn't ask for
     /// this protocol or is its connection's last, if the status code isn't 101, and if the body wasn't read until a
     /// read returned 0, or was cut or is broken. An empty body, or one of up to 1024 bytes that came with its head,
-    /// needn't be read, and a counted one only to its last byte. On a server with limits it is `TooMany` if the limit
-    /// of upgraded connections is reached. A request that isn't upgraded is dropped.
+    /// needn't be read, and one with a content length only to its last byte. On a server with limits it is `TooMany` if
+    /// the limit of upgraded connections is reached. A request that isn't upgraded is dropped.
     pub fn upgrade<D: Drop>(
         self,
         protocol: &str,
@@ -616,8 +616,8 @@ impl<R: ReadDevice + Drop, W: WriteDevice + Drop, Rt: Wait + Drop> Request<R, W,
 
 impl<R: ReadDevice + Drop, W: WriteDevice + Drop, Rt: Wait + Drop> Drop for Request<R, W, Rt> {
     /// Leaves the turn with an empty 500, and then gives up the body. Under `Standard` the 500 says `Connection: close`
-    /// as a response by `respond` does. If this 500 is the last response after one that asked to close the connection,
-    /// the output ends, as by `respond`.
+    /// as a response by `respond` does. If it is the last response after one that asked to close the connection, the
+    /// writer signals that no byte follows, as by `respond`.
     fn drop(self) {
         let (mut open_request, writer) = self.into_parts();
         let left = open_request.body.remainder();

@@ -18,25 +18,25 @@ use thiserror::Error;
 use tiny_http_body::framing::Form;
 use tiny_http_io::device::ReadDevice;
 
-// The most bytes that are read at once.
+// The number of bytes read at once.
 const PIECE: usize = 4096;
 
-/// Why a body isn't read whole.
+/// An error of `read_body`.
 #[derive(Debug, Drop, Error)]
 pub enum BodyError {
-    /// It has more bytes than may be read: 413 (RFC 9110, section 15.5.14).
+    /// More bytes than the limit: 413 (RFC 9110, section 15.5.14).
     #[error("the body is too long")]
     TooLong,
     /// The client's bytes ended within it (RFC 9112, section 8): 400, if the client still reads.
     #[error("the body is cut")]
     Cut,
-    /// It comes in chunks, and they break the grammar (RFC 9112, section 7.1): 400.
+    /// Chunks that break the grammar (RFC 9112, section 7.1): 400.
     #[error("the chunks of the body are broken")]
     Broken,
-    /// Another fault of the client's reader: there is mostly nobody to answer.
+    /// Another fault of the client's reader. Usually there is no client to respond to.
     #[error("{0}")]
     Io(io::Error),
-    /// Memory was refused: 503.
+    /// Out of memory: 503.
     #[error("out of memory")]
     Memory,
 }
@@ -46,7 +46,7 @@ impl From<io::Error> for BodyError {
 
     ghost from_gives = { λ fault error. error ≡ Io fault };
 
-    /// The reader's fault.
+    /// Returns `Io`.
     fn from(error: io::Error) -> BodyError {
         BodyError::Io(error)
     }
@@ -57,7 +57,7 @@ impl From<AllocError> for BodyError {
 
     ghost from_gives = { λ _ error. error ≡ Memory };
 
-    /// Memory was refused.
+    /// Returns `Memory`.
     fn from(_error: AllocError) -> BodyError {
         BodyError::Memory
     }
@@ -68,7 +68,7 @@ impl From<BodyError> for io::Error {
 
     ghost from_gives = { IsFaultOfBody };
 
-    /// The reader's fault itself; of kind `InvalidInput` for `TooLong`, `UnexpectedEof` for `Cut`, `InvalidData` for
+    /// Returns the reader's fault itself, or `InvalidInput` for `TooLong`, `UnexpectedEof` for `Cut`, `InvalidData` for
     /// `Broken` and `OutOfMemory` for `Memory`.
     fn from(error: BodyError) -> io::Error {
         match error {
@@ -81,10 +81,10 @@ impl From<BodyError> for io::Error {
     }
 }
 
-// What is reported of a fault of a body of this form.
+// Returns the error for a fault of a body of this form.
 fn fault_error(form: Form, fault: io::Error) -> BodyError
     ensures error { result ≡ fault_error form fault }
-    // It fails the whole body, where each later read reports this fault.
+    // If each later read reports this fault, it is a failure of the whole body.
     ensures fails { (most : ℕ) (old new : UnreadBody)
         → body_stop new ≡ Some (Fault (error_kind fault))
         → FailsWhole form most old new result }
@@ -124,8 +124,7 @@ fn read_exactly<R: ReadDevice + Drop, Rt: Wait + Drop>(
     Ok(bytes)
 }
 
-// Reads to its end a body whose length isn't known, of at most `most` bytes. Of one that is longer one byte more is
-// read.
+// Reads a body of unknown length to its end, at most `most` bytes. It reads one byte more of a longer one.
 fn read_to_end<R: ReadDevice + Drop, Rt: Wait + Drop>(
     alloc: Global,
     body: &mut Body<R, Rt>,
@@ -156,7 +155,7 @@ fn read_to_end<R: ReadDevice + Drop, Rt: Wait + Drop>(
     }
 }
 
-/// Reads what is left of a body of this form, which is at most `most` bytes where its length is known.
+/// Reads what is left of a body of this form. If its length is known, it is at most `most` bytes.
 pub(crate) fn read_left<R: ReadDevice + Drop, Rt: Wait + Drop>(
     alloc: Global,
     body: &mut Body<R, Rt>,

@@ -40,8 +40,8 @@ fn coding_named(name: &str) -> Option<Coding>
     }
 }
 
-// Returns the supported coding with the greatest quality in the value of a `TE` header, the first among equals. `None` if
-// that quality is 0.
+// Returns the supported coding with the greatest quality in the value of a `TE` header, the first among equals. `None`
+// if that quality is 0.
 fn most_wanted(value: &str) -> Option<Coding>
     ensures { result ≡ most_wanted (supported_codings (qualities value.now)) }
 {

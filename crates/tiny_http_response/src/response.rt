@@ -143,8 +143,8 @@ impl Response<io::Empty> {
 
     /// Creates a response without headers or data for a status code that has no content: 100 to 199, 204 or 304 (RFC
     /// 9110, sections 6.4.1, 8.6, 15.3.5 and 15.4.5). It has neither `Content-Length` nor `Transfer-Encoding`, under
-    /// each profile and whatever the request asks for, whereas `empty` sends `Content-Length: 0` except under
-    /// `Profile::Standard`. With any other code it is printed as that of `empty`. Allocates nothing.
+    /// each profile and whatever the request asks for. `empty` with such a code states the length 0, except under
+    /// `Profile::Standard`. With any other code this response is printed as that of `empty`. Allocates nothing.
     pub fn contentless(alloc: Global, status: StatusCode) -> Response<io::Empty>
         ensures { result.answer ≡ contentless_answer status.0 }
     {

@@ -85,7 +85,7 @@ impl<W: WriteBoth + Drop> Cork<W> {
         })
     }
 
-    /// Returns whether a flush may leave its bytes.
+    /// Returns the flush policy of the connection.
     pub fn flush_policy(&self) -> &Arc<FlushPolicy> {
         &self.flush_policy
     }

@@ -96,7 +96,7 @@ impl<Rt: Clock> TimedWriter<Rt> {
         written
     }
 
-    // Does the same if the time of the write counts: a timeout of the system becomes `TimedOut`.
+    // Converts the result if the time of the write counts: the system's timeout becomes `TimedOut`.
     fn in_time(
         &mut self,
         patience: Patience,

@@ -1,4 +1,4 @@
--- Whether a client accepts chunks, by TE (RFC 9110, sections 10.1.4 and 12.4.2).
+-- Whether a client asks for chunks, by TE (RFC 9110, sections 10.1.4 and 12.4.2).
 use Rattle.std.specs.Prelude.{ℕ, Bool, false, not, ◌&&◌, List, [], ◌∷◌, map, take, drop, codes, if◌then◌else◌}
 use Rattle.std.specs.List.{list_any}
 use Rattle.std.specs.Str.{bytes_eq}
@@ -31,15 +31,15 @@ has_zero_weight [] = false
 has_zero_weight (parameter ∷ more) =
     if is_weight parameter then is_zero (weight_value parameter) else has_zero_weight more
 
--- a coding with its parameters accepts chunks: it is chunked, and its weight isn't zero
+-- a coding with its parameters asks for chunks: it is chunked, and its weight isn't zero
 abbrev pub coding_asks_chunked : List (List ℕ) → Bool
 coding_asks_chunked [] = false
 coding_asks_chunked (coding ∷ parameters) = is_chunked coding && not (has_zero_weight parameters)
 
--- an element of the list accepts chunks
+-- an element of the list asks for chunks
 abbrev pub element_asks_chunked : List ℕ → Bool
 element_asks_chunked element = coding_asks_chunked (between_semicolons element)
 
--- THE CLIENT ACCEPTS CHUNKS: some element of the TE fields does
+-- THE CLIENT ASKS FOR CHUNKS: some element of the TE fields does
 abbrev pub asks_chunked : List Header → Bool
 asks_chunked headers = has_element_that (codes "TE") element_asks_chunked headers

@@ -73,8 +73,8 @@ pub enum StandardRead {
     Refused(StandardFault),
     /// More bytes are needed.
     Unfinished {
-        /// Whether a byte of a head has come. A lone CR counts as one, until an LF makes it an empty line. So the last
-        /// value is the one that counts.
+        /// Whether a byte of a head has come. A lone CR counts as one until an LF makes it an empty line, so only the
+        /// last value counts.
         has_begun: bool,
     },
 }
@@ -217,11 +217,12 @@ fn not_ended(bytes: &[u8], limit: usize, fault: StandardFault) -> StandardRead
     }
 }
 
-/// Parses and validates the head at the start of `bytes`. It has at most `limit` bytes with its empty lines, and at
-/// most `MOST_HEADERS` field lines. A line ends at its first LF, which needs a CR before it. One empty line before the
-/// request line is skipped. The first malformed or surplus line is refused at once. Without an end in `limit` bytes
-/// (below 3, perhaps before any byte of a head), it is too long. Otherwise call again with these bytes and the new
-/// ones; all are parsed again. Fails if memory is refused, which happens only after a valid request line.
+/// Parses and validates the head at the start of `bytes`, of at most `limit` bytes with its empty lines and at most
+/// `MOST_HEADERS` field lines. A line ends at its first LF, which needs a CR before it. One empty line before the
+/// request line is skipped. The first malformed or surplus line is refused, whatever follows, and so are `limit` bytes
+/// without an end; below 3 even before a byte of a head. If more bytes are needed, call again with these and the new
+/// ones. Each call starts over, so for a head that comes byte by byte use a reader that keeps its lines. Fails if
+/// memory is refused, which happens only after a valid request line.
 pub fn read_head(alloc: Global, bytes: &[u8], limit: usize) -> Result<StandardRead, AllocError>
     ensures reads { IfOk result (λ read. Reads limit bytes.now read) }
     ensures begun { OnErr result (HasGoodRequestLine (take limit bytes.now)) }

@@ -1,5 +1,5 @@
 //! Validation of complete heads, and what they say (RFC 9112, sections 3.2, 6 and 9.3; RFC 9110, sections 7.8, 10.1.1
-//! and 15), including whether a client accepts chunks (RFC 9110, section 10.1.4).
+//! and 15), including whether a client asks for chunks (RFC 9110, section 10.1.4).
 ghost use Rattle.std.specs.Prelude.{◌≡◌, ◌↔◌, ◌==◌, not, IsTrue, IsFalse, IfSome, IfNone, codes};
 ghost use Rattle.std.specs.List.{list_all, list_any};
 ghost use Rattle.httparse.specs.Grammar.{is_ows};
@@ -31,11 +31,13 @@ pub struct HeadSummary {
     pub body_length: Option<usize>,
     /// Whether the body is chunked.
     pub is_chunked: bool,
-    /// Whether a 100 (Continue) is due before the body.
+    /// Whether a 100 (Continue) is due before the body: in 1.1, if a body follows and `Expect` lists `100-continue`.
     pub owes_continue: bool,
-    /// Whether the head asks for an upgrade.
+    /// Whether the head asks for an upgrade: in 1.1, if `Connection` lists `upgrade` and `Upgrade` lists a protocol.
+    /// That is a token, or two with a slash between, without `%`, which may stand for a byte above 127.
     pub asks_upgrade: bool,
-    /// Whether the head alone makes this the last request of the connection.
+    /// Whether the head alone makes this the last request of the connection: by `close`, in 1.0 without `keep-alive`,
+    /// or by the method `CONNECT`.
     pub is_last: bool,
 }
 
@@ -44,13 +46,15 @@ pub struct HeadSummary {
 pub enum HeadError {
     /// The major version isn't 1: 505 (RFC 9110, section 15.6.6).
     UnsupportedVersion,
-    /// The host is missing, invalid or repeated, or the framing of the body is invalid: 400 (RFC 9112, sections 3.2 and
-    /// 6).
+    /// The host or the framing of the body is invalid: 400 (RFC 9112, sections 3.2 and 6). There is no `Host` in 1.1,
+    /// there are two, or the value is neither empty nor a host. Or the elements of `Content-Length` aren't one number;
+    /// an empty one isn't. Or `Transfer-Encoding` comes in 1.0 or beside `Content-Length`, its last element isn't
+    /// `chunked`, or another one is empty or `chunked`.
     InvalidHead,
     /// There are other transfer codings before a final `chunked`, in version 1.1 or later and without a content length:
     /// 501 (RFC 9112, section 6.1).
     UnknownCoding,
-    /// An expectation other than `100-continue`: 417 (RFC 9110, section 10.1.1).
+    /// An element of `Expect` is neither `100-continue` nor empty: 417 (RFC 9110, section 10.1.1).
     UnknownExpectation,
 }
 
@@ -150,7 +154,7 @@ fn is_chunked(coding: &[u8]) -> bool
     coding.eq_ignore_ascii_case(b"chunked")
 }
 
-// Returns whether an element of `TE`, a coding with its parameters, accepts chunks (RFC 9110, section 10.1.4).
+// Returns whether an element of `TE`, a coding with its parameters, asks for chunks (RFC 9110, section 10.1.4).
 fn element_asks_chunked(element: &[u8]) -> bool
     ensures { result ≡ element_asks_chunked element.now }
 {
@@ -345,10 +349,10 @@ pub fn names_protocol(headers: &[Header], protocol: &str) -> bool
     false
 }
 
-/// Returns whether the `TE` fields of a request, which form one list, accept chunks (RFC 9110, sections 5.3, 5.6.1.2
+/// Returns whether the `TE` fields of a request, which form one list, ask for chunks (RFC 9110, sections 5.3, 5.6.1.2
 /// and 10.1.4). An element does if its coding is `chunked`, case-insensitively, and its weight isn't zero. The weight
 /// is the first parameter that begins with `q=` or `Q=` (RFC 9110, section 12.4.2); zero is `0`, `0.`, `0.0`, `0.00` or
-/// `0.000`, and any other value, even one that isn't a number, accepts chunks. All other parameters and empty elements
+/// `0.000`, and any other value, even one that isn't a number, asks for chunks. All other parameters and empty elements
 /// are ignored. A comma or semicolon in a quoted string also separates.
 pub fn asks_chunked(headers: &[Header]) -> bool
     ensures { result ≡ asks_chunked headers.now }
@@ -369,19 +373,10 @@ fn is_last(version: HTTPVersion, method: &Method, headers: &[Header]) -> bool
     method.as_str() == "CONNECT"
 }
 
-/// Validates a head with valid lines. The errors, in this order, where 1.1 means any later minor version too:
+/// Validates a head with valid lines, and returns what it says.
 ///
-/// - `UnsupportedVersion`: the major version isn't 1.
-/// - `InvalidHead`: no `Host` in 1.1, two, or one that is neither empty nor a host; `Content-Length` elements that aren't
-///   one number (an empty one isn't); `Transfer-Encoding` in 1.0, beside `Content-Length`, without a final `chunked`, or
-///   with an earlier element that is empty or `chunked`.
-/// - `UnknownCoding`: other codings before `chunked`.
-/// - `UnknownExpectation`: an element of `Expect` other than `100-continue` and the empty one. A 100 is due in 1.1 if a
-///   body follows and `Expect` lists `100-continue`.
-///
-/// A head asks for an upgrade in 1.1 if `Connection` lists `upgrade` and `Upgrade` lists a protocol: a token, or two
-/// with a slash between, without `%`, which may stand for a byte above 127. `close`, in 1.0 the absence of
-/// `keep-alive`, or the method `CONNECT` makes its request the last.
+/// The errors come in the order of `HeadError`: the version, the host and the body's framing, its codings, and last the
+/// expectations. Each minor version after 1.0 counts as 1.1.
 pub fn validate(
     version: HTTPVersion,
     method: &Method,

@@ -1,4 +1,4 @@
--- What clauses read of a reader whose turn has come.
+-- What clauses see of a reader whose turn has come.
 use Rattle.tiny_http_threads.specs.declared.held_reader.HeldReader.{HeldReader}
 
 -- what it reads from

@@ -1,11 +1,11 @@
--- A POOL OF WORKERS: jobs that wait for one, and how many workers there are.
+-- A POOL OF WORKERS: the jobs that wait for one, and how many workers there are.
 use Rattle.std.specs.Prelude.{◌≡◌, ℕ, ◌+◌, ◌-◌, ◌^◌, ◌<◌, ◌≤◌, ◌⊎◌, Bool, true, false, List, [], ◌∷◌, ◌++◌, length}
 use Rattle.std.specs.Prelude.{Option, Some, None}
 use Rattle.tiny_http_threads.specs.declared.task_pool.TheConstants.{MIN_THREADS}
 use Rattle.tiny_http_threads.specs.declared.task_pool.Offered.{Offered}
 use Rattle.tiny_http_threads.specs.declared.task_pool.Offered.TheVariants.{Queued, Start, Back}
 
--- the jobs that wait, the front first; how many workers run, and how many of these are idle; whether the pool is closed
+-- the jobs that wait, front first; how many workers run, and how many of these are idle; whether the pool is closed
 pub record Pool (J : Type 0) : Type 0 where
   pub jobs : List J
   pub idle : ℕ
@@ -18,12 +18,12 @@ module _ {J : Type 0} where
     pub jobs_fit : length pool.jobs ≤ pool.idle
     pub idle_fit : pool.idle ≤ pool.running
 
-  -- nothing waits and no worker is idle
+  -- no job waits and no worker is idle
   abbrev pub new_pool : ℕ → Pool J
   new_pool running = record { jobs = []; idle = 0; running = running; closed = false }
 
-  -- Where more workers are idle than jobs wait, the job waits after these, or comes back if room for it was refused.
-  -- Else it is to start on a worker more, or comes back if 2^64 - 1 run.
+  -- If more workers are idle than jobs wait, the job waits after these, or is returned if memory is refused. Otherwise
+  -- it must start on one more worker, or is returned if 2^64 - 1 run.
   abbrev pub Offers : Pool J → J → Offered J → Pool J → Type 0
   Offers old job Queued new = (length old.jobs < old.idle) × (new ≡ record old { jobs = old.jobs ++ job ∷ [] })
   Offers old job (Start same) new = (same ≡ job)
@@ -37,24 +37,24 @@ module _ {J : Type 0} where
   NotStarted old new = (old.idle < old.running → new ≡ record old { running = old.running - 1 })
       × (old.running ≤ old.idle → new ≡ old)
 
-  -- a worker that isn't idle takes the job at the front, if one waits
+  -- a worker that isn't idle takes the front job, if one waits
   abbrev pub TakesJob : Pool J → Option J → Pool J → Type 0
   TakesJob old None new = (old.jobs ≡ []) × (new ≡ old)
   TakesJob old (Some job) new = (old.jobs ≡ job ∷ new.jobs) × (new ≡ record old { jobs = new.jobs })
 
-  -- a worker becomes idle, where nothing waits and not all that run are idle
+  -- a worker becomes idle, if no job waits and not all that run are idle
   abbrev pub Rests : Pool J → Bool → Pool J → Type 0
   Rests old true new = (old.jobs ≡ []) × (old.idle < old.running) × (new ≡ record old { idle = old.idle + 1 })
   Rests old false new = (old.jobs ≡ [] → old.running ≤ old.idle) × (new ≡ old)
 
-  -- an idle worker takes the job at the front, if one waits, and is idle no more
+  -- an idle worker takes the front job, if one waits, and is no longer idle
   abbrev pub Wakes : Pool J → Option J → Pool J → Type 0
   Wakes old None new = (old.jobs ≡ []) × (new ≡ old)
   Wakes old (Some job) new = (old.jobs ≡ job ∷ new.jobs)
       × (0 < old.idle)
       × (new ≡ record old { jobs = new.jobs; idle = old.idle - 1 })
 
-  -- an idle worker ends, where nothing waits, and more run than are kept or the pool is closed
+  -- an idle worker ends, if no job waits, and more run than are kept or the pool is closed
   abbrev pub EndsIdle : Pool J → Bool → Pool J → Type 0
   EndsIdle old true new = (0 < old.idle)
       × (old.jobs ≡ [])

@@ -1,16 +1,16 @@
--- A QUEUE: a list of marks, the front first. A mark is a value, or a call to unblock one who waits, which is None.
+-- A QUEUE: a list of marks, front first. A mark is a value, or None, which unblocks a waiting thread.
 use Rattle.std.specs.Prelude.{◌≡◌, List, [], ◌∷◌, Option, Some, None}
 use Rattle.tiny_http_threads.specs.declared.messages_queue.Popped.{Popped}
 use Rattle.tiny_http_threads.specs.declared.messages_queue.Popped.TheVariants.{Value, Unblocked, Empty}
 
 module _ {T : Type 0} where
-  -- a pop takes the mark at the front and reports which it was, or that there is none
+  -- a pop takes the front mark and reports which it was, or that there is none
   abbrev pub Pops : List (Option T) → Popped T → List (Option T) → Type 0
   Pops old (Value x) new = old ≡ Some x ∷ new
   Pops old Unblocked new = old ≡ None ∷ new
   Pops old Empty new = (old ≡ []) × (new ≡ [])
 
-  -- what the pop of a queue that threads share answers
+  -- what the pop of a shared queue returns
   abbrev pub popped_value : Popped T → Option T
   popped_value (Value x) = Some x
   popped_value Unblocked = None

@@ -1,4 +1,4 @@
--- What clauses read of a sequential writer.
+-- What clauses see of a sequential writer.
 use Rattle.std.specs.Prelude.{[], None, false}
 use Rattle.tiny_http_io.specs.Device.{Sink}
 use Rattle.tiny_http_threads.specs.declared.sequential.SequentialWriter.{SequentialWriter}

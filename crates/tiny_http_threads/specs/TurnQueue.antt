@@ -1,4 +1,4 @@
--- A LINE: an item that numbers have in turn, and the numbers whose threads wait, as they stand under the lock.
+-- A TURN QUEUE: an item that numbers hold in turn, and the numbers whose threads wait, as they are under the lock.
 use Rattle.std.specs.BTreeMap.{is_at}
 use Rattle.std.specs.Global.{Box, Global}
 use Rattle.std.specs.Map.{lookup}
@@ -13,9 +13,8 @@ use Rattle.std.specs.declared.sync.Condvar.{Condvar}
 use Rattle.tiny_http_threads.specs.declared.turn_queue.Taking.{Taking}
 use Rattle.tiny_http_threads.specs.declared.turn_queue.Taking.TheVariants.{Held, Waits as IsWaiting, Refused}
 
--- The turns, with a mark for each number that was issued; the numbers whose threads wait, and what wakes each; the last
--- number that was issued unless the line was closed; where those are counted that aren't finished; whether a thread
--- waits for room.
+-- The turns, with a mark for each issued number; the numbers whose threads wait, and what wakes each; the last number
+-- that was issued by `issue_unless_closed`; the counter of unfinished numbers; whether a thread waits for room.
 pub record TurnQueueView (T W C : Type 0) : Type 0 where
   pub turns : TurnsState T
   pub waiting : List (ℕ × W)
@@ -23,7 +22,7 @@ pub record TurnQueueView (T W C : Type 0) : Type 0 where
   pub counter : Option C
   pub wants_room : Bool
 
--- the number may have the item now
+-- the number may hold the item now
 abbrev pub IsItsTurn : List Mark → ℕ → Type 0
 IsItsTurn marks n = (slice_get marks n ≡ Some Open) × (n ≡ first_unfinished marks)
 
@@ -36,7 +35,7 @@ pub record IsSoundTurnQueue {T W C : Type 0} (queue : TurnQueueView T W C) : Typ
   pub issued : (n : ℕ) → IsSome (waker queue.waiting n) → n < length queue.turns.marks
   pub waits : (n : ℕ) → IsSome (waker queue.waiting n) → IsItsTurn queue.turns.marks n → ⊥
 
--- the item rests, no number is issued, and nothing else is there
+-- the item rests, no number is issued, and everything else is empty
 pub record IsNewTurnQueue {T W C : Type 0} (item : T) (queue : TurnQueueView (Box T) W C) : Type 0 where
   pub rests : option_map box_value queue.turns.resting ≡ Some item
   pub marks : queue.turns.marks ≡ []
@@ -46,11 +45,11 @@ pub record IsNewTurnQueue {T W C : Type 0} (item : T) (queue : TurnQueueView (Bo
   pub wants_room : queue.wants_room ≡ false
 
 module _ {W : Type 0} where
-  -- each other number waits as before, or doesn't
+  -- every other number waits as before, or doesn't
   abbrev pub OthersStay : ℕ → List (ℕ × W) → List (ℕ × W) → Type 0
   OthersStay number old new = (n : ℕ) → n ≢ number → waker new n ≡ waker old n
 
-  -- where the item rests the next number is to be woken, if it waited, and waits no more
+  -- if the item rests, the next number is woken, if it waited, and waits no more
   abbrev pub WakesNext : {U : Type 0} → Finishing U → ℕ → List (ℕ × W) → Option W → List (ℕ × W) → Type 0
   WakesNext Passed next old woken new = (woken ≡ waker old next) × (waker new next ≡ None) × OthersStay next old new
   WakesNext (Go item text) next old woken new = (woken ≡ None) × (new ≡ old)
@@ -62,8 +61,8 @@ taken_item (Held item) = Some item
 taken_item (IsWaiting woken) = None
 taken_item Refused = None
 
--- A number that is to wait is listed, if it isn't yet. That its thread waits on the condition that is listed no clause
--- says: to contracts all conditions are equal.
+-- A number that must wait is listed, if it isn't yet. No clause states that its thread waits on the listed condition:
+-- to contracts all conditions are equal.
 abbrev pub ListsWaiter : {T : Type 0} → Taking T → ℕ → List (ℕ × Arc Condvar Global) → List (ℕ × Arc Condvar Global)
     → Type 0
 ListsWaiter (Held item) number old new = new ≡ old

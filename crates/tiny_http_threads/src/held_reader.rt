@@ -4,7 +4,8 @@ pub use crate::turn_queue::Held;
 use std::sync::Wait;
 use tiny_http_turns::passing::{HeldTurn, pass_on};
 
-/// A reader whose turn has come, with what it reads from. Dropping it finishes its turn: that waits for nobody's turn.
+/// A reader whose turn has come, with what it reads from. Dropping it finishes its turn, without waiting for any other
+/// turn.
 pub struct HeldReader<I: Drop, R: Wait + Drop> {
     /// Its turn, and what it reads from.
     pub turn: Held<I, R>,

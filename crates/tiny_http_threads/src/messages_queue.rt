@@ -1,4 +1,4 @@
-//! A queue that threads share, and that can be told to wake one who waits.
+//! A queue that threads share, with marks that unblock a waiting thread.
 ghost use Rattle.std.specs.Prelude.{◌≡◌, ◌++◌, ◌∷◌, [], Some, None, OnOk, OnErr, IfOk, IfErr, IfSome, IsSome};
 ghost use Rattle.std.specs.Prelude.{IsSomeAnd, ◌↔◌, ◌+◌, ◌≤◌};
 ghost use Rattle.std.specs.Duration.{as_nanos};
@@ -15,13 +15,13 @@ use std::time::{Clock, Duration, Instant};
 pub enum Popped<T> {
     /// A value.
     Value(T),
-    /// A mark that unblocks.
+    /// An unblock mark.
     Unblocked,
     /// Nothing: the queue is empty.
     Empty,
 }
 
-/// Values and unblock marks, first in first out. A contract sees the list of them, the front first, a mark as `None`.
+/// Values and unblock marks, first in, first out. A contract sees the list of them, front first, with a mark as `None`.
 #[derive(Drop)]
 pub struct QueueState<T> {
     marks: VecDeque<Option<T>>,
@@ -36,7 +36,7 @@ impl<T> Model for QueueState<T> {
 }
 
 impl<T: Drop> QueueState<T> {
-    /// An empty queue.
+    /// Creates an empty queue.
     pub fn new(alloc: Global) -> QueueState<T>
         ensures { result ≡ [] }
     {
@@ -45,7 +45,7 @@ impl<T: Drop> QueueState<T> {
         }
     }
 
-    // An empty queue, with room for so many marks.
+    // Creates an empty queue with this capacity.
     fn with_capacity(alloc: Global, capacity: usize) -> Result<QueueState<T>, AllocError>
         ensures { IfOk result (λ queue. queue ≡ []) }
     {
@@ -54,7 +54,7 @@ impl<T: Drop> QueueState<T> {
         })
     }
 
-    /// Adds a mark that unblocks at the back. An error comes where room for it was refused, and nothing has changed.
+    /// Adds an unblock mark at the back. If memory is refused, it fails, and nothing has changed.
     pub fn unblock(&mut self) -> Result<(), AllocError>
         ensures ok { OnOk result (self.new ≡ self.old ++ (None ∷ [])) }
         ensures err { OnErr result (self.new ≡ self.old) }
@@ -66,11 +66,11 @@ impl<T: Drop> QueueState<T> {
     }
 }
 
-// With no `T: Drop` a value can't be dropped, so none of these calls can lose one.
+// Without `T: Drop` a value can't be dropped, so none of these calls can lose one.
 impl<T> QueueState<T> {
     ghost use Rattle.tiny_http_threads.specs.Queue.{Pops};
 
-    /// Adds a value at the back. It comes back where room for it was refused, and nothing has changed.
+    /// Adds a value at the back. If memory is refused, the error returns it, and nothing has changed.
     pub fn push(&mut self, value: T) -> Result<(), T>
         ensures ok { OnOk result (self.new ≡ self.old ++ (Some value ∷ [])) }
         ensures err { OnErr result (self.new ≡ self.old) }
@@ -97,9 +97,9 @@ impl<T> QueueState<T> {
     }
 }
 
-/// A queue that threads share: a `QueueState` under a lock. Each call is one step on it, but for the pops that wait,
-/// which try again until there is something to pop. The lock is let go before one who waits is woken. What a call did
-/// to the queue no contract here says.
+/// A queue that threads share: a `QueueState` under a lock. Each call is one step on it, except for the pops that wait,
+/// which retry until there is something to pop. The lock is released before a waiting thread is woken. No contract here
+/// states what a call did to the queue.
 #[derive(Drop)]
 pub struct MessagesQueue<T> {
     state: Mutex<QueueState<T>>,
@@ -107,7 +107,7 @@ pub struct MessagesQueue<T> {
 }
 
 impl<T: Drop> MessagesQueue<T> {
-    /// An empty queue, with room for `capacity` values and marks. An error comes where memory was refused.
+    /// Creates an empty queue with capacity for `capacity` values and marks. Fails if memory is refused.
     pub fn with_capacity(
         alloc: Global,
         capacity: usize,
@@ -119,15 +119,16 @@ impl<T: Drop> MessagesQueue<T> {
         Ok(Arc::new(alloc, queue)?)
     }
 
-    /// Adds a mark at the back, which one pop answers by `None`, and wakes one who waits. An error comes where room
-    /// for it was refused.
+    /// Adds an unblock mark at the back, for which one pop returns `None`, and wakes a waiting thread. Fails if memory
+    /// is refused.
     pub fn unblock<R: Wait>(&self, rt: &R) -> Result<(), AllocError> {
         self.state.lock(rt).unblock()?;
         self.woken.notify_one();
         Ok(())
     }
 
-    /// Takes out what is in the queue, one after another, and drops it without the lock, until the queue is empty.
+    /// Removes everything from the queue, one item after another, and drops it outside the lock, until the queue is
+    /// empty.
     pub fn clear<R: Wait>(&self, rt: &R) {
         for _ in rt.forever() {
             let found = self.state.lock(rt).pop();
@@ -140,7 +141,7 @@ impl<T: Drop> MessagesQueue<T> {
 
 // None of these calls can lose a value either.
 impl<T> MessagesQueue<T> {
-    /// Adds a value at the back, and wakes one who waits. It comes back where room for it was refused.
+    /// Adds a value at the back, and wakes a waiting thread. If memory is refused, the error returns the value.
     pub fn push<R: Wait>(&self, rt: &R, value: T) -> Result<(), T>
         ensures { IfErr result (λ back. back ≡ value) }
     {
@@ -161,15 +162,15 @@ impl<T> MessagesQueue<T> {
         unreachable!()
     }
 
-    /// Takes what is at the front: a value, or `None` for an unblock mark. `None` too where the queue is empty.
+    /// Takes what is at the front: a value, or `None` for an unblock mark. Also `None` if the queue is empty.
     pub fn try_pop<R: Wait>(&self, rt: &R) -> Option<T> {
         let found = self.state.lock(rt).pop();
         popped_value(found)
     }
 
-    /// As `pop`, for so long at most, and then `None`. Each wait is for what remains of that time. Less than a
-    /// millisecond counts as nothing, and nothing remains where the clock can't be read. The queue is looked at
-    /// before the first wait and after each one.
+    /// Pops as `pop` does, but returns `None` after `timeout`. Each wait is for the rest of that time. A rest below a
+    /// millisecond counts as 0, and so does any rest if the clock can't be read. The queue is checked before the first
+    /// wait and after each one.
     pub fn pop_timeout<R: Wait + Clock>(&self, rt: &R, timeout: Duration) -> Option<T> {
         let mut state = self.state.lock(rt);
         match state.pop() {
@@ -190,7 +191,7 @@ impl<T> MessagesQueue<T> {
     }
 }
 
-// What is reported of what a pop found.
+// Converts what a pop found to its result.
 fn popped_value<T>(found: Popped<T>) -> Option<T>
     ensures { result ≡ popped_value found }
 {
@@ -200,7 +201,7 @@ fn popped_value<T>(found: Popped<T>) -> Option<T>
     }
 }
 
-// What remains of a time, if it is a millisecond or more and it is known how much has elapsed.
+// Returns the rest of the timeout, if it is at least a millisecond and the elapsed time is known.
 fn time_left(timeout: Duration, elapsed: Option<Duration>) -> Option<Duration>
     ensures enough { IsSome result ↔ IsSomeAnd elapsed (λ spent. as_nanos spent + 1_000_000 ≤ as_nanos timeout) }
     ensures rest { IfSome result

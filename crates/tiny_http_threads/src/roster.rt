@@ -1,11 +1,11 @@
-//! How many entries any number of threads made. Programs may count by it; here only tests use it.
+//! A count of the entries made by any number of threads. Programs may use it; here only tests do.
 ghost use Rattle.std.specs.Prelude.{◌≡◌, ◌+◌, ◌-◌, ◌^◌, ◌<◌, false, if◌then◌else◌};
 ghost use Rattle.tiny_http_threads.specs.Roster.{CountsIn};
 
 use std::sync::ledger::{Book, Ledger, Share};
 use std::sync::{Mutex, Wait};
 
-// The number of entries, beside the book of what all shares count.
+// The number of entries, and the book of what all shares count.
 #[derive(Drop)]
 struct Entries<L: Ledger> {
     number: u64,
@@ -14,7 +14,7 @@ struct Entries<L: Ledger> {
 }
 
 impl<L: Ledger> Entries<L> {
-    // One more in the number and in the share; false, with nothing changed, only at 2^64 - 1.
+    // Adds one to the number and to the share. Returns false, with nothing changed, only at 2^64 - 1.
     fn enter(&mut self, mine: &mut Share<L>) -> bool
         requires { 0 < mine.old.parts }
         ensures number { CountsIn self.old.book.total result self.new.book.total }
@@ -32,14 +32,14 @@ impl<L: Ledger> Entries<L> {
         true
     }
 
-    // What all shares count together.
+    // Returns what all shares count together.
     fn count(&self) -> u64
         ensures { result ≡ self.now.book.total }
     {
         self.number
     }
 
-    // The same, given all shares in one.
+    // Returns the same, given all shares in one.
     fn total(&mut self, all: &mut Share<L>) -> u64
         requires { all.old.parts ≡ L.parts }
         ensures total { result ≡ all.old.amount }
@@ -51,7 +51,7 @@ impl<L: Ledger> Entries<L> {
     }
 }
 
-/// A number of entries that any thread may raise by one, under a lock. What each thread added stands in its share of a
+/// A number of entries that any thread may increase by one, under a lock. Each thread's additions are in its share of a
 /// ledger; the number is the sum of the shares.
 #[derive(Drop)]
 pub struct Roster<L: Ledger> {
@@ -59,7 +59,7 @@ pub struct Roster<L: Ledger> {
 }
 
 impl<L: Ledger> Roster<L> {
-    /// No entry, over a ledger whose shares count nothing yet.
+    /// Creates a count of 0, over a ledger whose shares count nothing yet.
     pub fn new(book: Book<L>) -> Roster<L>
         requires { book.total ≡ 0 }
     {
@@ -68,24 +68,24 @@ impl<L: Ledger> Roster<L> {
         }
     }
 
-    /// One more in the number and in the caller's share, which needs a part. False, and nothing has changed, only
-    /// where the number is 2^64 - 1.
+    /// Adds one to the number and to the caller's share, which needs a part. Returns false, with nothing changed, only
+    /// if the number is 2^64 - 1.
     pub fn enter<R: Wait>(&self, rt: &R, mine: &mut Share<L>) -> bool
         requires { 0 < mine.old.parts }
         ensures amount { mine.new.amount ≡ (if result then mine.old.amount + 1 else mine.old.amount) }
         ensures parts { mine.new.parts ≡ mine.old.parts }
-        // Who has the whole share knows the number.
+        // The holder of the whole share knows the number.
         ensures full { result ≡ false → mine.old.parts ≡ L.parts → mine.old.amount ≡ 2 ^ 64 - 1 }
     {
         self.entries.lock(rt).enter(mine)
     }
 
-    /// The number at this moment. Its contract doesn't say that, as the call takes no share.
+    /// Returns the current number. The contract doesn't state that, since the call takes no share.
     pub fn count<R: Wait>(&self, rt: &R) -> u64 {
         self.entries.lock(rt).count()
     }
 
-    /// The number of all entries, given the one share into which all were merged.
+    /// Returns the number of all entries, given the one share into which all were merged.
     pub fn close(self, all: &mut Share<L>) -> u64
         requires { all.old.parts ≡ L.parts }
         ensures total { result ≡ all.old.amount }

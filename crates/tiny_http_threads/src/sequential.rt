@@ -1,7 +1,7 @@
-//! A reader or a writer that its holders use one after another, in the order in which they were made.
+//! A reader or a writer that its holders use one after another, in the order in which they were created.
 //!
-//! The methods that the documentation hides are for a request, which sees to its own turn and to the end of its
-//! connection. `tiny_http` names this module again, and its programs need none of them.
+//! The methods hidden from the documentation are for a request, which manages its own turn and the end of its
+//! connection. `tiny_http` re-exports this module, and its programs need none of them.
 ghost use Rattle.std.specs.Prelude.{◌≡◌, ⊤, [], length, Ok, None, IfOk, OnOk, false};
 ghost use Rattle.tiny_http_io.specs.Device.{Reads, Puts, PutsFront, HoldsNothing, next_count};
 ghost use Rattle.tiny_http_threads.specs.HeldReader.{held_item};
@@ -17,7 +17,7 @@ use tiny_http_io::device::WriteDevice;
 use tiny_http_io::outlet::Outlet;
 use tiny_http_turns::passing::{HeldTurn, pass_on};
 
-/// Gives out readers, each of which reads once those before it are dropped.
+/// A builder of readers, each of which reads once those before it are dropped.
 #[derive(Drop)]
 pub struct SequentialReaderBuilder<I, R: Wait> {
     rt: R,
@@ -26,7 +26,7 @@ pub struct SequentialReaderBuilder<I, R: Wait> {
 }
 
 impl<I: Read + Drop, R: Wait + Copy> SequentialReaderBuilder<I, R> {
-    /// Gives out readers of this one. An error where memory was refused.
+    /// Creates a builder of readers over this one. Fails if memory is refused.
     pub fn new(
         rt: R,
         alloc: Global,
@@ -36,7 +36,7 @@ impl<I: Read + Drop, R: Wait + Copy> SequentialReaderBuilder<I, R> {
         Ok(SequentialReaderBuilder { rt, alloc, queue })
     }
 
-    /// Gives out readers of this one. The first, which is in the result, has its turn. An error where memory was
+    /// Creates a builder of readers over this one, and the first reader, which has its turn. Fails if memory is
     /// refused.
     #[doc(hidden)]
     pub fn begin(
@@ -54,15 +54,15 @@ impl<I: Read + Drop, R: Wait + Copy> SequentialReaderBuilder<I, R> {
         ))
     }
 
-    /// The next reader. An error where memory was refused, or 2^64 - 1 readers were given out.
+    /// Creates the next reader. Fails if memory is refused, or after 2^64 - 1 readers.
     pub fn next(&mut self) -> Result<SequentialReader<I, R>, AllocError> {
         let turn = Turn::new(self.rt, self.alloc, &self.queue)?;
         Ok(SequentialReader { turn })
     }
 }
 
-/// Reads in its turn: its first read waits until those before it are dropped. Dropping it finishes its turn, or
-/// leaves it if the turn has not come: that waits for nobody's turn.
+/// A reader that reads in its turn: its first read waits until those before it are dropped. Dropping it finishes its
+/// turn, or leaves it if the turn hasn't come, without waiting for any turn.
 pub struct SequentialReader<I: Read + Drop, R: Wait + Drop> {
     turn: Turn<I, R>,
 }
@@ -95,7 +95,7 @@ impl<I: Read + Drop, R: Wait + Drop> Drop for SequentialReader<I, R> {
     }
 }
 
-/// Gives out writers, each of which writes once those before it are dropped.
+/// A builder of writers, each of which writes once those before it are dropped.
 #[derive(Drop)]
 pub struct SequentialWriterBuilder<W, R: Wait> {
     rt: R,
@@ -104,7 +104,7 @@ pub struct SequentialWriterBuilder<W, R: Wait> {
 }
 
 impl<W: Write + Drop, R: Wait + Copy> SequentialWriterBuilder<W, R> {
-    /// Gives out writers to this one. An error where memory was refused.
+    /// Creates a builder of writers over this one. Fails if memory is refused.
     pub fn new(
         rt: R,
         alloc: Global,
@@ -114,54 +114,54 @@ impl<W: Write + Drop, R: Wait + Copy> SequentialWriterBuilder<W, R> {
         Ok(SequentialWriterBuilder { rt, alloc, queue })
     }
 
-    /// The next writer. An error where memory was refused, or 2^64 - 1 writers were given out.
+    /// Creates the next writer. Fails if memory is refused, or after 2^64 - 1 writers.
     pub fn next(&mut self) -> Result<SequentialWriter<W, R>, AllocError> {
         let turn = Turn::new(self.rt, self.alloc, &self.queue)?;
         Ok(SequentialWriter { turn, failures: 0 })
     }
 
-    /// The next writer; none once the line was closed: by `close_line` or `close` of a writer, or since the output
-    /// broke (`close_when_broken`). An error as in `next`.
+    /// Creates the next writer, or returns `None` once the queue was closed: by `close_queue` or `close` of a writer,
+    /// or because the output broke (`close_when_broken`). Fails as `next` does.
     #[doc(hidden)]
     pub fn next_unless_closed(&mut self) -> Result<Option<SequentialWriter<W, R>>, AllocError> {
         let turn = Turn::new_unless_closed(self.rt, self.alloc, &self.queue)?;
         Ok(turn.map(|turn| SequentialWriter { turn, failures: 0 }))
     }
 
-    /// Whether the line was closed, as `next_unless_closed` reports.
+    /// Returns whether the queue was closed, as for `next_unless_closed`.
     #[doc(hidden)]
     pub fn is_closed(&self) -> bool {
         self.queue.is_closed()
     }
 
-    /// Closes the line, from now on, once one of its writers meets a fault, or `close_if_broken` finds the output
+    /// Makes the queue close once one of its writers meets a fault, or `close_if_broken` finds that the output has
     /// ended.
     #[doc(hidden)]
     pub fn close_when_broken(&self) {
         self.queue.close_when_broken();
     }
 
-    /// Counts here, from now on, the writers that were given out and aren't finished.
+    /// Counts the unfinished writers in this counter from now on.
     #[doc(hidden)]
     pub fn set_open(&self, open: Arc<AtomicU64>) {
         self.queue.set_open(&self.rt, open);
     }
 
-    /// Waits until fewer writers than `most`, or none where that is 0, were given out and aren't finished.
+    /// Waits until fewer than `most` writers are unfinished, or none if `most` is 0.
     #[doc(hidden)]
     pub fn wait_for_room(&self, most: usize) {
         self.queue.wait_for_room(&self.rt, most);
     }
 }
 
-// Finishes a number that is held. If the next one was left, that one is held, and this is its text.
+// Finishes a held number. If the next one was left, that one is now held, and its text is returned.
 fn finish_held<T: Drop, R: Wait + Drop>(held: &mut Option<Held<T, R>>) -> Option<Vec<u8>> {
     let (next, text) = held.take()?.finish()?;
     *held = Some(next);
     Some(text)
 }
 
-// A number of a reader that is held. Nothing is written in its turn.
+// The held number of a reader. Nothing is written in its turn.
 #[derive(Drop)]
 pub(crate) struct Reading<I, R: Wait> {
     pub(crate) held: Option<Held<I, R>>,
@@ -179,15 +179,15 @@ impl<I: Drop, R: Wait + Drop> HeldTurn<(), ()> for Reading<I, R> {
     }
 }
 
-// A number of a writer that is held. Each text is flushed before its number is finished, since another thread may
-// write from then on.
+// The held number of a writer. Each text is flushed before its number is finished, since another thread may write from
+// then on.
 #[derive(Drop)]
 struct Writing<W, R: Wait> {
     held: Option<Held<W, R>>,
 }
 
 impl<W: Write + Drop, R: Wait + Drop> HeldTurn<(), ()> for Writing<W, R> {
-    // Nothing is stated of what is written behind a lock.
+    // States nothing, since the text is written under a lock.
     ghost writes = { λ _ _ _ _ _. ⊤ };
 
     ghost finishes = { λ _ _ _ _ _. ⊤ };
@@ -203,15 +203,14 @@ impl<W: Write + Drop, R: Wait + Drop> HeldTurn<(), ()> for Writing<W, R> {
     }
 }
 
-// The same for a writer that can say that no byte follows: it says so behind the text of the last number of a closed
-// line.
+// The same for a writer whose output can be ended: it is ended after the text of the last number of a closed queue.
 #[derive(Drop)]
 struct EndingWriter<W, R: Wait> {
     held: Option<Held<W, R>>,
 }
 
 impl<W: Write + WriteDevice + Drop, R: Wait + Drop> HeldTurn<(), ()> for EndingWriter<W, R> {
-    // Nothing is stated of what is written behind a lock.
+    // States nothing, since the text is written under a lock.
     ghost writes = { λ _ _ _ _ _. ⊤ };
 
     ghost finishes = { λ _ _ _ _ _. ⊤ };
@@ -237,55 +236,55 @@ fn write_and_flush<W: Write + Drop, R: Wait + Drop>(held: &mut Held<W, R>, text:
     }
 }
 
-// Says that no byte follows, where the line was closed and this number is its last.
+// Ends the output if the queue was closed and this number is its last.
 fn end_if_last<W: WriteDevice + Drop, R: Wait + Drop>(held: &mut Held<W, R>) {
     if held.place.is_last() {
         held.item.end_out();
     }
 }
 
-/// Writes in its turn: its first write or flush waits until those before it are dropped. Dropping it flushes and
-/// finishes its turn, or leaves it if the turn has not come: that waits for nobody's turn. As a `WriteDevice` it
-/// counts the failures of its own `write_out` and `flush_out`, and states no bytes.
+/// A writer that writes in its turn: its first write or flush waits until those before it are dropped. Dropping it
+/// flushes and finishes its turn, or leaves it if the turn hasn't come, without waiting for any turn. As a
+/// `WriteDevice` it counts the failures of its own `write_out` and `flush_out`, and states no bytes.
 pub struct SequentialWriter<W: Write + Drop, R: Wait + Drop> {
     turn: Turn<W, R>,
     failures: u64,
 }
 
 impl<W: Write + Drop, R: Wait + Drop> SequentialWriter<W, R> {
-    /// Whether its turn had come as it was given out: those before it were finished.
+    /// Returns whether its turn had come when it was created: those before it were finished.
     #[doc(hidden)]
     pub fn is_next(&self) -> bool {
         self.turn.is_next()
     }
 
-    /// Closes the line: `next_unless_closed` gives out no further writer.
+    /// Closes the queue: `next_unless_closed` creates no more writers.
     #[doc(hidden)]
     pub fn close_queue(&self) {
         self.turn.place.close_queue();
     }
 
-    /// Whether what is written is lost, where `close_when_broken` was called: the output broke, or was ended by
+    /// Returns whether what is written is lost, if `close_when_broken` was called: the output broke, or was ended by
     /// `close`.
     #[doc(hidden)]
     pub fn is_broken(&self) -> bool {
         self.turn.place.is_broken()
     }
 
-    // A fault of the writer breaks it.
+    // Breaks the queue if the writer met a fault.
     fn note<T>(&self, outcome: &io::Result<T>) {
         if outcome.is_err() {
             self.turn.place.break_queue();
         }
     }
 
-    /// Whether the line was closed, and this writer is the last that `next_unless_closed` gave out.
+    /// Returns whether the queue was closed, and this writer is the last that `next_unless_closed` created.
     #[doc(hidden)]
     pub fn is_last(&self) -> bool {
         self.turn.place.is_last()
     }
 
-    /// Waits for its turn, and lends what it writes to. A fault that the caller meets there doesn't break the line.
+    /// Waits for its turn, and lends what it writes to. A fault that the caller meets there doesn't break the queue.
     #[doc(hidden)]
     pub fn hold(&mut self) -> &mut W {
         self.turn.hold()
@@ -293,9 +292,9 @@ impl<W: Write + Drop, R: Wait + Drop> SequentialWriter<W, R> {
 }
 
 impl<W: Write + WriteDevice + Drop, R: Wait + Drop> SequentialWriter<W, R> {
-    /// Ends its turn with a text, which is written and flushed once the turn has come. It waits for no turn. After
-    /// the text of the last writer (`is_last`) `end_out` says that no byte follows, also where the line was closed
-    /// only after this call. It doesn't where the text is written as a `SequentialWriter` before it is dropped.
+    /// Ends its turn with a text, which is written and flushed once the turn has come. Doesn't wait for any turn. After
+    /// the text of the last writer (`is_last`) `end_out` ends the output, even if the queue was closed only after this
+    /// call. It doesn't if the text is written as a `SequentialWriter` before it is dropped.
     #[doc(hidden)]
     pub fn leave(self, text: Vec<u8>) {
         let Self { turn, failures: _ } = self;
@@ -309,8 +308,8 @@ impl<W: Write + WriteDevice + Drop, R: Wait + Drop> SequentialWriter<W, R> {
         }
     }
 
-    /// Ends its turn, and flushes nothing: the caller has flushed what it wrote. It waits for no turn. Where it is the
-    /// last writer (`is_last`), `end_out` says before that no byte follows.
+    /// Ends its turn without a flush: the caller has flushed what it wrote. Doesn't wait for any turn. If it is the
+    /// last writer (`is_last`), `end_out` ends the output first.
     #[doc(hidden)]
     pub fn pass(self) {
         let Self { turn, failures: _ } = self;
@@ -327,10 +326,10 @@ impl<W: Write + WriteDevice + Drop, R: Wait + Drop> SequentialWriter<W, R> {
 }
 
 impl<W: WriteDevice + Drop, R: Wait + Drop> SequentialWriter<Outlet<W>, R> {
-    /// Waits for its turn, flushes, and ends the output: behind what was written the writer says that no byte
-    /// follows, and what a later writer of its connection writes is lost. No further request is read from that. So a
-    /// raw answer ends that states no length (RFC 9112, section 6.3). The error is the flush's; the output ends as
-    /// well.
+    /// Waits for its turn, flushes, and ends the output: the writer's end follows what was written, and what a later
+    /// writer of its connection writes is lost. No further request is read from the connection. This ends a raw
+    /// response that states no length (RFC 9112, section 6.3). The error is that of the flush; the output ends even
+    /// then.
     pub fn close(self) -> io::Result<()> {
         let mut writer = self;
         writer.close_queue();
@@ -342,9 +341,9 @@ impl<W: WriteDevice + Drop, R: Wait + Drop> SequentialWriter<Outlet<W>, R> {
         sent
     }
 
-    /// Ends the connection after what was sent, where `close_when_broken` was called and the output has ended:
-    /// `end_out` says that no byte follows, and `next_unless_closed` gives out no further writer. It waits for its
-    /// turn, if `close_when_broken` was called.
+    /// Ends the connection after what was sent, if `close_when_broken` was called and the output has ended: `end_out`
+    /// ends the writer, and `next_unless_closed` creates no more writers. Waits for its turn, if `close_when_broken`
+    /// was called.
     #[doc(hidden)]
     pub fn close_if_broken(&mut self) {
         if !self.turn.place.closes_when_broken() {
@@ -372,7 +371,7 @@ impl<W: Write + Drop, R: Wait + Drop> Write for SequentialWriter<W, R> {
         flushed
     }
 
-    /// Waits for its turn, and writes all the bytes as the writer itself does.
+    /// Waits for its turn, and writes all the bytes as the inner writer does.
     fn write_all(&mut self, buf: &[u8]) -> io::Result<()> {
         let written = self.turn.hold().write_all(buf);
         self.note(&written);
@@ -385,12 +384,12 @@ impl<W: Write + Drop, R: Wait + Drop> WriteDevice for SequentialWriter<W, R> {
 
     ghost sink = { writer_sink };
 
-    /// The count of the failures of this writer's own `write_out` and `flush_out`.
+    /// Returns the number of failures of this writer's own `write_out` and `flush_out`.
     fn failures(&self) -> u64 {
         self.failures
     }
 
-    /// Waits for its turn, and writes once. That no byte of some is taken is a fault of kind `WriteZero`.
+    /// Waits for its turn, and writes once. If `buf` isn't empty and no byte is taken, the error is `WriteZero`.
     fn write_out(&mut self, buf: &[u8]) -> Result<usize, io::Error> {
         let written = match self.turn.hold().write(buf) {
             Ok(0) if !buf.is_empty() => Err(ErrorKind::WriteZero.into()),

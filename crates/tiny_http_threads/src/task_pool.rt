@@ -1,4 +1,4 @@
-//! Workers that run jobs, as many as there is work for.
+//! A pool of workers that run jobs, as many as there is work for.
 ghost use Rattle.std.specs.Prelude.{◌≡◌, ◌⊎◌, IfErr, IfSome};
 ghost use Rattle.std.specs.IoError.{error_kind};
 
@@ -12,32 +12,31 @@ use std::thread::Threads;
 use std::time::{Clock, Duration};
 use std::{io, thread};
 
-/// How many workers a pool keeps though they are idle (as tiny_http).
+/// The number of workers that a pool keeps even if they are idle (as tiny_http).
 pub const MIN_THREADS: usize = 4;
 
-/// How long a worker above those is idle before it ends, in milliseconds (as tiny_http).
+/// How long any other worker may be idle before it ends, in milliseconds (as tiny_http).
 pub const IDLE_MILLIS: u64 = 5000;
 
-/// What a worker runs.
+/// A job for a worker.
 pub trait Job {
-    /// Runs it, once.
+    /// Runs the job, once.
     fn run(&mut self);
 }
 
-/// What became of a job that was offered to a pool.
+/// The result of offering a job to a pool.
 #[derive(Debug, PartialEq, Eq, Drop)]
 pub enum Offered<J> {
-    /// It waits, and an idle worker is to be woken for it.
+    /// The job waits, and an idle worker must be woken for it.
     Queued,
-    /// A new worker, which counts as running, is to be started with it.
+    /// A new worker, which is already counted as running, must be started with the job.
     Start(J),
-    /// It comes back, and nothing has changed.
+    /// The job is returned, and nothing has changed.
     Back(J),
 }
 
-/// The jobs that wait for a worker, how many workers run and how many of these are idle, and whether the pool is
-/// closed. At most as many jobs wait as workers are idle, and at most as many are idle as run. A contract sees a
-/// `Pool`.
+/// The jobs that wait for a worker, how many workers run, how many of them are idle, and whether the pool is closed. At
+/// most as many jobs wait as workers are idle, and at most as many workers are idle as run. A contract sees a `Pool`.
 #[derive(Drop)]
 pub struct PoolState<J> {
     jobs: VecDeque<J>,
@@ -62,7 +61,7 @@ impl<J> PoolState<J> {
     ghost use Rattle.tiny_http_threads.specs.Pool.{IsSound, new_pool, Offers, NotStarted, TakesJob, Rests, Wakes};
     ghost use Rattle.tiny_http_threads.specs.Pool.{EndsIdle};
 
-    /// A pool of `running` workers, none of them idle. Nothing waits.
+    /// Creates a pool of `running` workers, none of them idle, without waiting jobs.
     pub fn new(alloc: Global, running: usize) -> PoolState<J>
         ensures { result ≡ new_pool running }
     {
@@ -74,8 +73,8 @@ impl<J> PoolState<J> {
         }
     }
 
-    /// Takes a job. Where more workers are idle than jobs wait, it waits, or comes back if room for it was refused.
-    /// Else it is to start on a new worker, which counts as running from now on, or comes back if 2^64 - 1 run.
+    /// Offers a job. If more workers are idle than jobs wait, the job waits, or is returned if memory is refused.
+    /// Otherwise it must start on a new worker, which counts as running from now on, or is returned if 2^64 - 1 run.
     pub fn offer(&mut self, job: J) -> Offered<J>
         ensures sound { IsSound self.new }
         ensures offers { Offers self.old job result self.new }
@@ -93,7 +92,8 @@ impl<J> PoolState<J> {
         Offered::Start(job)
     }
 
-    /// One worker less runs: the one that was to start could not be made. Nothing changes where all that run are idle.
+    /// Counts one running worker less: the one that was to start couldn't be created. Nothing changes if all that run
+    /// are idle.
     pub fn not_started(&mut self)
         ensures sound { IsSound self.new }
         ensures not_started { NotStarted self.old self.new }
@@ -103,7 +103,7 @@ impl<J> PoolState<J> {
         }
     }
 
-    /// Takes the front job for a worker that isn't idle. `None`, and nothing has changed, where no job waits.
+    /// Takes the front job for a worker that isn't idle. Returns `None`, with nothing changed, if no job waits.
     pub fn take(&mut self) -> Option<J>
         ensures sound { IsSound self.new }
         ensures takes { TakesJob self.old result self.new }
@@ -111,7 +111,7 @@ impl<J> PoolState<J> {
         self.jobs.pop_front()
     }
 
-    /// One worker more is idle. False, and nothing has changed, where a job waits or all that run are idle.
+    /// Counts one more idle worker. Returns false, with nothing changed, if a job waits or all that run are idle.
     pub fn rest(&mut self) -> bool
         ensures sound { IsSound self.new }
         ensures rests { Rests self.old result self.new }
@@ -123,8 +123,8 @@ impl<J> PoolState<J> {
         may_rest
     }
 
-    /// Takes the front job for an idle worker, which is idle no more. `None`, and nothing has changed, where no job
-    /// waits; so it is where no worker is idle.
+    /// Takes the front job for an idle worker, which is then no longer idle. Returns `None`, with nothing changed, if
+    /// no job waits, which includes the case that no worker is idle.
     pub fn wake(&mut self) -> Option<J>
         ensures sound { IsSound self.new }
         ensures wakes { Wakes self.old result self.new }
@@ -134,8 +134,8 @@ impl<J> PoolState<J> {
         Some(job)
     }
 
-    /// An idle worker ends. False, and nothing has changed, where none is idle, a job waits, or at most `MIN_THREADS`
-    /// run and the pool isn't closed.
+    /// Ends an idle worker. Returns false, with nothing changed, if none is idle, if a job waits, or if at most
+    /// `MIN_THREADS` run and the pool isn't closed.
     pub fn give_up(&mut self) -> bool
         ensures sound { IsSound self.new }
         ensures gives_up { EndsIdle self.old result self.new }
@@ -150,7 +150,7 @@ impl<J> PoolState<J> {
         may_end
     }
 
-    /// Closes the pool: idle workers may end.
+    /// Closes the pool, so that idle workers may end.
     pub fn close(&mut self)
         ensures sound { IsSound self.new }
         ensures closes { self.new ≡ record self.old { closed = true } }
@@ -158,14 +158,14 @@ impl<J> PoolState<J> {
         self.is_closed = true;
     }
 
-    // Whether the pool is closed.
+    // Returns whether the pool is closed.
     fn is_closed(&self) -> bool
         ensures { result ≡ self.now.closed }
     {
         self.is_closed
     }
 
-    // How many workers run.
+    // Returns the number of running workers.
     fn running(&self) -> usize
         ensures { result ≡ self.now.running }
     {
@@ -181,7 +181,7 @@ struct Sharing<J> {
 }
 
 impl<J: Job + Drop> Sharing<J> {
-    // Runs the first job, and then one after another until the worker is to end.
+    // Runs the first job, and then one after another until the worker must end.
     fn work<R: Wait + Clock>(&self, rt: &R, first: Option<J>) {
         if let Some(mut job) = first {
             job.run();
@@ -194,14 +194,14 @@ impl<J: Job + Drop> Sharing<J> {
         }
     }
 
-    // Waits for a job. `None` where the worker is to end.
+    // Waits for a job. Returns `None` if the worker must end.
     fn next<R: Wait + Clock>(&self, rt: &R) -> Option<J> {
         let mut state = self.state.lock(rt);
         if let Some(job) = state.take() {
             return Some(job);
         }
         if !state.rest() {
-            // This worker isn't idle, so fewer are than run: this doesn't come. One that isn't counted ends.
+            // Unreachable: this worker isn't idle, so fewer are idle than run. A worker that isn't counted ends.
             return None;
         }
         for _ in rt.forever() {
@@ -220,7 +220,7 @@ impl<J: Job + Drop> Sharing<J> {
         unreachable!()
     }
 
-    // Waits to be woken; where more workers run than are kept, for 5,000 ms at most. Says whether that time is up.
+    // Waits to be woken; for at most 5,000 ms if more workers run than are kept. Returns whether that time is over.
     fn wait<'a, R: Wait + Clock>(
         &self,
         rt: &R,
@@ -235,7 +235,7 @@ impl<J: Job + Drop> Sharing<J> {
     }
 }
 
-// Works, this job first; or gives the job back, where its worker was refused.
+// Works, beginning with this job; or returns the job if its worker was refused.
 fn work_unless<J: Job + Drop, R: Wait + Clock + Drop>(
     rt: R,
     is_refused: Arc<AtomicBool>,
@@ -251,9 +251,9 @@ fn work_unless<J: Job + Drop, R: Wait + Clock + Drop>(
     None
 }
 
-/// Workers that run jobs: four, and one more for each job for which no idle worker is left. One above the four that
-/// was idle for 5,000 ms ends. A dropped pool is closed: its workers run the jobs that wait, and end. What a call did
-/// to the pool no contract here says.
+/// A pool of workers that run jobs: four, and one more for each job for which no idle worker is left. A worker above
+/// the four ends once it was idle for 5,000 ms. Dropping the pool closes it: its workers run the waiting jobs, and end.
+/// No contract here states what a call did to the pool.
 pub struct TaskPool<J: Drop, R: Wait + Drop> {
     rt: R,
     sharing: Arc<Sharing<J>>,
@@ -263,8 +263,8 @@ impl<J: Job + Drop + Send + 'static, R: Threads + Wait + Clock + Copy + Send + '
     J,
     R,
 > {
-    /// Starts four workers. An error is of kind `OutOfMemory`, or `WouldBlock` where a thread could not be made; the
-    /// pool is closed then, so that those that were started end.
+    /// Starts four workers. The error is `OutOfMemory`, or `WouldBlock` if a thread couldn't be created; the pool is
+    /// then closed, so that the workers that were started end.
     pub fn new(rt: R, alloc: Global) -> io::Result<TaskPool<J, R>>
         ensures { IfErr result (λ e. (error_kind e ≡ ErrorKind.OutOfMemory) ⊎ (error_kind e ≡ ErrorKind.WouldBlock)) }
     {
@@ -285,7 +285,7 @@ impl<J: Job + Drop + Send + 'static, R: Threads + Wait + Clock + Copy + Send + '
         Ok(pool)
     }
 
-    /// Runs a job on a worker: an idle one, or a new one. It comes back where memory or a thread was refused.
+    /// Runs a job on a worker, idle or new. If memory or a thread is refused, the error returns the job.
     pub fn spawn(&self, rt: &R, alloc: Global, job: J) -> Result<(), J>
         ensures { IfErr result (λ back. back ≡ job) }
     {
@@ -306,8 +306,8 @@ impl<J: Job + Drop + Send + 'static, R: Threads + Wait + Clock + Copy + Send + '
         }
     }
 
-    // Starts a worker with a job. Where no thread could be made its closure comes back, which has the job: called
-    // with the mark set, it gives the job back in place of running it.
+    // Starts a worker with a job. If no thread can be created, its closure is returned, which holds the job: called
+    // with the mark set, it returns the job instead of running it.
     fn start(&self, rt: R, alloc: Global, job: J) -> Result<(), J>
         ensures { IfErr result (λ back. back ≡ job) }
     {
@@ -326,7 +326,7 @@ impl<J: Job + Drop + Send + 'static, R: Threads + Wait + Clock + Copy + Send + '
             Err(unmade) => {
                 is_refused.store(true, Ordering::SeqCst);
                 let back = (unmade.value)();
-                // Nothing would come back from one that has run the job.
+                // A closure that has run the job would return nothing.
                 back.map_or(Ok(()), Err)
             }
         }

@@ -1,4 +1,4 @@
-//! An item that numbers have in turn, under a lock, and the threads that wait for their turns.
+//! An item that numbers hold in turn, under a lock, and the threads that wait for their turns.
 ghost use Rattle.std.specs.BTreeMap.{get};
 ghost use Rattle.std.specs.Ordering.{nat_cmp};
 ghost use Rattle.std.specs.Prelude.{◌≡◌, ◌≢◌, ℕ, ◌+◌, ◌-◌, ◌<◌, ◌↔◌, max, true, false, Some, None, IfOk, OnOk, OnErr};
@@ -15,29 +15,29 @@ use std::sync::{Arc, Condvar, Mutex, Wait};
 use std::thread;
 use tiny_http_turns::turns::{Finishing, Leaving, Turns};
 
-// What became of a number whose turn a thread wants.
+// The state of a number whose turn a thread requests.
 #[derive(Drop)]
 enum Taking<T> {
     // The turn has come, and the number is held.
     Held(Box<T>),
-    // The number waits. Its thread is to wait on this.
+    // The number waits, and its thread must wait on this condition.
     Waits(Arc<Condvar>),
     // Memory for the wait was refused, or the number was never issued. Nothing has changed.
     Refused,
 }
 
-// The turns, and the numbers whose threads wait for theirs: each of them was issued, and its turn hasn't come. A
-// contract sees a `LineState`.
+// The turns, and the numbers whose threads wait: each was issued, and its turn hasn't come. A contract sees a
+// `TurnQueueView`.
 #[derive(Drop)]
 struct TurnQueueState<T> {
     turns: Turns<Box<T>>,
-    // The last number that was issued unless the line was closed.
+    // The last number that `issue_unless_closed` issued.
     last: Option<u64>,
-    // So many numbers were issued.
+    // How many numbers were issued.
     issued: u64,
-    // Where those are counted that aren't finished, if somebody wants to know.
+    // The counter of unfinished numbers, if one is set.
     open: Option<Arc<AtomicU64>>,
-    // What wakes the thread of each number that waits.
+    // The condition that wakes the thread of each waiting number.
     waiters: BTreeMap<u64, Arc<Condvar>>,
     // A thread waits until a number is finished.
     wants_room: bool,
@@ -70,8 +70,8 @@ impl<T> Model for TurnQueueState<T> {
     }) };
 }
 
-// What wakes the thread of this number, which waits from now on: that it is what is listed no clause says, since to
-// contracts all conditions are equal. An error, and nothing has changed, where memory was refused.
+// Lists a number as waiting, and returns the condition that wakes its thread. No clause states that it is the listed
+// condition, since to contracts all conditions are equal. If memory is refused, it fails, and nothing has changed.
 fn list_waiter(
     waiters: &mut BTreeMap<u64, Arc<Condvar>>,
     alloc: Global,
@@ -91,7 +91,7 @@ fn list_waiter(
     Ok(theirs)
 }
 
-// Takes out what wakes the thread of this number, if it waits: it waits no more.
+// Removes the condition that wakes the thread of this number, if it waits. It then waits no more.
 fn take_waiter(waiters: &mut BTreeMap<u64, Arc<Condvar>>, number: u64) -> Option<Arc<Condvar>>
     ensures woken { result ≡ get nat_cmp waiters.old number }
     ensures gone { get nat_cmp waiters.new number ≡ None }
@@ -101,9 +101,10 @@ fn take_waiter(waiters: &mut BTreeMap<u64, Arc<Condvar>>, number: u64) -> Option
 }
 
 impl<T: Drop> TurnQueueState<T> {
-    ghost use Rattle.tiny_http_threads.specs.TurnQueue.{IsSoundTurnQueue, IsNewTurnQueue, ListsWaiter, WakesNext, taken_item};
+    ghost use Rattle.tiny_http_threads.specs.TurnQueue.{IsSoundTurnQueue, IsNewTurnQueue, ListsWaiter, WakesNext};
+    ghost use Rattle.tiny_http_threads.specs.TurnQueue.{taken_item};
 
-    // No number is issued. An error where memory was refused.
+    // Creates the state before any number is issued. Fails if memory is refused.
     fn new(alloc: Global, item: T) -> Result<TurnQueueState<T>, AllocError>
         ensures { IfOk result (λ q. IsNewTurnQueue item q) }
     {
@@ -117,7 +118,7 @@ impl<T: Drop> TurnQueueState<T> {
         })
     }
 
-    // The next number. An error where memory was refused, or no number is left; then nothing has changed.
+    // Issues the next number. Fails if memory is refused or no number is left; then nothing has changed.
     fn issue(&mut self) -> Result<u64, AllocError>
         ensures number { IfOk result (λ n. turn_answer Issue self.old.turns.marks ≡ Issued n) }
         ensures ok { OnOk result (self.new ≡ record self.old {
@@ -135,35 +136,35 @@ impl<T: Drop> TurnQueueState<T> {
         }
     }
 
-    // Whether this is the first number that isn't finished.
+    // Returns whether this is the first unfinished number.
     fn is_first(&self, number: u64) -> bool
         ensures { IsTrue result ↔ (number ≡ first_unfinished self.now.turns.marks) }
     {
         self.turns.first_unfinished() == number
     }
 
-    // How many numbers were issued and aren't finished.
+    // Returns how many numbers were issued and aren't finished.
     fn open(&self) -> u64
         ensures { result ≡ length self.now.turns.marks - first_unfinished self.now.turns.marks }
     {
         self.issued.saturating_sub(self.turns.first_unfinished())
     }
 
-    // Whether fewer numbers than `most`, or none where that is 0, were issued and aren't finished.
+    // Returns whether fewer than `most` numbers are unfinished, or none if `most` is 0.
     fn has_room(&self, most: usize) -> bool
         ensures { IsTrue result ↔ (length self.now.turns.marks - first_unfinished self.now.turns.marks < max most 1) }
     {
         self.open() < most.max(1) as u64
     }
 
-    // Says where it is counted how many numbers aren't finished.
+    // Updates the counter of unfinished numbers.
     fn count_open(&self) {
         if let Some(open) = &self.open {
             open.store(self.open(), Ordering::SeqCst);
         }
     }
 
-    // Has those counted here from now on.
+    // Counts unfinished numbers in this counter from now on.
     fn set_open(&mut self, counter: Arc<AtomicU64>)
         ensures { self.new ≡ record self.old { counter = Some counter } }
     {
@@ -171,28 +172,28 @@ impl<T: Drop> TurnQueueState<T> {
         self.count_open();
     }
 
-    // The last number that was issued unless the line was closed.
+    // Returns the last number that `issue_unless_closed` issued.
     fn last(&self) -> Option<u64>
         ensures { result ≡ self.now.last }
     {
         self.last
     }
 
-    // This one is the last that was issued unless the line was closed.
+    // Records the last number that `issue_unless_closed` issued.
     fn set_last(&mut self, number: u64)
         ensures { self.new ≡ record self.old { last = Some number } }
     {
         self.last = Some(number);
     }
 
-    // A thread waits until a number is finished.
+    // Records that a thread waits until a number is finished.
     fn want_room(&mut self)
         ensures { self.new ≡ record self.old { wants_room = true } }
     {
         self.wants_room = true;
     }
 
-    // Whether a thread is to be woken since a number is finished.
+    // Returns whether to wake a thread because a number is finished.
     fn gives_room(&mut self) -> bool
         ensures wanted { result ≡ self.old.wants_room }
         ensures room { self.new ≡ record self.old { wants_room = false } }
@@ -202,7 +203,7 @@ impl<T: Drop> TurnQueueState<T> {
         wants_room
     }
 
-    // Holds the number, if its turn has come, as `Turns` does. Else it waits.
+    // Holds the number if its turn has come, as `Turns` does. Otherwise the number waits.
     fn take(&mut self, alloc: Global, number: u64) -> Taking<T>
         ensures marks { self.new.turns.marks ≡ marks_after_step (Take number) self.old.turns.marks }
         ensures item { TakesTurn (turn_answer (Take number) self.old.turns.marks) self.old.turns.resting
@@ -222,7 +223,7 @@ impl<T: Drop> TurnQueueState<T> {
         }
     }
 
-    // Leaves an open number with a text, or holds it where its turn has come, as `Turns` does.
+    // Leaves an open number with a text, or holds it if its turn has come, as `Turns` does.
     fn leave(&mut self, number: u64, text: Vec<u8>) -> Leaving<Box<T>>
         ensures marks { self.new.turns.marks ≡ marks_after_step (Leave number text.items) self.old.turns.marks }
         ensures item { LeavesTurn (turn_answer (Leave number text.items) self.old.turns.marks) self.old.turns.resting
@@ -233,8 +234,8 @@ impl<T: Drop> TurnQueueState<T> {
         self.turns.leave(number, text)
     }
 
-    // Finishes a held number, as `Turns` does. Where the item then rests, the thread that waits for the next turn is
-    // to be woken; its number waits no more.
+    // Finishes a held number, as `Turns` does. If the item then rests, returns the condition that wakes the thread of
+    // the next turn, whose number waits no more.
     fn finish(&mut self, number: u64, item: Box<T>) -> (Finishing<Box<T>>, Option<Arc<Condvar>>)
         ensures marks { self.new.turns.marks ≡ marks_after_step (Finish number) self.old.turns.marks }
         ensures item { Finishes (turn_answer (Finish number) self.old.turns.marks) item self.old.turns.resting
@@ -254,7 +255,7 @@ impl<T: Drop> TurnQueueState<T> {
     }
 }
 
-// The line of these turns, on which no thread waits.
+// Creates the turn queue of these turns, on which no thread waits.
 fn share<T: Drop>(
     alloc: Global,
     state: TurnQueueState<T>,
@@ -269,36 +270,36 @@ fn share<T: Drop>(
     Ok(Arc::new(alloc, queue)?)
 }
 
-/// The item and its numbers, which threads share. A number's text and its item are handed out, so nothing is read or
-/// written under the lock.
+/// An item and its numbers, which threads share. Texts and the item are handed out, so nothing is read or written under
+/// the lock.
 #[derive(Drop)]
 pub(crate) struct TurnQueue<T> {
     state: Mutex<TurnQueueState<T>>,
-    // On which a thread waits that wants room.
+    // A thread that wants room waits on this.
     finished: Condvar,
-    // Set under the lock alone.
+    // Set only under the lock.
     is_closed: AtomicBool,
-    // It is closed where its item breaks.
+    // Whether the queue closes when its item breaks.
     closes_when_broken: AtomicBool,
-    // It was closed since its item broke: what numbers do with the item now is lost.
+    // The queue was closed because its item broke: what numbers do with the item now is lost.
     is_broken: AtomicBool,
 }
 
 impl<T: Drop> TurnQueue<T> {
-    /// No number is issued. An error where memory was refused.
+    /// Creates the queue before any number is issued. Fails if memory is refused.
     pub fn new(alloc: Global, item: T) -> Result<Arc<TurnQueue<T>>, AllocError> {
         share(alloc, TurnQueueState::new(alloc, item)?)
     }
 
-    /// The next number, and whether its turn has come. An error where memory was refused, or no number is left.
+    /// Issues the next number, and returns it with whether its turn has come. Fails if memory is refused, or no number
+    /// is left.
     pub fn issue<R: Wait>(&self, rt: &R) -> Result<(u64, bool), AllocError> {
         let mut state = self.state.lock(rt);
         let number = state.issue()?;
         Ok((number, state.is_first(number)))
     }
 
-    /// The next number, and whether its turn has come; none once the line was closed. An error where memory was
-    /// refused, or no number is left.
+    /// Issues the next number as `issue` does, or returns `None` once the queue was closed.
     pub fn issue_unless_closed<R: Wait>(&self, rt: &R) -> Result<Option<(u64, bool)>, AllocError> {
         let mut state = self.state.lock(rt);
         if self.is_closed() {
@@ -309,12 +310,12 @@ impl<T: Drop> TurnQueue<T> {
         Ok(Some((number, state.is_first(number))))
     }
 
-    /// Has the numbers counted here from now on that were issued and aren't finished.
+    /// Counts the issued, unfinished numbers in this counter from now on.
     pub fn set_open<R: Wait>(&self, rt: &R, open: Arc<AtomicU64>) {
         self.state.lock(rt).set_open(open);
     }
 
-    /// Waits until fewer numbers than `most`, or none where that is 0, were issued and aren't finished.
+    /// Waits until fewer than `most` numbers are unfinished, or none if `most` is 0.
     pub fn wait_for_room<R: Wait>(&self, rt: &R, most: usize) {
         let mut state = self.state.lock(rt);
         for _ in rt.forever() {
@@ -326,18 +327,18 @@ impl<T: Drop> TurnQueue<T> {
         }
     }
 
-    /// Whether the line was closed.
+    /// Returns whether the queue was closed.
     pub fn is_closed(&self) -> bool {
         self.is_closed.load(Ordering::SeqCst)
     }
 
-    /// From now on the line is closed where its item breaks.
+    /// Makes the queue close when its item breaks.
     pub fn close_when_broken(&self) {
         self.closes_when_broken.store(true, Ordering::SeqCst);
     }
 
-    /// Leaves a number with a text, which is written in its turn; or holds it, and gives the item and the text, where
-    /// its turn has come. It waits for no turn.
+    /// Leaves a number with a text, which is written in its turn. If its turn has come, holds it instead, and returns
+    /// the item and the text. Doesn't wait for any turn.
     pub fn leave<R: Wait>(&self, rt: &R, number: u64, text: Vec<u8>) -> Option<(Box<T>, Vec<u8>)>
         ensures { IfSome result (λ held. held.1 ≡ text) }
     {
@@ -348,8 +349,8 @@ impl<T: Drop> TurnQueue<T> {
         }
     }
 
-    /// Finishes a held number. If the next one was left, that one is held: the same item, and its text. Else the
-    /// thread that waits for the next turn is woken, if one does.
+    /// Finishes a held number. If the next one was left, that one is now held, and the same item and its text are
+    /// returned. Otherwise wakes the thread that waits for the next turn, if there is one.
     pub fn finish<R: Wait>(&self, rt: &R, number: u64, item: Box<T>) -> Option<(Box<T>, Vec<u8>)>
         ensures { IfSome result (λ next. next.0 ≡ item) }
     {
@@ -370,7 +371,7 @@ impl<T: Drop> TurnQueue<T> {
     }
 }
 
-/// A number of a line, and the runtime by which its holder locks the line and waits.
+/// A number of a turn queue, and the runtime with which its holder locks and waits.
 #[derive(Drop)]
 pub(crate) struct Place<T, R: Wait> {
     rt: R,
@@ -379,19 +380,19 @@ pub(crate) struct Place<T, R: Wait> {
 }
 
 impl<T: Drop, R: Wait + Drop> Place<T, R> {
-    /// Closes the line: `issue_unless_closed` issues no number any more.
+    /// Closes the queue: `issue_unless_closed` issues no more numbers.
     pub fn close_queue(&self) {
         let state = self.queue.state.lock(&self.rt);
         self.queue.is_closed.store(true, Ordering::SeqCst);
         drop(state);
     }
 
-    /// Whether the line is closed once its item breaks.
+    /// Returns whether the queue closes when its item breaks.
     pub fn closes_when_broken(&self) -> bool {
         self.queue.closes_when_broken.load(Ordering::SeqCst)
     }
 
-    /// Closes the line, whose item is broken, if `closes_when_broken` says so.
+    /// Closes the queue, whose item is broken, if `close_when_broken` was called.
     pub fn break_queue(&self) {
         if self.closes_when_broken() {
             self.queue.is_broken.store(true, Ordering::SeqCst);
@@ -399,31 +400,31 @@ impl<T: Drop, R: Wait + Drop> Place<T, R> {
         }
     }
 
-    /// Whether the line was closed since its item is broken.
+    /// Returns whether the queue was closed because its item is broken.
     pub fn is_broken(&self) -> bool {
         self.queue.is_broken.load(Ordering::SeqCst)
     }
 
-    /// Whether the line was closed, and this number is the last that `issue_unless_closed` issued.
+    /// Returns whether the queue was closed, and this number is the last that `issue_unless_closed` issued.
     pub fn is_last(&self) -> bool {
         self.queue.is_closed() && self.queue.state.lock(&self.rt).last() == Some(self.number)
     }
 }
 
-/// A number of a line, and the item while the number is held.
+/// A number of a turn queue, and the item while the number is held.
 #[derive(Drop)]
 pub(crate) struct Turn<T, R: Wait> {
-    /// Its number, in its line.
+    /// Its number, in its queue.
     pub place: Place<T, R>,
     alloc: Global,
-    // Its turn had come as the number was issued.
+    // Whether its turn had come when the number was issued.
     is_next: bool,
     // The item, while the number is held.
     item: Option<Box<T>>,
 }
 
 impl<T: Drop, R: Wait + Drop> Turn<T, R> {
-    /// The next number of this line. An error where memory was refused, or no number is left.
+    /// Issues the next number of this queue. Fails if memory is refused, or no number is left.
     pub fn new(rt: R, alloc: Global, queue: &Arc<TurnQueue<T>>) -> Result<Turn<T, R>, AllocError> {
         let queue = Arc::try_clone(queue)?;
         let (number, is_next) = queue.issue(&rt)?;
@@ -435,8 +436,8 @@ impl<T: Drop, R: Wait + Drop> Turn<T, R> {
         })
     }
 
-    /// The next number of this line; none once that was closed. An error where memory was refused, or no number is
-    /// left.
+    /// Issues the next number of this queue, or returns `None` once it was closed. Fails if memory is refused, or no
+    /// number is left.
     pub fn new_unless_closed(
         rt: R,
         alloc: Global,
@@ -454,18 +455,18 @@ impl<T: Drop, R: Wait + Drop> Turn<T, R> {
         }))
     }
 
-    /// The allocator that it was made with.
+    /// Returns the allocator that it was created with.
     pub fn alloc(&self) -> Global {
         self.alloc
     }
 
-    /// Whether its turn had come as the number was issued: it comes without a wait.
+    /// Returns whether its turn had come when the number was issued, so that it needn't wait.
     pub fn is_next(&self) -> bool {
         self.is_next
     }
 
-    // Waits for the turn unless it is held, and holds it. Where memory for the wait was refused it tries again and
-    // again.
+    // Waits for the turn unless it is held, and holds it. If memory for the wait is refused, it retries until it
+    // succeeds.
     fn wait(&mut self)
         ensures { IsSome self.new.item }
     {
@@ -491,8 +492,8 @@ impl<T: Drop, R: Wait + Drop> Turn<T, R> {
         unreachable!()
     }
 
-    /// Waits for the turn unless it is held, and lends the item. Where memory for the wait was refused it tries again
-    /// and again.
+    /// Waits for the turn unless it is held, and lends the item. If memory for the wait is refused, it retries until it
+    /// succeeds.
     pub fn hold(&mut self) -> &mut T {
         self.wait();
         match &mut self.item {
@@ -517,8 +518,8 @@ impl<T: Drop, R: Wait + Drop> Turn<T, R> {
         }
     }
 
-    /// Holds the number if its turn has come, and the text comes back; else leaves it with this text. It waits for no
-    /// turn.
+    /// Leaves the number with this text. If its turn has come, holds it instead, and returns the text. Doesn't wait for
+    /// any turn.
     pub fn leave(self, text: Vec<u8>) -> Option<(Held<T, R>, Vec<u8>)>
         ensures { IfSome result (λ held. held.1 ≡ text) }
     {
@@ -536,7 +537,7 @@ impl<T: Drop, R: Wait + Drop> Turn<T, R> {
     }
 }
 
-/// A number that is held, and the item.
+/// A held number, and the item.
 #[derive(Drop)]
 pub struct Held<T, R: Wait> {
     /// The item.
@@ -545,7 +546,7 @@ pub struct Held<T, R: Wait> {
 }
 
 impl<T: Drop, R: Wait + Drop> Held<T, R> {
-    /// The first number of a new line of this item. An error where memory was refused.
+    /// Creates a new turn queue of this item, and holds its first number. Fails if memory is refused.
     pub(crate) fn first(rt: R, alloc: Global, item: T) -> Result<Held<T, R>, AllocError>
         ensures { IfOk result (λ held. held.item.value ≡ item) }
     {
@@ -559,13 +560,13 @@ impl<T: Drop, R: Wait + Drop> Held<T, R> {
         Ok(Held { item, place })
     }
 
-    /// Another handle of its line. An error where none is left.
+    /// Returns another handle of its queue. Fails if none is left.
     pub(crate) fn queue(&self) -> Result<Arc<TurnQueue<T>>, AllocError> {
         Ok(Arc::try_clone(&self.place.queue)?)
     }
 
-    /// Finishes the number. If the next one was left, that one is held, with the same item and the text that it was
-    /// left with.
+    /// Finishes the number. If the next one was left, that one is now held, and is returned with the same item and its
+    /// text.
     pub fn finish(self) -> Option<(Held<T, R>, Vec<u8>)>
         ensures { IfSome result (λ next. next.0.item ≡ self.item) }
     {

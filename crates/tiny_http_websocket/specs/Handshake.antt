@@ -13,7 +13,7 @@ use Rattle.tiny_http_request.specs.Request.{asks_for}
 abbrev pub has_name : List ℕ → Header → Bool
 has_name name header = same_name header.field name
 
--- the head asks for a WebSocket by this key, the only one
+-- the head asks for a WebSocket by this key, its only one
 pub record AsksForWebSocket (head : Head) (key : List ℕ) : Type 0 where
   pub method : head.method ≡ Get
   pub in_version : head.version ≡ version 1 1

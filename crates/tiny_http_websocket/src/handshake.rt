@@ -1,4 +1,4 @@
-//! The handshake by which a connection becomes a WebSocket (RFC 6455, section 4.2).
+//! The opening handshake of a WebSocket connection (RFC 6455, section 4.2).
 ghost use Rattle.std.specs.Prelude.{◌≡◌, ◌≢◌, ℕ, List, count_by, IfSome, IfNone, IfOk};
 ghost use Rattle.websocket.specs.Handshake.{accept_key_of};
 ghost use Rattle.tiny_http_request.specs.Request.{request_head};
@@ -18,17 +18,17 @@ use tiny_http::sequential::SequentialWriter;
 use tiny_http::{HTTPVersion, Header, Method, RefusedUpgrade, Request, Response, StatusCode};
 use websocket::handshake::server::accept_key;
 
-/// What became of a request.
+/// The result of a handshake.
 #[derive(Drop)]
 pub enum Handshake<R: ReadDevice + Drop, W: WriteDevice + Drop, Rt: Wait + Drop> {
-    /// It is a WebSocket now, whose frames this stream reads and writes.
+    /// The connection is a WebSocket now. This stream reads and writes its frames.
     Accepted(CustomStream<Body<R, Rt>, SequentialWriter<Outlet<W>, Rt>>),
-    /// It doesn't ask for a WebSocket, its body isn't whole, or as many connections are upgraded as may be; the request
-    /// can be answered, as by `refusal`.
+    /// The request doesn't ask for a WebSocket, its body isn't whole, or the limit of upgraded connections is reached.
+    /// The request can be answered, as by `refusal`.
     Refused(RefusedUpgrade<R, W, Rt>),
 }
 
-// How many headers have this name.
+// Counts the headers of this name.
 fn count_named(headers: &[Header], name: &str) -> usize
     ensures { result ≡ count_by (has_name name.now) headers.now }
 {
@@ -38,10 +38,10 @@ fn count_named(headers: &[Header], name: &str) -> usize
         .count()
 }
 
-/// The key that accepts a request for a WebSocket: the value of `Sec-WebSocket-Accept` (RFC 6455, section 4.2.2).
-/// None for any other request. One that asks is a `GET` in version 1.1 that asks for an upgrade to `websocket`
-/// (`Request::is_upgrade`, and the list of its `Upgrade` headers), whose `Sec-WebSocket-Version` is 13, and whose
-/// one `Sec-WebSocket-Key` is a key (RFC 6455, sections 4.2.1 and 11.3.1).
+/// Returns the key that accepts a request for a WebSocket: the value of `Sec-WebSocket-Accept` (RFC 6455, section
+/// 4.2.2). `None` for any other request. A request for a WebSocket is a `GET` in version 1.1 that asks for an upgrade
+/// to `websocket` (`Request::is_upgrade`, and the list of its `Upgrade` headers), whose `Sec-WebSocket-Version` is 13,
+/// and whose one `Sec-WebSocket-Key` is valid (RFC 6455, sections 4.2.1 and 11.3.1).
 pub fn accepting_key<R: ReadDevice + Drop, W: WriteDevice + Drop, Rt: Wait + Drop>(
     request: &Request<R, W, Rt>,
 ) -> Option<[u8; 28]>
@@ -63,9 +63,8 @@ pub fn accepting_key<R: ReadDevice + Drop, W: WriteDevice + Drop, Rt: Wait + Dro
     accept_key(key.as_bytes()).ok()
 }
 
-/// Makes a WebSocket of a request that asks for one: sends the 101, dated `now`, in its turn. Any other request is
-/// handed back, and so is one where as many connections are upgraded as may be. An error where memory was refused; the
-/// request is dropped then.
+/// Upgrades a request for a WebSocket: sends the 101, dated `now`, in its turn. It returns any other request, and any
+/// request if the limit of upgraded connections is reached. Fails if memory is refused; then the request is dropped.
 pub fn accept<R: ReadDevice + Drop, W: WriteDevice + Drop, Rt: Wait + Drop>(
     alloc: Global,
     request: Request<R, W, Rt>,
@@ -86,8 +85,8 @@ pub fn accept<R: ReadDevice + Drop, W: WriteDevice + Drop, Rt: Wait + Drop>(
     }
 }
 
-/// The answer to a request that was refused: 503 with its phrase as its text where as many connections are upgraded as
-/// may be, and else that of `upgrade_required`. An error where memory was refused.
+/// Returns the response to a refused request: a 503 with its phrase as text if the limit of upgraded connections is
+/// reached, else that of `upgrade_required`. Fails if memory is refused.
 pub fn refusal(alloc: Global, error: UpgradeError) -> io::Result<Response<Cursor<Vec<u8>>>>
     ensures full { error ≡ UpgradeError.TooMany → IfOk result (λ r. r.answer.status ≡ 503) }
     ensures other { error ≢ UpgradeError.TooMany → IfOk result (λ r. r.answer.status ≡ 426) }
@@ -98,9 +97,9 @@ pub fn refusal(alloc: Global, error: UpgradeError) -> io::Result<Response<Cursor
     upgrade_required(alloc)
 }
 
-/// An answer to a request that isn't for a WebSocket of version 13: 426 with its phrase as its text, that says the
-/// version (RFC 6455, section 4.4), and offers the upgrade (RFC 9110, section 15.5.22), which an answer by the
-/// standard alone has. An error where memory was refused.
+/// Returns the response to a request that isn't for a WebSocket of version 13: a 426 with its phrase as text that
+/// states the version (RFC 6455, section 4.4) and offers the upgrade (RFC 9110, section 15.5.22). Only a response under
+/// `Standard` prints the offer. Fails if memory is refused.
 pub fn upgrade_required(alloc: Global) -> io::Result<Response<Cursor<Vec<u8>>>>
     ensures { IfOk result (λ r. r.answer.status ≡ 426) }
 {

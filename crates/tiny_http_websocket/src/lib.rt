@@ -1,5 +1,5 @@
-//! WebSockets over `tiny_http`: the handshake (RFC 6455, section 4.2). What follows it is the program's, as by
-//! `tungstenite`.
+//! WebSockets over `tiny_http`: the opening handshake (RFC 6455, section 4.2). A program handles the frames itself, as
+//! with `tungstenite`.
 #![tactic(auto)]
 
 pub mod handshake;

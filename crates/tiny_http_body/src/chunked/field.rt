@@ -1,24 +1,24 @@
-//! Whether a trailer line is a field line, read byte by byte (RFC 9112, section 5; RFC 9110, section 5.6.2).
+//! Recognition of field lines in a trailer section, byte by byte (RFC 9112, section 5; RFC 9110, section 5.6.2).
 ghost use Rattle.std.specs.Prelude.{◌≡◌};
 ghost use Rattle.tiny_http_body.specs.ChunkField.{field_step, is_whole_field};
 
 use httparse::{is_header_value_token, is_token};
 
-/// What the bytes of a line so far are to a field line.
+/// The state after the bytes of a line so far.
 #[derive(Clone, Copy, Drop)]
 pub(crate) enum Field {
-    /// No byte came yet.
+    /// No byte.
     Empty,
-    /// Bytes of a name.
+    /// Bytes of a field name.
     Name,
-    /// A name, a colon, and bytes of a value.
+    /// A field name, a colon, and bytes of a field value.
     Value,
-    /// However the line goes on, it is no field line.
+    /// Not a field line, whatever follows.
     Wrong,
 }
 
 impl Field {
-    /// One byte more of the line.
+    /// Returns the state after one more byte.
     pub(crate) fn then(self, b: u8) -> Field
         ensures { result ≡ field_step self b }
     {
@@ -50,7 +50,7 @@ impl Field {
         }
     }
 
-    /// Whether the bytes are a field line.
+    /// Returns whether the bytes are a field line.
     pub(crate) fn is_whole(self) -> bool
         ensures { result ≡ is_whole_field self }
     {

@@ -1,4 +1,4 @@
-//! A size line or a trailer line, taken from a reader byte by byte (RFC 9112, section 7.1).
+//! Reading a chunk-size line or a trailer line, byte by byte (RFC 9112, section 7.1).
 ghost use Rattle.std.specs.Prelude.{◌≡◌, ◌≤◌, ◌+◌, [], ◌∷◌, IfOk, IfErr, OnErr};
 ghost use Rattle.tiny_http_io.specs.Device.{prepended, fault_count};
 ghost use Rattle.tiny_http_body.specs.ChunkSize.{SizeFits};
@@ -11,7 +11,7 @@ use crate::chunked::{ChunkRules, LONGEST_LINE};
 use std::io::ErrorKind;
 use tiny_http_io::device::ReadDevice;
 
-/// What the bytes of a line say of a size, and by the standard of a field line.
+/// The meaning of the bytes of a line: a chunk size and, by the standard, a field line.
 #[derive(Clone, Copy, Drop)]
 pub(crate) struct Said {
     pub(crate) size: Size,
@@ -19,7 +19,7 @@ pub(crate) struct Said {
 }
 
 impl Said {
-    // One byte more.
+    // Returns the meaning after one more byte.
     fn then(self, rules: ChunkRules, b: u8) -> Said
         requires { SizeFits self.size }
         ensures is { result ≡ said_step rules self b }
@@ -37,7 +37,7 @@ impl Said {
         }
     }
 
-    /// Whether a line of one byte or more is a trailer line.
+    /// Returns whether a nonempty line is a trailer line.
     pub(crate) fn is_trailer(self, rules: ChunkRules) -> bool
         ensures { result ≡ is_trailer_said rules self }
     {
@@ -48,14 +48,14 @@ impl Said {
     }
 }
 
-/// A line: the number of its bytes before the CR LF, and what they say.
+/// A line: its length in bytes without the CR LF, and its meaning.
 #[derive(Clone, Copy, Drop)]
 pub(crate) struct ChunkLine {
     pub(crate) length: usize,
     pub(crate) said: Said,
 }
 
-// The bytes of a line so far: what those before a last carriage return say, and whether there is one.
+// The bytes of a line so far: the meaning of those before a final CR, and whether there is one.
 #[derive(Clone, Copy, Drop)]
 struct Scan {
     said: Said,
@@ -63,7 +63,7 @@ struct Scan {
 }
 
 impl Scan {
-    // A byte that doesn't end the line.
+    // Returns the state after a byte that doesn't end the line.
     fn then(self, rules: ChunkRules, b: u8) -> Scan
         requires { SizeFits self.said.size }
         ensures is { result ≡ scan_step rules self b }
@@ -93,12 +93,12 @@ impl Scan {
     }
 }
 
-/// Takes the next byte. Where there is none, the kind is what the stop in its place is reported as.
+/// Consumes the next byte. If there is none, returns the kind that reports the reader's stop.
 pub(crate) fn next_byte<R: ReadDevice>(reader: &mut R) -> Result<u8, ErrorKind>
     ensures byte { IfOk result (λ b. R.feed reader.old ≡ prepended (b ∷ []) (R.feed reader.new)) }
     ensures cut { IfErr result (λ kind. CutBy kind (R.feed reader.old)) }
     ensures again { OnErr result (R.feed reader.new ≡ R.feed reader.old) }
-    // The reader is asked for no second end or fault.
+    // The reader isn't asked for a second end or fault.
     ensures stop_count { R.stop_count reader.new ≤ R.stop_count reader.old + fault_count result }
 {
     let mut buf = [0u8];
@@ -109,7 +109,7 @@ pub(crate) fn next_byte<R: ReadDevice>(reader: &mut R) -> Result<u8, ErrorKind>
     }
 }
 
-// Whether such a byte, which doesn't end the line, breaks it: by the standard an LF does.
+// Returns whether a byte that doesn't end the line is malformed: by the standard an LF is.
 fn breaks_line(rules: ChunkRules, b: u8) -> bool
     ensures { result ≡ breaks_line rules b }
 {
@@ -119,9 +119,9 @@ fn breaks_line(rules: ChunkRules, b: u8) -> bool
     }
 }
 
-/// Takes the next line and its CR LF, if that begins behind at most `LONGEST_LINE` bytes. If none begins there, and
-/// two bytes more than so many follow, it is a fault of kind InvalidData; with fewer the stop is reported. By the
-/// standard an LF without a CR in front of it is a fault of that kind as soon as it was read.
+/// Consumes the next line and its CR LF, which begins after at most `LONGEST_LINE` bytes. If none does, `LONGEST_LINE`
+/// + 2 bytes are `InvalidData`; with fewer the reader's stop is reported. By the standard an LF without a CR before it
+/// is `InvalidData` as soon as it was read.
 pub(crate) fn next_line<R: ReadDevice>(
     reader: &mut R,
     rules: ChunkRules,

@@ -1,4 +1,4 @@
-//! The size that a size line gives, read byte by byte (RFC 9112, section 7.1).
+//! Parsing of a chunk size, byte by byte (RFC 9112, section 7.1).
 ghost use Rattle.std.specs.Prelude.{◌≡◌, ◌<◌, IfSome};
 ghost use Rattle.tiny_http_body.specs.Chunks.{is_bws};
 ghost use Rattle.tiny_http_body.specs.ChunkSize.{hex_of, digits_ended, size_step, standard_step, may_follow};
@@ -6,22 +6,22 @@ ghost use Rattle.tiny_http_body.specs.ChunkSize.{size_value, SizeFits};
 
 use httparse::is_header_value_token;
 
-/// What the bytes of a line so far say of a size.
+/// The state after the bytes of a line so far.
 #[derive(Clone, Copy, Drop)]
 pub(crate) enum Size {
-    /// Blanks alone.
+    /// Only blanks.
     Blank,
-    /// Blanks, and digits: their number so far, and how many they are.
+    /// Blanks, then digits: their value and how many there are.
     Digits(u64, u8),
-    /// Blanks, digits of this number, and blanks.
+    /// Blanks, digits with this value, and blanks.
     Behind(u64),
-    /// The same, and a `;` after it.
+    /// The same, then a `;`.
     Extension(u64),
-    /// However the line goes on, it gives no size.
+    /// No size, whatever follows.
     Wrong,
 }
 
-// The value of a hexadecimal digit of either case.
+// Returns the value of a hexadecimal digit of either case.
 fn hex(b: u8) -> Option<u64>
     ensures is { result ≡ hex_of b }
     ensures digit { IfSome result (λ digit. digit < 16) }
@@ -32,14 +32,14 @@ fn hex(b: u8) -> Option<u64>
     }
 }
 
-// Bytes 9 and 32.
+// Returns whether the byte is 9 or 32.
 fn is_bws(b: u8) -> bool
     ensures { result ≡ is_bws b }
 {
     b == b'\t' || b == b' '
 }
 
-// Digits of this number, and then a byte that is none.
+// Returns the state after digits with this value and a byte that isn't a digit.
 fn digits_ended(value: u64, b: u8) -> Size
     ensures { result ≡ digits_ended value b }
 {
@@ -53,7 +53,7 @@ fn digits_ended(value: u64, b: u8) -> Size
 }
 
 impl Size {
-    /// One byte more of the line.
+    /// Returns the state after one more byte.
     pub(crate) fn then(self, b: u8) -> Size
         requires { SizeFits self }
         ensures is { result ≡ size_step self b }
@@ -86,7 +86,7 @@ impl Size {
         }
     }
 
-    // Whether the byte may stand here by the standard: in front a digit alone, and no control byte but the tab.
+    // Returns whether the standard allows the byte here: a digit first, and no control byte except tab.
     fn may_be_followed_by(self, b: u8) -> bool
         ensures { result ≡ may_follow self b }
     {
@@ -98,7 +98,7 @@ impl Size {
         }
     }
 
-    /// One byte more of the line, by the standard.
+    /// Returns the state after one more byte, by the standard.
     pub(crate) fn then_by_standard(self, b: u8) -> Size
         requires { SizeFits self }
         ensures is { result ≡ standard_step self b }
@@ -111,7 +111,7 @@ impl Size {
         }
     }
 
-    /// The size, if the line ends here.
+    /// Returns the size, if the line ends here.
     pub(crate) fn value(self) -> Option<u64>
         ensures { result ≡ size_value self }
     {

@@ -15,7 +15,7 @@ returns-then-bytes-ge-CHUNK-clause-gathers g c =
 pub returns-in_err-put_piece-2-clause-gathers : goal.returns-in_err-put_piece-2-clause-gathers
 returns-in_err-put_piece-2-clause-gathers g c =
     let p = err_from_is_err_and c.from_residual-in_err-put_piece-2.result c.from_residual-in_err-put_piece-2.ensures.1 in
-    let stop_count : length c.args.held.now ≡ 8192 = c.stop_count-held in
+    let held : length c.args.held.now ≡ 8192 = c.told-held in
     let size : length c.copy_to.new.held ≡ 8192 = omega arith in
     let filled : c.copy_to.new.held ≡ take c.args.len.now c.args.held.now ++ take c.min-count.result c.args.bytes.now = sym (take_all (c.args.len.now + c.min-count.result) c.copy_to.new.held (omega arith)) ∙ c.copy_to.ensures in
     let whole : c.copy_to.new.held ≡ take 8192 (take c.args.len.now c.args.held.now ++ c.args.bytes.now) =

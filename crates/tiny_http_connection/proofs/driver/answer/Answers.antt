@@ -70,5 +70,5 @@ returns g c =
       body = ap (λ x. x.body) c.respond.ensures.once;
       done = subst IsAnswered (sym replied) (is-answered (reported r));
       honest = λ kind e. fault-is r kind H _ (sym replied ∙ e) a.ended a.honest;
-      tells = stop_count-by r _ _ H _ is a.stop_count a.ended a.honest;
+      tells = stop_count-by r _ _ H _ is a.reports a.ended a.honest;
     }

@@ -3,18 +3,18 @@ use Rattle.tiny_http_open_request.specs.Pipeline.{Item, Asks, Refuses}
 use Rattle.tiny_http_connection.specs.Segments.{Slot}
 use Rattle.tiny_http_connection.specs.Conversation.{start_state}
 use Rattle.tiny_http_connection_laws.specs.Accounts.{Account, untouched, IsAsTold}
-use Rattle.tiny_http_connection_laws.proofs.AccountsHold.{IsTold, none-stop_count, run-stop_count}
+use Rattle.tiny_http_connection_laws.proofs.AccountsHold.{IsTold, none-accounts, run-accounts}
 use Rattle.tiny_http_connection_laws.proofs.AccountsTurns.{handed-reached}
 use Rattle.tiny_http_connection_laws.proofs.laws.numbers_are_as_told.Goals as goal
 
-as-stop_count : (k : ℕ) (s : Slot) (item : Item) (a : Account) → IsTold k s item a → IsAsTold k s item a
-as-stop_count k s (Asks r) a h = (h.condition, h.by, h.written, h.continued)
-as-stop_count k s (Refuses refusal manner no_body last) a h = (h.stage, h.account, h.continued)
+as-accounts : (k : ℕ) (s : Slot) (item : Item) (a : Account) → IsTold k s item a → IsAsTold k s item a
+as-accounts k s (Asks r) a h = (h.condition, h.by, h.written, h.continued)
+as-accounts k s (Refuses refusal manner no_body last) a h = (h.stage, h.account, h.continued)
 
 pub returns-clause-reached : goal.returns-clause-reached
 returns-clause-reached c = λ p feed before after steps replies held ended unread x k known.
     handed-reached p feed before after steps replies held ended unread x k known
 
-pub returns-clause-stop_count : goal.returns-clause-stop_count
-returns-clause-stop_count c = λ p feed before after steps replies held ended unread x k s here.
-    as-stop_count k s s.item _ ((run-stop_count (λ j. untouched) (start_state x.items) x.end steps replies none-stop_count x.run).here k s here)
+pub returns-clause-accounts : goal.returns-clause-accounts
+returns-clause-accounts c = λ p feed before after steps replies held ended unread x k s here.
+    as-accounts k s s.item _ ((run-accounts (λ j. untouched) (start_state x.items) x.end steps replies none-accounts x.run).here k s here)

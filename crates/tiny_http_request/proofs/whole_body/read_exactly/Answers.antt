@@ -5,7 +5,7 @@ use Rattle.tiny_http_body.specs.declared.body.UnreadBody.{UnreadBody}
 use Rattle.tiny_http_body.specs.declared.body.UnreadBody.TheVariants.{Over, WithHead, Counted, Chunked, Rest}
 use Rattle.tiny_http_body.specs.Body.{Remaining, is_streaming, bytes_left, remaining, prepended_body, BodyStops, ReadsOn, IsBodyOver, IsWithHead}
 use Rattle.tiny_http_body.proofs.BodyReads.{counted-over}
-use Rattle.tiny_http_request.proofs.WholeBodyLemmas.{stands-end, count-whole}
+use Rattle.tiny_http_request.proofs.WholeBodyLemmas.{represents-end, count-whole}
 use Rattle.tiny_http_request.specs.Body.{body_left}
 use Rattle.tiny_http_request.proofs.whole_body.read_exactly.Goals as goal
 
@@ -85,7 +85,7 @@ returns-then-n-eq0-clause-fails g c =
 pub returns-clause-over : goal.returns-clause-over
 returns-clause-over g c = λ streams.
     let inv = c.loop-piece.invariant in
-    stands-end c.loop-piece.body.unread (c.args.count - length c.loop-piece.bytes.items) (length c.loop-piece.bytes.items) c.args.count (search rules) (search rules) (inv.stands streams)
+    represents-end c.loop-piece.body.unread (c.args.count - length c.loop-piece.bytes.items) (length c.loop-piece.bytes.items) c.args.count (search rules) (search rules) (inv.represents streams)
 
 pub returns-clause-whole : goal.returns-clause-whole
 returns-clause-whole g c =

@@ -11,7 +11,7 @@ invariant-loop-piece g l = record {
   within : length l.bytes.items ≤ l.count;
   held : is_streaming l.initial.body.unread ≡ false → (feed : Option Feed) → remaining l.initial.body.unread feed ≡ prepended_body l.bytes.items (remaining l.body.unread feed);
   settled : is_streaming l.initial.body.unread ≡ false → is_streaming l.body.unread ≡ false;
-  stands : is_streaming l.initial.body.unread ≡ true → StandsAt (l.count - length l.bytes.items) (length l.bytes.items) l.body.unread;
+  represents : is_streaming l.initial.body.unread ≡ true → StandsAt (l.count - length l.bytes.items) (length l.bytes.items) l.body.unread;
   streams : is_streaming l.initial.body.unread ≡ true → IsWithHead l.body.unread → ⊥;
 }
 

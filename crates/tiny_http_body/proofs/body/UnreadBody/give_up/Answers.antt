@@ -15,7 +15,7 @@ returns-clause-gives_up g c =
     elim c.match-self.branch [
       | in-Counted w ↦
           let Q : S → Type 0 = λ x. GivesUp (Counted w.in-Counted.left w.in-Counted.by_standard) old x in
-          subst P (sym w.in-Counted.is) (subst Q (sym (w.source-is ∙ w.stand_at.ensures)) (record {
+          subst P (sym w.in-Counted.is) (subst Q (sym (w.source-is ∙ w.set_input_state.ensures)) (record {
             feed = w.skip.ensures.skips.feed;
             alone = w.skip.ensures.skips.alone;
             adds = w.skip.ensures.skips.adds;
@@ -24,7 +24,7 @@ returns-clause-gives_up g c =
           }))
       | in-Chunked w ↦
           let Q : S → Type 0 = λ x. GivesUp (Chunked w.in-Chunked.field-0) old x in
-          subst P (sym w.in-Chunked.is) (subst Q (sym (w.source-is ∙ w.stand_at-in-Chunked.ensures)) (record {
+          subst P (sym w.in-Chunked.is) (subst Q (sym (w.source-is ∙ w.set_input_state-in-Chunked.ensures)) (record {
             feed = w.end.ensures.feed;
             at_end = w.end.ensures.at_end;
             reader = w.end.ensures.reader;

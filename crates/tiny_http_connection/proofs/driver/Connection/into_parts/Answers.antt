@@ -12,4 +12,4 @@ returns-clause-conversation g c p client before steps replies =
     let o = q.outlet in
     let old = viewed q.profile q.source o q.pending q.end in
     let P : Sink → Type 0 = λ s. IsConversation p client before steps replies s o.held o.ended q.source.feed in
-    rw (← c.self.view_is) (λ done. subst P c.facts.ensures.sink (conversation p client before o.sink o.held (kept old) o.ended done.items done.at replies steps done.profile refl refl c.facts.ensures.none c.facts.ensures.begins done.pipeline done.run done.stands done.memory))
+    rw (← c.self.view_is) (λ done. subst P c.facts.ensures.sink (conversation p client before o.sink o.held (kept old) o.ended done.items done.at replies steps done.profile refl refl c.facts.ensures.none c.facts.ensures.begins done.pipeline done.run done.represents done.memory))

@@ -13,7 +13,7 @@ use Rattle.tiny_http_connection.proofs.ConnectionAsk.{StepIsAnswered}
 use Rattle.tiny_http_connection.proofs.ConnectionBody.{with_reader}
 use Rattle.tiny_http_connection.proofs.ConnectionRead.{read-nothing, readable-some, read-none, read-memory, read-done}
 use Rattle.tiny_http_connection.proofs.ReadGives.{reads-nothing, fills-next, fails-next, fills-on, fails-on}
-use Rattle.tiny_http_connection.proofs.DrivingLemmas.{viewed, takes-read, driving-reads-on, moves-none, stands-after}
+use Rattle.tiny_http_connection.proofs.DrivingLemmas.{viewed, takes-read, driving-reads-on, moves-none, represents-after}
 use Rattle.tiny_http_connection.proofs.driver.Connection.read.Goals.{in-Ok-fill, in-Err}
 use Rattle.tiny_http_connection.proofs.driver.Connection.read.Goals as goal
 
@@ -120,7 +120,7 @@ returns-clause-step g c date =
                 w.2,
                 w.4,
                 fills.1,
-                stands-after w.1 fills.0 q.source c.fill.new.source fills.3 fills.4,
+                represents-after w.1 fills.0 q.source c.fill.new.source fills.3 fills.4,
                 fills-next w.1 fills.0 q.source.feed c.fill.new.source.feed b.in-Ok-fill.n c.args.count c.fill.new.buf _ size few (sym came) (omega (arith, c.if-count-eq0.false)) fills.2,
                 λ some. fills-on w.1 fills.0 q.source.feed c.fill.new.source.feed b.in-Ok-fill.n c.args.count c.fill.new.buf _ size many some fills.2,
                 closes-ok fills.0 b.in-Ok-fill.n c.args.count c.fill.new.buf _ many size fills.2.4,
@@ -138,7 +138,7 @@ returns-clause-step g c date =
                 w.2,
                 w.4,
                 fills.1,
-                stands-after w.1 fills.0 q.source c.fill.new.source fills.3 fills.4,
+                represents-after w.1 fills.0 q.source c.fill.new.source fills.3 fills.4,
                 fails-next w.1 fills.0 q.source.feed c.fill.new.source.feed b.in-Err.kind c.args.count c.fill.new.buf fills.2,
                 λ some. fails-on w.1 fills.0 q.source.feed c.fill.new.source.feed b.in-Err.kind c.args.count c.fill.new.buf some fills.2,
                 fills.2.3,

@@ -24,7 +24,7 @@ use Rattle.tiny_http_connection.proofs.ConnectionAsk.{StepIsAnswered}
 use Rattle.tiny_http_io.proofs.SourceGoesOn.{goes-on_same}
 use Rattle.tiny_http_connection.proofs.ConnectionOutput.{can-send}
 use Rattle.tiny_http_connection.proofs.ConnectionRespond.{no-such, respond-not_taken, waits-some, waits-none, respond-not_yet, respond-done, respond-asked, responds-by, set-place}
-use Rattle.tiny_http_connection.proofs.ConnectionClosing.{asked_kept, asked_state, at-asked, stands-asked, twice-asked}
+use Rattle.tiny_http_connection.proofs.ConnectionClosing.{asked_kept, asked_state, at-asked, represents-asked, twice-asked}
 use Rattle.tiny_http_open_request.specs.declared.exchange.EndOfRequests.{EndOfRequests}
 use Rattle.tiny_http_connection.specs.Conversation.{State}
 use Rattle.tiny_http_connection.specs.Outcomes.{asked_to_close as closes_reached}
@@ -305,14 +305,14 @@ returns g c =
           let B : Answer → Type 0 = λ a. StepIsAnswered client before (kept new) (asked_state a.closes s) c.args.now (Respond n value) reply in
           let F : Answer → Type 0 = λ a. closes_reached a.closes now.reached ≡ now.reached in
           let first = (c.hold.ensures.held.0 held).1 in
-          let stands = stands-asked asked client before k0 s st in
+          let represents = represents-asked asked client before k0 s st in
           respond-asked client before k0 (kept new) s c.args.now n value (final_context w1.0 (remainder w1.0.body)) reply st (ap waiting_response_context w1.1) (ap (λ a. refuses_at a.status (slice_get k0.requests n)) is.0 ∙ accepted) first
           (subst B (sym is.0) (subst E (sym ended) (respond-done client before k now c.args.now n value context (output_of mid) (output_of last.outlet) (outlet_ended mid) (outlet_ended last.outlet) c.take.new.self.turns.marks last.self.turns.marks last.self.requests q.source source reply
-          stands (record { feed = refl; stop = refl; ends = refl; input_state = refl }) (λ w e. gives-up-of q.source source (slice_get k.requests n) (still.Waiting w0) got given_up (still.Waiting w) e) low waits (ap (λ a. refuses_at a.status (slice_get k.requests n)) is.0 ∙ accepted_told)
+          represents (record { feed = refl; stop = refl; ends = refl; input_state = refl }) (λ w e. gives-up-of q.source source (slice_get k.requests n) (still.Waiting w0) got given_up (still.Waiting w) e) low waits (ap (λ a. refuses_at a.status (slice_get k.requests n)) is.0 ∙ accepted_told)
           (subst F (sym is.0) (twice-asked asked s)) first (ap (λ t. t.marks) c.take.ensures.turns ∙ ap (λ t. t.marks) c.close_last.ensures.turns ∙ c.hold.ensures.marks held) requests
           (responds-by k (output_of mid) (outlet_ended mid) reply value context c.args.now
           (λ e. let h = c.answer-reply.ensures.past e in (ap (λ o. output_of o) h.0, ap (λ o. outlet_ended o) h.0, h.1))
-          (λ e. subst A (sym is.0) (subst L c.remainder-left.ensures (c.answer-reply.ensures.sends value.content is.1 is.2 e (can-send before k.sink k.output_ended now.reached.slots s.flushed s.failure stands.output low e)))))
+          (λ e. subst A (sym is.0) (subst L c.remainder-left.ensures (c.answer-reply.ensures.sends value.content is.1 is.2 e (can-send before k.sink k.output_ended now.reached.slots s.flushed s.failure represents.output low e)))))
           c.pass.ensures.passes c.pass.ensures.sends))))
           (λ no. absurd (not-declined n (stated_response g.D.ReadDevice.feed c.args.response) reply c.answer-reply.ensures.done no)) (replied-done _ _ _ reply (sym c.is_waiting.ensures ∙ c.if-not-is_waiting.false) accepted (ap not (held-in_turn c.hold.result n q.pending.turns.marks c.hold.ensures.held ∙ held_is)) c.answer-reply.ensures.done) (answered-ends n asked old new reply c.answer-reply.ensures.done (end_is ∙ ap (λ b. ends_behind (asked || b) q.end) same_lacks))
           (answered-leaves n c.args.response.answer old new reply c.answer-reply.ensures.done (
