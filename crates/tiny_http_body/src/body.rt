@@ -143,7 +143,7 @@ impl UnreadBody {
         let mut decoding = decoding;
         match decoding.read(source, buf) {
             Ok(0) => {
-                // The last chunk was read: nothing behind it is asked for.
+                // The last chunk was read, so nothing after it is asked for.
                 *self = UnreadBody::Over(Stop::End);
                 Ok(0)
             }

@@ -35,7 +35,7 @@ pub enum Profile {
     /// As the original, tiny_http 0.12: the first `Content-Length` counts, a `Transfer-Encoding` of any value means
     /// chunked and overrides it, and a head may be of any size.
     Lenient,
-    /// Laxer than `Standard`: as `Lenient`, but for a server behind a proxy. It also refuses `Content-Length` values
+    /// Laxer than `Standard`, which also serves behind a proxy: as `Lenient`, but it refuses `Content-Length` values
     /// that aren't one number, `Content-Length` beside `Transfer-Encoding`, a `Transfer-Encoding` that doesn't end in
     /// `chunked` (RFC 9112, sections 6.1 to 6.3), and a head of more than `STRICT_HEAD` bytes (RFC 6585, section 5).
     Strict,
