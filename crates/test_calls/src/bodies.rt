@@ -1,4 +1,4 @@
-//! Answers and bodies that are read.
+//! Reads responses and bodies.
 use crate::findings::{add, add_kind, add_shown, add_some};
 use crate::row::{Finding, Input};
 use std::alloc::{AllocError, Global};
@@ -8,7 +8,7 @@ use tiny_http_wire::chunked::{ChunkRules, Decoder};
 use tiny_http_wire::common::{Header, Method};
 use tiny_http_wire::device::{ByPieces, Canned, ReadDevice, Stop};
 
-// The headers of an answer, and then how many there are and how many bytes their values have.
+// Adds the headers of a response, and then their count and the length of all values.
 fn add_headers(alloc: Global, to: &mut Vec<Finding>, headers: &[Header]) -> Result<(), AllocError> {
     let mut size: usize = 0;
     for header in headers {
@@ -20,7 +20,7 @@ fn add_headers(alloc: Global, to: &mut Vec<Finding>, headers: &[Header]) -> Resu
     add(alloc, to, "headers", text.as_bytes())
 }
 
-// An answer that took so many bytes.
+// Adds a response, and how many bytes it takes up.
 fn add_answer(
     alloc: Global,
     to: &mut Vec<Finding>,
@@ -34,7 +34,7 @@ fn add_answer(
     add_some(alloc, to, "body", answer.body.as_slice())
 }
 
-// Reads one answer, and gives how many bytes it took if it is one.
+// Reads one response. Returns how many bytes it takes up, if it is valid.
 fn read_one(
     alloc: Global,
     method: &Method,
@@ -54,8 +54,8 @@ fn read_one(
     Ok(None)
 }
 
-/// The answers to requests of these methods, one after another, up to the first that isn't one; and the bytes that
-/// are left.
+/// Reads successive responses to requests with these methods, up to the first that is invalid or incomplete. Adds them,
+/// and the remaining bytes.
 pub fn read_answers(
     alloc: Global,
     methods: &[Method],
@@ -72,7 +72,7 @@ pub fn read_answers(
     add(alloc, to, "rest", rest)
 }
 
-/// The head of an answer and how many bytes it took; or that it is unfinished, or why it is refused.
+/// Adds the head of a response and its length, or that it is incomplete, or why it is refused.
 pub fn read_head_alone(
     alloc: Global,
     bytes: &[u8],
@@ -90,10 +90,10 @@ pub fn read_head_alone(
     }
 }
 
-// The most reads up to the end of some data.
+// Maximum number of reads before data end.
 const MOST_READS: u64 = 1_000_000;
 
-/// Reads the bytes that are left, and how they stop; no stop where they don't.
+/// Reads the remaining bytes. Returns them and how they end, or no end after `MOST_READS` reads.
 pub fn drain<R: ReadDevice>(
     alloc: Global,
     reader: &mut R,
@@ -110,7 +110,7 @@ pub fn drain<R: ReadDevice>(
     Ok((bytes, None))
 }
 
-// How data stop.
+// Adds how data end.
 fn add_stop(alloc: Global, to: &mut Vec<Finding>, stop: Option<Stop>) -> Result<(), AllocError> {
     match stop {
         Some(Stop::End) => add(alloc, to, "end", b""),
@@ -119,7 +119,7 @@ fn add_stop(alloc: Global, to: &mut Vec<Finding>, stop: Option<Stop>) -> Result<
     }
 }
 
-// Whether a further read answers that the data stop so.
+// Returns whether a further read returns no byte and ends with `stop`.
 fn is_over(
     alloc: Global,
     decoder: &mut Decoder<ByPieces<Canned>>,
@@ -129,7 +129,7 @@ fn is_over(
     Ok(data.is_empty() && found == stop)
 }
 
-// Whether two further reads answer that the data stop so.
+// Returns whether two further reads end with `stop`.
 fn is_settled(
     alloc: Global,
     decoder: &mut Decoder<ByPieces<Canned>>,
@@ -139,7 +139,8 @@ fn is_settled(
     Ok(is_over(alloc, decoder, stop)? && is_over_once)
 }
 
-// The data of a body, and how they stop. A read into no room takes nothing.
+// Adds the data of a body and how they end. Also checks that a read into an empty buffer returns 0, and that later
+// reads repeat the end.
 fn read_body(
     alloc: Global,
     decoder: &mut Decoder<ByPieces<Canned>>,
@@ -157,13 +158,13 @@ fn read_body(
     Ok(())
 }
 
-/// The bytes of a row, as a reader that fails after them where the row says so.
+/// Creates a reader of the row's bytes, which fails after them if the row states an error.
 pub fn data_of(alloc: Global, input: &Input) -> Result<Canned, AllocError> {
     Ok(Canned::new(input.bytes.as_slice().to_vec(alloc)?, input.stop))
 }
 
-/// What a reader that gives so many bytes a call gives under a decoder of these rules, how it stops, and what is left
-/// in it.
+/// Decodes a body with these rules from a reader that returns at most `piece` bytes a call. Adds the data, how they
+/// end, and what is left in the reader.
 pub fn decode(
     alloc: Global,
     rules: ChunkRules,
@@ -179,7 +180,7 @@ pub fn decode(
     add(alloc, to, "rest", rest.as_slice())
 }
 
-/// What a reader still gives.
+/// Adds what is left in a reader.
 pub fn add_left(
     alloc: Global,
     reader: &mut Canned,

@@ -1,15 +1,15 @@
-//! Connections, and requests that are read without one, whose calls a row makes one after another.
+//! Makes successive calls on a connection, and on requests that are read without one.
 use crate::deeds::{Deed, WatchedAnswer};
 use crate::devices::{Below, Client, Taker, Watched};
 use crate::findings::{add, add_shown};
 use crate::replies::{add_outlet, add_reply, add_rest};
 use crate::row::{Finding, Input};
-use test_case_trials::replies::reply_line;
 use example_greeter::{serve, serve_bytes};
 use replay_script::line::text_in;
 use replay_script::script::{first_date, step_in};
 use replay_script::script_data::ScriptData;
 use std::alloc::{AllocError, Global};
+use test_case_trials::replies::reply_line;
 use tiny_http_core::driver::{Connection, Reply, Step, Timed};
 use tiny_http_core::framing::Profile;
 use tiny_http_core::outlet::Outlet;
@@ -18,7 +18,7 @@ use tiny_http_wire::common::StatusCode;
 use tiny_http_wire::device::Metered;
 use tiny_http_wire::response::Response;
 
-/// The step that a line of a script names, if it names one.
+/// Parses a line of a script. Returns its step, if it has one.
 pub fn step_of(alloc: Global, line: &str) -> Result<Option<Step<ScriptData>>, AllocError> {
     match text_in(line) {
         Some(line) => step_in(alloc, &line),
@@ -26,7 +26,7 @@ pub fn step_of(alloc: Global, line: &str) -> Result<Option<Step<ScriptData>>, Al
     }
 }
 
-/// The answer 200 by these data, which are lent to it. Of a stated length it isn't sent in chunks.
+/// Builds a 200 that borrows its data. With a content length it is not sent in chunks.
 pub fn lent(alloc: Global, data: &mut Watched, length: Option<usize>) -> Response<&mut Watched> {
     let answer = Response::empty(alloc, StatusCode(200)).with_data(data, length);
     match length {
@@ -43,7 +43,7 @@ fn add_line(alloc: Global, to: &mut Vec<Finding>, reply: &Reply) -> Result<(), A
     add_reply(alloc, to, line.as_slice())
 }
 
-// Answers a request by watched data.
+// Responds to a request with watched data.
 fn answer(
     alloc: Global,
     connection: &mut Connected,
@@ -57,7 +57,7 @@ fn answer(
     add(alloc, to, "reads", data.reads().as_bytes())
 }
 
-// Upgrades a request by an answer of watched data.
+// Upgrades a request by a response with watched data.
 fn upgrade(
     alloc: Global,
     connection: &mut Connected,
@@ -71,7 +71,7 @@ fn upgrade(
     add(alloc, to, "reads", data.reads().as_bytes())
 }
 
-// Does a step.
+// Runs a step.
 fn do_step(
     alloc: Global,
     connection: &mut Connected,
@@ -86,9 +86,9 @@ fn do_step(
     add_line(alloc, to, &reply)
 }
 
-/// A value of which a row makes calls, one after another.
+/// A value on which a row makes successive calls.
 pub trait Callee {
-    /// Makes a call, and adds what comes of it.
+    /// Makes a call, and adds its results.
     fn call(&mut self, alloc: Global, deed: &Deed, to: &mut Vec<Finding>) -> Result<(), AllocError>;
 }
 
@@ -119,7 +119,7 @@ impl Callee for Connected {
     }
 }
 
-// Adds how often the client was called, and what the writer has sent on.
+// Adds the number of calls of the client, and what the writer has flushed.
 fn add_progress(
     alloc: Global,
     source: Source<Client>,
@@ -132,7 +132,7 @@ fn add_progress(
     add(alloc, to, "sent", taker.sent())
 }
 
-// Adds what a source still gives, what an outlet holds, and what its writer took.
+// Adds what is left in a source, what an outlet has buffered, and what its writer accepted.
 fn add_parts(
     alloc: Global,
     mut source: Source<Client>,
@@ -143,8 +143,8 @@ fn add_parts(
     add_outlet(alloc, outlet, to)
 }
 
-/// Adds what came of the last call, how often the client was called and what the writer has sent on; or what is left,
-/// after all calls.
+/// Adds the results of the last call, the number of calls of the client, and what the writer has flushed. If `is_past`,
+/// adds what is left instead.
 pub fn add_outcome(
     alloc: Global,
     last: Result<Vec<Finding>, AllocError>,
@@ -161,7 +161,7 @@ pub fn add_outcome(
     add_progress(alloc, source, outlet, to)
 }
 
-/// Makes calls one after another. What comes of the last.
+/// Makes successive calls. Returns the results of the last one.
 pub fn call_each<C: Callee>(
     alloc: Global,
     callee: &mut C,
@@ -175,8 +175,8 @@ pub fn call_each<C: Callee>(
     Ok(last)
 }
 
-// Makes the first calls of a new connection. Adds what comes of the last, how often the client was called and what
-// the writer has sent on; or what is left, if there are fewer calls.
+// Makes the first `count` calls on a new connection. Adds the results of the last one, the number of calls of the
+// client, and what the writer has flushed. If there are fewer calls, adds what is left instead.
 fn call_front(
     alloc: Global,
     profile: Profile,
@@ -194,9 +194,9 @@ fn call_front(
     add_outcome(alloc, last, (source, outlet), count > deeds.len(), to)
 }
 
-/// What calls of a connection are answered, how often the client was called up to each and what was sent on; and what
-/// is left in the end. A connection doesn't show its reader and writer, so each call is made again after those
-/// before it.
+/// Makes calls on a connection. Adds the results of each, with the number of calls of the client and what is flushed up
+/// to it, and finally what is left. A connection does not expose its reader and writer, so each call is repeated on a
+/// new connection, after those before it.
 pub fn call_connections(
     alloc: Global,
     profile: Profile,
@@ -210,7 +210,7 @@ pub fn call_connections(
     Ok(())
 }
 
-// Adds the reply by which a greeting ended.
+// Adds the reply with which a greeter ended.
 fn add_last(alloc: Global, last: Option<&Reply>, to: &mut Vec<Finding>) -> Result<(), AllocError> {
     match last {
         Some(reply) => add_line(alloc, to, reply),
@@ -218,7 +218,7 @@ fn add_last(alloc: Global, last: Option<&Reply>, to: &mut Vec<Finding>) -> Resul
     }
 }
 
-/// What a client is sent by the greeter, over a reader and over bytes.
+/// Adds what the greeter sends to a client, over a reader and over bytes.
 pub fn greet(
     alloc: Global,
     input: &Input,

@@ -1,41 +1,41 @@
-//! The calls that a row makes one after another: `+ NAME WORDS`, by the names of the calls.
+//! Parses the successive calls of a row: `+ NAME WORDS`, by the names of the calls.
 use crate::row::Subject;
 use crate::words::{number, split, text};
-use test_data_files::fault::LineFault;
-use test_data_files::kinds::kind_of;
-use test_data_files::text::text_of;
 use replay_script::line::{ScriptLine, text_in};
 use std::alloc::Global;
 use std::io::ErrorKind;
+use test_data_files::fault::LineFault;
+use test_data_files::kinds::kind_of;
+use test_data_files::text::text_of;
 
-/// An answer 200 whose reads of its data are watched.
+/// A 200 whose data record how they are read.
 #[derive(Drop)]
 pub struct WatchedAnswer {
-    /// The request's number.
+    /// The number of the request.
     pub number: u64,
-    /// The length that is stated of the data, if one is.
+    /// The stated content length, if any.
     pub length: Option<usize>,
     pub data: Vec<u8>,
-    /// The fault of the data in place of their end.
+    /// The error at the end of the data, if any.
     pub fault: Option<ErrorKind>,
 }
 
-/// A call.
+/// A call on a value.
 #[derive(Drop)]
 pub enum Deed {
     /// `read_line` of a source.
     ReadLine,
-    /// `read_line_within`, with its limit.
+    /// `read_line_within` with its limit.
     ReadLineWithin(usize),
     /// `skip`.
     Skip(usize),
     /// `take_exactly`.
     TakeExactly(usize),
-    /// `read` of a source, into so much room.
+    /// `read` of a source, into a buffer of this size.
     Read(usize),
-    /// `Read::read`, into so much room.
+    /// `Read::read`, into a buffer of this size.
     StdRead(usize),
-    /// `ReadDevice::read_in`, into so much room.
+    /// `ReadDevice::read_in`, into a buffer of this size.
     ReadIn(usize),
     /// `write` of an outlet.
     Write(Vec<u8>),
@@ -59,23 +59,23 @@ pub enum Deed {
     Issue,
     /// `take`.
     Take(u64),
-    /// `put_back`, with an item.
+    /// `put_back` with an item.
     PutBack(u64, u8),
-    /// `finish`, with an item.
+    /// `finish` with an item.
     Finish(u64, u8),
-    /// `leave`, with a text.
+    /// `leave` with a text.
     Leave(u64, Vec<u8>),
-    /// `issue`, `take` and `finish`, so often.
+    /// `issue`, `take` and `finish`, this many times.
     Pass(u64),
     /// The call that a line of a script names.
     Script(String),
-    /// A `read_body` of the request of this number, into so much room.
+    /// `read_body` of the request with this number, into a buffer of this size.
     ReadBody(u64, usize),
-    /// Answers a request.
+    /// Responds to a request.
     Answer(WatchedAnswer),
-    /// Upgrades the request of this number to this protocol, by an answer 200 whose data are watched.
+    /// Upgrades the request with this number to this protocol, by a 200 whose data are watched.
     Upgrade(u64, String),
-    /// `give_up` of the request of this number.
+    /// `give_up` of the request with this number.
     GiveUp(u64),
     /// `is_open` of this number.
     IsOpen(u64),
@@ -85,13 +85,13 @@ pub enum Deed {
 
 const NO_CALL: LineFault = LineFault::Bad("the row's value has no such call");
 
-// A number, and the words after it.
+// Parses a number, and returns the words after it.
 fn number_before(words: &str) -> Result<(u64, &str), LineFault> {
     let (digits, rest) = split(words);
     Ok((number(digits)? as u64, rest))
 }
 
-// A number, and an item.
+// Parses a number and an item.
 fn number_and_item(words: &str) -> Result<(u64, u8), LineFault> {
     let (number_of, rest) = number_before(words)?;
     match u8::try_from(number(rest)?) {
@@ -100,7 +100,7 @@ fn number_and_item(words: &str) -> Result<(u64, u8), LineFault> {
     }
 }
 
-// A call of a reader.
+// Parses a call of a reader.
 fn reading(name: &str, words: &str) -> Result<Deed, LineFault> {
     match name {
         "read_line" if words.is_empty() => Ok(Deed::ReadLine),
@@ -114,7 +114,7 @@ fn reading(name: &str, words: &str) -> Result<Deed, LineFault> {
     }
 }
 
-// A call of a writer.
+// Parses a call of a writer.
 fn writing(alloc: Global, name: &str, words: &str) -> Result<Deed, LineFault> {
     let bytes = text_of(alloc, words)?;
     match name {
@@ -131,7 +131,7 @@ fn writing(alloc: Global, name: &str, words: &str) -> Result<Deed, LineFault> {
     }
 }
 
-// A call of a stream: of its reader or its writer.
+// Parses a call of a stream: of its reader or its writer.
 fn streaming(alloc: Global, name: &str, words: &str) -> Result<Deed, LineFault> {
     match name {
         "Read::read" | "read_in" => reading(name, words),
@@ -139,7 +139,7 @@ fn streaming(alloc: Global, name: &str, words: &str) -> Result<Deed, LineFault> 
     }
 }
 
-// A call of turns.
+// Parses a call of turns.
 fn turning(alloc: Global, name: &str, words: &str) -> Result<Deed, LineFault> {
     match name {
         "issue" => Ok(Deed::Issue),
@@ -161,7 +161,7 @@ fn turning(alloc: Global, name: &str, words: &str) -> Result<Deed, LineFault> {
     }
 }
 
-// An answer: its number, the length that is stated or `-`, the fault of the data or `-`, and the data.
+// Parses a response: the request's number, the content length or `-`, the error of the data or `-`, and the data.
 fn answer_in(alloc: Global, words: &str) -> Result<Deed, LineFault> {
     let (number_of, words) = number_before(words)?;
     let (length, words) = split(words);
@@ -181,7 +181,7 @@ fn answer_in(alloc: Global, words: &str) -> Result<Deed, LineFault> {
     }))
 }
 
-// A line of a script that has a reply.
+// Parses a line of a script that has a reply.
 fn script_in(alloc: Global, part: &str) -> Result<Deed, LineFault> {
     let line = text(alloc, part)?;
     match text_in(line.as_str()) {
@@ -190,7 +190,7 @@ fn script_in(alloc: Global, part: &str) -> Result<Deed, LineFault> {
     }
 }
 
-// A call of a connection, or of what was read without one.
+// Parses a call of a connection, or of a request read without one.
 fn conversing(alloc: Global, part: &str) -> Result<Deed, LineFault> {
     let (name, words) = split(part);
     match name {
@@ -210,7 +210,7 @@ fn conversing(alloc: Global, part: &str) -> Result<Deed, LineFault> {
     }
 }
 
-/// The call of such a value that a part names.
+/// Parses a call on this kind of value.
 pub fn deed_in(alloc: Global, subject: Subject, part: &str) -> Result<Deed, LineFault> {
     let (name, words) = split(part);
     match subject {

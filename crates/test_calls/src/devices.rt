@@ -1,16 +1,16 @@
-//! The readers and writers of rows that make calls one after another: they count and note their calls.
+//! Readers and writers for successive calls, which record how they are called.
 use crate::row::{Failing, Input};
-use test_case_files::devices::Trier;
 use std::alloc::{AllocError, Global};
 use std::io;
 use std::io::{ErrorKind, Write};
+use test_case_files::devices::Trier;
 use tiny_http_wire::device::{Canned, Metered, ReadDevice, copy_front};
 
-/// A client's bytes as they come: piece by piece, at most `most` bytes a call.
+/// A client's bytes as they arrive: piece by piece, at most `most` bytes a call.
 #[derive(Drop)]
 pub struct Client {
     pieces: Vec<Vec<u8>>,
-    // The piece that is being given, and how many of its bytes were.
+    // Index of the current piece, and how many of its bytes have been returned.
     place: usize,
     given: usize,
     most: usize,
@@ -20,7 +20,7 @@ pub struct Client {
 }
 
 impl Client {
-    /// The client of a row. A call gives `most` bytes at most; 0 means any number.
+    /// Creates the client of a row. A call returns at most `most` bytes; 0 means no limit.
     pub fn new(alloc: Global, input: &Input, most: usize) -> Result<Client, AllocError> {
         let mut pieces = Vec::new(alloc);
         if !input.bytes.is_empty() {
@@ -44,12 +44,12 @@ impl Client {
         })
     }
 
-    /// How often it was called, but for calls into no room.
+    /// Returns the number of calls, except those with an empty buffer.
     pub fn calls(&self) -> u64 {
         self.calls
     }
 
-    // What is left of the piece that is being given.
+    // Returns the rest of the current piece.
     fn rest(&self) -> &[u8] {
         match self.pieces.get(self.place) {
             Some(piece) => piece.as_slice().get(self.given..).unwrap_or_default(),
@@ -86,7 +86,7 @@ impl ReadDevice for Client {
     }
 }
 
-/// A writer that notes the length of each write, and what it has sent on by a flush.
+/// A writer that records the length of each write, and what has been flushed.
 #[derive(Drop)]
 pub struct Taker {
     trier: Trier,
@@ -96,7 +96,7 @@ pub struct Taker {
 }
 
 impl Taker {
-    /// The writer of a row.
+    /// Creates the writer of a row.
     pub fn new(alloc: Global, input: &Input) -> Taker {
         let trier = match (input.failing_write, input.room) {
             (Some(Failing { call, kind }), _) => Trier::failing_at(alloc, call, kind),
@@ -111,17 +111,17 @@ impl Taker {
         }
     }
 
-    /// What it took, and how often it failed and was called then.
+    /// Returns the inner writer, which records what it accepted, its failures, and the calls after one.
     pub fn trier(&self) -> &Trier {
         &self.trier
     }
 
-    /// The length of each write.
+    /// Returns the length of each write.
     pub fn sizes(&self) -> &[usize] {
         self.sizes.as_slice()
     }
 
-    /// What it has sent on.
+    /// Returns what has been flushed.
     pub fn sent(&self) -> &[u8] {
         self.trier.taken().get(..self.sent).unwrap_or_default()
     }
@@ -146,10 +146,10 @@ impl Write for Taker {
 /// The writer below an outlet.
 pub type Below = Metered<Taker>;
 
-// The most bytes that are read of data in one piece.
+// Maximum number of bytes of data that are read in one piece.
 const PIECE: u64 = 8_192;
 
-/// Data that count what is read of them.
+/// Data that record how much of them is read.
 #[derive(Drop)]
 pub struct Watched {
     inner: Canned,
@@ -158,7 +158,7 @@ pub struct Watched {
 }
 
 impl Watched {
-    /// These bytes, and then an end or this fault.
+    /// Creates data with these bytes, which then end or fail.
     pub fn new(
         alloc: Global,
         bytes: &[u8],
@@ -171,7 +171,7 @@ impl Watched {
         })
     }
 
-    /// How much was read of them: nothing was asked for, at most one piece came, or more.
+    /// Returns how much was read: no call was made, at most one piece was returned, or more.
     pub fn reads(&self) -> &'static str {
         if self.calls == 0 {
             "nothing"

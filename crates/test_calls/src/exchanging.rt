@@ -1,14 +1,14 @@
-//! Requests that are read without a driver, each an `Exchange`, whose calls a row makes one after another.
+//! Makes successive calls on requests that are read without a driver, each an `Exchange`.
 use crate::conversing::{Callee, add_outcome, call_each, lent, step_of};
 use crate::deeds::{Deed, WatchedAnswer};
 use crate::devices::{Below, Client, Taker, Watched};
 use crate::findings::add;
 use crate::replies::{add_reply, done, faulty, given, outcome_of, unfit, word};
 use crate::row::{Finding, Input};
-use test_case_trials::replies::{end_words, handed_line};
 use replay_script::script::first_date;
 use replay_script::script_data::ScriptData;
 use std::alloc::{AllocError, Global};
+use test_case_trials::replies::{end_words, handed_line};
 use tiny_http_core::driver::Step;
 use tiny_http_core::exchange::{Exchange, HeadRead, read_head, read_head_with};
 use tiny_http_core::framing::Profile;
@@ -17,7 +17,7 @@ use tiny_http_core::source::Source;
 use tiny_http_core::upgrading::UpgradeError;
 use tiny_http_wire::device::Metered;
 
-// A source, an outlet, and the requests that were read, by their places.
+// A source, an outlet, and the requests that were read, by index.
 #[derive(Drop)]
 struct Talk {
     profile: Profile,
@@ -26,7 +26,7 @@ struct Talk {
     exchanges: Vec<Exchange>,
 }
 
-// The line of a request that was read, by its place.
+// Formats a request that was read, with its index as the number.
 fn handed(alloc: Global, place: usize, exchange: &Exchange) -> Result<Vec<u8>, AllocError> {
     let head = exchange.head();
     let number = format!(in alloc; "{place}")?;
@@ -39,13 +39,13 @@ fn handed(alloc: Global, place: usize, exchange: &Exchange) -> Result<Vec<u8>, A
     )
 }
 
-// Sends a text on an outlet.
+// Writes and flushes a text.
 fn send(outlet: &mut Outlet<Below>, text: &[u8]) {
     drop(outlet.write(text));
     drop(outlet.flush());
 }
 
-// A head that was refused, whose text is sent.
+// Sends the error response of a refused head. Formats whether the connection ends.
 fn refused(
     alloc: Global,
     outlet: &mut Outlet<Below>,
@@ -83,7 +83,7 @@ fn ask(alloc: Global, talk: &mut Talk) -> Result<Vec<u8>, AllocError> {
     }
 }
 
-// One read of a body.
+// Reads once from a body.
 fn read_once(
     alloc: Global,
     (exchange, source): (&mut Exchange, &mut Source<Client>),
@@ -97,7 +97,7 @@ fn read_once(
     }
 }
 
-// Reads a body until `count` bytes came, or no more follow. The bytes, or the fault where there are none.
+// Reads a body until `count` bytes are read, or none follow. Formats the bytes, or the error if there are none.
 fn read_up_to(
     alloc: Global,
     (exchange, source): (&mut Exchange, &mut Source<Client>),
@@ -117,7 +117,7 @@ fn read_up_to(
     given(alloc, bytes.as_slice())
 }
 
-// What an upgrade is answered.
+// Formats the result of an upgrade.
 fn upgraded(alloc: Global, outcome: Result<(), UpgradeError>) -> Result<Vec<u8>, AllocError> {
     match outcome {
         Ok(()) => done(alloc),
@@ -125,7 +125,7 @@ fn upgraded(alloc: Global, outcome: Result<(), UpgradeError>) -> Result<Vec<u8>,
     }
 }
 
-// Does a step on a request.
+// Runs a step on a request.
 fn do_step(
     alloc: Global,
     (exchange, source): (&mut Exchange, &mut Source<Client>),
@@ -155,7 +155,7 @@ fn do_step(
     }
 }
 
-// Answers a request by watched data.
+// Responds to a request with watched data.
 fn answer(
     alloc: Global,
     (exchange, outlet): (&mut Exchange, &mut Outlet<Below>),
@@ -170,7 +170,7 @@ fn answer(
     add(alloc, to, "reads", data.reads().as_bytes())
 }
 
-// Upgrades a request by an answer of watched data.
+// Upgrades a request by a response with watched data.
 fn upgrade(
     alloc: Global,
     (exchange, outlet): (&mut Exchange, &mut Outlet<Below>),
@@ -185,7 +185,7 @@ fn upgrade(
     add(alloc, to, "reads", data.reads().as_bytes())
 }
 
-// The request of this place, and the source and the outlet.
+// Returns the request with this index, and the source and the outlet.
 fn parts_of(
     talk: &mut Talk,
     number: u64,
@@ -197,7 +197,7 @@ fn parts_of(
 
 const NO_REQUEST: &str = "no such request";
 
-// The place of the request that a step is for; none of a step that such a request doesn't take.
+// Returns the index of the request that a step applies to, or `None` if no such request has this step.
 fn place_in(step: &Step<ScriptData>) -> Option<u64> {
     match step {
         Step::AsReader(number)
@@ -209,7 +209,7 @@ fn place_in(step: &Step<ScriptData>) -> Option<u64> {
     }
 }
 
-// Does the step that a line of a script names.
+// Runs the step that a line of a script names.
 fn do_line(alloc: Global, talk: &mut Talk, line: &str) -> Result<Vec<u8>, AllocError> {
     let Some(step) = step_of(alloc, line)? else {
         return unfit(alloc);
@@ -226,7 +226,7 @@ fn do_line(alloc: Global, talk: &mut Talk, line: &str) -> Result<Vec<u8>, AllocE
     }
 }
 
-// Makes a call of the request of this place, and adds what comes of it.
+// Makes a call on the request with this index, and adds its results.
 fn call_numbered(
     alloc: Global,
     talk: &mut Talk,
@@ -273,8 +273,8 @@ impl Callee for Talk {
     }
 }
 
-// Makes the first calls of new requests. Adds what comes of the last, and how often the client was called; or what is
-// left, if there are fewer calls.
+// Makes the first `count` calls on new requests. Adds the results of the last one, the number of calls of the client,
+// and what the writer has flushed. If there are fewer calls, adds what is left instead.
 fn call_front(
     alloc: Global,
     profile: Profile,
@@ -294,8 +294,8 @@ fn call_front(
     add_outcome(alloc, last, (source, outlet), count > deeds.len(), to)
 }
 
-/// What calls of requests are answered that are read without a driver, how often the client was called up to each,
-/// and what is left in the end.
+/// Makes calls on requests that are read without a driver. Adds the results of each, with the number of calls of the
+/// client and what is flushed up to it, and finally what is left.
 pub fn call_exchanges(
     alloc: Global,
     profile: Profile,

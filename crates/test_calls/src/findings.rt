@@ -1,10 +1,10 @@
-//! What comes of a call, put together.
+//! Collects the results of a call.
 use crate::row::Finding;
 use std::alloc::{AllocError, Global};
 use std::fmt::Display;
 use std::io::ErrorKind;
 
-/// Adds something that has these bytes.
+/// Adds a result with these bytes.
 pub fn add(
     alloc: Global,
     to: &mut Vec<Finding>,
@@ -16,7 +16,7 @@ pub fn add(
     Ok(())
 }
 
-/// Adds something that has these bytes, if there are any.
+/// Adds a result with these bytes, if there are any.
 pub fn add_some(
     alloc: Global,
     to: &mut Vec<Finding>,
@@ -29,7 +29,7 @@ pub fn add_some(
     add(alloc, to, word, bytes)
 }
 
-/// Adds something as it is shown.
+/// Adds a value as it is displayed.
 pub fn add_shown<T: Display>(
     alloc: Global,
     to: &mut Vec<Finding>,
@@ -40,7 +40,7 @@ pub fn add_shown<T: Display>(
     add(alloc, to, word, text.as_bytes())
 }
 
-/// Adds something that has a kind of fault.
+/// Adds an error kind.
 pub fn add_kind(
     alloc: Global,
     to: &mut Vec<Finding>,

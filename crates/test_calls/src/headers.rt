@@ -1,4 +1,4 @@
-//! Headers that are added to an answer: one by one, in a chain, and as it is made.
+//! Adds headers to a response: one by one, in a chain, and as it is created.
 use crate::findings::{add, add_shown};
 use crate::row::Finding;
 use std::alloc::{AllocError, Global};
@@ -11,10 +11,10 @@ const STATUS: StatusCode = StatusCode(404);
 // The length of the data before a header is added.
 const LENGTH: usize = 3;
 
-// The threshold of each answer that none was set of.
+// The default chunked threshold of a response.
 const THRESHOLD: usize = 32768;
 
-// An answer without headers.
+// Creates a response without headers.
 fn start(alloc: Global) -> Response<io::Empty> {
     Response::empty(alloc, STATUS).with_data(io::empty(), Some(LENGTH))
 }
@@ -40,7 +40,6 @@ fn added_in_a_chain(alloc: Global, headers: &[Header]) -> Result<Response<io::Em
     Ok(answer)
 }
 
-// Copies of these headers.
 fn copies(alloc: Global, headers: &[Header]) -> Result<Vec<Header>, AllocError> {
     let mut list = Vec::new(alloc);
     for header in headers {
@@ -49,7 +48,7 @@ fn copies(alloc: Global, headers: &[Header]) -> Result<Vec<Header>, AllocError> 
     Ok(list)
 }
 
-// An answer that is made with the headers in front as its own, and with those behind as more.
+// Creates a response with the headers `front` as its own and `behind` as additional ones.
 fn made(
     alloc: Global,
     (front, behind): (&[Header], &[Header]),
@@ -67,7 +66,7 @@ fn made(
     }
 }
 
-// The headers that an answer has, and the length of its data.
+// Returns the headers of a response, and the length of its data.
 fn found_of(alloc: Global, answer: &Response<io::Empty>) -> Result<Vec<Finding>, AllocError> {
     let mut found = Vec::new(alloc);
     for header in answer.headers() {
@@ -82,7 +81,7 @@ fn found_of(alloc: Global, answer: &Response<io::Empty>) -> Result<Vec<Finding>,
     Ok(found)
 }
 
-// Whether the two are the same.
+// Returns whether the results are equal.
 fn is_same(found: &[Finding], other: &[Finding]) -> bool {
     found.len() == other.len()
         && found
@@ -91,12 +90,12 @@ fn is_same(found: &[Finding], other: &[Finding]) -> bool {
             .all(|(one, two)| one.word == two.word && one.text == two.text)
 }
 
-// Whether an answer has what was found of another.
+// Returns whether a response leads to these results.
 fn has(alloc: Global, answer: &Response<io::Empty>, found: &[Finding]) -> Result<bool, AllocError> {
     Ok(is_same(found_of(alloc, answer)?.as_slice(), found))
 }
 
-// Whether each answer that is made with some of the headers as its own, and the others as more, has what was found.
+// Returns whether every split of the headers into a response's own and additional ones leads to these results.
 fn is_made_so(alloc: Global, headers: &[Header], found: &[Finding]) -> Result<bool, AllocError> {
     for count in 0..headers.len() {
         let parts = headers.split_at(count);
@@ -107,7 +106,8 @@ fn is_made_so(alloc: Global, headers: &[Header], found: &[Finding]) -> Result<bo
     has(alloc, &made(alloc, (headers, &[]))?, found)
 }
 
-/// What an answer has after these headers were added to it. The other ways to add them, and a copy, come to the same.
+/// Adds what a response has after these headers are added. The other ways to add them, and a copy, must lead to the
+/// same.
 pub fn add_to_answer(
     alloc: Global,
     headers: &[Header],

@@ -1,4 +1,4 @@
-//! Makes the calls of rows in files, and compares what comes of them with what the rows say: `test_calls FILE..`.
+//! Makes the calls of rows in files, and compares their results with those that the rows state: `test_calls FILE..`.
 //! docs/CASES.md describes the files.
 #![tactic(auto)]
 
@@ -25,11 +25,11 @@ mod written;
 
 use crate::reading::files_of;
 use crate::trying::try_files;
-use test_data_files::fault::FilesFault;
-use test_data_files::program::{Checker, NamedFile, run_program};
 use std::alloc::Global;
 use std::io::Write;
 use std::process::ExitCode;
+use test_data_files::fault::FilesFault;
+use test_data_files::program::{Checker, NamedFile, run_program};
 
 // Makes the calls of rows.
 #[derive(Drop)]
@@ -50,5 +50,5 @@ impl Checker for Calls {
 fn main(rt: HostRuntime) -> ExitCode {
     let mut out = rt.stdout();
     let mut err = rt.stderr();
-    ExitCode::from(run_program(&rt, "calls", &mut Calls, &mut out, &mut err))
+    ExitCode::from(run_program(&rt, "test_calls", &mut Calls, &mut out, &mut err))
 }

@@ -1,15 +1,15 @@
-//! The first line of a row: which call it is.
+//! Parses the first line of a row, which names its call.
 use crate::row::{Call, Choice, Subject, TextCall};
 use crate::words::{coding, number, number_or_none, numbers, split, status, text, version};
-use test_data_files::fault::LineFault;
 use std::alloc::{AllocError, Global};
+use test_data_files::fault::LineFault;
 use tiny_http_core::framing::Profile;
 use tiny_http_core::turns::TurnsError;
 use tiny_http_core::upgrading::UpgradeError;
 use tiny_http_wire::chunked::ChunkRules;
 use tiny_http_wire::common::{Method, ParseError};
 
-// The calls that take a text and nothing else, by their names.
+// The calls whose only input is a text, by their names.
 const TEXT_CALLS: [(&str, TextCall); 8] = [
     ("parse_header_value", TextCall::HeaderValue),
     ("parse_element", TextCall::Element),
@@ -21,7 +21,7 @@ const TEXT_CALLS: [(&str, TextCall); 8] = [
     ("Method::from_str", TextCall::MethodFromStr),
 ];
 
-// The call of a text that has this name.
+// Returns the call of this name whose only input is a text.
 fn text_call(name: &str) -> Option<TextCall> {
     for (known, call) in &TEXT_CALLS {
         if *known == name {
@@ -31,7 +31,7 @@ fn text_call(name: &str) -> Option<TextCall> {
     None
 }
 
-// A method by its name.
+// Parses a method.
 fn method(alloc: Global, name: &str) -> Result<Method, LineFault> {
     match Method::from_str(alloc, name) {
         Ok(method) => Ok(method),
@@ -40,7 +40,7 @@ fn method(alloc: Global, name: &str) -> Result<Method, LineFault> {
     }
 }
 
-// Methods, with a space between them; at least one.
+// Parses one or more methods with spaces between them.
 fn methods(alloc: Global, words: &str) -> Result<Vec<Method>, LineFault> {
     let mut list = Vec::new(alloc);
     for word in words.split(' ') {
@@ -50,7 +50,7 @@ fn methods(alloc: Global, words: &str) -> Result<Vec<Method>, LineFault> {
     Ok(list)
 }
 
-// How many bytes are given at a time: at least one byte.
+// Parses one or more piece sizes, of at least one byte each.
 fn sizes(alloc: Global, words: &str) -> Result<Vec<usize>, LineFault> {
     let sizes = numbers(alloc, words)?;
     if sizes.iter().any(|size| *size == 0) {
@@ -59,7 +59,7 @@ fn sizes(alloc: Global, words: &str) -> Result<Vec<usize>, LineFault> {
     Ok(sizes)
 }
 
-// What is chosen by: the version, the coding that is asked for, the status, the length and the threshold.
+// Parses the input of `choose`: the version, the requested coding, the status, the length and the threshold.
 fn choice(words: &str) -> Result<Choice, LineFault> {
     let (version_word, words) = split(words);
     let (asked, words) = split(words);
@@ -74,13 +74,13 @@ fn choice(words: &str) -> Result<Choice, LineFault> {
     })
 }
 
-// The version and the method of a head that is judged.
+// Parses the version and the method of a head to validate.
 fn validated(alloc: Global, words: &str) -> Result<Call, LineFault> {
     let (version_word, name) = split(words);
     Ok(Call::Validate(version(version_word)?, method(alloc, name)?))
 }
 
-// The rules of a decoder: the lenient ones, if no word names others.
+// Parses the rules of a decoder; the default is the lenient ones.
 fn chunk_rules(words: &str) -> Result<ChunkRules, LineFault> {
     match words {
         "" => Ok(ChunkRules::Lenient),
@@ -89,7 +89,7 @@ fn chunk_rules(words: &str) -> Result<ChunkRules, LineFault> {
     }
 }
 
-// The profile that is named; the lenient one, if none is.
+// Parses a profile; the default is the lenient one.
 fn profile(words: &str) -> Result<Profile, LineFault> {
     match words {
         "" => Ok(Profile::Lenient),
@@ -101,7 +101,7 @@ fn profile(words: &str) -> Result<Profile, LineFault> {
 
 const NO_ERROR: LineFault = LineFault::Bad("no error has this name");
 
-// An error of an upgrade by its name.
+// Returns the upgrade error of this name.
 fn upgrade_error(name: &str) -> Result<UpgradeError, LineFault> {
     match name {
         "Protocol" => Ok(UpgradeError::Protocol),
@@ -112,7 +112,7 @@ fn upgrade_error(name: &str) -> Result<UpgradeError, LineFault> {
     }
 }
 
-// An error of turns by its name.
+// Returns the error of turns of this name.
 fn turns_error(name: &str) -> Result<TurnsError, LineFault> {
     match name {
         "Memory" => Ok(TurnsError::Memory),
@@ -121,7 +121,7 @@ fn turns_error(name: &str) -> Result<TurnsError, LineFault> {
     }
 }
 
-// The call of this name that takes parts alone.
+// Returns the call of this name that has no words.
 fn bare_call(name: &str) -> Option<Call> {
     match name {
         "read_answer_head" => Some(Call::AnswerHead),
@@ -142,7 +142,7 @@ fn bare_call(name: &str) -> Option<Call> {
     }
 }
 
-// The call of this name over these words.
+// Parses the words of the call of this name.
 fn worded_call(alloc: Global, name: &str, words: &str) -> Result<Call, LineFault> {
     match name {
         "Decoder" => Ok(Call::Decoder(chunk_rules(words)?)),
@@ -152,7 +152,7 @@ fn worded_call(alloc: Global, name: &str, words: &str) -> Result<Call, LineFault
         "raw_print" => Ok(Call::RawPrint(status(words)?)),
         "default_reason_phrase" => Ok(Call::Phrase(status(words)?)),
         "HTTPVersion" => Ok(Call::Version(version(words)?)),
-        "judge" => validated(alloc, words),
+        "validate" => validated(alloc, words),
         "heads::read_head" => Ok(Call::ReadHead(number(words)?)),
         "Numeral" => Ok(Call::Numeral(number(words)? as u64)),
         "print" => Ok(Call::Print(status(words)?)),
@@ -166,7 +166,7 @@ fn worded_call(alloc: Global, name: &str, words: &str) -> Result<Call, LineFault
     }
 }
 
-/// The call that the first line of a row names.
+/// Parses the first line of a row.
 pub fn call_in(alloc: Global, line: &str) -> Result<Call, LineFault> {
     let (name, words) = split(line);
     if let Some(call) = text_call(name) {

@@ -1,4 +1,4 @@
-//! Turns, whose calls a row makes one after another, and what is kept under numbers.
+//! Makes successive calls on turns, and keeps values under numbers.
 use crate::deeds::Deed;
 use crate::findings::add_shown;
 use crate::replies::{add_reply, done, unfit, word};
@@ -7,10 +7,10 @@ use std::alloc::{AllocError, Global};
 use tiny_http_core::turns::{Finishing, Leaving, Turns, TurnsError};
 use tiny_http_turns::by_number::ByNumber;
 
-// The item of the turns of a row.
+// The item of a row's turns.
 const ITEM: u8 = 7;
 
-// A number that is issued.
+// Formats an issued number.
 fn issued(alloc: Global, outcome: Result<u64, TurnsError>) -> Result<Vec<u8>, AllocError> {
     match outcome {
         Ok(number) => Ok(format!(in alloc; "number {number}")?.into_bytes()),
@@ -18,7 +18,7 @@ fn issued(alloc: Global, outcome: Result<u64, TurnsError>) -> Result<Vec<u8>, Al
     }
 }
 
-// An item, if one comes out.
+// Formats an item, if there is one.
 fn item_line(alloc: Global, item: Option<u8>) -> Result<Vec<u8>, AllocError> {
     match item {
         Some(item) => Ok(format!(in alloc; "item {item}")?.into_bytes()),
@@ -26,14 +26,14 @@ fn item_line(alloc: Global, item: Option<u8>) -> Result<Vec<u8>, AllocError> {
     }
 }
 
-// A word, an item and a text.
+// Formats an item and a text that may go.
 fn going(alloc: Global, item: u8, text: &[u8]) -> Result<Vec<u8>, AllocError> {
     let mut line = format!(in alloc; "go {item} ")?.into_bytes();
     line.extend_from_slice(text)?;
     Ok(line)
 }
 
-// What became of a turn that was finished.
+// Formats the result of finishing a turn.
 fn finished(alloc: Global, finishing: Finishing<u8>) -> Result<Vec<u8>, AllocError> {
     match finishing {
         Finishing::Passed => word(alloc, "passed"),
@@ -42,7 +42,7 @@ fn finished(alloc: Global, finishing: Finishing<u8>) -> Result<Vec<u8>, AllocErr
     }
 }
 
-// What became of a turn that was left.
+// Formats the result of leaving a text.
 fn left(alloc: Global, leaving: Leaving<u8>) -> Result<Vec<u8>, AllocError> {
     match leaving {
         Leaving::Left => word(alloc, "left"),
@@ -55,7 +55,7 @@ fn left(alloc: Global, leaving: Leaving<u8>) -> Result<Vec<u8>, AllocError> {
     }
 }
 
-// Takes the next number and its turn, and finishes it. The number, if the turn passed.
+// Takes the next number and its turn, and finishes it. Returns the number if the turn passed.
 fn pass_one(turns: &mut Turns<u8>) -> Option<u64> {
     let number = turns.issue().ok()?;
     let item = turns.take(number)?;
@@ -65,7 +65,7 @@ fn pass_one(turns: &mut Turns<u8>) -> Option<u64> {
     }
 }
 
-// `count` turns pass, each of the number after the one before, from 0 on.
+// Passes `count` turns, and checks that their numbers count up from 0.
 fn pass(alloc: Global, turns: &mut Turns<u8>, count: u64) -> Result<Vec<u8>, AllocError> {
     for wanted in 0..count {
         if pass_one(turns) != Some(wanted) {
@@ -75,7 +75,7 @@ fn pass(alloc: Global, turns: &mut Turns<u8>, count: u64) -> Result<Vec<u8>, All
     word(alloc, "passed")
 }
 
-// What a call of turns is answered.
+// Makes a call on turns. Formats the result.
 fn call_turn(alloc: Global, turns: &mut Turns<u8>, deed: &Deed) -> Result<Vec<u8>, AllocError> {
     match deed {
         Deed::Issue => issued(alloc, turns.issue()),
@@ -94,7 +94,7 @@ fn call_turn(alloc: Global, turns: &mut Turns<u8>, deed: &Deed) -> Result<Vec<u8
     }
 }
 
-/// What calls of turns are answered, and whether their item rests then.
+/// Adds the results of calls on turns, and the item if no turn holds it.
 pub fn call_turns(alloc: Global, input: &Input, to: &mut Vec<Finding>) -> Result<(), AllocError> {
     let mut turns = Turns::new(alloc, ITEM);
     for deed in &input.deeds {
@@ -107,7 +107,7 @@ pub fn call_turns(alloc: Global, input: &Input, to: &mut Vec<Finding>) -> Result
     }
 }
 
-/// How many of `count` numbers are kept, each under itself, and what is kept under the last.
+/// Keeps `count` numbers, each under itself. Adds how many there are, and what is kept under the last one.
 pub fn keep_numbers(alloc: Global, count: u64, to: &mut Vec<Finding>) -> Result<(), AllocError> {
     let mut kept = ByNumber::new(alloc);
     for number in 0..count {

@@ -1,4 +1,4 @@
-//! Writers whose calls a row makes one after another: outlets and streams.
+//! Makes successive calls on writers: outlets and streams.
 use crate::deeds::Deed;
 use crate::devices::{Below, Client, Taker};
 use crate::replies::{add_outlet, add_reply, add_rest, add_taken, faulty, outcome_of, unfit};
@@ -11,7 +11,7 @@ use tiny_http_core::custom_stream::CustomStream;
 use tiny_http_core::outlet::Outlet;
 use tiny_http_wire::device::{Metered, WriteDevice};
 
-// How many bytes a write took, or the fault.
+// Formats the number of bytes that a write accepted, or its error.
 fn wrote(alloc: Global, outcome: io::Result<usize>) -> Result<Vec<u8>, AllocError> {
     match outcome {
         Ok(n) => Ok(format!(in alloc; "wrote {n}")?.into_bytes()),
@@ -19,7 +19,7 @@ fn wrote(alloc: Global, outcome: io::Result<usize>) -> Result<Vec<u8>, AllocErro
     }
 }
 
-// What a call of std's trait is answered.
+// Makes a call of std's trait. Formats the result.
 fn write_by_std<W: Write>(
     alloc: Global,
     writer: &mut W,
@@ -33,7 +33,7 @@ fn write_by_std<W: Write>(
     }
 }
 
-// What a call of an outlet is answered.
+// Makes a call on an outlet. Formats the result.
 fn call_outlet(
     alloc: Global,
     outlet: &mut Outlet<Below>,
@@ -51,7 +51,7 @@ fn call_outlet(
     }
 }
 
-/// What calls of an outlet are answered, and what is held and was taken then.
+/// Adds the results of calls on an outlet, what it has buffered then, and what its writer accepted.
 pub fn call_outlets(alloc: Global, input: &Input, to: &mut Vec<Finding>) -> Result<(), AllocError> {
     let mut outlet = Outlet::new(Metered::new(Taker::new(alloc, input)));
     for deed in &input.deeds {
@@ -61,7 +61,7 @@ pub fn call_outlets(alloc: Global, input: &Input, to: &mut Vec<Finding>) -> Resu
     add_outlet(alloc, outlet, to)
 }
 
-// What a call of a stream is answered.
+// Makes a call on a stream. Formats the result.
 fn call_stream(
     alloc: Global,
     stream: &mut CustomStream<Client, Below>,
@@ -75,7 +75,7 @@ fn call_stream(
     }
 }
 
-/// What calls of a stream are answered, what its reader still gives and what its writer took.
+/// Adds the results of calls on a stream, what is left in its reader, and what its writer accepted.
 pub fn call_streams(
     alloc: Global,
     input: &Input,

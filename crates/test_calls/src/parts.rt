@@ -1,15 +1,15 @@
-//! What goes into a call, part by part.
+//! Parses the input of a call part by part.
 use crate::deeds::deed_in;
 use crate::row::{Call, Failing, Input, Rooms};
 use crate::words::{add_series, header, header_line, number, numbers, split, text, version};
+use std::alloc::{AllocError, Global};
+use std::io::ErrorKind;
 use test_case_files::case::Room;
 use test_data_files::fault::LineFault;
 use test_data_files::kinds::kind_of;
 use test_data_files::text::{add_text, text_of};
-use std::alloc::{AllocError, Global};
-use std::io::ErrorKind;
 
-/// Nothing.
+/// Creates an empty input.
 pub fn empty_input(alloc: Global) -> Input {
     Input {
         bytes: Vec::new(alloc),
@@ -33,7 +33,7 @@ pub fn empty_input(alloc: Global) -> Input {
     }
 }
 
-// The parts that a call takes.
+// Returns the parts that a call accepts.
 fn parts_of(call: &Call) -> &'static [&'static str] {
     match call {
         Call::Answers(_) | Call::AnswerHead => &["data", "series"],
@@ -77,7 +77,7 @@ fn parts_of(call: &Call) -> &'static [&'static str] {
 
 const TWICE: LineFault = LineFault::Bad("the row says so already");
 
-// Says what wasn't said before.
+// Sets a value. Fails if it is set already.
 fn put<T: Drop>(slot: &mut Option<T>, value: T) -> Result<(), LineFault> {
     if slot.is_some() {
         return Err(TWICE);
@@ -86,7 +86,7 @@ fn put<T: Drop>(slot: &mut Option<T>, value: T) -> Result<(), LineFault> {
     Ok(())
 }
 
-// Says that something is so, which wasn't said before and has no words.
+// Sets a flag, which has no words. Fails if it is set already.
 fn mark(slot: &mut bool, words: &str) -> Result<(), LineFault> {
     if !words.is_empty() {
         return Err(LineFault::Bad("this part takes no words"));
@@ -98,7 +98,7 @@ fn mark(slot: &mut bool, words: &str) -> Result<(), LineFault> {
     Ok(())
 }
 
-// A kind of fault.
+// Parses an error kind.
 fn kind(name: &str) -> Result<ErrorKind, LineFault> {
     match kind_of(name) {
         Some(kind) => Ok(kind),
@@ -106,7 +106,7 @@ fn kind(name: &str) -> Result<ErrorKind, LineFault> {
     }
 }
 
-// The size of a writer's room, and its fault.
+// Parses a writer's room and its error kind.
 fn room(words: &str) -> Result<Room, LineFault> {
     let (digits, name) = split(words);
     Ok(Room {
@@ -115,7 +115,7 @@ fn room(words: &str) -> Result<Room, LineFault> {
     })
 }
 
-// The sizes of several writers' rooms.
+// Parses the rooms of several writers.
 fn rooms(alloc: Global, words: &str) -> Result<Rooms, LineFault> {
     if words == "each" {
         return Ok(Rooms::Each);
@@ -123,7 +123,7 @@ fn rooms(alloc: Global, words: &str) -> Result<Rooms, LineFault> {
     Ok(Rooms::These(numbers(alloc, words)?))
 }
 
-// Adds a part of an answer and of its data.
+// Adds a part of a response or of its data.
 fn add_of_answer(
     alloc: Global,
     input: &mut Input,
@@ -163,7 +163,7 @@ fn add_of_request(
     }
 }
 
-// Adds a part that says how is written.
+// Adds a part that determines how to write.
 fn add_of_writing(
     alloc: Global,
     input: &mut Input,
@@ -178,7 +178,7 @@ fn add_of_writing(
     }
 }
 
-// The call that fails, and its kind.
+// Parses the call that fails, and its error kind.
 fn failing(words: &str) -> Result<Failing, LineFault> {
     let (digits, name) = split(words);
     Ok(Failing {
@@ -187,7 +187,7 @@ fn failing(words: &str) -> Result<Failing, LineFault> {
     })
 }
 
-// Adds a number of pieces of the same bytes.
+// Adds a number of equal pieces.
 fn add_pieces(alloc: Global, words: &str, pieces: &mut Vec<Vec<u8>>) -> Result<(), LineFault> {
     let (count, piece) = split(words);
     let piece = text_of(alloc, piece)?;
@@ -199,7 +199,7 @@ fn add_pieces(alloc: Global, words: &str, pieces: &mut Vec<Vec<u8>>) -> Result<(
     Ok(())
 }
 
-// Adds a part that says of a reader or a writer how its calls go.
+// Adds a part that determines how the calls of a reader or a writer proceed.
 fn add_of_devices(
     alloc: Global,
     input: &mut Input,
@@ -214,7 +214,7 @@ fn add_of_devices(
     }
 }
 
-// Adds one of the calls that a row makes one after another.
+// Adds one of the successive calls of a row.
 fn add_deed(alloc: Global, call: &Call, input: &mut Input, part: &str) -> Result<(), LineFault> {
     let Call::Each(subject) = call else {
         return Err(LineFault::Bad("the call takes no such part"));
@@ -224,7 +224,7 @@ fn add_deed(alloc: Global, call: &Call, input: &mut Input, part: &str) -> Result
     Ok(())
 }
 
-/// Adds what a line says of a call's input.
+/// Adds a line to the input of a call.
 pub fn add_part(
     alloc: Global,
     call: &Call,

@@ -1,14 +1,14 @@
-//! Reads a file of rows, line by line.
+//! Reads a file of rows line by line.
 use crate::naming::call_in;
 use crate::parts::{add_part, empty_input};
 use crate::row::{Call, Finding, Row, is_long, word_of};
 use crate::words::{add_series, split};
+use std::alloc::{AllocError, Global};
 use test_data_files::fault::{FilesFault, LineFault, line_text};
 use test_data_files::program::NamedFile;
 use test_data_files::text::{add_text, text_of};
-use std::alloc::{AllocError, Global};
 
-/// The rows of a file, and its name.
+/// The name and the rows of a file.
 #[derive(Drop)]
 pub struct RowFile<'a> {
     pub name: &'a str,
@@ -17,10 +17,10 @@ pub struct RowFile<'a> {
 
 const NO_ROW: LineFault = LineFault::Bad("no row has begun");
 
-// Begins a row by its first line.
+// Begins a row with its first line. Fails if the row before states no result.
 fn begin(alloc: Global, rows: &mut Vec<Row>, line: usize, text: &str) -> Result<(), LineFault> {
     if rows.last().is_some_and(|row| row.wanted.is_empty()) {
-        return Err(LineFault::Bad("the row in front says nothing of what comes"));
+        return Err(LineFault::Bad("the row before has no result"));
     }
     let row = Row {
         line,
@@ -32,19 +32,19 @@ fn begin(alloc: Global, rows: &mut Vec<Row>, line: usize, text: &str) -> Result<
     Ok(())
 }
 
-// Adds a part of what goes into the last row's call. Calls that are made one after another stand each in front of what
-// comes of it.
+// Adds a part of the input of the last row's call. Of successive calls, each precedes its results; otherwise the input
+// precedes all results.
 fn add_to_input(alloc: Global, rows: &mut Vec<Row>, part: &str) -> Result<(), LineFault> {
     let Some(row) = rows.last_mut() else {
         return Err(NO_ROW);
     };
     if !row.wanted.is_empty() && !matches!(row.call, Call::Each(_)) {
-        return Err(LineFault::Bad("what goes in stands in front of what comes"));
+        return Err(LineFault::Bad("a part comes after a result"));
     }
     add_part(alloc, &row.call, &mut row.input, part)
 }
 
-// Adds to the text of a finding that is begun.
+// Appends to the text of the last result.
 fn go_on(
     alloc: Global,
     wanted: &mut Vec<Finding>,
@@ -59,11 +59,11 @@ fn go_on(
                 Ok(add_text(alloc, words, &mut finding.text)?)
             }
         }
-        _ => Err(LineFault::Bad("no bytes stand in front that these go on")),
+        _ => Err(LineFault::Bad("no bytes come before that these continue")),
     }
 }
 
-// Adds a line of what has to come of a call: one more finding, or more bytes of the last one.
+// Adds a line of the expected results: a new result, or more bytes of the last one.
 fn add_wanted(alloc: Global, wanted: &mut Vec<Finding>, text: &str) -> Result<(), LineFault> {
     let (word, words) = split(text);
     if word == "series" || (is_long(word) && wanted.last().is_some_and(|last| last.word == word)) {
@@ -79,7 +79,7 @@ fn add_wanted(alloc: Global, wanted: &mut Vec<Finding>, text: &str) -> Result<()
     Ok(())
 }
 
-// Reads one line: passed over, the beginning of a row, or a line of the last row.
+// Reads one line: a comment, the start of a row, or a line of the current one.
 fn read_line(
     alloc: Global,
     rows: &mut Vec<Row>,
@@ -101,7 +101,7 @@ fn read_line(
     }
 }
 
-// The rows of a file; or its first line that isn't of the format, and why. A file without a row isn't of the format.
+// Reads the rows of a file. Fails at the first invalid line, or if there is no row.
 fn file_of<'a>(alloc: Global, file: &NamedFile<'a>) -> Result<RowFile<'a>, FilesFault<'a>> {
     let name = file.name;
     let mut rows = Vec::new(alloc);
@@ -122,7 +122,7 @@ fn file_of<'a>(alloc: Global, file: &NamedFile<'a>) -> Result<RowFile<'a>, Files
     }
 }
 
-/// The rows of each of these files; or the first line that isn't of the format, and why.
+/// Reads the rows of these files. Fails at the first invalid line.
 pub fn files_of<'a>(
     alloc: Global,
     files: &[NamedFile<'a>],

@@ -1,47 +1,47 @@
-//! What calls that are made one after another are answered, in words, and what is left after them.
+//! Formats the results of successive calls, and what is left after them.
 use crate::bodies::drain;
 use crate::devices::Below;
 use crate::findings::{add, add_shown, add_some};
 use crate::row::Finding;
-use test_case_trials::replies::{fault_line, given_line};
 use std::alloc::{AllocError, Global};
 use std::fmt::Write;
 use std::io;
 use std::io::ErrorKind;
+use test_case_trials::replies::{fault_line, given_line};
 use tiny_http_core::outlet::Outlet;
 use tiny_http_wire::device::ReadDevice;
 
-/// Adds what a call was answered.
+/// Adds the result of a call.
 pub fn add_reply(alloc: Global, to: &mut Vec<Finding>, reply: &[u8]) -> Result<(), AllocError> {
     add(alloc, to, "reply", reply)
 }
 
-/// The reply of one word.
+/// Formats a reply of one word.
 pub fn word(alloc: Global, word: &str) -> Result<Vec<u8>, AllocError> {
     word.as_bytes().to_vec(alloc)
 }
 
-/// The reply of a call that reports nothing.
+/// Formats the result of a call that succeeds without a value.
 pub fn done(alloc: Global) -> Result<Vec<u8>, AllocError> {
     word(alloc, "done")
 }
 
-/// The reply of a call that the value doesn't have.
+/// Formats the result of a call that the value does not have.
 pub fn unfit(alloc: Global) -> Result<Vec<u8>, AllocError> {
     word(alloc, "no such call")
 }
 
-/// The reply of a call that reports such a fault.
+/// Formats an error.
 pub fn faulty(alloc: Global, kind: ErrorKind) -> Result<Vec<u8>, AllocError> {
     fault_line(alloc, kind)
 }
 
-/// The reply of a call that gives these bytes.
+/// Formats bytes that a call returned.
 pub fn given(alloc: Global, bytes: &[u8]) -> Result<Vec<u8>, AllocError> {
     given_line(alloc, bytes)
 }
 
-/// The reply of a call that reports a fault or nothing.
+/// Formats the result of a call without a value.
 pub fn outcome_of(alloc: Global, outcome: io::Result<()>) -> Result<Vec<u8>, AllocError> {
     match outcome {
         Ok(()) => done(alloc),
@@ -49,7 +49,7 @@ pub fn outcome_of(alloc: Global, outcome: io::Result<()>) -> Result<Vec<u8>, All
     }
 }
 
-/// Adds what a reader still gives.
+/// Adds what is left in a reader.
 pub fn add_rest<R: ReadDevice>(
     alloc: Global,
     reader: &mut R,
@@ -59,7 +59,7 @@ pub fn add_rest<R: ReadDevice>(
     add(alloc, to, "rest", rest.as_slice())
 }
 
-// The length of each write, with spaces between them.
+// Adds the length of each write, with spaces between them.
 fn add_sizes(alloc: Global, sizes: &[usize], to: &mut Vec<Finding>) -> Result<(), AllocError> {
     let mut text = String::new(alloc);
     for size in sizes {
@@ -71,8 +71,8 @@ fn add_sizes(alloc: Global, sizes: &[usize], to: &mut Vec<Finding>) -> Result<()
     add(alloc, to, "sizes", text.as_bytes())
 }
 
-/// Adds what a writer took and in which writes, how often what is above it says that it failed, and how often it was
-/// called after it had failed.
+/// Adds what a writer accepted and in which writes, the failures that the layer above reports, and the number of calls
+/// after a failure.
 pub fn add_taken(
     alloc: Global,
     failures: u64,
@@ -92,7 +92,7 @@ pub fn add_taken(
     Ok(())
 }
 
-/// Adds what an outlet holds, whether it has ended, and what its writer took.
+/// Adds what an outlet has buffered, whether it has ended, and what its writer accepted.
 pub fn add_outlet(
     alloc: Global,
     outlet: Outlet<Below>,

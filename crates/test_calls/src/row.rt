@@ -1,7 +1,7 @@
-//! A row: a call, what goes into it, and what has to come of it.
+//! A row: a call, its input, and the expected results.
 use crate::deeds::Deed;
-use test_case_files::case::Room;
 use std::io::ErrorKind;
+use test_case_files::case::Room;
 use tiny_http_core::framing::Profile;
 use tiny_http_core::turns::TurnsError;
 use tiny_http_core::upgrading::UpgradeError;
@@ -9,7 +9,7 @@ use tiny_http_wire::chunked::ChunkRules;
 use tiny_http_wire::coding::Coding;
 use tiny_http_wire::common::{HTTPVersion, Header, Method, StatusCode};
 
-/// A call that takes a text and nothing else.
+/// A call whose only input is a text.
 #[derive(Clone, Copy, Debug, PartialEq, Eq)]
 pub enum TextCall {
     /// `parse_header_value`.
@@ -30,24 +30,24 @@ pub enum TextCall {
     MethodFromStr,
 }
 
-/// What `choose` chooses by.
+/// The input of `choose`.
 #[derive(Clone, Copy, Debug, PartialEq, Eq)]
 pub struct Choice {
     pub version: HTTPVersion,
-    /// The coding that the request asks for.
+    /// The transfer coding that the request asks for.
     pub asked: Option<Coding>,
     pub status: StatusCode,
-    /// The length of the data, if it is known.
+    /// The length of the data, if known.
     pub length: Option<usize>,
     pub threshold: usize,
 }
 
-/// A value whose calls a row makes one after another.
+/// A value on which a row makes successive calls.
 #[derive(Clone, Copy, Debug, PartialEq, Eq)]
 pub enum Subject {
     /// A `Source`.
     Source,
-    /// An `EqualReader` of N bytes of a source.
+    /// An `EqualReader` over N bytes of a source.
     EqualReader(usize),
     /// A `FusedReader`.
     FusedReader,
@@ -55,73 +55,73 @@ pub enum Subject {
     Outlet,
     /// A `CustomStream`.
     CustomStream,
-    /// `Turns`, whose item is 7.
+    /// `Turns` whose item is 7.
     Turns,
-    /// A source, an outlet, and each `Exchange` that is read, under this profile.
+    /// A source, an outlet, and each `Exchange` that is read under this profile.
     Exchange(Profile),
-    /// A `Connection` of this profile.
+    /// A `Connection` under this profile.
     Connection(Profile),
 }
 
-/// A call, and what the first line of its row says of it.
+/// A call, and the words of its row's first line.
 #[derive(Drop)]
 pub enum Call {
-    /// A text is read.
+    /// Reads a text.
     Text(TextCall, String),
-    /// The answers to requests of these methods are read, one after another, by `read_answer`.
+    /// Reads successive responses to requests with these methods by `read_answer`.
     Answers(Vec<Method>),
-    /// The head of an answer is read alone, by `read_answer_head`.
+    /// Reads the head of a response by `read_answer_head`.
     AnswerHead,
-    /// A chunked body is read by a `Decoder` of these rules.
+    /// Reads a chunked body by a `Decoder` with these rules.
     Decoder(ChunkRules),
-    /// Bytes are written as one chunk, by `put_chunk`.
+    /// Writes bytes as one chunk by `put_chunk`.
     PutChunk,
-    /// Data are written in chunks, by `put_chunked`.
+    /// Writes data in chunks by `put_chunked`.
     PutChunked,
-    /// Bytes are given to an `Encoder`, so many at a time; once for each of these numbers.
+    /// Passes bytes to an `Encoder`, a number at a time; once for each of these numbers.
     Encoder(Vec<usize>),
-    /// The coding that a request asks for, by `asked_coding`.
+    /// Returns the transfer coding that a request asks for, by `asked_coding`.
     AskedCoding,
-    /// The coding of an answer, by `choose`.
+    /// Chooses the transfer coding of a response by `choose`.
     Choose(Choice),
-    /// An answer of this status is printed, by `raw_print`.
+    /// Prints a response with this status by `raw_print`.
     RawPrint(StatusCode),
-    /// Headers are added to an answer, by `add_header`, by `with_header`, and as the answer is made.
+    /// Adds headers to a response by `add_header`, by `with_header`, and as the response is created.
     AddHeader,
-    /// The phrase of a status, by `default_reason_phrase`.
+    /// Returns the reason phrase of a status by `default_reason_phrase`.
     Phrase(StatusCode),
-    /// A version is shown.
+    /// Displays a version.
     Version(HTTPVersion),
-    /// A number is written in both bases, by `Numeral`.
+    /// Formats a number in both bases by `Numeral`.
     Numeral(u64),
-    /// A request line is read by the standard.
+    /// Parses a request line under the standard profile.
     StandardRequestLine,
-    /// A field line is read by the standard.
+    /// Parses a field line under the standard profile.
     StandardFieldLine,
-    /// A text is judged as a host, as the value of a `Host` and as the target of a `CONNECT`.
+    /// Validates a text as a host, as the value of a Host field, and as the target of a `CONNECT`.
     Host,
-    /// A head of this version and method is judged by the standard.
+    /// Validates a head with this version and method under the standard profile.
     Validate(HTTPVersion, Method),
-    /// The head at the front of bytes is read by the standard, where one has at most so many bytes.
+    /// Reads the head at the start of bytes under the standard profile. It may have at most this many bytes.
     ReadHead(usize),
-    /// An answer of this status is printed by the standard, by `print`.
+    /// Prints a response with this status under the standard profile by `print`.
     Print(StatusCode),
-    /// The calls of a value, one after another.
+    /// Makes successive calls on a value.
     Each(Subject),
-    /// A client is served by `example_greeter`.
+    /// Serves a client by `example_greeter`.
     Greeter,
-    /// N numbers are kept in a `ByNumber`.
+    /// Keeps N numbers in a `ByNumber`.
     ByNumber(u64),
-    /// An error of an upgrade is shown.
+    /// Displays an upgrade error.
     UpgradeError(UpgradeError),
-    /// An error of turns is shown.
+    /// Displays an error of turns.
     TurnsError(TurnsError),
 }
 
-/// A call of a reader or a writer that fails once.
+/// The call of a reader or a writer that fails.
 #[derive(Clone, Copy, Debug, PartialEq, Eq)]
 pub struct Failing {
-    /// Which one, counted from 1.
+    /// The number of the call, counted from 1.
     pub call: u64,
     pub kind: ErrorKind,
 }
@@ -129,23 +129,23 @@ pub struct Failing {
 /// Writers with too little room.
 #[derive(Drop)]
 pub enum Rooms {
-    /// Those that take so many bytes.
+    /// Those that accept these numbers of bytes.
     These(Vec<usize>),
-    /// Each that takes fewer bytes than there are.
+    /// Every one that accepts fewer bytes than there are.
     Each,
 }
 
-/// What goes into a call.
+/// The input of a call.
 #[derive(Drop)]
 pub struct Input {
     pub bytes: Vec<u8>,
-    /// The fault of the reader of the bytes, in place of their end.
+    /// The error of the bytes' reader, instead of an end.
     pub stop: Option<ErrorKind>,
-    /// The headers of an answer.
+    /// The headers of a response.
     pub headers: Vec<Header>,
-    /// The length that is stated of an answer's data.
+    /// The stated content length of a response.
     pub length: Option<usize>,
-    /// From how many bytes on an answer is sent in chunks.
+    /// The body size from which a response is sent in chunks.
     pub threshold: Option<usize>,
     /// The version of a request.
     pub version: Option<HTTPVersion>,
@@ -153,47 +153,47 @@ pub struct Input {
     pub request: Vec<Header>,
     /// The protocol of an upgrade.
     pub upgrade: Option<String>,
-    /// Whether the body of an answer is withheld.
+    /// Whether the body of a response is withheld.
     pub is_withheld: bool,
     /// Whether a flush and an empty write follow each write.
     pub has_flushes: bool,
-    /// Whether the body is left open, without its end.
+    /// Whether the body is left without its end.
     pub is_open: bool,
-    /// Where the writer fails, if it doesn't take all.
+    /// Where the writer fails, unless it accepts everything.
     pub room: Option<Room>,
-    /// The writers with too little room that the call is tried with too.
+    /// Further writers with too little room with which the call is tried.
     pub rooms: Option<Rooms>,
-    /// What further calls of the reader give, a piece a call.
+    /// What further calls of the reader return, one piece a call.
     pub pieces: Vec<Vec<u8>>,
     /// The call of the reader that fails.
     pub failing_read: Option<Failing>,
     /// The call of the writer that fails.
     pub failing_write: Option<Failing>,
-    /// Whether the writer takes no byte, and reports no fault.
+    /// Whether the writer accepts no bytes, without an error.
     pub is_stuck: bool,
-    /// The calls that are made, one after another.
+    /// The successive calls.
     pub deeds: Vec<Deed>,
 }
 
-/// Something that comes of a call: what it is, and its text.
+/// A result of a call: its kind and its text.
 #[derive(Drop)]
 pub struct Finding {
     pub word: &'static str,
     pub text: Vec<u8>,
 }
 
-/// A row.
+/// A call, its input, and the expected results.
 #[derive(Drop)]
 pub struct Row {
     /// The number of its first line, counted from 1.
     pub line: usize,
     pub call: Call,
     pub input: Input,
-    /// What has to come of the call.
+    /// The expected results.
     pub wanted: Vec<Finding>,
 }
 
-// What a finding is, where a row has to say so if it is there.
+// The kinds of results that a row must state if they occur.
 const STATED: [&str; 34] = [
     "answer",
     "asks-upgrade",
@@ -231,15 +231,15 @@ const STATED: [&str; 34] = [
     "value",
 ];
 
-// What a finding is that counts where the row says something of it.
+// The kinds of results that are compared only if the row states one.
 const ASKED: [&str; 10] = [
     "called", "header", "headers", "left", "reads", "rest", "sent", "sizes", "taken", "version",
 ];
 
-// What a finding is whose text may be written in several lines.
+// The kinds of results whose text may take several lines.
 const LONG: [&str; 6] = ["body", "data", "held", "left", "output", "rest"];
 
-// The word of a list that is this one.
+// Returns the word of `words` that equals `word`.
 fn known(words: &[&'static str], word: &str) -> Option<&'static str> {
     for known in words {
         if *known == word {
@@ -249,17 +249,17 @@ fn known(words: &[&'static str], word: &str) -> Option<&'static str> {
     None
 }
 
-/// The word of a finding that is this text; None where no finding has it.
+/// Returns the kind of result with this name, or `None` if there is no such kind.
 pub fn word_of(text: &str) -> Option<&'static str> {
     known(&STATED, text).or(known(&ASKED, text))
 }
 
-/// Whether a finding counts only where the row says something of it.
+/// Returns whether a result of this kind is compared only if the row states one.
 pub fn is_asked(word: &str) -> bool {
     known(&ASKED, word).is_some()
 }
 
-/// Whether the text of such a finding may be written in several lines.
+/// Returns whether the text of such a result may take several lines.
 pub fn is_long(word: &str) -> bool {
     known(&LONG, word).is_some()
 }

@@ -1,4 +1,4 @@
-//! Readers whose calls a row makes one after another: sources, parts of them, and readers that stay at their end.
+//! Makes successive calls on readers: sources, parts of them, and readers that stay at their end.
 use crate::bodies::drain;
 use crate::deeds::Deed;
 use crate::devices::Client;
@@ -14,14 +14,14 @@ use tiny_http_core::source::{LineFault, Source};
 use tiny_http_wire::ascii::AsciiString;
 use tiny_http_wire::device::ReadDevice;
 
-// A buffer of this size.
+// Allocates a buffer of this size.
 fn room_of(alloc: Global, room: usize) -> Result<Vec<u8>, AllocError> {
     let mut bytes = Vec::new(alloc);
     bytes.resize(room, 0)?;
     Ok(bytes)
 }
 
-// What a read into this buffer gave.
+// Formats the result of a read into `buf`.
 fn read_reply(
     alloc: Global,
     outcome: io::Result<usize>,
@@ -33,7 +33,7 @@ fn read_reply(
     }
 }
 
-/// What a read of a reader gives, by the trait of std or by the device's own call.
+/// Reads from a reader through the trait of std or the device's own method. Formats the result.
 pub fn read_by<R: ReadDevice + Read>(
     alloc: Global,
     reader: &mut R,
@@ -54,7 +54,7 @@ pub fn read_by<R: ReadDevice + Read>(
     }
 }
 
-// A line, or why there is none.
+// Formats a line, or why there is none.
 fn line_reply(
     alloc: Global,
     outcome: Result<AsciiString, LineFault>,
@@ -72,7 +72,7 @@ fn line_reply(
     why.as_bytes().to_vec(alloc)
 }
 
-// What a call of a source is answered.
+// Makes a call on a source. Formats the result.
 fn call_source(
     alloc: Global,
     source: &mut Source<Client>,
@@ -98,8 +98,8 @@ fn call_source(
     }
 }
 
-// Makes the first calls of a new source. Adds what the last is answered and how often the client was called; or what
-// the source still gives, if there are fewer calls.
+// Makes the first `count` calls on a new source. Adds the result of the last one, and the number of calls of the
+// client. If there are fewer calls, adds what is left in the source instead.
 fn call_front(
     alloc: Global,
     input: &Input,
@@ -119,8 +119,8 @@ fn call_front(
     add_shown(alloc, to, "called", &calls)
 }
 
-/// What calls of a source are answered, how often each makes it call the client up to there, and what the source
-/// still gives. A source doesn't show its client, so each call is made again after those before it.
+/// Makes calls on a source. Adds the result of each, with the number of calls of the client up to it, and finally what
+/// is left. A source does not expose its client, so each call is repeated on a new source, after those before it.
 pub fn call_sources(
     alloc: Global,
     input: &Input,
@@ -133,7 +133,7 @@ pub fn call_sources(
     Ok(())
 }
 
-// What reads of a part of a source give. The part is dropped.
+// Reads from a part of a source, and adds the results. The part is dropped.
 fn read_part(
     alloc: Global,
     source: &mut Source<Client>,
@@ -148,7 +148,7 @@ fn read_part(
     Ok(())
 }
 
-// What a source gives after a part of it that is finished unread.
+// Adds what is left in a source after a part of it that is finished unread.
 fn finish_part(
     alloc: Global,
     input: &Input,
@@ -161,8 +161,8 @@ fn finish_part(
     add(alloc, to, "left", left.as_slice())
 }
 
-/// What reads of a part of a source give, what the source gives after the part that was dropped, and what it gives
-/// after one that is finished unread.
+/// Adds the results of reads from a part of a source, what is left in the source after this part is dropped, and what
+/// is left after a part that is finished unread.
 pub fn read_parts(
     alloc: Global,
     input: &Input,
@@ -175,7 +175,7 @@ pub fn read_parts(
     finish_part(alloc, input, (size, most), to)
 }
 
-/// What reads of a fused reader give, and whether it still has its reader.
+/// Adds the results of reads from a fused reader, and whether it still has its inner reader.
 pub fn read_fused(
     alloc: Global,
     input: &Input,

@@ -1,4 +1,4 @@
-//! Calls that read a head by the standard.
+//! Makes calls that read a head under the standard profile.
 use crate::findings::{add, add_shown};
 use crate::row::Finding;
 use std::alloc::{AllocError, Global};
@@ -8,7 +8,7 @@ use tiny_http_standard_head::lines::{parse_field_line, parse_request_line};
 use tiny_http_standard_head::validation::{HeadSummary, validate};
 use tiny_http_wire::common::{HTTPVersion, Header, Method};
 
-/// A request line.
+/// Parses a request line.
 pub fn read_request_line(
     alloc: Global,
     line: &[u8],
@@ -22,7 +22,7 @@ pub fn read_request_line(
     add_shown(alloc, to, "version", &version)
 }
 
-/// A field line.
+/// Parses a field line.
 pub fn read_field_line(
     alloc: Global,
     line: &[u8],
@@ -36,7 +36,7 @@ pub fn read_field_line(
     add(alloc, to, "value", header.value.as_str().as_bytes())
 }
 
-// Something that holds.
+// Adds `word` if `holds`.
 fn add_if(
     alloc: Global,
     to: &mut Vec<Finding>,
@@ -49,7 +49,7 @@ fn add_if(
     Ok(())
 }
 
-/// Which of a host, the value of a `Host` and the target of a `CONNECT` a text is; `refused` where it is none.
+/// Adds which of a host, the value of a Host field and the target of a `CONNECT` a text is, or `refused` if it is none.
 pub fn validate_host(alloc: Global, text: &[u8], to: &mut Vec<Finding>) -> Result<(), AllocError> {
     add_if(alloc, to, "host", is_host(text))?;
     add_if(alloc, to, "host-value", is_host_value(text))?;
@@ -57,7 +57,7 @@ pub fn validate_host(alloc: Global, text: &[u8], to: &mut Vec<Finding>) -> Resul
     add_if(alloc, to, "refused", to.is_empty())
 }
 
-// What a head says.
+// Adds the summary of a head.
 fn add_head(alloc: Global, to: &mut Vec<Finding>, head: HeadSummary) -> Result<(), AllocError> {
     add(alloc, to, "served", b"")?;
     if let Some(length) = head.body_length {
@@ -69,7 +69,7 @@ fn add_head(alloc: Global, to: &mut Vec<Finding>, head: HeadSummary) -> Result<(
     add_if(alloc, to, "last", head.is_last)
 }
 
-/// What a head of this version, method and headers says, or the status by which it is refused.
+/// Validates a head with this version, method and headers. Adds its summary, or the status with which it is refused.
 pub fn validate_head(
     alloc: Global,
     version: HTTPVersion,
@@ -88,8 +88,8 @@ pub fn validate_head(
     }
 }
 
-/// What is read of the first bytes of a client, where a head has at most so many: a whole head, how many bytes it has
-/// and what it says; or the status by which it is refused; or that it is unfinished, and whether it has begun.
+/// Reads the head at the start of a client's bytes, of at most `limit` bytes. Adds a complete head, with its length and
+/// summary; the status with which it is refused; or that it is incomplete, and whether it has begun.
 pub fn read_first_head(
     alloc: Global,
     limit: usize,

@@ -1,4 +1,4 @@
-//! Calls that take a text, a number or a version.
+//! Makes calls whose input is a text, a number or a version.
 use crate::findings::{add, add_shown};
 use crate::row::{Choice, Finding, TextCall};
 use std::alloc::{AllocError, Global};
@@ -9,12 +9,12 @@ use tiny_http_wire::grammar::{parse_content_length, parse_header_line, parse_req
 use tiny_http_wire::header_value::{parse_element, parse_header_value};
 use tiny_http_wire::number::Numeral;
 
-// Nothing was read.
+// Adds that nothing was read.
 fn add_refused(alloc: Global, to: &mut Vec<Finding>) -> Result<(), AllocError> {
     add(alloc, to, "refused", b"")
 }
 
-// Why nothing was read.
+// Adds that the text was refused.
 fn add_fault(alloc: Global, to: &mut Vec<Finding>, fault: ParseError) -> Result<(), AllocError> {
     match fault {
         ParseError::Refused => add_refused(alloc, to),
@@ -22,7 +22,7 @@ fn add_fault(alloc: Global, to: &mut Vec<Finding>, fault: ParseError) -> Result<
     }
 }
 
-// An element's quality in thousandths, and its name.
+// Adds an element's quality in thousandths, and its name.
 fn add_element(
     alloc: Global,
     to: &mut Vec<Finding>,
@@ -33,7 +33,7 @@ fn add_element(
     add(alloc, to, "element", text.as_bytes())
 }
 
-// The elements of a header value.
+// Adds the elements of a header value.
 fn read_header_value(alloc: Global, text: &str, to: &mut Vec<Finding>) -> Result<(), AllocError> {
     let elements = parse_header_value(alloc, text)?;
     for element in elements.as_slice() {
@@ -42,14 +42,14 @@ fn read_header_value(alloc: Global, text: &str, to: &mut Vec<Finding>) -> Result
     Ok(())
 }
 
-// A header's name and value.
+// Adds the name and the value of a header.
 fn add_header(alloc: Global, to: &mut Vec<Finding>, header: &Header) -> Result<(), AllocError> {
     let name = header.field.as_str();
     add(alloc, to, "name", name.as_str().as_bytes())?;
     add(alloc, to, "value", header.value.as_str().as_bytes())
 }
 
-// A header line.
+// Parses a header line.
 fn read_header_line(alloc: Global, text: &str, to: &mut Vec<Finding>) -> Result<(), AllocError> {
     let line = text.as_bytes();
     if !are_ascii(line) {
@@ -61,7 +61,7 @@ fn read_header_line(alloc: Global, text: &str, to: &mut Vec<Finding>) -> Result<
     }
 }
 
-// A request line.
+// Parses a request line.
 fn read_request_line(alloc: Global, text: &str, to: &mut Vec<Finding>) -> Result<(), AllocError> {
     let line = text.as_bytes();
     if !are_ascii(line) {
@@ -75,7 +75,7 @@ fn read_request_line(alloc: Global, text: &str, to: &mut Vec<Finding>) -> Result
     add_shown(alloc, to, "version", &version)
 }
 
-// The value of a length.
+// Parses a content length.
 fn read_length(alloc: Global, text: &str, to: &mut Vec<Finding>) -> Result<(), AllocError> {
     match parse_content_length(text) {
         Some(length) => add_shown(alloc, to, "length", &length),
@@ -83,7 +83,7 @@ fn read_length(alloc: Global, text: &str, to: &mut Vec<Finding>) -> Result<(), A
     }
 }
 
-// A header.
+// Parses a header.
 fn read_header(alloc: Global, text: &str, to: &mut Vec<Finding>) -> Result<(), AllocError> {
     match Header::from_str(alloc, text) {
         Ok(header) => add_header(alloc, to, &header),
@@ -91,7 +91,7 @@ fn read_header(alloc: Global, text: &str, to: &mut Vec<Finding>) -> Result<(), A
     }
 }
 
-// The name of a header.
+// Parses the name of a header.
 fn read_field(alloc: Global, text: &str, to: &mut Vec<Finding>) -> Result<(), AllocError> {
     match HeaderField::from_str(alloc, text) {
         Ok(field) => add(alloc, to, "name", field.as_str().as_str().as_bytes()),
@@ -99,7 +99,7 @@ fn read_field(alloc: Global, text: &str, to: &mut Vec<Finding>) -> Result<(), Al
     }
 }
 
-// A method, of its own or not.
+// Adds a method, and whether it is a nonstandard one.
 fn add_method(alloc: Global, to: &mut Vec<Finding>, method: &Method) -> Result<(), AllocError> {
     let word = match method {
         Method::NonStandard(_) => "nonstandard",
@@ -108,7 +108,7 @@ fn add_method(alloc: Global, to: &mut Vec<Finding>, method: &Method) -> Result<(
     add(alloc, to, word, method.as_str().as_bytes())
 }
 
-// A method.
+// Parses a method.
 fn read_method(alloc: Global, text: &str, to: &mut Vec<Finding>) -> Result<(), AllocError> {
     match Method::from_str(alloc, text) {
         Ok(method) => add_method(alloc, to, &method),
@@ -116,7 +116,7 @@ fn read_method(alloc: Global, text: &str, to: &mut Vec<Finding>) -> Result<(), A
     }
 }
 
-/// What comes of a call that reads a text.
+/// Makes a call that reads a text, and adds its results.
 pub fn read_text(
     alloc: Global,
     call: TextCall,
@@ -135,7 +135,7 @@ pub fn read_text(
     }
 }
 
-// A coding, or none.
+// Adds a transfer coding, or that there is none.
 fn add_coding(
     alloc: Global,
     to: &mut Vec<Finding>,
@@ -149,12 +149,12 @@ fn add_coding(
     add(alloc, to, "coding", name.as_bytes())
 }
 
-/// The coding that a request of these headers asks for.
+/// Adds the transfer coding that a request with these headers asks for.
 pub fn ask(alloc: Global, request: &[Header], to: &mut Vec<Finding>) -> Result<(), AllocError> {
     add_coding(alloc, to, asked_coding(request))
 }
 
-/// The coding that is chosen.
+/// Adds the chosen transfer coding.
 pub fn choose_by(alloc: Global, choice: Choice, to: &mut Vec<Finding>) -> Result<(), AllocError> {
     let Choice {
         version,
@@ -167,7 +167,7 @@ pub fn choose_by(alloc: Global, choice: Choice, to: &mut Vec<Finding>) -> Result
     add_coding(alloc, to, Some(coding))
 }
 
-/// The phrase of a status.
+/// Adds the reason phrase of a status.
 pub fn phrase(alloc: Global, status: StatusCode, to: &mut Vec<Finding>) -> Result<(), AllocError> {
     add(
         alloc,
@@ -177,12 +177,12 @@ pub fn phrase(alloc: Global, status: StatusCode, to: &mut Vec<Finding>) -> Resul
     )
 }
 
-/// A version as it is shown.
+/// Adds a version as it is displayed.
 pub fn show(alloc: Global, version: HTTPVersion, to: &mut Vec<Finding>) -> Result<(), AllocError> {
     add_shown(alloc, to, "version", &version)
 }
 
-/// A number in both bases.
+/// Adds a number in both bases.
 pub fn write_number(alloc: Global, number: u64, to: &mut Vec<Finding>) -> Result<(), AllocError> {
     add(alloc, to, "decimal", Numeral::decimal(number).as_bytes())?;
     add(

@@ -14,23 +14,23 @@ use crate::standard::{
 };
 use crate::texts::{ask, choose_by, phrase, read_text, show, write_number};
 use crate::written::{encode, print, print_by_standard, write_chunk, write_chunked};
+use std::alloc::{AllocError, Global};
+use std::io::{ErrorKind, Write};
 use test_case_files::case::Room;
 use test_case_files::devices::PIECES;
 use test_data_files::fault::FilesFault;
 use test_data_files::text::shown;
-use std::alloc::{AllocError, Global};
-use std::io::{ErrorKind, Write};
 
-/// How a call is tried.
+/// One way to try a call.
 #[derive(Clone, Copy, Debug, PartialEq, Eq)]
 struct Trial {
-    // How many bytes a call of a reader gives at most, or how many are written at a time.
+    // Maximum number of bytes that a call of a reader returns, or that are written at a time.
     piece: usize,
-    // Where the writer fails, if it doesn't take all.
+    // Where the writer fails, unless it accepts everything.
     room: Option<Room>,
 }
 
-/// Where a row differs: in which trial, what was found, and what the row says.
+/// The difference of a row: the trial, the result found, and the expected one.
 #[derive(Drop)]
 struct Difference {
     how: String,
@@ -38,7 +38,7 @@ struct Difference {
     wanted: String,
 }
 
-// Makes the calls of a value, one after another.
+// Makes successive calls on a value.
 fn make_each(
     alloc: Global,
     subject: Subject,
@@ -100,12 +100,12 @@ fn make_call(
     }
 }
 
-// Whether a row has to agree to something that comes.
+// Returns whether a result must agree with the row.
 fn counts(finding: &Finding, wanted: &[Finding]) -> bool {
     !is_asked(finding.word) || wanted.iter().any(|want| want.word == finding.word)
 }
 
-// Whether the two are the same.
+// Returns whether the results are equal.
 fn is_same(found: Option<&Finding>, want: Option<&Finding>) -> bool {
     match (found, want) {
         (Some(found), Some(want)) => found.word == want.word && found.text == want.text,
@@ -114,7 +114,7 @@ fn is_same(found: Option<&Finding>, want: Option<&Finding>) -> bool {
     }
 }
 
-// The first that differs of what was found and of what is wanted.
+// Returns the first pair of a result and an expected one that differ.
 fn first_pair<'a>(
     found: &'a [Finding],
     wanted: &'a [Finding],
@@ -135,7 +135,7 @@ fn first_pair<'a>(
     }
 }
 
-// A finding as its line in a file.
+// Formats a result as its line in a file.
 fn line_of(alloc: Global, finding: Option<&Finding>) -> Result<String, AllocError> {
     let Some(finding) = finding else {
         return String::from_str(alloc, "nothing");
@@ -149,7 +149,7 @@ fn line_of(alloc: Global, finding: Option<&Finding>) -> Result<String, AllocErro
     format!(in alloc; "[{word} {text}]")
 }
 
-// How a call was tried, in words.
+// Formats how a call was tried.
 fn how(alloc: Global, trial: Trial) -> Result<String, AllocError> {
     match (trial.room, trial.piece) {
         (Some(room), _) => {
@@ -180,7 +180,7 @@ fn try_once(
     }))
 }
 
-// Tries a call by each number of bytes at a time that it is tried with.
+// Tries a call with each number of bytes at a time.
 fn try_pieces(alloc: Global, row: &Row) -> Result<Option<Difference>, AllocError> {
     let pieces = match &row.call {
         Call::Decoder(_) | Call::Greeter => PIECES.as_slice(),
@@ -200,7 +200,7 @@ fn try_pieces(alloc: Global, row: &Row) -> Result<Option<Difference>, AllocError
     Ok(None)
 }
 
-// The output that has to come of a row's call.
+// Returns the expected output of a row.
 fn output_of(row: &Row) -> &[u8] {
     for want in &row.wanted {
         if want.word == "output" {
@@ -210,8 +210,8 @@ fn output_of(row: &Row) -> &[u8] {
     b""
 }
 
-// Tries a call with a writer that takes so many bytes, and then fails: it is given the front of the output, and no
-// more.
+// Tries a call with a writer that accepts `bytes` bytes and then fails. It must get that prefix of the output, and no
+// call after the failure.
 fn try_room(alloc: Global, row: &Row, bytes: usize) -> Result<Option<Difference>, AllocError> {
     let output = output_of(row);
     let mut wanted = Vec::new(alloc);
@@ -231,7 +231,7 @@ fn try_room(alloc: Global, row: &Row, bytes: usize) -> Result<Option<Difference>
     try_once(alloc, row, trial, wanted.as_slice())
 }
 
-// How many bytes the writers take that a call is tried with.
+// Returns how many bytes the additional writers of a row accept.
 fn rooms_of(alloc: Global, row: &Row) -> Result<Vec<usize>, AllocError> {
     match &row.input.rooms {
         None => Ok(Vec::new(alloc)),
@@ -240,7 +240,7 @@ fn rooms_of(alloc: Global, row: &Row) -> Result<Vec<usize>, AllocError> {
     }
 }
 
-// Tries a call with each writer that its row says.
+// Tries a call with each additional writer of its row.
 fn try_rooms(alloc: Global, row: &Row) -> Result<Option<Difference>, AllocError> {
     for bytes in rooms_of(alloc, row)? {
         if let Some(difference) = try_room(alloc, row, bytes)? {
@@ -250,7 +250,7 @@ fn try_rooms(alloc: Global, row: &Row) -> Result<Option<Difference>, AllocError>
     Ok(None)
 }
 
-// Tries a call in all ways that its row says. The first difference.
+// Tries a call in all ways of its row. Returns the first difference.
 fn try_row(alloc: Global, row: &Row) -> Result<Option<Difference>, AllocError> {
     match try_pieces(alloc, row)? {
         Some(difference) => Ok(Some(difference)),
@@ -258,7 +258,7 @@ fn try_row(alloc: Global, row: &Row) -> Result<Option<Difference>, AllocError> {
     }
 }
 
-// Reports a row that differs by a line.
+// Prints one line for a row that differs.
 fn report<'a, O: Write>(
     out: &mut O,
     name: &str,
@@ -274,7 +274,7 @@ fn report<'a, O: Write>(
     }
 }
 
-// Tries the rows of a file, and gives how many differ. Each that does is reported by a line.
+// Tries the rows of a file, and prints one line for each that differs. Returns how many do.
 fn try_rows<'a, O: Write>(
     alloc: Global,
     out: &mut O,
@@ -290,7 +290,7 @@ fn try_rows<'a, O: Write>(
     Ok(differing)
 }
 
-// Tries the rows of a file, reports it by a line, and gives whether no row differed.
+// Tries the rows of a file, and prints one line for it. Returns whether no row differed.
 fn try_file<'a, O: Write>(
     alloc: Global,
     out: &mut O,
@@ -305,7 +305,8 @@ fn try_file<'a, O: Write>(
     }
 }
 
-/// Tries the rows of all files, and reports each row that differs and each file by a line. Whether no row differed.
+/// Tries the rows of all files. Prints one line for each row that differs, and one for each file. Returns whether no
+/// row differed.
 pub fn try_files<'a, O: Write>(
     alloc: Global,
     out: &mut O,

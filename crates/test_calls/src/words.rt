@@ -1,11 +1,11 @@
-//! The words of a line: numbers, versions, codings, texts.
+//! Parses the words of a line: numbers, versions, codings, texts.
+use std::alloc::{AllocError, Global};
 use test_data_files::fault::LineFault;
 use test_data_files::text::{number_in, text_of};
-use std::alloc::{AllocError, Global};
 use tiny_http_wire::coding::Coding;
 use tiny_http_wire::common::{HTTPVersion, Header, ParseError, StatusCode};
 
-/// The first word of a line, and what stands behind the space after it.
+/// Splits a line at its first space.
 pub fn split(line: &str) -> (&str, &str) {
     match line.split_once(' ') {
         Some(parts) => parts,
@@ -13,15 +13,15 @@ pub fn split(line: &str) -> (&str, &str) {
     }
 }
 
-/// A number.
+/// Parses a number.
 pub fn number(word: &str) -> Result<usize, LineFault> {
     match number_in(word) {
         Some(number) => Ok(number),
-        None => Err(LineFault::Bad("no number stands where one has to")),
+        None => Err(LineFault::Bad("a number is missing")),
     }
 }
 
-/// Numbers, with a space between them; at least one.
+/// Parses one or more numbers with spaces between them.
 pub fn numbers(alloc: Global, words: &str) -> Result<Vec<usize>, LineFault> {
     let mut list = Vec::new(alloc);
     for word in words.split(' ') {
@@ -31,7 +31,7 @@ pub fn numbers(alloc: Global, words: &str) -> Result<Vec<usize>, LineFault> {
     Ok(list)
 }
 
-/// A number, or `-` for none.
+/// Parses a number, or `-` for none.
 pub fn number_or_none(word: &str) -> Result<Option<usize>, LineFault> {
     if word == "-" {
         return Ok(None);
@@ -39,7 +39,7 @@ pub fn number_or_none(word: &str) -> Result<Option<usize>, LineFault> {
     Ok(Some(number(word)?))
 }
 
-/// A status.
+/// Parses a status.
 pub fn status(word: &str) -> Result<StatusCode, LineFault> {
     match u16::try_from(number(word)?) {
         Ok(status) => Ok(StatusCode(status)),
@@ -47,7 +47,7 @@ pub fn status(word: &str) -> Result<StatusCode, LineFault> {
     }
 }
 
-/// A version: two numbers below 256 with a point between them.
+/// Parses a version: two numbers below 256 with a point between them.
 pub fn version(word: &str) -> Result<HTTPVersion, LineFault> {
     let (major, minor) = word.split_once('.').unwrap_or((word, ""));
     match (u8::try_from(number(major)?), u8::try_from(number(minor)?)) {
@@ -56,7 +56,7 @@ pub fn version(word: &str) -> Result<HTTPVersion, LineFault> {
     }
 }
 
-/// A coding, or `-` for none.
+/// Parses a transfer coding, or `-` for none.
 pub fn coding(word: &str) -> Result<Option<Coding>, LineFault> {
     match word {
         "-" => Ok(None),
@@ -66,7 +66,7 @@ pub fn coding(word: &str) -> Result<Option<Coding>, LineFault> {
     }
 }
 
-/// A text, its escapes replaced.
+/// Replaces the escapes of a text.
 pub fn text(alloc: Global, words: &str) -> Result<String, LineFault> {
     match String::from_utf8(text_of(alloc, words)?) {
         Ok(text) => Ok(text),
@@ -74,7 +74,7 @@ pub fn text(alloc: Global, words: &str) -> Result<String, LineFault> {
     }
 }
 
-/// A header as its line is read.
+/// Parses a header as its line is read.
 pub fn header_line(alloc: Global, words: &str) -> Result<Header, LineFault> {
     let line = text(alloc, words)?;
     match Header::from_str(alloc, line.as_str()) {
@@ -84,7 +84,7 @@ pub fn header_line(alloc: Global, words: &str) -> Result<Header, LineFault> {
     }
 }
 
-/// A header of a name and a value, which `: ` stands between.
+/// Parses a header with `: ` between its name and value.
 pub fn header(alloc: Global, words: &str) -> Result<Header, LineFault> {
     let line = text(alloc, words)?;
     let Some((name, value)) = line.as_str().split_once(": ") else {
@@ -97,7 +97,7 @@ pub fn header(alloc: Global, words: &str) -> Result<Header, LineFault> {
     }
 }
 
-/// Adds bytes of the series 0, 1, .. 250, 0, 1, ..: from which place on, and how many.
+/// Adds bytes of the series 0, 1, .. 250, 0, 1, ..: the words are the first position and the count.
 pub fn add_series(words: &str, to: &mut Vec<u8>) -> Result<(), LineFault> {
     let (from, count) = split(words);
     let (from, count) = (number(from)?, number(count)?);

@@ -1,14 +1,14 @@
-//! Answers and bodies that are written.
+//! Writes responses and bodies.
 use crate::bodies::{add_left, data_of};
 use crate::devices::Watched;
 use crate::findings::{add, add_kind, add_shown, add_some};
 use crate::row::{Finding, Input};
-use test_case_files::case::Room;
-use test_case_files::devices::Trier;
 use replay_script::script::first_date;
 use std::alloc::{AllocError, Global};
 use std::io;
 use std::io::{ErrorKind, Write};
+use test_case_files::case::Room;
+use test_case_files::devices::Trier;
 use tiny_http_body::chunks::{put_chunk, put_chunked};
 use tiny_http_wire::common::{HTTPVersion, StatusCode};
 use tiny_http_wire::device::{Canned, Metered, WriteDevice};
@@ -16,7 +16,7 @@ use tiny_http_wire::encoder::Encoder;
 use tiny_http_wire::response::Response;
 use tiny_http_wire::response_context::{Persistence, ResponseContext};
 
-// A writer of this room, or of ample room.
+// Creates a writer with this room, or without a limit.
 fn writer_of(alloc: Global, room: Option<Room>) -> Metered<Trier> {
     match room {
         Some(room) => Metered::new(Trier::with_room(alloc, room.bytes, room.fault)),
@@ -24,7 +24,7 @@ fn writer_of(alloc: Global, room: Option<Room>) -> Metered<Trier> {
     }
 }
 
-// A count that is above 0.
+// Adds a count, unless it is 0.
 fn add_count(
     alloc: Global,
     to: &mut Vec<Finding>,
@@ -37,7 +37,7 @@ fn add_count(
     add_shown(alloc, to, word, &count)
 }
 
-// What was written, the fault that was reported, how often the writer failed, and how often it was called after that.
+// Adds what was written, the reported error, the number of failures, and the number of calls after one.
 fn add_written(
     alloc: Global,
     to: &mut Vec<Finding>,
@@ -54,7 +54,7 @@ fn add_written(
     add_count(alloc, to, "later", writer.later())
 }
 
-/// What comes of some bytes as one chunk; nothing of none.
+/// Writes bytes as one chunk, and adds the results. No bytes give no result.
 pub fn write_chunk(alloc: Global, input: &Input, to: &mut Vec<Finding>) -> Result<(), AllocError> {
     let bytes = input.bytes.as_slice();
     if bytes.is_empty() {
@@ -65,7 +65,7 @@ pub fn write_chunk(alloc: Global, input: &Input, to: &mut Vec<Finding>) -> Resul
     add_written(alloc, to, writer, outcome)
 }
 
-/// What comes of data in chunks.
+/// Writes data in chunks, and adds the results.
 pub fn write_chunked(
     alloc: Global,
     input: &Input,
@@ -78,7 +78,7 @@ pub fn write_chunked(
     add_written(alloc, to, writer, outcome)
 }
 
-// Writes bytes, and then flushes and writes nothing if that is said.
+// Writes a piece. If `has_flushes`, flushes and writes an empty piece.
 fn write_piece<W: Write>(writer: &mut W, piece: &[u8], has_flushes: bool) -> io::Result<()> {
     writer.write_all(piece)?;
     if has_flushes {
@@ -88,7 +88,7 @@ fn write_piece<W: Write>(writer: &mut W, piece: &[u8], has_flushes: bool) -> io:
     Ok(())
 }
 
-// Writes the bytes, so many at a time.
+// Writes the bytes, at most `piece` at a time.
 fn write_pieces<W: Write>(writer: &mut W, input: &Input, piece: usize) -> io::Result<()> {
     let mut rest = input.bytes.as_slice();
     for _ in 0..input.bytes.len() {
@@ -102,7 +102,7 @@ fn write_pieces<W: Write>(writer: &mut W, input: &Input, piece: usize) -> io::Re
     Ok(())
 }
 
-// Gives the bytes to an encoder over the writer, and ends the body unless it is to be left open.
+// Passes the bytes to an encoder over the writer, and finishes the body unless the row leaves it open.
 fn give(writer: &mut Metered<Trier>, input: &Input, piece: usize) -> io::Result<()> {
     let mut encoder = Encoder::new(writer);
     write_pieces(&mut encoder, input, piece)?;
@@ -112,7 +112,7 @@ fn give(writer: &mut Metered<Trier>, input: &Input, piece: usize) -> io::Result<
     Ok(())
 }
 
-/// What comes of bytes that are given to an encoder, so many at a time.
+/// Passes bytes to an encoder, at most `piece` at a time, and adds the results.
 pub fn encode(
     alloc: Global,
     input: &Input,
@@ -125,7 +125,7 @@ pub fn encode(
     add_written(alloc, to, writer, outcome)
 }
 
-// The answer of this status with these data. Its headers are added to it one by one.
+// Builds a response with this status and these data. Its headers are added one by one.
 fn answer<'a, D>(
     alloc: Global,
     status: StatusCode,
@@ -144,7 +144,7 @@ fn answer<'a, D>(
     }
 }
 
-// Prints an answer.
+// Prints a response.
 fn print_to(
     alloc: Global,
     answer: Response<&mut Canned>,
@@ -166,7 +166,7 @@ fn print_to(
     )
 }
 
-/// What comes of an answer that is printed, and what is left of its data.
+/// Prints a response. Adds the results, and what is left of its data.
 pub fn print(
     alloc: Global,
     status: StatusCode,
@@ -189,7 +189,7 @@ const BY_THE_STANDARD: ResponseContext = ResponseContext {
     persistence: Some(Persistence::Persistent),
 };
 
-/// What comes of an answer that is printed by the standard, and how much is read of its data.
+/// Prints a response under the standard profile. Adds the results, and how much is read of its data.
 pub fn print_by_standard(
     alloc: Global,
     status: StatusCode,

@@ -1,57 +1,57 @@
-//! A case: what goes into a connection, and what has to come out of it.
+//! A case: the input of a connection, and the expected output.
 use std::io::ErrorKind;
 use tiny_http_core::framing::Profile;
 use tiny_http_wire::ascii::AsciiString;
 
-/// How many bytes a writer takes, and the kind by which it then fails.
+/// How many bytes a writer accepts, and the error kind of its failure after them.
 #[derive(Clone, Copy, Debug, PartialEq, Eq)]
 pub struct Room {
     pub bytes: usize,
     pub fault: ErrorKind,
 }
 
-/// An answer that no line of a script can make.
+/// A response that no line of a script can describe.
 #[derive(Drop)]
 pub struct Answer {
-    /// The request's number.
+    /// The number of the request.
     pub number: u64,
     pub status: u16,
-    /// The header lines, each without its line end.
+    /// The header lines, without their line ends.
     pub headers: Vec<String>,
-    /// The length that is stated of the data, if one is.
+    /// The stated content length, if any.
     pub length: Option<usize>,
-    /// From how many bytes on the body is sent in chunks, if the case says so.
+    /// The body size from which chunks are used, if the case states one.
     pub threshold: Option<usize>,
-    /// Whether it asks that the connection ends.
+    /// Whether the connection closes after the response.
     pub closes: bool,
-    /// The protocols that it offers to upgrade to, if it offers any.
+    /// The protocols offered for an upgrade, if any.
     pub offer: Option<AsciiString>,
     pub data: Vec<u8>,
-    /// The fault of the data in place of their end.
+    /// The error at the end of the data, if any.
     pub fault: Option<ErrorKind>,
 }
 
-/// What a step does.
+/// The action of a step.
 #[derive(Drop)]
 pub enum Deed {
-    /// What this line of a script says, a step or a date.
+    /// A line of a script: a step or a date.
     Script(String),
-    /// Answers a request.
+    /// Responds to a request.
     Answer(Answer),
 }
 
-/// A step of a case, and what it is answered.
+/// A step of a case and its expected reply.
 #[derive(Drop)]
 pub struct CaseStep {
     pub deed: Deed,
-    /// The line of the reply, its escapes replaced; of a date there is none.
+    /// The reply line with its escapes replaced. A date has none.
     pub reply: Vec<u8>,
-    /// Whether there is a reply yet.
+    /// Whether the reply line has been read.
     pub is_answered: bool,
 }
 
 impl CaseStep {
-    /// Whether it is a date, which has no reply.
+    /// Returns whether the step is a date, which has no reply.
     pub fn is_date(&self) -> bool {
         match &self.deed {
             Deed::Answer(_) => false,
@@ -59,7 +59,7 @@ impl CaseStep {
         }
     }
 
-    /// Whether it asks for the next request.
+    /// Returns whether the step asks for the next request.
     pub fn is_ask(&self) -> bool {
         match &self.deed {
             Deed::Answer(_) => false,
@@ -67,7 +67,7 @@ impl CaseStep {
         }
     }
 
-    /// Whether it answers a request by a response.
+    /// Returns whether the step responds to a request.
     pub fn is_answer(&self) -> bool {
         match &self.deed {
             Deed::Answer(_) => true,
@@ -75,7 +75,7 @@ impl CaseStep {
         }
     }
 
-    /// Whether its reply may report a fault of the writer.
+    /// Returns whether the step's reply may report an error of the writer.
     pub fn may_report(&self) -> bool {
         match &self.deed {
             Deed::Answer(_) => true,
@@ -86,25 +86,25 @@ impl CaseStep {
     }
 }
 
-/// A case.
+/// A client's input, the steps of a server, and the expected output.
 #[derive(Drop)]
 pub struct Case {
     pub name: String,
-    /// The profile by which heads are read.
+    /// The profile under which heads are read.
     pub profile: Profile,
     /// The bytes that the client sends.
     pub client: Vec<u8>,
-    /// The reader's fault behind them, in place of an end.
+    /// The reader's error after these bytes, instead of an end.
     pub stop: Option<ErrorKind>,
-    /// Where the writer fails, if it doesn't take all.
+    /// Where the writer fails, unless it accepts everything.
     pub room: Option<Room>,
-    /// Whether the client's bytes are always whole.
+    /// Whether the case is never tried with the client's bytes cut short.
     pub is_uncut: bool,
-    /// How many of the client's bytes are replaced by each value in turn.
+    /// Number of the client's first bytes that are replaced by every value in turn.
     pub varied: Option<usize>,
     pub steps: Vec<CaseStep>,
-    /// What is sent, and then held back.
+    /// The bytes that are sent, and then those still buffered.
     pub output: Vec<u8>,
-    /// Why no further request comes after the steps, if the case says so.
+    /// Why no further request comes after the steps, if the case states it.
     pub end: Option<Vec<u8>>,
 }

@@ -4,19 +4,18 @@ use std::io;
 use std::io::{ErrorKind, Write};
 use tiny_http_wire::device::{ByPieces, Canned, FailsAt};
 
-/// The reader of a trial: a client's bytes, so many a call at most, and one call that may fail.
+/// The reader of a trial. It returns a client's bytes in pieces of limited size, and one of its calls may fail.
 pub type Reader = FailsAt<ByPieces<Canned>>;
 
-/// The most bytes of a call of the readers that each case is tried with.
+/// The piece sizes with which each case is tried: the maximum number of bytes that a call of the reader returns.
 pub const PIECES: [usize; 4] = [1, 2, 1023, 1024];
 
-/// A writer that keeps what it takes. It takes so many bytes, and then fails; or one of its calls fails. Writes and
-/// flushes count alike.
+/// A writer in memory. It fails once its room is used up, or in one of its calls; writes and flushes count alike.
 #[derive(Drop)]
 pub struct Trier {
     taken: Vec<u8>,
     room: usize,
-    // How many calls are left up to the one that fails, and with it; 0 once it has failed.
+    // Number of calls up to and including the one that fails; 0 after that call.
     calls: u64,
     kind: ErrorKind,
     failures: u64,
@@ -24,7 +23,7 @@ pub struct Trier {
 }
 
 impl Trier {
-    /// Takes `room` bytes, and fails from then on by this kind.
+    /// Creates a writer that accepts `room` bytes, and then fails with `kind`.
     pub fn with_room(alloc: Global, room: usize, kind: ErrorKind) -> Trier {
         Trier {
             taken: Vec::new(alloc),
@@ -36,7 +35,7 @@ impl Trier {
         }
     }
 
-    /// Takes all, but in this call, counted from 1, which fails by this kind.
+    /// Creates a writer whose call number `call`, counted from 1, fails with `kind`. It accepts everything else.
     pub fn failing_at(alloc: Global, call: u64, kind: ErrorKind) -> Trier {
         Trier {
             taken: Vec::new(alloc),
@@ -48,28 +47,28 @@ impl Trier {
         }
     }
 
-    /// What it took.
+    /// Returns the bytes that the writer accepted.
     pub fn taken(&self) -> &[u8] {
         self.taken.as_slice()
     }
 
-    /// How many calls failed.
+    /// Returns the number of calls that failed.
     pub fn failures(&self) -> u64 {
         self.failures
     }
 
-    /// How many calls came after one that failed.
+    /// Returns the number of calls after one that failed.
     pub fn later(&self) -> u64 {
         self.later
     }
 
-    // A call fails.
+    // Records a failure, and returns its error.
     fn fail(&mut self) -> io::Error {
         self.failures = self.failures.saturating_add(1);
         self.kind.into()
     }
 
-    // Counts a call, which may be the one that fails.
+    // Counts a call. Fails if it is the one that must fail.
     fn call(&mut self) -> io::Result<()> {
         if self.failures > 0 {
             self.later = self.later.saturating_add(1);
@@ -83,7 +82,7 @@ impl Trier {
 }
 
 impl Write for Trier {
-    /// Takes as many bytes as there is room for.
+    /// Accepts as many bytes as fit into the room.
     fn write(&mut self, buf: &[u8]) -> io::Result<usize> {
         self.call()?;
         let n = buf.len().min(self.room);
@@ -95,7 +94,7 @@ impl Write for Trier {
         Ok(n)
     }
 
-    /// Counts as a call.
+    /// Counts as a call, which may be the one that fails.
     fn flush(&mut self) -> io::Result<()> {
         self.call()
     }

@@ -1,10 +1,10 @@
-//! Reads a file of cases, line by line.
+//! Reads a case file line by line.
 use crate::case::{Answer, Case, CaseStep, Deed, Room};
+use replay_script::line::{ScriptLine, text_in};
+use std::alloc::{AllocError, Global};
 use test_data_files::fault::{FilesFault, LineFault, line_text};
 use test_data_files::kinds::kind_of;
 use test_data_files::text::{add_text, number_in, text_of};
-use replay_script::line::{ScriptLine, text_in};
-use std::alloc::{AllocError, Global};
 use tiny_http_core::framing::Profile;
 use tiny_http_wire::ascii::AsciiString;
 use tiny_http_wire::common::{Header, ParseError};
@@ -13,9 +13,9 @@ const NO_KIND: LineFault = LineFault::Bad("no such kind of fault");
 
 const NO_HEADER: LineFault = LineFault::Bad("no such header line");
 
-const NO_NUMBER: LineFault = LineFault::Bad("no number stands where one has to");
+const NO_NUMBER: LineFault = LineFault::Bad("a number is missing");
 
-// Begins a case of this name.
+// Begins a case called `name`, which must be one word and not yet used.
 fn begin(alloc: Global, cases: &mut Vec<Case>, name: &str) -> Result<(), LineFault> {
     if name.is_empty() || name.contains(' ') {
         return Err(LineFault::Bad("a case has a name of one word"));
@@ -39,28 +39,28 @@ fn begin(alloc: Global, cases: &mut Vec<Case>, name: &str) -> Result<(), LineFau
     Ok(())
 }
 
-// Why the last case isn't whole, if it isn't.
+// Returns what is missing from or wrong with the last case, if anything.
 fn lack_of(cases: &[Case]) -> Option<&'static str> {
     let case = cases.last()?;
     let Some(step) = case.steps.last() else {
-        return Some("the case in front has no step");
+        return Some("the case before has no step");
     };
     if case.steps.iter().all(CaseStep::is_date) {
-        return Some("the case in front has no step");
+        return Some("the case before has no step");
     }
     if !step.is_answered {
-        return Some("the last step of the case in front has no reply");
+        return Some("the last step of the case before has no reply");
     }
     if case.varied.is_some_and(|count| count > case.client.len()) {
-        return Some("the case in front varies more bytes than its client sends");
+        return Some("the case before varies more bytes than its client sends");
     }
     if case.varied.is_some() && case.profile == Profile::Strict {
-        return Some("the case in front varies bytes, and the strict profile has no plain reading");
+        return Some("the case before varies bytes, and the strict profile has no plain reading");
     }
     None
 }
 
-// The size of a writer's room and its fault.
+// Parses the room of a writer and the error kind after it.
 fn room_in(words: &str) -> Result<Room, LineFault> {
     let Some((digits, name)) = words.split_once(' ') else {
         return Err(LineFault::Bad("a writer's room is a number and a kind"));
@@ -74,12 +74,12 @@ fn room_in(words: &str) -> Result<Room, LineFault> {
     }
 }
 
-// Adds a step that has no reply yet.
+// Adds a step without a reply. Fails if the step before has none.
 fn add_step(case: &mut Case, deed: Deed, reply: Vec<u8>, is_date: bool) -> Result<(), LineFault> {
     if let Some(step) = case.steps.last()
         && !step.is_answered
     {
-        return Err(LineFault::Bad("the step in front has no reply"));
+        return Err(LineFault::Bad("the step before has no reply"));
     }
     let step = CaseStep {
         deed,
@@ -90,7 +90,7 @@ fn add_step(case: &mut Case, deed: Deed, reply: Vec<u8>, is_date: bool) -> Resul
     Ok(())
 }
 
-// The number and the status of an answer.
+// Parses the number and the status of an answer.
 fn answer_in(alloc: Global, words: &str) -> Result<Answer, LineFault> {
     let Some((number, status)) = words.split_once(' ') else {
         return Err(LineFault::Bad("an answer has a number and a status"));
@@ -114,7 +114,7 @@ fn answer_in(alloc: Global, words: &str) -> Result<Answer, LineFault> {
     })
 }
 
-// A line of a script, its escapes replaced; whether it is a date.
+// Parses a line of a script, replacing its escapes. Returns whether it is a date.
 fn script_in(alloc: Global, text: &str) -> Result<(String, bool), LineFault> {
     let Ok(line) = String::from_utf8(text_of(alloc, text)?) else {
         return Err(LineFault::Bad("a step is UTF-8"));
@@ -126,7 +126,7 @@ fn script_in(alloc: Global, text: &str) -> Result<(String, bool), LineFault> {
     }
 }
 
-// A header line that can be read as one.
+// Parses a header line, which must be valid.
 fn header_in(alloc: Global, text: &str) -> Result<String, LineFault> {
     let Ok(line) = String::from_utf8(text_of(alloc, text)?) else {
         return Err(NO_HEADER);
@@ -138,7 +138,7 @@ fn header_in(alloc: Global, text: &str) -> Result<String, LineFault> {
     }
 }
 
-// Adds what a line says of an answer.
+// Adds a part to an answer. Fails if the part is unknown or is stated already.
 fn add_part(alloc: Global, answer: &mut Answer, text: &str) -> Result<(), LineFault> {
     let (word, words) = text.split_once(' ').unwrap_or((text, ""));
     match word {
@@ -171,7 +171,7 @@ fn add_part(alloc: Global, answer: &mut Answer, text: &str) -> Result<(), LineFa
     Ok(())
 }
 
-// The answer that a part belongs to: that of the last step, as long as this has no reply.
+// Returns the answer to which a part belongs: that of the last step, if this has no reply yet.
 fn open_answer(case: &mut Case) -> Result<&mut Answer, LineFault> {
     if let Some(step) = case.steps.last_mut()
         && !step.is_answered
@@ -179,23 +179,23 @@ fn open_answer(case: &mut Case) -> Result<&mut Answer, LineFault> {
     {
         return Ok(answer);
     }
-    Err(LineFault::Bad("no answer stands in front of this part"))
+    Err(LineFault::Bad("no answer comes before this part"))
 }
 
 // Adds the reply of the last step.
 fn add_reply(alloc: Global, case: &mut Case, text: &str) -> Result<(), LineFault> {
     let Some(step) = case.steps.last_mut() else {
-        return Err(LineFault::Bad("no step stands in front of this reply"));
+        return Err(LineFault::Bad("no step comes before this reply"));
     };
     if step.is_answered {
-        return Err(LineFault::Bad("the step in front has a reply already"));
+        return Err(LineFault::Bad("the step before has a reply already"));
     }
     add_text(alloc, text, &mut step.reply)?;
     step.is_answered = true;
     Ok(())
 }
 
-// Adds what a line says of a case that is begun.
+// Adds a line to the case being read.
 fn add_line(alloc: Global, case: &mut Case, text: &str) -> Result<(), LineFault> {
     if let Some(text) = text.strip_prefix("  ") {
         return add_reply(alloc, case, text);
@@ -217,7 +217,7 @@ fn add_line(alloc: Global, case: &mut Case, text: &str) -> Result<(), LineFault>
             None => return Err(NO_KIND),
         },
         "takes" if case.room.is_none() => case.room = Some(room_in(words)?),
-        "uncut" if text != "uncut" => return Err(LineFault::Bad("nothing stands behind uncut")),
+        "uncut" if text != "uncut" => return Err(LineFault::Bad("nothing may follow uncut")),
         "uncut" if !case.is_uncut => case.is_uncut = true,
         "vary" if case.varied.is_none() => match number_in(words) {
             Some(count) => case.varied = Some(count),
@@ -239,7 +239,7 @@ fn add_line(alloc: Global, case: &mut Case, text: &str) -> Result<(), LineFault>
     Ok(())
 }
 
-// Reads one line: passed over, the beginning of a case, or a line of the last case.
+// Reads one line: a comment, the start of a case, or a line of the current one.
 fn read_line(alloc: Global, cases: &mut Vec<Case>, line: &[u8]) -> Result<(), LineFault> {
     let Some(text) = line_text(line)? else {
         return Ok(());
@@ -256,8 +256,7 @@ fn read_line(alloc: Global, cases: &mut Vec<Case>, line: &[u8]) -> Result<(), Li
     }
 }
 
-/// The cases of a file of this name and these bytes; or its first line that isn't of the format, and why. A file
-/// without a case isn't of the format.
+/// Reads the cases of a file from its bytes. Fails at the first invalid line, or if there is no case.
 pub fn read_cases<'a>(
     alloc: Global,
     name: &'a str,

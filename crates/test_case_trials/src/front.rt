@@ -1,13 +1,13 @@
-//! Cases whose client's bytes are cut, or one of them is another: what comes of them.
+//! Checks trials in which the client's bytes are cut short or one of them is changed.
 use crate::outcome::{Difference, Outcome, count_differs, differing, output_differs};
+use std::alloc::{AllocError, Global};
+use std::io::ErrorKind;
 use test_case_files::case::{Case, CaseStep, Deed};
 use test_plain_reading::lenient::plain_lines;
 use test_plain_reading::standard::standard_lines;
-use std::alloc::{AllocError, Global};
-use std::io::ErrorKind;
 use tiny_http_core::framing::Profile;
 
-// The lines of the requests that were handed out in a trial.
+// Returns the reply lines of the requests that a trial returned.
 fn handed_in<'a>(alloc: Global, outcome: &'a Outcome) -> Result<Vec<&'a [u8]>, AllocError> {
     let mut handed = Vec::new(alloc);
     for reply in &outcome.replies {
@@ -18,7 +18,7 @@ fn handed_in<'a>(alloc: Global, outcome: &'a Outcome) -> Result<Vec<&'a [u8]>, A
     Ok(handed)
 }
 
-// The lines of the requests that a case hands out.
+// Returns the reply lines of the requests that a case returns.
 fn handed_of<'a>(alloc: Global, case: &'a Case) -> Result<Vec<&'a [u8]>, AllocError> {
     let mut handed = Vec::new(alloc);
     for step in &case.steps {
@@ -31,7 +31,7 @@ fn handed_of<'a>(alloc: Global, case: &'a Case) -> Result<Vec<&'a [u8]>, AllocEr
     Ok(handed)
 }
 
-// The first request that was handed out and is not the one that is wanted there.
+// Returns the first request that differs from the expected one at its position.
 fn handed_differ(
     alloc: Global,
     found: &[&[u8]],
@@ -47,7 +47,7 @@ fn handed_differ(
     Ok(None)
 }
 
-// The number of the request that a step reads, as its line has it.
+// Returns the number of the request that a step reads, as its line states it.
 fn read_number(step: &CaseStep) -> Option<&str> {
     match &step.deed {
         Deed::Script(line) => {
@@ -58,12 +58,12 @@ fn read_number(step: &CaseStep) -> Option<&str> {
     }
 }
 
-// The bytes that a reply gives.
+// Returns the bytes of a `given` reply.
 fn given_in(reply: &[u8]) -> &[u8] {
     reply.strip_prefix(b"given ").unwrap_or_default()
 }
 
-// What the reads of the request of this number gave, in the trial and in the case.
+// Returns what the reads of the request with this number returned in the trial, and what they return in the case.
 fn given_of(
     alloc: Global,
     case: &Case,
@@ -82,7 +82,7 @@ fn given_of(
     Ok((found, wanted))
 }
 
-// The first request whose reads gave what is no front of what they give in the case.
+// Returns the first request whose reads returned something that is not a prefix of what they return in the case.
 fn given_differs(
     alloc: Global,
     case: &Case,
@@ -98,8 +98,8 @@ fn given_differs(
     Ok(None)
 }
 
-// The first reply that differs and isn't that of an `ask` or a `read`, by which alone the client is read; or a reply
-// that is missing.
+// Returns the first reply that differs, unless it belongs to an `ask` or a `read`: only these read from the client. A
+// missing reply is a difference, too.
 fn first_reply_differs(
     alloc: Global,
     case: &Case,
@@ -124,12 +124,13 @@ fn first_reply_differs(
     Ok(None)
 }
 
-// Whether what is left of an output begins with an answer, so that the answers in front of it are whole.
+// Returns whether the rest of an output is empty or begins with a response, so that the responses before it are
+// complete.
 fn is_answer_or_none(rest: &[u8]) -> bool {
     rest.is_empty() || rest.starts_with(b"HTTP/")
 }
 
-// Whether only whole answers are sent in a case: by no step a request gets a raw writer.
+// Returns whether a case sends only complete responses: no request is upgraded or gives its raw writer away.
 fn has_whole_answers(case: &Case) -> bool {
     case.steps.iter().all(|step| match &step.deed {
         Deed::Script(line) => !line.starts_with("writer ") && !line.starts_with("upgrade "),
@@ -137,7 +138,7 @@ fn has_whole_answers(case: &Case) -> bool {
     })
 }
 
-// An answer that was cut: what was sent ends where no answer of the case does.
+// Returns a difference if the output ends within a response of the case.
 fn answer_is_cut(
     alloc: Global,
     case: &Case,
@@ -151,10 +152,10 @@ fn answer_is_cut(
     differing(alloc, what, output, case.output.as_slice())
 }
 
-// The bytes of a date.
+// Length of a date.
 const DATE: usize = 29;
 
-// An output without the 408 at its end, which says by the standard that the connection ends.
+// Returns the output before a final 408. Under the standard profile that response also has `Connection: close`.
 fn before_408(profile: Profile, output: &[u8]) -> Option<&[u8]> {
     let dated = output.strip_suffix(b"\r\nContent-Length: 0\r\n\r\n")?;
     let front = match profile {
@@ -165,7 +166,8 @@ fn before_408(profile: Profile, output: &[u8]) -> Option<&[u8]> {
     dated.strip_suffix(b"HTTP/1.1 408 Request Timeout\r\nServer: tiny-http (Rust)\r\nDate: ")
 }
 
-// What an output has in front of the 408 that a time-out may have led to, where the case has none there.
+// Returns the output without a final 408, if the bytes were cut by a timeout, which may cause one, and the case has
+// none there.
 fn without_408<'a>(case: &Case, output: &'a [u8], stop: Option<ErrorKind>) -> &'a [u8] {
     if stop != Some(ErrorKind::TimedOut) || case.output.starts_with(output) {
         return output;
@@ -175,7 +177,7 @@ fn without_408<'a>(case: &Case, output: &'a [u8], stop: Option<ErrorKind>) -> &'
 
 const CLOSE: &[u8] = b"Connection: close\r\n";
 
-// Where an output says for the last time that the connection ends.
+// Returns the position of the last `Connection: close` field line of an output.
 fn last_close(output: &[u8]) -> Option<usize> {
     (0..output.len()).rev().find(|place| output
         .get(*place..)
@@ -183,8 +185,8 @@ fn last_close(output: &[u8]) -> Option<usize> {
         .starts_with(CLOSE))
 }
 
-// An output without what its last answer says by the standard of a body that was cut: that the connection ends, which
-// the case doesn't say there. None where it says nothing else than the case.
+// Returns the output without the `Connection: close` of its last response. Under the standard profile a cut body adds
+// this field, which the case does not have there. Returns `None` if the output is a prefix of the case's.
 fn without_close(alloc: Global, case: &Case, output: &[u8]) -> Result<Option<Vec<u8>>, AllocError> {
     if case.profile != Profile::Standard || case.output.starts_with(output) {
         return Ok(None);
@@ -199,11 +201,11 @@ fn without_close(alloc: Global, case: &Case, output: &[u8]) -> Result<Option<Vec
     Ok(Some(front))
 }
 
-/// Where an outcome is no prefix of its case, whose client's bytes were cut, with this fault of the reader or an end
-/// behind them. The requests that are handed out are the first of the case's. What their bodies give is a prefix of
-/// what they give there. The first reply that is another one is that of an `ask` or a `read`. The output is whole
-/// answers, a prefix of the case's, behind which a 408 may stand where a time-out cut the bytes, and whose last
-/// answer may say by the standard that the connection ends. The writer doesn't fail.
+/// Returns the first difference of a trial from its case, whose client's bytes were cut short at an end or, if `stop`
+/// is set, a reader error. The requests must be the first ones of the case, and what their bodies return a prefix of
+/// what they return there. The first reply that differs belongs to an `ask` or a `read`. The output consists of
+/// complete responses and is a prefix of the case's. After a timeout a 408 may follow it, and under the standard
+/// profile its last response may have `Connection: close`. The writer does not fail.
 pub fn cut_difference(
     alloc: Global,
     case: &Case,
@@ -233,8 +235,8 @@ pub fn cut_difference(
     count_differs(alloc, "failures", outcome.failures, 0)
 }
 
-/// Where the requests that are handed out of these bytes are not those that a plain reading of them finds, by the
-/// case's profile. The strict profile has none: no case of it has its bytes replaced.
+/// Returns the first difference between the requests read from these bytes and those that a plain reading finds under
+/// the case's profile. There is no plain reading for the strict profile, and no case under it has its bytes changed.
 pub fn plain_difference(
     alloc: Global,
     case: &Case,

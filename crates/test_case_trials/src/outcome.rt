@@ -1,26 +1,26 @@
-//! What comes of a trial of a case, and where it differs from what the case says.
+//! The outcome of a trial, and its differences from the case.
+use std::alloc::{AllocError, Global};
 use test_case_files::case::{Case, CaseStep};
 use test_data_files::text::shown;
-use std::alloc::{AllocError, Global};
 
-/// What came of a trial.
+/// The outcome of a trial.
 #[derive(Drop)]
 pub struct Outcome {
-    /// The line of each step's reply.
+    /// The reply line of each step.
     pub replies: Vec<Vec<u8>>,
-    /// What the writer took, and what was held back.
+    /// The bytes that the writer accepted, and then those still buffered.
     pub output: Vec<u8>,
     /// Whether a call of the writer failed.
     pub has_failed: bool,
-    /// How many failures were counted.
+    /// Number of counted failures.
     pub failures: u64,
-    /// How many calls came after one that failed.
+    /// Number of calls of the writer after one that failed.
     pub later: u64,
-    /// Why no further request comes, if that can be known.
+    /// Why no further request comes, if known.
     pub end: Option<Vec<u8>>,
 }
 
-/// Where an outcome first differs from its case: what differs, what was found, and what the case says.
+/// The first difference of an outcome: what differs, the value found, and the expected one.
 #[derive(Drop)]
 pub struct Difference {
     pub what: String,
@@ -28,7 +28,7 @@ pub struct Difference {
     pub wanted: String,
 }
 
-/// Such a difference, of bytes.
+/// Builds a difference of byte strings.
 pub fn differing(
     alloc: Global,
     what: String,
@@ -42,19 +42,19 @@ pub fn differing(
     }))
 }
 
-// Whether a reply is one that a failing writer leads to in place of the case's: the answer's data were not read, as
-// the output had ended, so that their fault wasn't met.
+// Returns whether a failed writer explains this reply. The output had ended, so the response's data were not read and
+// their error did not occur.
 fn is_unmet(step: &CaseStep, found: &[u8]) -> bool {
     step.is_answer() && found == b"done".as_slice() && step.reply.starts_with(b"fault ")
 }
 
-// Whether the reply reports the fault of the call that was made to fail.
+// Returns whether a reply reports the injected failure.
 fn is_reported(step: &CaseStep, found: &[u8]) -> bool {
     step.may_report() && found == b"fault Interrupted".as_slice()
 }
 
-// The first reply that differs, of the steps that have replies. Where a call was made to fail, one of them may report
-// that.
+// Returns the first reply that differs, of the steps that have replies. If a call failed by injection, one reply may
+// report that.
 fn replies_differ(
     alloc: Global,
     case: &Case,
@@ -89,7 +89,7 @@ fn replies_differ(
     }
 }
 
-/// A count that differs.
+/// Returns a difference unless the counts are equal.
 pub fn count_differs(
     alloc: Global,
     what: &str,
@@ -106,7 +106,7 @@ pub fn count_differs(
     }))
 }
 
-// The place of the first byte that differs.
+// Returns the index of the first byte that differs.
 fn first_place(found: &[u8], wanted: &[u8]) -> usize {
     found
         .iter()
@@ -115,7 +115,8 @@ fn first_place(found: &[u8], wanted: &[u8]) -> usize {
         .unwrap_or(found.len().min(wanted.len()))
 }
 
-/// The output, where it differs: from where on, and both texts from there. A front may be enough.
+/// Returns a difference unless the outputs are equal or, if `is_front`, `found` is a prefix. It shows both from the
+/// first byte that differs.
 pub fn output_differs(
     alloc: Global,
     found: &[u8],
@@ -132,7 +133,7 @@ pub fn output_differs(
     differing(alloc, what, found, wanted)
 }
 
-// The first reply that differs from another outcome's.
+// Returns the first reply that differs from another outcome's.
 fn reply_differs(
     alloc: Global,
     found: &Outcome,
@@ -150,7 +151,7 @@ fn reply_differs(
     count_differs(alloc, "replies", count as u64, whole as u64)
 }
 
-// Why no further request comes, as bytes; none where it isn't known.
+// Returns why no further request comes, or nothing if it is not known.
 fn end_known(outcome: &Outcome) -> &[u8] {
     match &outcome.end {
         Some(end) => end.as_slice(),
@@ -158,7 +159,7 @@ fn end_known(outcome: &Outcome) -> &[u8] {
     }
 }
 
-/// Where an outcome first differs from another one: in a reply, the output, the count of failures, or the end.
+/// Returns the first difference from another outcome: in a reply, the output, the count of failures, or the end.
 pub fn outcomes_differ(
     alloc: Global,
     found: &Outcome,
@@ -183,7 +184,7 @@ pub fn outcomes_differ(
     differing(alloc, what, end, other)
 }
 
-// Why no further request comes, where the case says so, it is known, and it differs.
+// Returns a difference if the case states why no further request comes, and the known reason is another one.
 fn end_differs(
     alloc: Global,
     case: &Case,
@@ -199,10 +200,9 @@ fn end_differs(
     differing(alloc, what, found.as_slice(), wanted.as_slice())
 }
 
-/// Where the outcome of a trial first differs from what its case says, if it does. Where a call of the writer failed
-/// that was made to, the output is a front of the case's, one failure is counted, and the replies are those of the
-/// case but for one that reports it, and for faults of data that were not read after it. After a failure the writer
-/// is never called again.
+/// Returns the first difference of a trial's outcome from its case, if any. If a writer's call failed by injection, the
+/// output may be a prefix of the case's, and exactly one failure is counted. One reply may then report it, and errors
+/// of data that were not read may be missing. After a failure the writer is never called again.
 pub fn first_difference(
     alloc: Global,
     case: &Case,

@@ -1,4 +1,4 @@
-//! The lines of replies.
+//! Formats replies as the lines of a case.
 use replay_script::reply::ReplyLine;
 use std::alloc::{AllocError, Global};
 use std::fmt::Write;
@@ -7,7 +7,7 @@ use tiny_http_core::driver::Reply;
 use tiny_http_core::exchange::EndOfRequests;
 use tiny_http_wire::common::{HTTPVersion, Header, Method};
 
-// Writes the length that a head says, or `-`.
+// Appends the content length of a head, or `-`.
 fn add_length(line: &mut String, length: Option<usize>) -> Result<(), AllocError> {
     match length {
         Some(length) => write!(line, " {length}"),
@@ -15,7 +15,7 @@ fn add_length(line: &mut String, length: Option<usize>) -> Result<(), AllocError
     }
 }
 
-/// The line of a request that was handed out under this number: as a script's, and then each header in brackets.
+/// Formats a request with this number: the line of a script, and then each header in brackets.
 pub fn handed_line(
     alloc: Global,
     (number, method): (&str, &Method),
@@ -33,12 +33,12 @@ pub fn handed_line(
     Ok(line.into_bytes())
 }
 
-/// The line of a fault of this kind.
+/// Formats an error of this kind.
 pub fn fault_line(alloc: Global, kind: ErrorKind) -> Result<Vec<u8>, AllocError> {
     Ok(format!(in alloc; "fault {kind:?}")?.into_bytes())
 }
 
-/// The line of bytes that a read gave.
+/// Formats the bytes that a read returned.
 pub fn given_line(alloc: Global, bytes: &[u8]) -> Result<Vec<u8>, AllocError> {
     let mut line = b"given".to_vec(alloc)?;
     if !bytes.is_empty() {
@@ -48,7 +48,7 @@ pub fn given_line(alloc: Global, bytes: &[u8]) -> Result<Vec<u8>, AllocError> {
     Ok(line)
 }
 
-/// The line of a reply of `run`.
+/// Formats a reply of `run`.
 pub fn reply_line(alloc: Global, reply: &Reply) -> Result<Vec<u8>, AllocError> {
     match reply {
         Reply::Handed(number, head) => {
@@ -69,7 +69,7 @@ pub fn reply_line(alloc: Global, reply: &Reply) -> Result<Vec<u8>, AllocError> {
     }
 }
 
-/// The words for why no further request comes; `open` where one may.
+/// Formats why no further request comes, or `open` if one may.
 pub fn end_words(alloc: Global, end: Option<EndOfRequests>) -> Result<Vec<u8>, AllocError> {
     let words = match end {
         None => "open",

@@ -3,39 +3,39 @@ use crate::front::{cut_difference, plain_difference};
 use crate::outcome::{Difference, Outcome, first_difference, outcomes_differ};
 use crate::steps::StepsFault;
 use crate::trial::{Harm, Trial};
+use std::alloc::{AllocError, Global};
+use std::io;
+use std::io::{ErrorKind, Write};
 use test_case_files::case::Case;
 use test_case_files::devices::PIECES;
 use test_case_files::reading::read_cases;
 use test_data_files::fault::FilesFault;
 use test_data_files::kinds::kind_at;
 use test_data_files::program::NamedFile;
-use std::alloc::{AllocError, Global};
-use std::io;
-use std::io::{ErrorKind, Write};
 
 /// A way to run the steps of a case.
 pub trait Runner {
-    /// How the lines of a report say that a case was run in this way.
+    /// Returns the words that name this way in a report.
     fn how(&self) -> &'static str;
 
-    /// Whether it says the number of a request by itself, and doesn't take it from the case.
+    /// Returns whether this way reports the requests' numbers itself, instead of taking them from the case.
     fn knows_numbers(&self) -> bool;
 
-    /// Whether the case is one that this way can run.
+    /// Returns whether this way can run the case.
     fn takes(&self, case: &Case) -> bool;
 
-    /// Runs the steps of a case over the reader and the writer of a trial.
+    /// Runs the steps of a case over the trial's reader and writer.
     fn run(&mut self, alloc: Global, case: &Case, trial: Trial) -> Result<Outcome, StepsFault>;
 }
 
-/// The cases of a file, and its name.
+/// The name and the cases of a file.
 #[derive(Drop)]
 pub struct CaseFile<'a> {
     pub name: &'a str,
     pub cases: Vec<Case>,
 }
 
-/// The cases of each of these files; or the first line that isn't of the format, and why.
+/// Reads the cases of these files. Fails at the first invalid line.
 pub fn files_of<'a>(
     alloc: Global,
     files: &[NamedFile<'a>],
@@ -49,17 +49,17 @@ pub fn files_of<'a>(
     Ok(all)
 }
 
-/// How many cases were tried, how often they were run, and how many of the runs differ.
+/// The number of cases, runs and differing runs.
 #[derive(Clone, Copy, Debug, PartialEq, Eq)]
 pub struct Tally {
     pub cases: u64,
-    /// Runs of whole cases.
+    /// Runs of complete cases.
     pub runs: u64,
-    /// Runs in which the client's bytes were cut.
+    /// Runs with the client's bytes cut short.
     pub cuts: u64,
-    /// Runs in which a call of the reader failed once.
+    /// Runs in which one call of the reader failed.
     pub faults: u64,
-    /// Runs in which one of the client's bytes was replaced.
+    /// Runs with one of the client's bytes replaced.
     pub changes: u64,
     pub differing: u64,
 }
@@ -77,11 +77,11 @@ impl Tally {
     }
 }
 
-// The most calls of the writer that are made to fail.
+// Maximum number of writer calls that are made to fail.
 const MOST_CALLS: u64 = 10_000;
 
-// Where the outcome of a trial differs from what it should be. A fault of the reader ends its bytes for good: what it
-// leads to is what comes where the bytes are cut there.
+// Returns the difference of a trial's outcome. A reader error is final: it must have the same effect as a cut at that
+// point.
 fn difference_of<'a, F: Runner>(
     (alloc, runner): (Global, &mut F),
     case: &Case,
@@ -106,7 +106,7 @@ fn difference_of<'a, F: Runner>(
     })
 }
 
-// Reports a difference by a line.
+// Prints one line for a difference.
 fn report<O: Write>(
     out: &mut O,
     (case, how): (&Case, &str),
@@ -123,7 +123,7 @@ fn report<O: Write>(
     )
 }
 
-// Tries a case once, and says whether a call of the writer failed that was made to.
+// Tries a case once. Returns whether a call of the writer failed.
 fn try_once<'a, F: Runner, O: Write>(
     (alloc, runner): (Global, &mut F),
     out: &mut O,
@@ -169,13 +169,13 @@ fn try_failing<'a, F: Runner, O: Write>(
     }
 }
 
-// Whether the bytes of a client are cut behind this many: at each place, but of a long one in its middle, where it is
-// at some.
+// Returns whether to cut a client's bytes after `count` of them: at every position, but only at some in the middle of a
+// long input.
 fn is_cut_at(count: usize, length: usize) -> bool {
     count < 1200 || length.saturating_sub(count) <= 50 || count % 997 == 0
 }
 
-// Tries a case with the client's bytes cut, by an end, by a time-out, and by the other kinds of fault in turn; and
+// Tries a case with the client's bytes cut short at an end, at a timeout, and at the other error kinds in turn; and
 // with the reader failing once there.
 fn try_cuts<'a, F: Runner, O: Write>(
     (alloc, runner): (Global, &mut F),
@@ -197,7 +197,7 @@ fn try_cuts<'a, F: Runner, O: Write>(
     Ok(())
 }
 
-// Tries a case with each of its first bytes replaced by each value.
+// Tries a case with each of its first bytes replaced by every value.
 fn try_bytes<'a, F: Runner, O: Write>(
     (alloc, runner): (Global, &mut F),
     out: &mut O,
@@ -213,7 +213,8 @@ fn try_bytes<'a, F: Runner, O: Write>(
     Ok(())
 }
 
-// Tries a case by each reader, and with each call of the writer failing unless the case says how its writer fails.
+// Tries a case with each reader. Also makes each call of the writer fail, unless the case determines how its writer
+// fails.
 fn try_whole<'a, F: Runner, O: Write>(
     (alloc, runner): (Global, &mut F),
     out: &mut O,
@@ -230,7 +231,7 @@ fn try_whole<'a, F: Runner, O: Write>(
     }
 }
 
-// Tries a case with the client's whole bytes, and where these give what they should, with other bytes.
+// Tries a case with the client's complete bytes and, if these lead to the expected outcome, with changed ones.
 fn try_case<'a, F: Runner, O: Write>(
     (alloc, runner): (Global, &mut F),
     out: &mut O,
@@ -252,8 +253,8 @@ fn try_case<'a, F: Runner, O: Write>(
     }
 }
 
-// Tries the cases of a file that the runner takes, but for those at the left out places, and reports each run that
-// differs by a line. What came of them, and the places of the cases that differ.
+// Tries the cases of a file that the runner can run, except for those at the indices `left_out`, and prints one line
+// for each run that differs. Returns the tally, and the indices of the cases that differ.
 fn try_cases<'a, F: Runner, O: Write>(
     (alloc, runner): (Global, &mut F),
     out: &mut O,
@@ -281,8 +282,8 @@ fn try_cases<'a, F: Runner, O: Write>(
     Ok((tally, places))
 }
 
-/// Tries the cases of a file that the runner takes, but for those at the left out places, reports each run that
-/// differs by a line, and then the file by a line. The places of the cases that differ.
+/// Tries the cases of a file that the runner can run, except for those at the indices `left_out`. Prints one line for
+/// each run that differs, and then one for the file. Returns the indices of the cases that differ.
 pub fn try_file<'a, F: Runner, O: Write>(
     alloc: Global,
     runner: &mut F,
@@ -312,8 +313,8 @@ pub fn try_file<'a, F: Runner, O: Write>(
     Ok(places)
 }
 
-/// Tries the cases of all files in the first way, and those that did not differ in each of the others, where a case
-/// with a wrong reply might wait for ever. Whether no run differed.
+/// Tries the cases of all files in the first way. Those that did not differ are tried in the other ways, too, where a
+/// case with a wrong reply might wait forever. Returns whether no run differed.
 pub fn try_files<'a, F: Runner, G: Runner, O: Write>(
     alloc: Global,
     (first, others): (&mut F, &mut [G]),

@@ -1,18 +1,18 @@
-//! The steps of a case, as a connection takes them.
-use test_case_files::case::{Answer, Case, Deed};
+//! Converts the steps of a case to those of a connection.
 use httpdate::HttpDate;
 use replay_script::line::{ScriptLine, text_in};
 use replay_script::script::{first_date, step_in};
 use replay_script::script_data::ScriptData;
 use std::alloc::{AllocError, Global};
+use test_case_files::case::{Answer, Case, Deed};
 use tiny_http_core::driver::{Step, Timed};
 use tiny_http_wire::common::{Header, StatusCode};
 use tiny_http_wire::response::Response;
 
-/// Why a case has no such steps.
+/// Why the steps of a case can't be converted.
 #[derive(Clone, Copy, Debug, PartialEq, Eq)]
 pub enum StepsFault {
-    /// A header line of an answer can't be read as one.
+    /// A header line of a response is invalid.
     BadHeader,
     OutOfMemory,
 }
@@ -38,8 +38,7 @@ fn with_header(
     }
 }
 
-/// The response of an answer: its data and what is stated of their length, and then its headers, each added to those
-/// before.
+/// Builds the response of an answer: its data and content length, and then its headers, each added to those before.
 pub fn response_of(alloc: Global, answer: &Answer) -> Result<Response<ScriptData>, StepsFault> {
     let data = ScriptData::from_bytes(answer.data.as_slice().to_vec(alloc)?, answer.fault);
     let status = StatusCode(answer.status);
@@ -59,7 +58,7 @@ pub fn response_of(alloc: Global, answer: &Answer) -> Result<Response<ScriptData
     Ok(response)
 }
 
-/// What a deed does on a connection, and the date from it on; no step where it is a date.
+/// Converts a step. Returns it and the date from then on; there is no step if it is a date.
 pub fn step_of(
     alloc: Global,
     deed: &Deed,
@@ -78,7 +77,7 @@ pub fn step_of(
     }
 }
 
-/// The steps of a case, each on its date.
+/// Converts the steps of a case, each with its date.
 pub fn steps_of(alloc: Global, case: &Case) -> Result<Vec<Timed<ScriptData>>, StepsFault> {
     let mut steps = Vec::new(alloc);
     let mut now = first_date();

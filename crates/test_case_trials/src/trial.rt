@@ -1,39 +1,38 @@
-//! How a case is tried.
-use test_case_files::case::Case;
-use test_case_files::devices::{Reader, Trier};
+//! The ways in which a case is tried.
 use std::alloc::{AllocError, Global};
 use std::fmt;
 use std::io::ErrorKind;
+use test_case_files::case::Case;
+use test_case_files::devices::{Reader, Trier};
 use tiny_http_wire::device::{ByPieces, Canned, FailsAt};
 
-/// What is done to a case in a trial.
+/// A fault injected into a case.
 #[derive(Clone, Copy, Debug, PartialEq, Eq)]
 pub enum Harm {
-    /// This call of the writer, counted from 1, fails.
+    /// This call of the writer fails, counted from 1.
     Call(u64),
-    /// So many of the client's bytes come. Then the reader fails by this kind, or ends.
+    /// Only this many of the client's bytes arrive. Then the reader fails with this kind, or reports the end.
     Cut(usize, Option<ErrorKind>),
-    /// The reader's call behind so many of the client's bytes fails once, by this kind. The reader gives one byte a
-    /// call.
+    /// The reader returns one byte a call. The call after this many of the client's bytes fails once, with this kind.
     Once(usize, ErrorKind),
-    /// The client's byte at this place is this one.
+    /// The client's byte at this index is replaced by this value.
     Byte(usize, u8),
 }
 
-/// How a case is tried.
+/// One way to try a case.
 #[derive(Clone, Copy, Debug, PartialEq, Eq)]
 pub struct Trial {
-    /// The most bytes that a call of the reader gives.
+    /// Maximum number of bytes a call of the reader returns.
     pub piece: usize,
-    /// What is done to it, if anything is.
+    /// The injected fault, if any.
     pub harm: Option<Harm>,
 }
 
-/// The kind by which a call of the writer is made to fail: that by which much code tries again.
+/// The error kind of an injected writer failure. Much code retries a call that fails with it.
 pub const FAILING: ErrorKind = ErrorKind::Interrupted;
 
 impl Trial {
-    /// A trial in which this is done to a case.
+    /// Creates a trial with this injected fault.
     pub fn harmed(harm: Harm) -> Trial {
         let piece = match harm {
             Harm::Once(..) => 1,
@@ -43,7 +42,7 @@ impl Trial {
         Trial { piece, harm }
     }
 
-    /// What the client sends in this trial.
+    /// Returns the bytes that the client sends in this trial.
     pub fn client(&self, alloc: Global, case: &Case) -> Result<Vec<u8>, AllocError> {
         let whole = case.client.as_slice();
         match self.harm {
@@ -59,7 +58,7 @@ impl Trial {
         }
     }
 
-    /// The reader of this trial.
+    /// Returns the reader of this trial.
     pub fn reader(&self, alloc: Global, case: &Case) -> Result<Reader, AllocError> {
         let stop = match self.harm {
             Some(Harm::Cut(_, stop)) => stop,
@@ -75,7 +74,7 @@ impl Trial {
         })
     }
 
-    /// The writer of this trial.
+    /// Returns the writer of this trial.
     pub fn writer(&self, alloc: Global, case: &Case) -> Trier {
         match (self.harm, case.room) {
             (Some(Harm::Call(call)), _) => Trier::failing_at(alloc, call, FAILING),
@@ -94,7 +93,7 @@ impl fmt::Display for Trial {
             Some(Harm::Call(call)) => write!(f, ", call {call} failing"),
             Some(Harm::Cut(count, None)) => write!(f, ", cut at {count}"),
             Some(Harm::Cut(count, Some(kind))) => write!(f, ", cut at {count} by {kind:?}"),
-            Some(Harm::Once(count, kind)) => write!(f, ", {kind:?} once behind {count}"),
+            Some(Harm::Once(count, kind)) => write!(f, ", {kind:?} once after {count}"),
             Some(Harm::Byte(place, byte)) => write!(f, ", byte {place} being {byte}"),
         }
     }

@@ -1,27 +1,27 @@
-//! The cases by the calls of a connection and of its requests behind locks, in one thread.
+//! Runs cases by the calls of a connection and its requests, on one thread.
 use crate::holding::{Below, Connected, Holding, Input};
 use crate::shared::{Shared, TrialSocket};
 use crate::treating::treat;
+use std::alloc::{AllocError, Global};
+use std::sync::{Arc, Mutex, Wait};
 use test_case_files::case::Case;
 use test_case_trials::outcome::Outcome;
 use test_case_trials::report::Runner;
 use test_case_trials::steps::{StepsFault, steps_of};
 use test_case_trials::trial::Trial;
-use std::alloc::{AllocError, Global};
-use std::sync::{Arc, Mutex, Wait};
 use tiny_http_request::client::ClientConnection;
 use tiny_http_socket::cork::halves;
 
-/// When answers leave.
+/// When responses leave.
 #[derive(Clone, Copy, Debug, PartialEq, Eq)]
 pub(crate) enum Leaving {
-    /// Each by itself, as where a server's requests are received.
+    /// One by one, as when a server's requests are received.
     Alone,
-    /// Those that follow each other at once, as where a server serves by a handler.
+    /// Successive ones together, as when a server serves with a handler.
     Together,
 }
 
-/// Runs steps by the calls of a connection and of its requests.
+/// Runs steps by the calls of a connection and its requests.
 #[derive(Drop)]
 pub(crate) struct ByRequests<R> {
     rt: R,
@@ -29,14 +29,14 @@ pub(crate) struct ByRequests<R> {
 }
 
 impl<R> ByRequests<R> {
-    /// Runs steps over this runtime.
+    /// Creates a runner on this runtime.
     pub(crate) fn new(rt: R, leaving: Leaving) -> ByRequests<R> {
         ByRequests { rt, leaving }
     }
 }
 
 impl<R: Wait + Copy> ByRequests<R> {
-    // A connection over these halves.
+    // Creates a connection over these halves.
     fn connected(
         &self,
         alloc: Global,
@@ -69,13 +69,13 @@ impl<R: Wait + Copy> Runner for ByRequests<R> {
         }
     }
 
-    /// A request doesn't say its number.
+    /// Returns false: a request does not report its number.
     fn knows_numbers(&self) -> bool {
         false
     }
 
-    /// In one thread no call waits: a case with a step that is put off is left out. Where answers wait, a fault is
-    /// reported by a later step than the case's.
+    /// Returns whether no step has to wait, as a single thread can't. If responses leave together, an error is reported
+    /// by a later step than in the case, so a case whose writer has a limit is left out.
     fn takes(&self, case: &Case) -> bool {
         if self.leaving == Leaving::Together && case.room.is_some() {
             return false;
@@ -85,7 +85,7 @@ impl<R: Wait + Copy> Runner for ByRequests<R> {
             .all(|step| step.reply.as_slice() != b"notyet".as_slice())
     }
 
-    /// Makes the call that each step names. At last what is held back is sent.
+    /// Makes the call of each step, and finally sends what is buffered.
     fn run(&mut self, alloc: Global, case: &Case, trial: Trial) -> Result<Outcome, StepsFault> {
         let writer = Arc::new(alloc, Mutex::new(trial.writer(alloc, case)));
         let writer = writer.map_err(AllocError::from)?;

@@ -1,11 +1,11 @@
-//! The cases by `run_with`.
+//! Runs cases by `run_with`.
+use std::alloc::{AllocError, Global};
 use test_case_files::case::Case;
 use test_case_trials::outcome::Outcome;
 use test_case_trials::replies::{end_words, reply_line};
 use test_case_trials::report::Runner;
 use test_case_trials::steps::{StepsFault, steps_of};
 use test_case_trials::trial::Trial;
-use std::alloc::{AllocError, Global};
 use tiny_http_core::driver::{Connection, Reply, run_with};
 use tiny_http_wire::device::{Metered, WriteDevice};
 
@@ -13,7 +13,7 @@ use tiny_http_wire::device::{Metered, WriteDevice};
 #[derive(Drop)]
 pub(crate) struct ByRun;
 
-// The lines of the replies.
+// Formats the replies.
 fn lines_of(alloc: Global, replies: &[Reply]) -> Result<Vec<Vec<u8>>, AllocError> {
     let mut lines = Vec::new(alloc);
     for reply in replies {
@@ -22,7 +22,7 @@ fn lines_of(alloc: Global, replies: &[Reply]) -> Result<Vec<Vec<u8>>, AllocError
     Ok(lines)
 }
 
-// Why no further request comes after the steps, if the case says so: no reply does.
+// Returns why no further request comes after the steps, if the case states it; the replies do not include it.
 fn end_of(alloc: Global, case: &Case, trial: Trial) -> Result<Option<Vec<u8>>, StepsFault> {
     if case.end.is_none() {
         return Ok(None);
@@ -45,12 +45,12 @@ impl Runner for ByRun {
         true
     }
 
-    /// A run takes all steps.
+    /// Returns true: `run_with` takes every step.
     fn takes(&self, _case: &Case) -> bool {
         true
     }
 
-    /// Runs the steps. The output is what the writer took, and what was held back.
+    /// Runs the steps. The output is what the writer accepted and what is still buffered.
     fn run(&mut self, alloc: Global, case: &Case, trial: Trial) -> Result<Outcome, StepsFault> {
         let reader = trial.reader(alloc, case)?;
         let writer = Metered::new(trial.writer(alloc, case));

@@ -1,10 +1,10 @@
-//! A connection, and what the program holds of its requests.
+//! A connection, and the requests that the program holds.
 use crate::shared::TrialSocket;
-use test_case_files::devices::Reader;
 use httpdate::HttpDate;
 use std::alloc::{AllocError, Global};
 use std::io::Write;
 use std::sync::{Arc, Wait};
+use test_case_files::devices::Reader;
 use tiny_http_core::custom_stream::CustomStream;
 use tiny_http_core::outlet::Outlet;
 use tiny_http_request::client::ClientConnection;
@@ -18,16 +18,15 @@ pub(crate) type Below<R> = CorkedWriter<TrialSocket<R>, R>;
 /// The reader below a connection's input.
 pub(crate) type Input<R> = FlushingReader<Reader, TrialSocket<R>>;
 
-/// A connection.
 pub(crate) type Connected<R> = ClientConnection<Input<R>, Below<R>, R>;
 
-/// A request of these connections.
+/// A request of such a connection.
 pub(crate) type Asked<R> = Request<Input<R>, Below<R>, R>;
 
-/// A raw writer of these connections.
+/// A raw writer of such a connection.
 pub(crate) type RawWriter<R> = SequentialWriter<Outlet<Below<R>>, R>;
 
-/// The stream of an upgrade.
+/// The stream of an upgraded request.
 pub(crate) type Stream<R> = CustomStream<Body<Input<R>, R>, RawWriter<R>>;
 
 /// What is held under a number.
@@ -38,7 +37,7 @@ pub(crate) enum Held<R: Wait + Copy> {
     Stream(Stream<R>),
 }
 
-/// What is held, its number, and whether it has written what may not have been sent yet.
+/// What is held, its number, and whether it may have written bytes that are not sent yet.
 #[derive(Drop)]
 struct Numbered<R: Wait + Copy> {
     number: u64,
@@ -55,7 +54,7 @@ pub(crate) struct Holding<R: Wait + Copy> {
 }
 
 impl<R: Wait + Copy> Holding<R> {
-    /// Holds nothing of this connection, whose halves share this cork.
+    /// Creates a holding without requests. The halves of `client` share `cork`.
     pub(crate) fn new(
         alloc: Global,
         client: Connected<R>,
@@ -68,14 +67,14 @@ impl<R: Wait + Copy> Holding<R> {
         }
     }
 
-    /// Goes to the next request. Answers that were left are sent before it, unless its answer may leave with them.
+    /// Returns the next request. Sends the responses that wait, unless the request's own response may leave with them.
     pub(crate) fn next(&mut self, now: HttpDate) -> Result<Option<Asked<R>>, AllocError> {
         let next = self.client.next(now);
         self.cork.send_unless_leaving();
         next
     }
 
-    /// Takes out what is held under a number, and whether it has written what may not have been sent yet.
+    /// Removes what is held under `number`. Returns it, and whether it may have written bytes that are not sent yet.
     pub(crate) fn take(&mut self, number: u64) -> Option<(Held<R>, bool)> {
         let place = self.items.iter().position(|item| item.number == number)?;
         let Numbered {
@@ -86,7 +85,7 @@ impl<R: Wait + Copy> Holding<R> {
         Some((held, has_written))
     }
 
-    /// Holds this under a number.
+    /// Holds a request, writer or stream under `number`.
     pub(crate) fn put(
         &mut self,
         number: u64,
@@ -101,7 +100,7 @@ impl<R: Wait + Copy> Holding<R> {
         self.items.push(item).map_err(AllocError::from)
     }
 
-    /// Sends what raw writers and streams have written, and the answers that were left.
+    /// Sends what raw writers and streams have written, and the responses that wait.
     pub(crate) fn send_held(&mut self) {
         for item in self.items.iter_mut() {
             if item.has_written {

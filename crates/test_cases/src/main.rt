@@ -1,7 +1,6 @@
-//! Runs the cases of files: `test_cases FILE..`. Each case is run by `run_with`, and by requests behind locks in one
-//! thread if no call would have to wait there: with answers that leave one by one, and with answers that leave
-//! together. It is tried by four readers, and with each call of its writer failing. docs/CASES.md describes the
-//! files.
+//! Runs the cases of files: `test_cases FILE..`. Each case is run by `run_with` and, if no call would have to wait,
+//! also by the requests of a connection on one thread. There the responses leave one by one, and then together. Each
+//! way is tried with four readers, and with each call of the writer failing. docs/CASES.md describes the files.
 #![tactic(auto)]
 
 mod by_requests;
@@ -12,15 +11,15 @@ mod treating;
 
 use crate::by_requests::{ByRequests, Leaving};
 use crate::by_run::ByRun;
-use test_case_trials::report::{files_of, try_files};
-use test_data_files::fault::FilesFault;
-use test_data_files::program::{Checker, NamedFile, run_program};
 use std::alloc::{AllocError, Global};
 use std::io::Write;
 use std::process::ExitCode;
 use std::sync::Wait;
+use test_case_trials::report::{files_of, try_files};
+use test_data_files::fault::FilesFault;
+use test_data_files::program::{Checker, NamedFile, run_program};
 
-// Tries the cases of files in the three ways.
+// Tries the cases of files in all three ways.
 #[derive(Drop)]
 struct EachWay<R> {
     rt: R,
@@ -49,5 +48,5 @@ fn main(rt: HostRuntime) -> ExitCode {
     let mut out = rt.stdout();
     let mut err = rt.stderr();
     let mut each_way = EachWay { rt };
-    ExitCode::from(run_program(&rt, "cases", &mut each_way, &mut out, &mut err))
+    ExitCode::from(run_program(&rt, "test_cases", &mut each_way, &mut out, &mut err))
 }

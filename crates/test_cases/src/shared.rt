@@ -1,12 +1,12 @@
-//! The writer of a trial behind a lock, so that the program can look into it while a connection holds it.
-use test_case_files::devices::Trier;
+//! Shares the writer of a trial through a lock, so that the program can inspect it while a connection uses it.
 use std::io;
 use std::io::Write;
 use std::sync::{Arc, Mutex, Wait};
+use test_case_files::devices::Trier;
 use tiny_http_socket::write_both::WriteBoth;
 use tiny_http_wire::device::{Metered, WriteDevice};
 
-/// Writes to the writer behind a lock.
+/// Writes to a writer shared through a lock.
 #[derive(Drop)]
 pub(crate) struct Shared<R> {
     rt: R,
@@ -29,7 +29,7 @@ impl<R: Wait> Write for Shared<R> {
     }
 }
 
-/// The writer of a trial in the place of a socket. Of two texts it takes one a call.
+/// The writer of a trial in place of a socket. A vectored write of two texts accepts only the first that is not empty.
 #[derive(Drop)]
 pub(crate) struct TrialSocket<R> {
     writer: Metered<Shared<R>>,

@@ -1,22 +1,22 @@
-//! The calls that steps name.
+//! Makes the calls that steps name.
 use crate::holding::{Asked, Held, Holding};
-use test_case_trials::replies::{fault_line, given_line, handed_line};
-use test_case_trials::steps::StepsFault;
 use httpdate::HttpDate;
 use replay_script::script_data::ScriptData;
 use std::alloc::{AllocError, Global};
 use std::io;
 use std::io::{ErrorKind, Read, Write};
 use std::sync::Wait;
+use test_case_trials::replies::{fault_line, given_line, handed_line};
+use test_case_trials::steps::StepsFault;
 use tiny_http_core::driver::{Step, Timed};
 use tiny_http_wire::response::Response;
 
-// A line of one word.
+// Formats a reply of one word.
 fn word(alloc: Global, word: &str) -> Result<Vec<u8>, AllocError> {
     word.as_bytes().to_vec(alloc)
 }
 
-// The line that reports a call.
+// Formats the result of a call.
 fn line_of(alloc: Global, outcome: io::Result<()>) -> Result<Vec<u8>, AllocError> {
     match outcome {
         Ok(()) => word(alloc, "done"),
@@ -24,14 +24,14 @@ fn line_of(alloc: Global, outcome: io::Result<()>) -> Result<Vec<u8>, AllocError
     }
 }
 
-// The number in the case's own reply to an `ask`: a request doesn't say its number.
+// Returns the number in the case's reply to an `ask`, as a request does not report its number.
 fn number_of(reply: &[u8]) -> Option<&str> {
     let words = reply.strip_prefix(b"handed ")?;
     let number = words.split(|byte| *byte == b' ').next()?;
     str::from_utf8(number).ok()
 }
 
-// Takes the next request, and holds it under the number that the case says.
+// Receives the next request, and holds it under the number that the case states.
 fn ask<R: Wait + Copy>(
     alloc: Global,
     holding: &mut Holding<R>,
@@ -58,8 +58,8 @@ fn ask<R: Wait + Copy>(
     Ok(line)
 }
 
-// Reads at least once, until so many bytes are there, the end is reported, or a fault. The bytes, or the fault where
-// there are none.
+// Reads at least once, until `count` bytes are read, or the end or an error is reported. Formats the bytes, or the
+// error if there are none.
 fn read_up_to<B: Read>(alloc: Global, body: &mut B, count: u16) -> Result<Vec<u8>, AllocError> {
     let mut bytes = Vec::new(alloc);
     let mut buf = [0u8; 1024];
@@ -80,7 +80,7 @@ fn read_up_to<B: Read>(alloc: Global, body: &mut B, count: u16) -> Result<Vec<u8
     given_line(alloc, bytes.as_slice())
 }
 
-// Writes all bytes, by at least one call, and tries none again.
+// Writes all bytes in at least one call, without retrying after an error.
 fn write_through<W: Write>(writer: &mut W, bytes: &[u8]) -> io::Result<()> {
     let mut rest = bytes;
     for _ in 0..=bytes.len() {
@@ -93,7 +93,7 @@ fn write_through<W: Write>(writer: &mut W, bytes: &[u8]) -> io::Result<()> {
     Ok(())
 }
 
-// Reads the body of what is held.
+// Reads from the body of a request or from a stream.
 fn read<R: Wait + Copy>(
     alloc: Global,
     held: &mut Held<R>,
@@ -107,7 +107,7 @@ fn read<R: Wait + Copy>(
     }
 }
 
-// Writes by what is held.
+// Writes to a raw writer or a stream.
 fn write<R: Wait + Copy>(
     alloc: Global,
     held: &mut Held<R>,
@@ -120,7 +120,7 @@ fn write<R: Wait + Copy>(
     }
 }
 
-// Sends what was written by what is held.
+// Flushes a raw writer or a stream.
 fn flush<R: Wait + Copy>(alloc: Global, held: &mut Held<R>) -> Result<Vec<u8>, AllocError> {
     match held {
         Held::Request(_) => word(alloc, "nosuch"),
@@ -146,7 +146,7 @@ fn upgrade<R: Wait + Copy>(
     }
 }
 
-// The steps that a request takes, and that end it as one.
+// Runs a step that consumes a request.
 fn treat_request<R: Wait + Copy>(
     alloc: Global,
     holding: &mut Holding<R>,
@@ -178,7 +178,7 @@ fn treat_request<R: Wait + Copy>(
     }
 }
 
-// The steps that leave what is held where it is.
+// Runs a step that leaves what is held in place.
 fn treat_held<R: Wait + Copy>(
     alloc: Global,
     holding: &mut Holding<R>,
@@ -209,7 +209,7 @@ fn treat_held<R: Wait + Copy>(
     Ok(line)
 }
 
-// The number of the request that a step is for.
+// Returns the number of the request that a step applies to.
 fn number_in(step: &Step<ScriptData>) -> Option<u64> {
     match step {
         Step::Ask => None,
@@ -225,9 +225,8 @@ fn number_in(step: &Step<ScriptData>) -> Option<u64> {
     }
 }
 
-/// Makes the call that a step names, and gives the line that reports it. `wanted` is the case's own reply: it says
-/// under which number a request is held, and that no call fits a step, as where a request is read that expects a 100
-/// first.
+/// Makes the call that a step names, and formats its result. `wanted` is the case's reply. It states the number under
+/// which to hold a request, and that no call fits a step, such as a read of a body whose client expects a 100 first.
 pub(crate) fn treat<R: Wait + Copy>(
     alloc: Global,
     holding: &mut Holding<R>,

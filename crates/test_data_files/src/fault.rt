@@ -1,12 +1,12 @@
-//! Why a line of a file isn't of the format, and why files are not tried to the end.
+//! Errors of a line and of a run over files.
 use crate::text::TextFault;
 use std::alloc::AllocError;
 use std::fmt;
 
-/// Why a line isn't of the format.
+/// Why a line is invalid.
 #[derive(Clone, Copy, Debug, PartialEq, Eq)]
 pub enum LineFault {
-    /// For this reason.
+    /// The line is invalid for this reason.
     Bad(&'static str),
     OutOfMemory,
 }
@@ -27,7 +27,7 @@ impl From<TextFault> for LineFault {
     }
 }
 
-/// The text of a line that is not passed over: neither empty nor a remark.
+/// Returns the text of a line, or `None` if the line is empty or a comment. Fails if it is not ASCII.
 pub fn line_text(line: &[u8]) -> Result<Option<&str>, LineFault> {
     if line.is_empty() || line.starts_with(b"#") {
         return Ok(None);
@@ -38,21 +38,21 @@ pub fn line_text(line: &[u8]) -> Result<Option<&str>, LineFault> {
     Ok(Some(str::from_utf8(line).unwrap_or_default()))
 }
 
-/// Why files are not tried to the end.
+/// Why a run over files was aborted.
 #[derive(Clone, Copy, Debug, PartialEq, Eq)]
 pub enum FilesFault<'a> {
-    /// No file is named.
+    /// The command line names no file.
     Usage,
     /// The file of this name can't be read.
     CannotRead(&'a str),
-    /// A line of the file of this name isn't of the format, for this reason.
+    /// This line of the file of this name is invalid, for this reason.
     BadLine(&'a str, usize, &'static str),
     OutOfMemory,
     CannotWrite,
 }
 
 impl<'a> FilesFault<'a> {
-    /// The fault of this line of the file of this name.
+    /// Converts the error of a line to that of its file.
     pub fn at_line(name: &'a str, number: usize, fault: LineFault) -> FilesFault<'a> {
         match fault {
             LineFault::Bad(why) => FilesFault::BadLine(name, number, why),
@@ -60,7 +60,7 @@ impl<'a> FilesFault<'a> {
         }
     }
 
-    /// The exit status that reports it: 2 for what was asked wrongly, and 1 for what the system refused.
+    /// Returns the exit status: 2 for an invalid command line or file, and 1 for a failure of the system.
     pub fn status(&self) -> u8 {
         match self {
             FilesFault::Usage | FilesFault::BadLine(..) => 2,

@@ -1,7 +1,7 @@
-//! The names of the kinds of fault.
+//! The names of error kinds.
 use std::io::ErrorKind;
 
-// The kinds that a case may name, by the names that `ErrorKind` has in code.
+// The error kinds that a case may name, by their names in code.
 const KINDS: [(&str, ErrorKind); 19] = [
     ("AddrInUse", ErrorKind::AddrInUse),
     ("AddrNotAvailable", ErrorKind::AddrNotAvailable),
@@ -24,7 +24,7 @@ const KINDS: [(&str, ErrorKind); 19] = [
     ("WriteZero", ErrorKind::WriteZero),
 ];
 
-/// The kind of this name; None where no kind that a case may name has it.
+/// Returns the error kind of this name, or `None` if a case may not name it.
 pub fn kind_of(name: &str) -> Option<ErrorKind> {
     for (known, kind) in &KINDS {
         if *known == name {
@@ -34,7 +34,7 @@ pub fn kind_of(name: &str) -> Option<ErrorKind> {
     None
 }
 
-/// The kind at this place, where they follow one another in turn without end.
+/// Returns the error kind at this position of a cyclic sequence of all.
 pub fn kind_at(place: usize) -> ErrorKind {
     match KINDS.get(place % KINDS.len()) {
         Some((_, kind)) => *kind,

@@ -1,5 +1,5 @@
-//! What the programs share that are run over files of data, as `test_cases`, `test_calls` and `test_scenes`: the command line and the
-//! exit status, errors with their line, escapes in texts, and the names of kinds of errors.
+//! Shared parts of the programs that run files of data, such as `test_cases`, `test_calls` and `test_scenes`: the
+//! command line and the exit status, errors with their line, escapes in texts, and the names of error kinds.
 #![tactic(auto)]
 
 pub mod fault;

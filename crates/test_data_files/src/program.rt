@@ -1,11 +1,11 @@
-//! A program over files: its command line, and its exit status.
+//! The command line and the exit status of a program over files.
 use crate::fault::FilesFault;
 use std::alloc::{AllocError, Global};
 use std::io::{ErrorKind, Write};
 use std::rt::{Env, Files};
 use std::{env, fs};
 
-/// A file that the command line names.
+/// A file named on the command line, and its content.
 #[derive(Drop)]
 pub struct NamedFile<'a> {
     pub name: &'a str,
@@ -14,7 +14,7 @@ pub struct NamedFile<'a> {
 
 /// What a program does with its files.
 pub trait Checker {
-    /// Reads what all files hold, and then tries it. Whether nothing differs.
+    /// Reads all files, and then runs their content. Returns whether nothing differs.
     fn check<'a, O: Write>(
         &mut self,
         alloc: Global,
@@ -23,7 +23,7 @@ pub trait Checker {
     ) -> Result<bool, FilesFault<'a>>;
 }
 
-// The file of this name.
+// Reads the file of this name.
 fn read_file<'a, R: Files + AllocGlobal>(
     rt: &R,
     name: &'a str,
@@ -35,7 +35,7 @@ fn read_file<'a, R: Files + AllocGlobal>(
     }
 }
 
-// The files that the words after the first name.
+// Reads the files that the words after the first one name.
 fn read_files<'a, R: Files + AllocGlobal>(
     rt: &R,
     words: &'a [String],
@@ -51,7 +51,7 @@ fn read_files<'a, R: Files + AllocGlobal>(
     Ok(files)
 }
 
-// The words of the command line, the program's name first. One that isn't UTF-8 can't name a file here.
+// Returns the words of the command line, the program's name first. Fails if one is not UTF-8.
 fn words<R: Env + AllocGlobal>(rt: &R) -> Result<Vec<String>, FilesFault<'static>> {
     match env::args(rt) {
         Ok(words) => Ok(words.collect(rt.alloc())?),
@@ -60,7 +60,7 @@ fn words<R: Env + AllocGlobal>(rt: &R) -> Result<Vec<String>, FilesFault<'static
     }
 }
 
-// Reports a fault by a line that the program's name begins, and gives its exit status.
+// Prints one line for an error, beginning with the program's name. Returns the exit status.
 fn report<E: Write>(program: &str, fault: &FilesFault<'_>, err: &mut E) -> u8 {
     match writeln!(err, "{program}: {fault}") {
         Ok(()) => fault.status(),
@@ -68,9 +68,9 @@ fn report<E: Write>(program: &str, fault: &FilesFault<'_>, err: &mut E) -> u8 {
     }
 }
 
-/// Checks the files that the command line names, and gives the exit status: 0 where nothing differs, and 3 where
-/// something does; 2 with one line on `err` for a wrong use and for a file that isn't of the format, before anything
-/// is tried; 1 with one line for a file that can't be read, for no memory, and where `out` can't be written.
+/// Checks the files named on the command line, and returns the exit status: 0 if nothing differs, and 3 if something
+/// does. An error prints one line to `err`. The status is then 2 for an invalid command line or an invalid file, before
+/// anything is run, and 1 if a file can't be read, memory is refused, or `out` can't be written.
 pub fn run_program<R: Env + Files + AllocGlobal, C: Checker, O: Write, E: Write>(
     rt: &R,
     program: &str,

@@ -1,12 +1,12 @@
-//! Texts of a case: escapes, the texts that recur, and pieces that are repeated.
+//! Reads texts of cases: escapes, abbreviations, and repeated pieces.
 use std::alloc::{AllocError, Global};
 
-/// Why a text can't be read.
+/// Why a text is invalid.
 #[derive(Clone, Copy, Debug, PartialEq, Eq)]
 pub enum TextFault {
-    /// A backslash that begins no escape.
+    /// A backslash does not begin an escape.
     NoEscape,
-    /// A repeated piece without its count, the space behind it, or its closing brace.
+    /// A repeated piece has no count, no space after it, or no closing brace.
     NoRepeat,
     OutOfMemory,
 }
@@ -17,18 +17,18 @@ impl From<AllocError> for TextFault {
     }
 }
 
-// The first two headers of every answer of the connection, dated at second 420895020.
+// The first two field lines of every response on a connection, dated at second 420895020.
 const SERVED: &str = "Server: tiny-http (Rust)\r\nDate: Wed, 04 May 1983 11:17:00 GMT\r\n";
 
-// The headers of an empty answer, and the end of its head.
+// The field lines of a response without a body, and the end of its head.
 const EMPTY: &str =
     "Server: tiny-http (Rust)\r\nDate: Wed, 04 May 1983 11:17:00 GMT\r\nContent-Length: 0\r\n\r\n";
 
-// The headers of an answer with a text, but for its framing.
+// The field lines of a response with a text, except for its framing.
 const PLAIN: &str =
     "Server: tiny-http (Rust)\r\nDate: Wed, 04 May 1983 11:17:00 GMT\r\nContent-Type: text/plain; charset=UTF-8\r\n";
 
-// What a letter after a backslash stands for.
+// Returns what a letter after a backslash represents.
 fn meaning(letter: u8) -> Option<&'static str> {
     match letter {
         b'r' => Some("\r"),
@@ -42,7 +42,6 @@ fn meaning(letter: u8) -> Option<&'static str> {
     }
 }
 
-// The value of a hexadecimal digit.
 fn digit(letter: u8) -> Option<u8> {
     match letter {
         b'0'..=b'9' => Some(letter - b'0'),
@@ -52,7 +51,7 @@ fn digit(letter: u8) -> Option<u8> {
     }
 }
 
-// The byte that two hexadecimal digits write, and what stands behind them.
+// Parses two hexadecimal digits. Returns their byte and the rest.
 fn byte_before(digits: &[u8]) -> Option<(u8, &[u8])> {
     let (first, behind) = digits.split_first()?;
     let (second, behind) = behind.split_first()?;
@@ -62,7 +61,7 @@ fn byte_before(digits: &[u8]) -> Option<(u8, &[u8])> {
     Some((byte, behind))
 }
 
-// Adds what the escape stands for that a backslash begins, and gives what stands behind it.
+// Adds what an escape represents. `escape` begins after the backslash. Returns the rest.
 fn add_escape<'a>(escape: &'a [u8], to: &mut Vec<u8>) -> Result<&'a [u8], TextFault> {
     let Some((letter, behind)) = escape.split_first() else {
         return Err(TextFault::NoEscape);
@@ -81,7 +80,7 @@ fn add_escape<'a>(escape: &'a [u8], to: &mut Vec<u8>) -> Result<&'a [u8], TextFa
     Ok(behind)
 }
 
-// Adds a text in which no piece is repeated.
+// Adds a text without repeated pieces.
 fn add_plain(text: &[u8], to: &mut Vec<u8>) -> Result<(), TextFault> {
     let mut rest = text;
     for _ in 0..text.len() {
@@ -98,7 +97,7 @@ fn add_plain(text: &[u8], to: &mut Vec<u8>) -> Result<(), TextFault> {
     Ok(())
 }
 
-/// The number that decimal digits write, without a sign, if it is below 2^64.
+/// Parses decimal digits without a sign. Returns `None` if the number is 2^64 or more.
 pub fn number_in(digits: &str) -> Option<usize> {
     if digits.starts_with('+') {
         return None;
@@ -106,7 +105,7 @@ pub fn number_in(digits: &str) -> Option<usize> {
     digits.parse::<usize>().ok()
 }
 
-// The count of a repeated piece, the piece, and what stands behind its brace.
+// Splits a repeated piece after its opening brace. Returns the count, the piece, and the rest after the closing brace.
 fn piece_before(repeat: &[u8]) -> Option<(usize, &[u8], &[u8])> {
     let end = repeat.iter().position(|byte| *byte == b'}')?;
     let (inside, brace) = repeat.split_at_checked(end)?;
@@ -118,7 +117,7 @@ fn piece_before(repeat: &[u8]) -> Option<(usize, &[u8], &[u8])> {
     Some((count, piece, behind))
 }
 
-// Adds a piece so many times, which stands behind an opening brace, and gives what stands behind it.
+// Adds a repeated piece, which begins after its opening brace. Returns the rest.
 fn add_repeated<'a>(
     alloc: Global,
     repeat: &'a [u8],
@@ -135,9 +134,9 @@ fn add_repeated<'a>(
     Ok(behind)
 }
 
-/// Adds the bytes that a text stands for: each byte itself, `\r`, `\n`, `\t`, `\\`, `\xHH`, the short names `\S`,
-/// `\Z` and `\T`, and `\{N TEXT}`, which is a text so many times, in which none is repeated. After an error some may
-/// have been added.
+/// Adds the bytes that a text represents: each byte itself, `\r`, `\n`, `\t`, `\\`, `\xHH`, the abbreviations `\S`,
+/// `\Z` and `\T`, and `\{N TEXT}`, which repeats a text N times and may not contain another repetition. After an error
+/// some bytes may have been added.
 pub fn add_text(alloc: Global, text: &str, to: &mut Vec<u8>) -> Result<(), TextFault> {
     let mut rest = text.as_bytes();
     for _ in 0..text.len() {
@@ -156,14 +155,14 @@ pub fn add_text(alloc: Global, text: &str, to: &mut Vec<u8>) -> Result<(), TextF
     Ok(())
 }
 
-/// The bytes that a text stands for.
+/// Returns the bytes that a text represents.
 pub fn text_of(alloc: Global, text: &str) -> Result<Vec<u8>, TextFault> {
     let mut bytes = Vec::new(alloc);
     add_text(alloc, text, &mut bytes)?;
     Ok(bytes)
 }
 
-/// The bytes as a text of a case, in one line: those that aren't printed, and backslashes, as escapes.
+/// Formats bytes as the text of a case on one line. Backslashes and bytes that are not printable become escapes.
 pub fn shown(alloc: Global, bytes: &[u8]) -> Result<String, AllocError> {
     let mut text = String::new(alloc);
     for byte in bytes {

@@ -1,11 +1,11 @@
-//! A plain reading of what a client sends, by the lenient profile: all of its bytes at once, line by line, without a
-//! buffer. What connections hand out is compared with it.
+//! A plain reading under the lenient profile of what a client sends: all of its bytes at once, line by line, without a
+//! buffer. The requests of connections are compared with it.
 use crate::parts::{RequestWords, SHORT, add_header, decimal};
 use std::alloc::{AllocError, Global};
 
 const VERSIONS: [&str; 5] = ["HTTP/0.9", "HTTP/1.0", "HTTP/1.1", "HTTP/2.0", "HTTP/3.0"];
 
-// A head, and the bytes behind it.
+// A head, and the bytes after it.
 #[derive(Drop)]
 struct PlainHead<'a> {
     request: RequestWords<'a>,
@@ -13,12 +13,12 @@ struct PlainHead<'a> {
     behind: &'a [u8],
 }
 
-// Whether it is white space.
+// Returns whether a letter is white space.
 fn is_white(letter: char) -> bool {
     matches!(letter, '\t' | '\n' | '\x0b' | '\x0c' | '\r' | ' ')
 }
 
-// The first line, if it has ended and is ASCII, and the bytes behind it.
+// Returns the first line, if it is complete and ASCII, and the bytes after it.
 fn line_of(bytes: &[u8]) -> Option<(&str, &[u8])> {
     let second = bytes.iter().skip(1);
     let place = bytes
@@ -33,7 +33,7 @@ fn line_of(bytes: &[u8]) -> Option<(&str, &[u8])> {
     Some((str::from_utf8(line).ok()?, behind))
 }
 
-// The name and the value of a header line.
+// Splits a header line into name and value.
 fn header_of(line: &str) -> Option<(&str, &str)> {
     let (name, value) = line.split_once(':')?;
     if name.contains(is_white) {
@@ -42,7 +42,7 @@ fn header_of(line: &str) -> Option<(&str, &str)> {
     Some((name, value.trim_matches(is_white)))
 }
 
-// The header lines, and the bytes behind the empty line.
+// Reads the header lines. Returns them and the bytes after the empty line, or `None` if the section is invalid.
 fn headers_of(
     alloc: Global,
     bytes: &[u8],
@@ -65,7 +65,7 @@ fn headers_of(
     Ok(None)
 }
 
-// The parts of a request line.
+// Parses a request line.
 fn request_of(line: &str) -> Option<RequestWords<'_>> {
     let mut words = line.trim_matches(is_white).split(' ');
     let method = words.next()?;
@@ -81,7 +81,7 @@ fn request_of(line: &str) -> Option<RequestWords<'_>> {
     })
 }
 
-// The head that these bytes begin with; none where it is refused, cut, or not ASCII.
+// Reads the head at the start of `bytes`. Returns `None` if it is invalid, incomplete or not ASCII.
 fn head_of(alloc: Global, bytes: &[u8]) -> Result<Option<PlainHead<'_>>, AllocError> {
     let Some((line, rest)) = line_of(bytes) else {
         return Ok(None);
@@ -99,13 +99,13 @@ fn head_of(alloc: Global, bytes: &[u8]) -> Result<Option<PlainHead<'_>>, AllocEr
     }))
 }
 
-// The number that a length says.
+// Parses a content length, which may have a plus sign.
 fn number_of(value: &str) -> Option<usize> {
     decimal(value.strip_prefix('+').unwrap_or(value))
 }
 
 impl<'a> PlainHead<'a> {
-    // The value of the first header of this name.
+    // Returns the value of the first header of this name.
     fn value(&self, name: &str) -> Option<&'a str> {
         self.headers
             .iter()
@@ -113,7 +113,7 @@ impl<'a> PlainHead<'a> {
             .map(|header| header.1)
     }
 
-    // Whether the connection is told this, in whatever case.
+    // Returns whether the first Connection header contains `word` anywhere, in any case.
     fn tells(&self, word: &str) -> bool {
         let Some(value) = self.value("Connection") else {
             return false;
@@ -126,7 +126,7 @@ impl<'a> PlainHead<'a> {
         })
     }
 
-    // The length of the body, if one is said.
+    // Returns the content length, if it applies.
     fn length(&self) -> Option<usize> {
         match self.value("Transfer-Encoding") {
             Some(_) => None,
@@ -134,12 +134,12 @@ impl<'a> PlainHead<'a> {
         }
     }
 
-    // Whether the body has no length: it is chunked, or the rest of the stream.
+    // Returns whether the body has no known length: it is chunked, or the rest of the stream.
     fn is_endless(&self) -> bool {
         self.value("Transfer-Encoding").is_some() || self.tells("upgrade")
     }
 
-    // Whether it is handed out, or answered 505: nothing is expected but a 100, and a short body is there.
+    // Returns whether the request is returned or gets a 505: it expects at most a 100, and a short body is complete.
     fn is_whole(&self) -> bool {
         let length = self.length().unwrap_or(0);
         match self.value("Expect") {
@@ -148,18 +148,18 @@ impl<'a> PlainHead<'a> {
         }
     }
 
-    // Whether it is handed out, and not answered 505.
+    // Returns whether the request is returned, and does not get a 505.
     fn is_known(&self) -> bool {
         !matches!(self.request.version, "2.0" | "3.0")
     }
 
-    // Whether it is the connection's last, if it is handed out.
+    // Returns whether the request is the last of its connection.
     fn is_last(&self) -> bool {
         let ends = self.request.version == "1.0" && !self.tells("keep-alive");
         ends || self.tells("close") || self.tells("upgrade")
     }
 
-    // The bytes behind the body, which is given up.
+    // Returns the bytes after the body, which is discarded, or `None` if the connection can't continue.
     fn after_body(&self) -> Option<&'a [u8]> {
         if self.is_endless() {
             return None;
@@ -167,7 +167,7 @@ impl<'a> PlainHead<'a> {
         self.behind.get(self.length().unwrap_or(0)..)
     }
 
-    // Its line, as the request of this number.
+    // Formats the request with this number.
     fn line(&self, alloc: Global, number: usize) -> Result<Vec<u8>, AllocError> {
         let mut line = self
             .request
@@ -179,8 +179,8 @@ impl<'a> PlainHead<'a> {
     }
 }
 
-/// The lines of the requests that these bytes have by the lenient profile, `most` at most, where each request is
-/// dropped before the next is asked for.
+/// Returns the lines of at most `most` requests that these bytes contain under the lenient profile, if each request is
+/// dropped before the next is received.
 pub fn plain_lines(alloc: Global, bytes: &[u8], most: usize) -> Result<Vec<Vec<u8>>, AllocError> {
     let mut lines = Vec::new(alloc);
     let mut rest = bytes;

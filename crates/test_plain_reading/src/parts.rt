@@ -1,8 +1,8 @@
-//! What the plain readings of a client's bytes share: the line of a request that is handed out, and a decimal number.
+//! Shared parts of the plain readings: the line of a request, and decimal numbers.
 use std::alloc::{AllocError, Global};
 use std::fmt::Write;
 
-/// The most bytes of a body that is read with its head.
+/// Maximum length of a body that is read with its head.
 pub const SHORT: usize = 1024;
 
 /// The parts of a request line.
@@ -14,7 +14,7 @@ pub struct RequestWords<'a> {
 }
 
 impl<'a> RequestWords<'a> {
-    /// The line of the request of this number, up to its headers: how many there are, and the length that is said.
+    /// Formats the request with this number up to its headers, with their count and the stated content length.
     pub fn line(
         &self,
         alloc: Global,
@@ -39,7 +39,7 @@ pub fn add_header(line: &mut String, name: &str, value: &str) -> Result<(), Allo
     Ok(())
 }
 
-/// The number that is written by these decimal digits, one or more.
+/// Parses one or more decimal digits. Returns `None` if the number overflows.
 pub fn decimal(digits: &str) -> Option<usize> {
     if digits.is_empty() {
         return None;

@@ -1,20 +1,20 @@
-//! A plain reading of what a client sends, by the standard profile: all of its bytes at once, line by line, without a
-//! buffer. What connections hand out is compared with it. It is written from docs/RULES.md, and shares no code with
-//! the server. It knows no limit of a head's bytes: a client that it reads sends fewer than 65,536 bytes.
+//! A plain reading under the standard profile of what a client sends: all of its bytes at once, line by line, without a
+//! buffer. The requests of connections are compared with it. It is written from docs/RULES.md, and shares no code with
+//! the server. It does not limit the length of a head, since the clients that it reads send fewer than 65,536 bytes.
 use crate::parts::{RequestWords, SHORT, add_header, decimal};
 use std::alloc::{AllocError, Global};
 use std::fmt::Write;
 
-// The most bytes of a counted body that are skipped when it is given up.
+// Maximum length of a counted body that is discarded unread.
 const SKIPPED: usize = 65_536;
 
-// The most header lines that a head has.
+// Maximum number of field lines of a head.
 const MOST_HEADERS: usize = 256;
 
-// A header: its name, and its value as it is handed out.
+// A field name, and the field value as the server returns it.
 type Field<'a> = (&'a str, String);
 
-// How a body is framed.
+// The framing of a body.
 #[derive(Clone, Copy)]
 enum Body {
     Nothing,
@@ -22,7 +22,7 @@ enum Body {
     Chunks,
 }
 
-// A head, and the bytes behind it.
+// A head, and the bytes after it.
 #[derive(Drop)]
 struct StandardHead<'a> {
     request: RequestWords<'a>,
@@ -30,7 +30,7 @@ struct StandardHead<'a> {
     behind: &'a [u8],
 }
 
-// The first line, if it has ended and is not bad, and the bytes behind it.
+// Returns the first line and the bytes after it, or `None` if the line is incomplete or contains a NUL or another CR.
 fn line_of(bytes: &[u8]) -> Option<(&[u8], &[u8])> {
     let place = bytes.iter().position(|byte| *byte == b'\n')?;
     let line = bytes.get(..place)?.strip_suffix(b"\r")?;
@@ -41,19 +41,19 @@ fn line_of(bytes: &[u8]) -> Option<(&[u8], &[u8])> {
     Some((line, behind))
 }
 
-// Whether it is a token (RFC 9110, section 5.6.2).
+// Returns whether `text` is a token (RFC 9110, section 5.6.2).
 fn is_token(text: &str) -> bool {
     let is_letter = |byte: u8| byte.is_ascii_alphanumeric() || b"!#$%&'*+-.^_`|~".contains(&byte);
     !text.is_empty() && text.bytes().all(is_letter)
 }
 
-// Whether a host may have these letters, which may be none.
+// Returns whether all letters are allowed in a host. The text may be empty.
 fn are_host_letters(text: &str) -> bool {
     let is_letter = |byte: u8| byte.is_ascii_alphanumeric() || b"-._~!$&'()*+,;=".contains(&byte);
     text.bytes().all(is_letter)
 }
 
-// Whether what stands behind a percent sign in a host is two hexadecimal digits and letters.
+// Returns whether `text`, which follows a percent sign in a host, is two hexadecimal digits and allowed letters.
 fn is_behind_percent(text: &str) -> bool {
     let Some(digits) = text.get(..2) else {
         return false;
@@ -62,19 +62,18 @@ fn is_behind_percent(text: &str) -> bool {
         && are_host_letters(text.get(2..).unwrap_or_default())
 }
 
-// Whether it is a host without brackets.
+// Returns whether `text` is a host without brackets.
 fn is_name(text: &str) -> bool {
     let mut pieces = text.split('%');
     !text.is_empty() && pieces.next().is_some_and(are_host_letters) && pieces.all(is_behind_percent)
 }
 
-// Whether it is what may stand in the brackets of a host.
+// Returns whether `text` may be in the brackets of a host.
 fn is_address(text: &str) -> bool {
     let is_letter = |byte: u8| byte.is_ascii_hexdigit() || matches!(byte, b':' | b'.');
     !text.is_empty() && text.bytes().all(is_letter)
 }
 
-// Whether it is a host.
 fn is_host(text: &str) -> bool {
     match text.strip_prefix('[') {
         Some(rest) => rest.strip_suffix(']').is_some_and(is_address),
@@ -82,7 +81,7 @@ fn is_host(text: &str) -> bool {
     }
 }
 
-// Whether it is a host, behind which a colon and digits may stand.
+// Returns whether `text` is a host, optionally followed by a colon and a port.
 fn is_host_with_port(text: &str) -> bool {
     if is_host(text) {
         return true;
@@ -91,12 +90,12 @@ fn is_host_with_port(text: &str) -> bool {
         && port.bytes().all(|byte| byte.is_ascii_digit()))
 }
 
-// Whether it is the value of a `Host`.
+// Returns whether `value` is valid for a Host field.
 fn is_host_value(value: &str) -> bool {
     value.is_empty() || is_host_with_port(value)
 }
 
-// Whether it is a host, a colon and a port.
+// Returns whether `target` is a host, a colon and a port.
 fn is_authority(target: &str) -> bool {
     let Some((host, digits)) = target.rsplit_once(':') else {
         return false;
@@ -104,7 +103,7 @@ fn is_authority(target: &str) -> bool {
     is_host(host) && decimal(digits).is_some_and(|port| matches!(port, 1..=65535))
 }
 
-// Whether it is an absolute target.
+// Returns whether `target` is in absolute form.
 fn is_absolute(target: &str) -> bool {
     let Some((scheme, rest)) = target.split_once("://") else {
         return false;
@@ -114,7 +113,7 @@ fn is_absolute(target: &str) -> bool {
     is_known && parts.next().is_some_and(is_host_with_port)
 }
 
-// Whether it is a target of this method.
+// Returns whether `target` is a valid request target for this method.
 fn is_target(method: &str, target: &str) -> bool {
     if !target.bytes().all(|byte| matches!(byte, 33..=126)) {
         return false;
@@ -126,7 +125,7 @@ fn is_target(method: &str, target: &str) -> bool {
     }
 }
 
-// The version as it is handed out. Of other major versions none is.
+// Returns the version as the server returns it, or `None` for other major versions than 1.
 fn version_of(version: &str) -> Option<&'static str> {
     match version.strip_prefix("HTTP/1.")?.as_bytes() {
         [b'0'] => Some("1.0"),
@@ -135,7 +134,7 @@ fn version_of(version: &str) -> Option<&'static str> {
     }
 }
 
-// The parts of a request line.
+// Parses a request line.
 fn request_of(line: &[u8]) -> Option<RequestWords<'_>> {
     let mut words = str::from_utf8(line).ok()?.split(' ');
     let method = words.next()?;
@@ -151,17 +150,17 @@ fn request_of(line: &[u8]) -> Option<RequestWords<'_>> {
     })
 }
 
-// Whether it is a control byte that no value has.
+// Returns whether `byte` is a control byte that is not allowed in a field value.
 fn is_control(byte: u8) -> bool {
     matches!(byte, 0..=8 | 10..=31 | 127)
 }
 
-// Whether the value of a header of this name has no byte from 128 on.
+// Returns whether a field of this name must have an ASCII value.
 fn is_ascii_header(name: &str) -> bool {
     name.eq_ignore_ascii_case("Host") || name.eq_ignore_ascii_case("Transfer-Encoding")
 }
 
-// The name and the value of a header line, as they came.
+// Splits a field line into name and value. Returns `None` if it is invalid.
 fn header_of(line: &[u8]) -> Option<(&str, &[u8])> {
     let place = line.iter().position(|byte| *byte == b':')?;
     let name = str::from_utf8(line.get(..place)?).ok()?;
@@ -172,11 +171,12 @@ fn header_of(line: &[u8]) -> Option<(&str, &[u8])> {
     if is_ascii_header(name) && !value.is_ascii() {
         return None;
     }
-    // Of what counts as white space there are only spaces and tabs.
+    // `trim_ascii` removes only spaces and tabs here, as control bytes are refused above.
     Some((name, value.trim_ascii()))
 }
 
-// A value as it is handed out: each byte from 128 on is a percent sign and two hexadecimal digits.
+// Formats a field value as the server returns it: each byte from 128 on becomes a percent sign and two hexadecimal
+// digits.
 fn value_of(alloc: Global, bytes: &[u8]) -> Result<String, AllocError> {
     let mut value = String::new(alloc);
     for byte in bytes {
@@ -190,7 +190,7 @@ fn value_of(alloc: Global, bytes: &[u8]) -> Result<String, AllocError> {
     Ok(value)
 }
 
-// The header lines, and the bytes behind the empty line.
+// Reads the field lines. Returns them and the bytes after the empty line, or `None` if the section is invalid.
 fn headers_of(alloc: Global, bytes: &[u8]) -> Result<Option<(Vec<Field<'_>>, &[u8])>, AllocError> {
     let mut headers = Vec::new(alloc);
     let mut rest = bytes;
@@ -214,7 +214,7 @@ fn headers_of(alloc: Global, bytes: &[u8]) -> Result<Option<(Vec<Field<'_>>, &[u
     Ok(None)
 }
 
-// The head that these bytes begin with, behind an empty line or not; none where it is cut, or a line of it is bad.
+// Reads the head at the start of `bytes`, after at most one empty line. Returns `None` if it is incomplete or invalid.
 fn head_of(alloc: Global, bytes: &[u8]) -> Result<Option<StandardHead<'_>>, AllocError> {
     let bytes = bytes.strip_prefix(b"\r\n").unwrap_or(bytes);
     let Some((line, rest)) = line_of(bytes) else {
@@ -233,13 +233,13 @@ fn head_of(alloc: Global, bytes: &[u8]) -> Result<Option<StandardHead<'_>>, Allo
     }))
 }
 
-// Whether this word is an element of a list, in whatever case.
+// Returns whether `word` is an element of a list, in any case.
 fn is_listed(list: &str, word: &str) -> bool {
     list.split(',')
         .any(|element| element.trim_ascii().eq_ignore_ascii_case(word))
 }
 
-// Whether a list of expectations has no element but `100-continue`. Empty ones are passed over.
+// Returns whether a list of expectations has no other element than `100-continue`. Empty elements are ignored.
 fn is_continue_alone(list: &str) -> bool {
     list.split(',').all(|element| {
         let element = element.trim_ascii();
@@ -247,7 +247,7 @@ fn is_continue_alone(list: &str) -> bool {
     })
 }
 
-// The number that all elements of a length say.
+// Returns the number that all elements of a Content-Length value state.
 fn length_in(list: &str) -> Option<usize> {
     let mut elements = list.split(',');
     let length = decimal(elements.next()?.trim_ascii())?;
@@ -257,12 +257,12 @@ fn length_in(list: &str) -> Option<usize> {
 }
 
 impl<'a> StandardHead<'a> {
-    // Whether it is of version 1.0.
+    // Returns whether the request is HTTP/1.0.
     fn is_old(&self) -> bool {
         self.request.version == "1.0"
     }
 
-    // How many headers of this name there are.
+    // Returns the number of fields of this name.
     fn count(&self, name: &str) -> usize {
         self.headers
             .iter()
@@ -270,7 +270,7 @@ impl<'a> StandardHead<'a> {
             .count()
     }
 
-    // The value of the first header of this name.
+    // Returns the value of the first field of this name.
     fn value(&self, name: &str) -> Option<&str> {
         self.headers
             .iter()
@@ -278,13 +278,13 @@ impl<'a> StandardHead<'a> {
             .map(|header| header.1.as_str())
     }
 
-    // Whether this word is an element of the headers of this name.
+    // Returns whether a field of this name lists `word`.
     fn lists(&self, name: &str, word: &str) -> bool {
         self.headers.iter().any(|header| header.0.eq_ignore_ascii_case(name)
             && is_listed(header.1.as_str(), word))
     }
 
-    // Whether there are as many `Host` headers as there have to be, and their value is a good one.
+    // Returns whether the count of Host fields is allowed, and the value is valid.
     fn has_good_host(&self) -> bool {
         match self.count("Host") {
             0 => self.is_old(),
@@ -293,13 +293,13 @@ impl<'a> StandardHead<'a> {
         }
     }
 
-    // Whether nothing is expected but a 100.
+    // Returns whether the request expects at most a 100.
     fn expects_a_100_alone(&self) -> bool {
         self.headers.iter().all(|header| !header.0.eq_ignore_ascii_case("Expect")
             || is_continue_alone(header.1.as_str()))
     }
 
-    // The length that all lengths say, if they say one.
+    // Returns the length that all Content-Length fields state, if it is the same.
     fn length(&self) -> Option<usize> {
         let length = length_in(self.value("Content-Length")?)?;
         self.headers
@@ -309,7 +309,7 @@ impl<'a> StandardHead<'a> {
             .then_some(length)
     }
 
-    // How its body is framed; none where that is refused.
+    // Returns the framing of the body, or `None` if it is refused.
     fn body(&self) -> Option<Body> {
         match (
             self.count("Transfer-Encoding"),
@@ -327,13 +327,13 @@ impl<'a> StandardHead<'a> {
         }
     }
 
-    // Whether a 100 is owed.
+    // Returns whether the server owes a 100.
     fn owes_a_100(&self, body: Body) -> bool {
         let has_body = !matches!(body, Body::Nothing | Body::Length(0));
         has_body && !self.is_old() && self.lists("Expect", "100-continue")
     }
 
-    // Whether it is handed out: it is not refused, and a body that is read with it is there.
+    // Returns whether the request is returned: it is not refused, and a body that is read with the head is complete.
     fn is_handed_out(&self, body: Body) -> bool {
         let is_there = match body {
             Body::Length(length) if length <= SHORT && !self.owes_a_100(body) => {
@@ -344,13 +344,14 @@ impl<'a> StandardHead<'a> {
         self.has_good_host() && self.expects_a_100_alone() && is_there
     }
 
-    // Whether it is the connection's last by its head.
+    // Returns whether the head makes this the last request of its connection.
     fn is_last(&self) -> bool {
         let ends = self.is_old() && !self.lists("Connection", "keep-alive");
         ends || self.lists("Connection", "close") || self.request.method == "CONNECT"
     }
 
-    // The bytes behind its body, where a request may stand once it is dropped.
+    // Returns the bytes after the body, where the next request begins after this one is dropped, or `None` if there is
+    // none.
     fn after_drop(&self, body: Body) -> Option<&'a [u8]> {
         if self.is_last() || self.owes_a_100(body) {
             return None;
@@ -362,7 +363,7 @@ impl<'a> StandardHead<'a> {
         }
     }
 
-    // Its line, as the request of this number.
+    // Formats the request with this number.
     fn line(&self, alloc: Global, number: usize, body: Body) -> Result<Vec<u8>, AllocError> {
         let length = match body {
             Body::Length(length) => Some(length),
@@ -378,8 +379,8 @@ impl<'a> StandardHead<'a> {
     }
 }
 
-/// The lines of the requests that these bytes have by the standard profile, `most` at most, where each request is
-/// dropped before the next is asked for.
+/// Returns the lines of at most `most` requests that these bytes contain under the standard profile, if each request is
+/// dropped before the next is received.
 pub fn standard_lines(
     alloc: Global,
     bytes: &[u8],

@@ -9,28 +9,28 @@ use std::time::{Clock, Duration, Instant};
 use std::{io, mem, thread};
 use tiny_http_socket::connection::{Connection, ListenAddr};
 
-// How many reads wait for bytes that have to come. Each waits for some milliseconds, by the clock of the system's
-// scheduler: they make ten seconds or more.
+// Maximum number of reads that wait for expected bytes. Each lasts some milliseconds, depending on the system's
+// scheduler; together they last at least ten seconds.
 const READS: u32 = 2_500;
 
-// How many bytes a read asks for.
+// Size of the read buffer.
 const PIECE: usize = 16_384;
 
-// How often a text is sent by a client that is to be cut off.
+// Maximum number of sends by a client that should be cut off.
 const MOST_PIECES: u32 = 4_096;
 
-// How many milliseconds from one send to the next show that a client was held up.
+// Milliseconds between two sends from which the client's thread counts as delayed.
 const HELD_UP: u64 = 200;
 
-// How often a client sips.
+// Number of reads of a client that sips.
 const SIPS: u32 = 100;
 
-// The front of each date's header, and how many bytes that has in all.
+// Start of a Date field line, and the length of the whole field line.
 const DATE: &[u8] = b"Date: ";
 
 const DATE_LENGTH: usize = 35;
 
-// The header with the date of all scenes.
+// The Date field line that replaces every other in comparisons.
 const DATED: &[u8] = b"Date: Wed, 04 May 1983 11:17:00 GMT";
 
 /// How a connection ended.
@@ -40,18 +40,18 @@ enum End {
     Failed(ErrorKind),
 }
 
-/// A client: its socket, and what came to it and wasn't looked at.
+/// A client: its socket, and the bytes received but not yet checked.
 #[derive(Drop)]
 pub struct Client {
     alloc: Global,
     socket: Connection,
     came: Vec<u8>,
     end: Option<End>,
-    // The last two texts that were looked at, the later one first.
+    // The last two texts that were checked, the later one first.
     seen: (Vec<u8>, Vec<u8>),
 }
 
-/// The bytes, with the date of all scenes in place of each date.
+/// Copies `bytes` with the scenes' common date in place of each date.
 pub fn dated(alloc: Global, bytes: &[u8]) -> Result<Vec<u8>, AllocError> {
     let mut all = Vec::new(alloc);
     let mut rest = bytes;
@@ -69,14 +69,14 @@ pub fn dated(alloc: Global, bytes: &[u8]) -> Result<Vec<u8>, AllocError> {
     Ok(all)
 }
 
-// The last header with a date.
+// Returns the last Date field line.
 fn last_date(bytes: &[u8]) -> Option<&[u8]> {
     bytes
         .windows(DATE_LENGTH)
         .rfind(|part| part.starts_with(DATE))
 }
 
-/// The time by the clock.
+/// Returns the current time of the clock.
 pub fn now_of<R: Clock>(rt: &R) -> Result<Instant, Mishap> {
     match Instant::now(rt) {
         Ok(now) => Ok(now),
@@ -84,7 +84,7 @@ pub fn now_of<R: Clock>(rt: &R) -> Result<Instant, Mishap> {
     }
 }
 
-/// How many milliseconds have gone since then.
+/// Returns the milliseconds since `begun`.
 pub fn millis_since<R: Clock>(rt: &R, begun: Instant) -> Result<u64, Mishap> {
     match begun.elapsed(rt) {
         Ok(time) => Ok(u64::try_from(time.as_millis()).unwrap_or(u64::MAX)),
@@ -92,7 +92,7 @@ pub fn millis_since<R: Clock>(rt: &R, begun: Instant) -> Result<u64, Mishap> {
     }
 }
 
-// A connection to this address.
+// Connects to `addr`.
 fn connect_to<R: Net<Listener = TcpListener, Stream = TcpStream>>(
     rt: &R,
     addr: &ListenAddr,
@@ -108,7 +108,7 @@ fn connect_to<R: Net<Listener = TcpListener, Stream = TcpStream>>(
 }
 
 impl Client {
-    /// A client that is connected to this address.
+    /// Connects a client to `addr`.
     pub fn connect<R: Net<Listener = TcpListener, Stream = TcpStream>>(
         rt: &R,
         alloc: Global,
@@ -126,7 +126,7 @@ impl Client {
         }
     }
 
-    /// The address of its end, if that is one of TCP.
+    /// Returns the local address of a TCP client.
     pub fn local_addr(&self) -> Option<std::net::SocketAddr> {
         match &self.socket {
             Connection::Tcp(stream) => stream.local_addr().ok(),
@@ -134,7 +134,7 @@ impl Client {
         }
     }
 
-    // Reads once, for a millisecond at most.
+    // Reads once, for at most a millisecond.
     fn read_once(&mut self) -> Result<(), AllocError> {
         let mut piece = [0u8; PIECE];
         match self.socket.read_shared(&mut piece) {
@@ -148,7 +148,7 @@ impl Client {
         Ok(())
     }
 
-    // Reads until as many bytes are there, or the end, within a number of turns.
+    // Reads until `count` bytes are held or the input ends, for at most `READS` reads.
     fn read_up_to(&mut self, count: usize) -> Result<(), AllocError> {
         for _ in 0..READS {
             if self.came.len() >= count || self.end.is_some() {
@@ -159,7 +159,6 @@ impl Client {
         Ok(())
     }
 
-    // Writes all the bytes.
     fn write_all(&mut self, bytes: &[u8]) -> io::Result<()> {
         let mut rest = bytes;
         for _ in 0..bytes.len() {
@@ -175,13 +174,13 @@ impl Client {
         Ok(())
     }
 
-    /// Sends these bytes.
+    /// Sends `bytes`.
     pub fn send(&mut self, bytes: &[u8]) -> Result<(), Mishap> {
         let sent = self.write_all(bytes).err().map(|fault| fault.kind());
         demand_fault(self.alloc, None, sent)
     }
 
-    /// Sends these bytes again and again, as far as they can be sent, until the connection ends.
+    /// Sends `bytes` repeatedly, ignoring failed sends, until the connection ends.
     pub fn drip<R: Clock>(&mut self, rt: &R, bytes: &[u8], millis: u64) -> Result<(), Mishap> {
         for _ in 0..READS {
             if self.end.is_some() {
@@ -194,8 +193,8 @@ impl Client {
         demand(self.alloc, "the connection ends", self.end.is_some())
     }
 
-    // Sends these bytes again and again until a send fails, `most` times at most. Whether one failed, when the last one
-    // was, and the longest time from one to the next.
+    // Sends `bytes` repeatedly until a send fails, at most `most` times. Returns whether a send failed, when the last
+    // send was, and the longest time between two sends.
     fn drip_until<R: Clock>(
         &mut self,
         rt: &R,
@@ -216,10 +215,10 @@ impl Client {
         Ok((false, last, longest))
     }
 
-    /// Sends these bytes again and again, also past the end that came, until a send fails: one of as many as take `most`
-    /// milliseconds by their pauses alone, and from `least` milliseconds after `begun` on. It may fail before where this
-    /// thread was held up, from `begun` to its first send or between two: a server that waits for the next byte may have
-    /// given up.
+    /// Sends `bytes` repeatedly, even after the end of input, until a send fails. The pauses before it add up to at
+    /// most `most` milliseconds, and it comes at least `least` milliseconds after `begun`. An earlier failure is
+    /// accepted if this thread was delayed before a send, since a server that waits for the next byte may then have
+    /// timed out.
     pub fn drip_on<R: Clock>(
         &mut self,
         rt: &R,
@@ -234,7 +233,7 @@ impl Client {
         demand(self.alloc, "no send fails before its time", is_late)
     }
 
-    /// Reads `count` bytes at most, a hundred times, and forgets them.
+    /// Reads at most `count` bytes a hundred times, and discards them.
     pub fn sip<R: Clock>(&mut self, rt: &R, count: usize, millis: u64) -> Result<(), Mishap> {
         let mut piece = vec![in self.alloc; 0u8; count]?;
         for _ in 0..SIPS {
@@ -246,7 +245,7 @@ impl Client {
         Ok(())
     }
 
-    /// Sends these bytes again and again, and can't in the end.
+    /// Sends `bytes` repeatedly, and expects that a send fails in the end.
     pub fn is_cut_off(&mut self, bytes: &[u8]) -> Result<(), Mishap> {
         for _ in 0..MOST_PIECES {
             if self.write_all(bytes).is_err() {
@@ -256,7 +255,7 @@ impl Client {
         Err(differs(self.alloc, "a write fails", "none failed"))
     }
 
-    /// The next bytes are these.
+    /// Expects `wanted` as the next bytes.
     pub fn gets(&mut self, wanted: &[u8]) -> Result<(), Mishap> {
         self.read_up_to(wanted.len())?;
         let count = wanted.len().min(self.came.len());
@@ -268,7 +267,7 @@ impl Client {
         demand_bytes(self.alloc, wanted, text.as_slice())
     }
 
-    /// The last date of the last text differs from that of the text before.
+    /// Expects that the last date in the last text differs from the one in the text before.
     pub fn date_changed(&mut self) -> Result<(), Mishap> {
         let (last, before) = (
             last_date(self.seen.0.as_slice()),
@@ -279,7 +278,7 @@ impl Client {
         demand(self.alloc, "the date changed", last != before)
     }
 
-    /// The last date of the last text isn't after `now`, nor more than this many seconds before.
+    /// Expects that the last date in the last text is at most `seconds` before `now`, and not after it.
     pub fn dated_within(&self, now: u64, seconds: u64) -> Result<(), Mishap> {
         let date = last_date(self.seen.0.as_slice()).and_then(|header| header.get(DATE.len()..));
         let Some(date) = date.and_then(|date| HttpDate::parse_ascii(date).ok()) else {
@@ -293,7 +292,7 @@ impl Client {
         )
     }
 
-    /// From `least` to `most` bytes come up to the end.
+    /// Expects from `least` to `most` bytes before the end.
     pub fn counts(&mut self, least: usize, most: usize) -> Result<(), Mishap> {
         self.read_up_to(usize::MAX)?;
         let alloc = self.alloc;
@@ -307,13 +306,13 @@ impl Client {
         Err(Mishap::Differs { wanted, came })
     }
 
-    // Nothing came but what was looked at.
+    // Expects that all received bytes have been checked.
     fn demand_nothing(&self) -> Result<(), Mishap> {
         let came = dated(self.alloc, self.came.as_slice())?;
         demand_bytes(self.alloc, b"", came.as_slice())
     }
 
-    /// No byte comes, and no end, for this time.
+    /// Expects neither a byte nor an end for `millis` milliseconds.
     pub fn is_idle<R: Clock>(&mut self, rt: &R, millis: u64) -> Result<(), Mishap> {
         let begun = now_of(rt)?;
         for _ in 0..millis {
@@ -329,7 +328,7 @@ impl Client {
         demand(self.alloc, "no end", self.end.is_none())
     }
 
-    /// The end comes, and no byte before it.
+    /// Expects the end, and no byte before it.
     pub fn is_closed(&mut self) -> Result<(), Mishap> {
         let next = self.came.len().saturating_add(1);
         self.read_up_to(next)?;
@@ -342,13 +341,13 @@ impl Client {
         Err(differs(self.alloc, "the end", came.as_str()))
     }
 
-    /// The connection ends, whatever comes before.
+    /// Expects that the connection ends, whatever it receives before.
     pub fn is_gone(&mut self) -> Result<(), Mishap> {
         self.read_up_to(usize::MAX)?;
         demand(self.alloc, "the connection ends", self.end.is_some())
     }
 
-    /// It sends no more.
+    /// Shuts down the sending side.
     pub fn half_close(&mut self) -> Result<(), Mishap> {
         let shut = self.socket.shutdown(Shutdown::Write);
         demand_fault(self.alloc, None, shut.err().map(|fault| fault.kind()))

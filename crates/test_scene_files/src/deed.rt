@@ -1,207 +1,210 @@
-//! What a line of a scene says.
+//! Parses the steps of scenes.
 use crate::grounds::{
     MemoryDeed, QueueDeed, TurnDeed, TurnsDeed, memory_deed, queue_deed, turn_deed, turns_deed,
 };
+use std::io::ErrorKind;
 use test_data_files::kinds::kind_of;
 use test_data_files::text::number_in;
-use std::io::ErrorKind;
 
-/// What a client does, and what comes to it.
+/// A client's action, or an expectation on what it receives.
 #[derive(Clone, Copy)]
 pub enum ClientDeed<'a> {
     /// Connects to the server.
     Connects,
     /// Sends this text.
     Sends(&'a str),
-    /// Sends this text again and again until the connection ends, with this many milliseconds between.
+    /// Sends this text repeatedly until the connection ends, with this pause in milliseconds.
     Drips(&'a str, u64),
-    /// Sends this text again and again, also past the end that came, with this many milliseconds between, until a send
-    /// fails. The clock shows the second number then or more, and as many pauses take no longer than the third.
+    /// Sends this text repeatedly, even after the end of input, until a send fails; the second field is the pause in
+    /// milliseconds. The failure must come when the scene's clock shows at least the first number of the pair, and the
+    /// pauses until then may add up to at most the second.
     DripsOn(&'a str, u64, (u64, u64)),
-    /// Sends this text again and again, and can't in the end.
+    /// Sends this text repeatedly, and expects that a send fails in the end.
     IsCutOff(&'a str),
-    /// Reads this many bytes a hundred times, with this many milliseconds between.
+    /// Reads at most this many bytes a hundred times, with this pause in milliseconds.
     Sips(usize, u64),
-    /// The next bytes are this text.
+    /// Expects this text as the next bytes.
     Gets(&'a str),
-    /// The last date of the last text differs from that of the text before.
+    /// Expects that the last date in the last text differs from the one in the text before.
     DateChanged,
-    /// The last date of the last text is now, or at most this many seconds ago.
+    /// Expects that the last date in the last text is now, or at most this many seconds ago.
     DatedWithin(u64),
-    /// As many bytes come up to the end: at least the first number, and at most the second.
+    /// Expects from the first to the second number of bytes before the end.
     Counts(usize, usize),
-    /// No byte comes, and no end, for this many milliseconds.
+    /// Expects neither a byte nor an end for this many milliseconds.
     IsIdle(u64),
-    /// The end comes, and no byte before it.
+    /// Expects the end, and no byte before it.
     IsClosed,
-    /// The connection ends, by an end or by a reset, whatever comes before.
+    /// Expects that the connection is closed or reset, whatever it receives before.
     IsGone,
-    /// Sends no more.
+    /// Shuts down its sending side.
     HalfCloses,
     /// Closes its socket.
     Leaves,
 }
 
-/// What a call that waits for a request gives.
+/// The expected result of a call that waits for a request.
 #[derive(Clone, Copy)]
 pub enum Given<'a> {
-    /// A request for this target, which gets this name.
+    /// A request for this target, which the scene calls by this name.
     Request(&'a str, &'a str),
     /// No request.
     Nothing,
-    /// A fault of this kind.
+    /// An error of this kind.
     Fault(ErrorKind),
 }
 
-/// A call of the server, or a look at it.
+/// A call on the server, or an expectation on its state.
 #[derive(Clone, Copy)]
 pub enum ServerDeed<'a> {
-    /// Gives a request for this target, in the way that the scene's first line names.
+    /// Expects a request for this target, received in the scene's way (`Way`), and names it.
     Gives(&'a str, &'a str),
-    /// The handler of `serve` has kept a request for this target.
+    /// Expects that the handler of `serve` has kept a request for this target, and names it.
     Keeps(&'a str, &'a str),
     Recv(Given<'a>),
     TryRecv(Given<'a>),
-    /// With this many milliseconds.
+    /// Calls `recv_timeout` with this many milliseconds.
     RecvTimeout(u64, Given<'a>),
     Next(Given<'a>),
     Unblock,
-    /// With this many milliseconds; whether all was answered.
+    /// Calls `stop` with this many milliseconds. The flag is true if everything is answered in time.
     Stop(u64, bool),
     Drop,
-    /// Serves by the handler, until that ends by this fault, or by none.
+    /// Calls `serve` with the handler, and expects that it ends with this error or without one.
     Serve(Option<ErrorKind>),
-    /// The same on this many threads.
+    /// Calls `serve_by` with this many threads, with the same expectation.
     ServeBy(usize, Option<ErrorKind>),
-    /// In time as many clients are connected.
+    /// Waits until this many clients are connected.
     Clients(usize),
-    /// As many clients are connected now.
+    /// Expects that this many clients are connected now.
     ClientsNow(usize),
-    /// In time this count is this number.
+    /// Waits until the counter of this name has this value.
     Count(&'a str, u64),
-    /// In time it is this number, or above.
+    /// Waits until the counter of this name has at least this value.
     CountFrom(&'a str, u64),
-    /// At least this many faults of accepting are counted now, by the call that has them alone.
+    /// Expects at least this many accept errors now, from the call that returns only their count.
     AcceptFaults(u64),
-    /// The handler that waits at its gate goes on.
+    /// Lets the handler that waits at its gate continue.
     OpensGate,
-    /// Whether the file of the Unix socket is there.
+    /// Expects that the file of the Unix socket exists, or that it doesn't.
     File(bool),
-    /// The file of the Unix socket gets a second name.
+    /// Links the file of the Unix socket to a second name.
     LinksFile,
-    /// Nobody listens at the address: of TCP in time, and by the second name of a Unix socket's file now.
+    /// Expects that nobody listens at the address: in time for TCP, and now for a Unix socket, through the second name
+    /// of its file.
     IsFree,
-    /// A second server at the same address takes its place, and it is dropped.
+    /// Creates a second server at the same address, which replaces the first. The first is dropped.
     IsFollowed,
-    /// A second server at the same address is refused by this kind.
+    /// Creates a second server at the same address, and expects this error.
     Rival(ErrorKind),
-    /// A server with limits at a path where this is already: the kind by which it is refused, if it is.
+    /// Creates a server with limits at a path where this file exists, and expects this error or none.
     At(Found, Option<ErrorKind>),
-    /// A server with TLS at another address is refused in these words.
+    /// Creates a server with TLS at another address, and expects this error message.
     WithTls(&'a str),
-    /// One at the same address is refused by this kind.
+    /// Creates a server with TLS at the same address, and expects this error.
     RivalWithTls(ErrorKind),
-    /// A server that is given this one's address and then any is at another one.
+    /// Creates a server from this server's address, which is in use, and any free port, and expects that it listens at
+    /// another address.
     AtSecond,
-    /// The address of its Unix socket is shown by its path.
+    /// Expects that the address of its Unix socket is displayed as its path.
     ShowsPath,
 }
 
-/// What is at the path of a Unix socket before a server is made there.
+/// A file that exists at the path of a Unix socket before a server is created there.
 #[derive(Clone, Copy, PartialEq, Eq)]
 pub enum Found {
     /// A socket on which nobody listens.
     Stale,
-    /// One on which another listens.
+    /// A socket on which another server listens.
     Live,
-    /// A file that is no socket.
+    /// A file that is not a socket.
     Plain,
     /// A link to a socket on which nobody listens.
     Link,
 }
 
-/// The data of an answer.
+/// The body of a response.
 #[derive(Clone, Copy)]
 pub enum Data<'a> {
     Text(&'a str),
     Empty,
-    /// No data, and the connection is to end.
+    /// No body, and the connection closes after the response.
     Closing,
     Json(&'a str),
-    /// As many bytes, whose length is stated.
+    /// This many bytes, with a content length.
     Bytes(usize),
-    /// As many bytes, whose length isn't stated.
+    /// This many bytes, without a content length.
     Unsized(usize),
-    /// This text, where as many bytes are stated.
+    /// This text, with a content length that is greater.
     Short(usize, &'a str),
 }
 
-/// Why a request is handed back that isn't upgraded.
+/// Why a request is returned without an upgrade.
 #[derive(Clone, Copy)]
 pub enum Kept {
-    /// It doesn't ask for the protocol.
+    /// It does not ask for the protocol.
     NotAsked,
-    /// Its body isn't read.
+    /// Its body has not been read to the end.
     UnfinishedBody,
-    /// As many connections are upgraded as may be.
+    /// The limit of upgraded connections is reached.
     TooMany,
 }
 
-/// What is done with a request.
+/// A call on a request, or an expectation on its parts.
 #[derive(Clone, Copy)]
 pub enum RequestDeed<'a> {
-    /// It is answered by this status and these data; the kind of the fault that is reported, if one is.
+    /// Responds with this status and body, and expects this error or none.
     Respond(u16, Data<'a>, Option<ErrorKind>),
     Drop,
-    /// What is left of its body is this text.
+    /// Expects this text as the rest of its body.
     Body(&'a str),
-    /// The next bytes of its body are this text.
+    /// Expects this text as the next bytes of its body.
     Reads(&'a str),
-    /// Reads of its body end by this fault.
+    /// Expects that reads of its body end with this error.
     ReadFails(ErrorKind),
-    /// So does a read of exactly this many bytes.
+    /// Expects that a read of exactly this many bytes fails with this error.
     ReadExactly(usize, ErrorKind),
-    /// Its body, of at most this many bytes, is read whole.
+    /// Reads the whole body, of at most this many bytes.
     ReadBody(usize, Whole<'a>),
-    /// Its body is asked for, and not read.
+    /// Requests the body's reader, and reads nothing.
     AsReader,
-    /// Its first header of this name has this value, or there is none.
+    /// Expects this value of its first header field of this name, or no such field.
     Header(&'a str, Option<&'a str>),
-    /// Whether its headers of this name list this token.
+    /// Expects that its header fields of this name list this token, or that they don't.
     Lists(&'a str, &'a str, bool),
     Path(&'a str),
     Query(Option<&'a str>),
-    /// Whether it asks for an upgrade.
+    /// Expects that it asks for an upgrade, or that it doesn't.
     AsksUpgrade(bool),
-    /// Whether it came with TLS.
+    /// Expects that it came over TLS, or that it didn't.
     IsSecure(bool),
     Version(&'a str),
     Length(Option<u64>),
-    /// It has as many headers.
+    /// Expects this many header fields.
     Headers(u64),
-    /// It is shown by this text.
+    /// Expects that it is displayed as this text.
     Shown(&'a str),
-    /// Its head and its body are lent together: its path, and what is left of its body.
+    /// Borrows its head and its body together, and expects this path and this rest of the body.
     Lends(&'a str, &'a str),
-    /// It is a `GET` of that client, without TLS.
+    /// Expects a `GET` from the client of this name, without TLS.
     IsPlainOf(&'a str),
-    /// Its raw writer gets this name.
+    /// Takes its raw writer, and names it.
     IntoWriter(&'a str),
-    /// An answer of this status grows by this name; whether the connection is to end.
+    /// Begins a streaming response with this status, and names it. With the flag, it closes the connection.
     Streams(u16, &'a str, bool),
-    /// An answer of this status can't begin, by this fault.
+    /// Expects that a streaming response with this status fails to begin, with this error.
     StreamsNot(u16, ErrorKind),
-    /// It is upgraded to this protocol, and the stream gets this name.
+    /// Upgrades it to this protocol, and names the stream.
     Upgrades(&'a str, &'a str),
-    /// The same, where its head asks for the protocol.
+    /// Upgrades it if its head asks for this protocol, and names the stream.
     TriesUpgrade(&'a str, &'a str),
-    /// It isn't upgraded to this protocol, and handed back.
+    /// Expects that it is not upgraded to this protocol but returned, for this reason.
     KeepsUpgrade(&'a str, Kept),
-    /// Whether its answer would be lost.
+    /// Expects that its response would be lost, or that it wouldn't.
     IsLost(bool),
 }
 
-/// What comes of a body that is read whole.
+/// The expected result of reading a whole body.
 #[derive(Clone, Copy)]
 pub enum Whole<'a> {
     Text(&'a str),
@@ -211,23 +214,23 @@ pub enum Whole<'a> {
     Fault(ErrorKind),
 }
 
-/// What is done with an output: a raw writer, an answer that grows, or an upgraded stream.
+/// A call on an output: a raw writer, a streaming response, or an upgraded stream.
 #[derive(Clone, Copy)]
 pub enum OutputDeed<'a> {
     Write(&'a str, Option<ErrorKind>),
     Flush(Option<ErrorKind>),
-    /// Closes a raw writer, or finishes an answer that grows.
+    /// Closes a raw writer, or finishes a streaming response.
     Close(Option<ErrorKind>),
-    /// A read of an upgraded stream gives this text.
+    /// Expects this text from a read of an upgraded stream.
     Read(&'a str),
-    /// A read of an upgraded stream fails so.
+    /// Expects that a read of an upgraded stream fails with this error.
     ReadFails(ErrorKind),
-    /// An answer that grows is sent in this form.
+    /// Expects that a streaming response is framed in this way.
     Form(&'a str),
     Discard,
 }
 
-/// What a line says.
+/// A step of a scene.
 #[derive(Clone, Copy)]
 pub enum Deed<'a> {
     Client(&'a str, ClientDeed<'a>),
@@ -238,43 +241,43 @@ pub enum Deed<'a> {
     Memory(MemoryDeed<'a>),
     Turns(TurnsDeed<'a>),
     Turn(&'a str, TurnDeed<'a>),
-    /// All descriptors of the process are taken but this many, or all of them are given back.
+    /// Uses up all file descriptors of the process but this many, or releases them again.
     Descriptors(Option<usize>),
-    /// Nothing is done for this many milliseconds.
+    /// Waits for this many milliseconds.
     Pause(u64),
     ClockStarts,
-    /// Less than this many milliseconds have gone since the clock was started.
+    /// Expects that less than this many milliseconds have passed since the clock started.
     ClockBelow(u64),
-    /// At least this many have.
+    /// Expects that at least this many milliseconds have passed.
     ClockAbove(u64),
-    /// The clock starts anew, and the time that it shows counts as a lap.
+    /// Restarts the clock, and records the time that it showed as a lap.
     ClockLap,
-    /// The shortest lap took less than this many milliseconds.
+    /// Expects that the shortest lap took less than this many milliseconds.
     ShortestLap(u64),
-    /// What is indented below is done on a thread of this name.
+    /// Runs the indented steps below on a thread of this name.
     Beside(&'a str),
-    /// The same by a job of the pool.
+    /// Runs the indented steps below in a pool job of this name.
     Job(&'a str),
-    /// That thread ends, within this many milliseconds.
+    /// Expects that the thread or job ends within this many milliseconds.
     Ends(&'a str, u64),
-    /// That thread hasn't ended.
+    /// Expects that the thread or job has not ended.
     Waits(&'a str),
 }
 
-/// How many milliseconds a thread may take to end, where the line doesn't say.
+/// Default time in milliseconds within which a thread must end.
 const LONGEST: u64 = 10_000;
 
-// A number of milliseconds.
+// Parses a number of milliseconds.
 pub(crate) fn millis_in(digits: &str) -> Option<u64> {
     Some(number_in(digits)? as u64)
 }
 
-// The text before the last ` = `, and the text after it.
+// Splits the text at its last ` = `.
 pub(crate) fn sides(text: &str) -> Option<(&str, &str)> {
     text.rsplit_once(" = ")
 }
 
-// The text before ` = KIND` at the end of a line, and the kind; the whole text without one.
+// Splits off a final ` = KIND`. Returns the whole text if there is none.
 pub(crate) fn before_kind(text: &str) -> (&str, Option<ErrorKind>) {
     if let Some((front, name)) = sides(text)
         && let Some(kind) = kind_of(name)
@@ -284,7 +287,7 @@ pub(crate) fn before_kind(text: &str) -> (&str, Option<ErrorKind>) {
     (text, None)
 }
 
-// What is dripped on: `TEXT every MS for MS to MS`.
+// Parses the arguments of `drips-on`: `TEXT every MS for MS to MS`.
 fn drip_on_deed(text: &str) -> Option<ClientDeed<'_>> {
     let (front, times) = text.rsplit_once(" for ")?;
     let (text, pause) = front.rsplit_once(" every ")?;
@@ -293,7 +296,7 @@ fn drip_on_deed(text: &str) -> Option<ClientDeed<'_>> {
     Some(ClientDeed::DripsOn(text, millis_in(pause)?, times))
 }
 
-// What a verb of a client says, with the words after it.
+// Parses a client's step from its verb and the words after it.
 fn client_deed<'a>(verb: &str, rest: &'a str) -> Option<ClientDeed<'a>> {
     match (verb, rest) {
         ("connects", "") => Some(ClientDeed::Connects),
@@ -324,7 +327,7 @@ fn client_deed<'a>(verb: &str, rest: &'a str) -> Option<ClientDeed<'a>> {
     }
 }
 
-// What a call that waits for a request gives: `TARGET as NAME`, `nothing`, or a kind.
+// Parses the expected result of a call that waits for a request: `TARGET as NAME`, `nothing`, or an error kind.
 fn given_in(text: &str) -> Option<Given<'_>> {
     if text == "nothing" {
         return Some(Given::Nothing);
@@ -335,7 +338,7 @@ fn given_in(text: &str) -> Option<Given<'_>> {
     Some(Given::Fault(kind_of(text)?))
 }
 
-// How a call that serves ends: `ok`, or a kind.
+// Parses how a serving call ends: `ok`, or an error kind.
 fn served_in(text: &str) -> Option<Option<ErrorKind>> {
     if text == "ok" {
         return Some(None);
@@ -343,7 +346,7 @@ fn served_in(text: &str) -> Option<Option<ErrorKind>> {
     Some(Some(kind_of(text)?))
 }
 
-// What a call of the server says that has an outcome after ` = `.
+// Parses a server call with an outcome after ` = `.
 fn call_of_server<'a>(call: &'a str, outcome: &'a str) -> Option<ServerDeed<'a>> {
     let (verb, rest) = call.split_once(' ').unwrap_or((call, ""));
     match (verb, rest) {
@@ -376,7 +379,7 @@ fn call_of_server<'a>(call: &'a str, outcome: &'a str) -> Option<ServerDeed<'a>>
     }
 }
 
-// What a line of the server says.
+// Parses a step on the server.
 fn server_deed(text: &str) -> Option<ServerDeed<'_>> {
     if let Some((call, outcome)) = sides(text) {
         return call_of_server(call, outcome);
@@ -412,7 +415,7 @@ fn server_deed(text: &str) -> Option<ServerDeed<'_>> {
     }
 }
 
-// The data that an answer names.
+// Parses the body of a response.
 fn data_in(text: &str) -> Option<Data<'_>> {
     let (word, rest) = text.split_once(' ').unwrap_or((text, ""));
     match (word, rest) {
@@ -430,13 +433,13 @@ fn data_in(text: &str) -> Option<Data<'_>> {
     }
 }
 
-// A status, and the words after it.
+// Splits off the status before the first space.
 fn status_in(text: &str) -> Option<(u16, &str)> {
     let (digits, rest) = text.split_once(' ')?;
     Some((u16::try_from(number_in(digits)?).ok()?, rest))
 }
 
-// What comes of a body that is read whole.
+// Parses the expected result of reading a whole body.
 fn whole_in(text: &str) -> Option<Whole<'_>> {
     match text {
         "TooLong" => Some(Whole::TooLong),
@@ -450,7 +453,7 @@ fn whole_in(text: &str) -> Option<Whole<'_>> {
     }
 }
 
-// `yes` or `no`.
+// Parses `yes` or `no`.
 fn answer_in(word: &str) -> Option<bool> {
     match word {
         "yes" => Some(true),
@@ -459,7 +462,7 @@ fn answer_in(word: &str) -> Option<bool> {
     }
 }
 
-// Why a request is handed back.
+// Parses why a request is returned without an upgrade.
 fn kept_in(word: &str) -> Option<Kept> {
     match word {
         "NotAsked" => Some(Kept::NotAsked),
@@ -469,7 +472,7 @@ fn kept_in(word: &str) -> Option<Kept> {
     }
 }
 
-// What a call of a request says that has an outcome after ` = `.
+// Parses a request call with an argument, and an outcome after ` = `.
 fn look_at_request<'a>(verb: &str, call: &'a str, outcome: &'a str) -> Option<RequestDeed<'a>> {
     match verb {
         "read_body" => Some(RequestDeed::ReadBody(number_in(call)?, whole_in(outcome)?)),
@@ -490,7 +493,7 @@ fn look_at_request<'a>(verb: &str, call: &'a str, outcome: &'a str) -> Option<Re
     }
 }
 
-// What a look at a request says that takes no argument.
+// Parses a request call without arguments.
 fn property_of_request<'a>(verb: &str, outcome: &'a str) -> Option<RequestDeed<'a>> {
     match verb {
         "path" => Some(RequestDeed::Path(outcome)),
@@ -508,7 +511,7 @@ fn property_of_request<'a>(verb: &str, outcome: &'a str) -> Option<RequestDeed<'
     }
 }
 
-// What a verb of a request says.
+// Parses a step on a request.
 fn request_deed<'a>(verb: &str, rest: &'a str) -> Option<RequestDeed<'a>> {
     if let Some(outcome) = rest.strip_prefix("= ") {
         return property_of_request(verb, outcome);
@@ -551,7 +554,7 @@ fn request_deed<'a>(verb: &str, rest: &'a str) -> Option<RequestDeed<'a>> {
     }
 }
 
-// What a verb of an output says.
+// Parses a step on an output.
 fn output_deed<'a>(verb: &str, rest: &'a str) -> Option<OutputDeed<'a>> {
     match verb {
         "write" => {
@@ -568,7 +571,7 @@ fn output_deed<'a>(verb: &str, rest: &'a str) -> Option<OutputDeed<'a>> {
     }
 }
 
-// `= KIND`, or nothing.
+// Parses `= KIND`, or nothing.
 fn fault_in(rest: &str) -> Option<Option<ErrorKind>> {
     if rest.is_empty() {
         return Some(None);
@@ -576,7 +579,7 @@ fn fault_in(rest: &str) -> Option<Option<ErrorKind>> {
     Some(Some(kind_of(rest.strip_prefix("= ")?)?))
 }
 
-// What is said of the clock.
+// Parses a step on the clock.
 fn clock_deed(text: &str) -> Option<Deed<'_>> {
     match text.split_once(' ') {
         None if text == "starts" => Some(Deed::ClockStarts),
@@ -588,7 +591,7 @@ fn clock_deed(text: &str) -> Option<Deed<'_>> {
     }
 }
 
-// What is said of descriptors.
+// Parses a step on the file descriptors.
 fn descriptors_deed(text: &str) -> Option<Deed<'_>> {
     match text.split_once(' ') {
         None if text == "back" => Some(Deed::Descriptors(None)),
@@ -597,7 +600,7 @@ fn descriptors_deed(text: &str) -> Option<Deed<'_>> {
     }
 }
 
-// What is said of a thread.
+// Parses a step on a thread.
 fn thread_deed<'a>(who: &'a str, verb: &str, rest: &str) -> Option<Deed<'a>> {
     match (verb, rest) {
         ("ends", "") => Some(Deed::Ends(who, LONGEST)),
@@ -607,7 +610,7 @@ fn thread_deed<'a>(who: &'a str, verb: &str, rest: &str) -> Option<Deed<'a>> {
     }
 }
 
-/// What a line says, its indentation left out. None where it is no line of a scene.
+/// Parses a step, without its indentation. Returns `None` if the line is not a step.
 pub fn deed_in(line: &str) -> Option<Deed<'_>> {
     let (who, what) = line.split_once(' ')?;
     match who {

@@ -1,38 +1,39 @@
-//! What a line says of a scene's queue, of its connection over memory, and of its readers or writers in turn.
+//! Parses the steps of scenes without a server: on a queue, on a connection over memory, and on readers or writers that
+//! take turns.
 use crate::deed::{before_kind, millis_in, sides};
+use std::io::ErrorKind;
 use test_data_files::kinds::kind_of;
 use test_data_files::text::number_in;
-use std::io::ErrorKind;
 
-/// What a pop of the queue gives.
+/// The expected result of a pop.
 #[derive(Clone, Copy)]
 pub enum Popped {
     Value(u64),
-    /// A value, whichever.
+    /// Any value.
     Something,
-    /// None: a mark, or no value in time.
+    /// No value: an unblock mark or a timeout.
     Nothing,
     /// A value or none.
     Anything,
 }
 
-/// A call of the queue.
+/// A call on the queue.
 #[derive(Clone, Copy)]
 pub enum QueueDeed {
     Push(u64),
     Unblock,
     Clear,
     Pop(Popped),
-    /// Pops as often as this value comes.
+    /// Pops until the result is not this value.
     PopPast(u64, Popped),
-    /// With this many milliseconds.
+    /// Pops with a timeout in milliseconds.
     PopTimeout(u64, Popped),
-    /// The same, as often as this value comes.
+    /// Pops with a timeout in milliseconds, until the result is not the second number.
     PopTimeoutPast(u64, u64, Popped),
     TryPop(Popped),
 }
 
-// What comes of a pop: `nothing`, `something`, `anything`, or a value.
+// Parses the expected result of a pop: `nothing`, `something`, `anything`, or a value.
 fn popped_in(text: &str) -> Option<Popped> {
     match text {
         "nothing" => Some(Popped::Nothing),
@@ -42,7 +43,7 @@ fn popped_in(text: &str) -> Option<Popped> {
     }
 }
 
-// A call of the queue that gives something.
+// Parses a queue call that returns a value.
 fn pop_in(call: &str, popped: Popped) -> Option<QueueDeed> {
     let (verb, rest) = call.split_once(' ').unwrap_or((call, ""));
     match (verb, rest) {
@@ -63,7 +64,7 @@ fn pop_in(call: &str, popped: Popped) -> Option<QueueDeed> {
     }
 }
 
-/// What a line of the queue says.
+/// Parses a step on the queue.
 pub(crate) fn queue_deed(text: &str) -> Option<QueueDeed> {
     if let Some((call, outcome)) = sides(text) {
         return pop_in(call, popped_in(outcome)?);
@@ -76,55 +77,55 @@ pub(crate) fn queue_deed(text: &str) -> Option<QueueDeed> {
     }
 }
 
-/// The parts of a request that is made.
+/// The parts of a request to build.
 #[derive(Clone, Copy)]
 pub struct Parts<'a> {
     pub method: &'a str,
     pub target: &'a str,
     pub version: (u8, u8),
-    /// What follows, each after ` + `: `https`, `from ADDRESS`, `body TEXT`, or a header.
+    /// Further parts, each after ` + `: `https`, `from ADDRESS`, `body TEXT`, or a header field.
     pub more: &'a str,
 }
 
-/// What comes of a request that is made.
+/// The expected result of building a request.
 #[derive(Clone, Copy)]
 pub enum Made<'a> {
-    /// It gets this name.
+    /// A request, which the scene calls by this name.
     Request(&'a str),
-    /// Its target isn't ASCII.
+    /// An error: the target is not ASCII.
     Refused,
     ExpectationFailed,
-    /// A fault of its body.
+    /// A body error of this kind.
     Fault(ErrorKind),
 }
 
-/// What is done over memory.
+/// A step on a connection or a request over memory.
 #[derive(Clone, Copy)]
 pub enum MemoryDeed<'a> {
-    /// The writers of the requests that follow take this many bytes, and then fail so.
+    /// Limits the writers of later requests: they accept this many bytes and then fail with this kind.
     Takes(usize, ErrorKind),
-    /// A client sends this text, and ends.
+    /// Provides this text as the client's whole input.
     Sends(&'a str),
-    /// Its next request is for this target, and gets this name.
+    /// Expects a next request for this target, and names it.
     Gives(&'a str, &'a str),
-    /// It has no further request.
+    /// Expects no further request.
     GivesNothing,
-    /// A request is made for a test.
+    /// Builds a request for a test.
     Makes(Parts<'a>, Made<'a>),
-    /// A request is made of its parts by `new_request`, from no address.
+    /// Builds a request from its parts by `new_request`, without a client address.
     News(Parts<'a>, Made<'a>),
-    /// The next bytes that were written are this text.
+    /// Expects this text as the next bytes written.
     Gets(&'a str),
 }
 
-// A version, as `1.1`.
+// Parses a version, such as `1.1`.
 fn version_in(text: &str) -> Option<(u8, u8)> {
     let (major, minor) = text.split_once('.')?;
     let major = u8::try_from(number_in(major)?).ok()?;
     Some((major, u8::try_from(number_in(minor)?).ok()?))
 }
 
-// The parts of a request: `METHOD TARGET VERSION`, and further ones.
+// Parses the parts of a request: `METHOD TARGET VERSION`, and any further ones.
 fn parts_in(text: &str) -> Option<Parts<'_>> {
     let (line, more) = text.split_once(" + ").unwrap_or((text, ""));
     let (method, rest) = line.split_once(' ')?;
@@ -137,7 +138,7 @@ fn parts_in(text: &str) -> Option<Parts<'_>> {
     })
 }
 
-// What comes of a request that is made.
+// Parses the expected error of building a request.
 fn made_in(outcome: &str) -> Option<Made<'_>> {
     match outcome {
         "Refused" => Some(Made::Refused),
@@ -146,7 +147,7 @@ fn made_in(outcome: &str) -> Option<Made<'_>> {
     }
 }
 
-// The parts of a request, and what comes of it.
+// Parses the parts of a request to build and the expected result.
 fn making_in(text: &str) -> Option<(Parts<'_>, Made<'_>)> {
     if let Some((parts, name)) = text.rsplit_once(" as ") {
         return Some((parts_in(parts)?, Made::Request(name)));
@@ -155,7 +156,7 @@ fn making_in(text: &str) -> Option<(Parts<'_>, Made<'_>)> {
     Some((parts_in(parts)?, made_in(outcome)?))
 }
 
-/// What a line says of what is over memory.
+/// Parses a step over memory.
 pub(crate) fn memory_deed(text: &str) -> Option<MemoryDeed<'_>> {
     let (verb, rest) = text.split_once(' ').unwrap_or((text, ""));
     match (verb, rest) {
@@ -182,20 +183,20 @@ pub(crate) fn memory_deed(text: &str) -> Option<MemoryDeed<'_>> {
     }
 }
 
-/// What is done with readers or writers in turn.
+/// A step that creates or checks readers or writers that take turns.
 #[derive(Clone, Copy)]
 pub enum TurnsDeed<'a> {
-    /// Readers of this text, one after another.
+    /// Creates a sequence of readers of this text.
     Read(&'a str),
-    /// Writers to memory that takes this many bytes.
+    /// Creates a sequence of writers to memory that accepts this many bytes.
     Write(usize),
-    /// The next one gets this name.
+    /// Takes the next one and names it.
     Next(&'a str),
-    /// This text was written.
+    /// Expects that this text was written.
     Wrote(&'a str),
 }
 
-/// What a line says of readers or writers in turn.
+/// Parses a step that creates or checks readers or writers that take turns.
 pub(crate) fn turns_deed(text: &str) -> Option<TurnsDeed<'_>> {
     match text.split_once(' ').unwrap_or((text, "")) {
         ("read", text) => Some(TurnsDeed::Read(text)),
@@ -207,19 +208,19 @@ pub(crate) fn turns_deed(text: &str) -> Option<TurnsDeed<'_>> {
     }
 }
 
-/// What is done with a reader or a writer in turn.
+/// A step on one reader or writer that takes turns.
 #[derive(Clone, Copy)]
 pub enum TurnDeed<'a> {
-    /// One read gives this text.
+    /// Expects this text from one read.
     Reads(&'a str),
-    /// One write of this text takes as many bytes, or fails so.
+    /// Writes this text once, and expects that this many bytes are accepted.
     Writes(&'a str, usize),
     WriteFails(&'a str, ErrorKind),
     Flushes,
     Ends,
 }
 
-/// What a verb of a reader or a writer in turn says.
+/// Parses a step on one reader or writer that takes turns.
 pub(crate) fn turn_deed<'a>(verb: &str, rest: &'a str) -> Option<TurnDeed<'a>> {
     match (verb, rest) {
         ("reads-once", text) => Some(TurnDeed::Reads(text)),

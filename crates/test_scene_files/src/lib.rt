@@ -1,5 +1,5 @@
-//! Files of scenes: what a server and its clients do, line by line, and what each sees. This library reads such files,
-//! and has the clients, and the errors of a scene that fails. `test_scenes` plays them. docs/CASES.md describes the language.
+//! Reads scene files, which list step by step what a server and its clients do and what each observes. Also provides
+//! the clients and the errors of a failed scene. `test_scenes` plays the scenes; docs/CASES.md describes the language.
 #![tactic(auto)]
 
 pub mod client;

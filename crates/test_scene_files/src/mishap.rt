@@ -1,16 +1,16 @@
-//! What goes wrong in a scene.
-use test_data_files::fault::LineFault;
-use test_data_files::text::{TextFault, shown};
+//! Errors of a scene's steps.
 use std::alloc::{AllocError, Global};
 use std::fmt;
 use std::io::ErrorKind;
+use test_data_files::fault::LineFault;
+use test_data_files::text::{TextFault, shown};
 
-/// Why a line of a scene doesn't hold.
+/// Why a step failed.
 #[derive(Drop)]
 pub enum Mishap {
-    /// Something else came than the line says.
+    /// The result differs from the expected one.
     Differs { wanted: String, came: String },
-    /// The line can't be played, for this reason.
+    /// The step can't be run, for this reason.
     Unplayable(&'static str),
     OutOfMemory,
 }
@@ -42,7 +42,7 @@ impl fmt::Display for Mishap {
     }
 }
 
-/// What a line wants didn't come, but this.
+/// Builds the error for a result that differs from the expected one.
 pub fn differs(alloc: Global, wanted: &str, came: &str) -> Mishap {
     let (Ok(wanted), Ok(came)) = (
         String::from_str(alloc, wanted),
@@ -53,7 +53,7 @@ pub fn differs(alloc: Global, wanted: &str, came: &str) -> Mishap {
     Mishap::Differs { wanted, came }
 }
 
-/// It has to hold that, in these words.
+/// Fails with `words` as the expectation unless `holds`.
 pub fn demand(alloc: Global, words: &str, holds: bool) -> Result<(), Mishap> {
     if holds {
         return Ok(());
@@ -61,7 +61,7 @@ pub fn demand(alloc: Global, words: &str, holds: bool) -> Result<(), Mishap> {
     Err(differs(alloc, words, "not so"))
 }
 
-/// Two texts are the same.
+/// Fails unless the texts are equal.
 pub fn demand_text(alloc: Global, wanted: &str, came: &str) -> Result<(), Mishap> {
     if wanted == came {
         return Ok(());
@@ -69,7 +69,7 @@ pub fn demand_text(alloc: Global, wanted: &str, came: &str) -> Result<(), Mishap
     Err(differs(alloc, wanted, came))
 }
 
-/// Two numbers are the same.
+/// Fails unless the numbers are equal.
 pub fn demand_number(alloc: Global, wanted: u64, came: u64) -> Result<(), Mishap> {
     if wanted == came {
         return Ok(());
@@ -79,12 +79,12 @@ pub fn demand_number(alloc: Global, wanted: u64, came: u64) -> Result<(), Mishap
     Err(Mishap::Differs { wanted, came })
 }
 
-// How many bytes are shown of a text, and how many of them are before the first that differs.
+// Number of bytes shown of a long text, and how many of them precede the first difference.
 const SHOWN: usize = 200;
 
 const SHOWN_BEFORE: usize = 60;
 
-// A part of a text, from this place on.
+// Formats part of a text, starting at `from`.
 fn part_shown(alloc: Global, bytes: &[u8], from: usize) -> Result<String, AllocError> {
     let part = bytes.get(from..).unwrap_or_default();
     let part = part.get(..SHOWN).unwrap_or(part);
@@ -95,7 +95,7 @@ fn part_shown(alloc: Global, bytes: &[u8], from: usize) -> Result<String, AllocE
     format!(in alloc; "{text} ({} bytes from byte {from} on)", bytes.len())
 }
 
-/// Two byte strings are the same.
+/// Fails unless the byte strings are equal. The error shows the text around the first difference.
 pub fn demand_bytes(alloc: Global, wanted: &[u8], came: &[u8]) -> Result<(), Mishap> {
     if wanted == came {
         return Ok(());
@@ -112,7 +112,7 @@ pub fn demand_bytes(alloc: Global, wanted: &[u8], came: &[u8]) -> Result<(), Mis
     Err(Mishap::Differs { wanted, came })
 }
 
-/// A call failed by this kind, or didn't fail.
+/// Fails unless the call failed with the expected kind, or succeeded if none is expected.
 pub fn demand_fault(
     alloc: Global,
     wanted: Option<ErrorKind>,

@@ -1,68 +1,68 @@
-//! Files of scenes, read line by line.
+//! Reads scene files line by line.
 use crate::deed::{Deed, deed_in};
-use test_data_files::fault::{FilesFault, LineFault, line_text};
-use test_data_files::text::number_in;
 use std::alloc::{AllocError, Global};
 use std::time::Duration;
+use test_data_files::fault::{FilesFault, LineFault, line_text};
+use test_data_files::text::number_in;
 use tiny_http_body::framing::Profile;
 use tiny_http_limits::limits::Limits;
 
-/// What a scene is over: what its server listens on, or what stands in the place of a server.
+/// What a scene runs on: a kind of server, or what replaces a server.
 #[derive(Clone, Copy, PartialEq, Eq)]
 pub enum Over {
     Tcp,
     Ipv6,
     Unix,
-    /// A listener of TCP that the program has made.
+    /// A TCP listener that the program creates.
     Listener,
-    /// One that doesn't wait for clients.
+    /// A nonblocking TCP listener.
     Nonblocking,
-    /// No server: a queue.
+    /// A queue, without a server.
     Queue,
-    /// No server: a queue, and a pool that runs jobs.
+    /// A queue and a thread pool, without a server.
     Pool,
-    /// No server: readers or writers in turn.
+    /// Readers or writers that take turns, without a server.
     Turns,
-    /// No server: requests over memory.
+    /// Requests over memory, without a server.
     Memory,
 }
 
-/// How `server gives` gets its requests.
+/// How `server gives` receives its requests.
 #[derive(Clone, Copy, PartialEq, Eq)]
 pub enum Way {
-    /// By `recv_timeout`.
+    /// Through `recv_timeout`.
     Recv,
-    /// By a handler of `serve` that keeps each of them.
+    /// Through a handler of `serve` that keeps each request.
     Handler,
 }
 
-/// The server of a scene, or what stands in its place.
+/// The server of a scene, or what replaces it, and how the scene is played.
 #[derive(Clone, Copy)]
 pub struct Ground {
     pub profile: Profile,
     pub over: Over,
-    /// The limits, if it has some.
+    /// The server's limits, if any.
     pub limits: Option<Limits>,
-    /// Whether the scene is played a second time, by a handler.
+    /// Whether the scene is played a second time, with a handler.
     pub is_both: bool,
-    /// Whether no other scene is played beside it.
+    /// Whether no other scene runs at the same time.
     pub is_alone: bool,
-    /// Whether it has to fail.
+    /// Whether the scene must fail.
     pub has_to_fail: bool,
-    /// How often it is played.
+    /// How often the scene is played.
     pub repeats: usize,
 }
 
-/// A line of a scene that is a deed.
+/// A step of a scene.
 #[derive(Drop)]
 pub struct Line {
     pub number: usize,
     pub text: String,
-    /// Whether it is indented: a deed of the thread above.
+    /// Whether the line is indented: a step of the thread or job above.
     pub is_inner: bool,
 }
 
-/// A scene.
+/// A named sequence of steps, and what it runs on.
 #[derive(Drop)]
 pub struct Scene {
     pub name: String,
@@ -70,14 +70,14 @@ pub struct Scene {
     pub lines: Vec<Line>,
 }
 
-/// The scenes of a file, and its name.
+/// The name and the scenes of a file.
 #[derive(Drop)]
 pub struct SceneFile {
     pub name: String,
     pub scenes: Vec<Scene>,
 }
 
-// Sets the limit of this name.
+// Sets the limit called `name`. Returns `None` if there is no such limit.
 fn set_limit(limits: &mut Limits, name: &str, number: usize) -> Option<()> {
     let time = Duration::from_millis(number as u64);
     match name {
@@ -96,7 +96,7 @@ fn set_limit(limits: &mut Limits, name: &str, number: usize) -> Option<()> {
     Some(())
 }
 
-// Adds one of the words after `server`: a profile, what it listens on or what stands in its place, or a limit.
+// Applies a word after `server` or `over`: a profile, what the scene runs on, an option or a limit.
 fn add_word(ground: &mut Ground, word: &str) -> Option<()> {
     match word {
         "lenient" => ground.profile = Profile::Lenient,
@@ -133,7 +133,7 @@ fn add_word(ground: &mut Ground, word: &str) -> Option<()> {
     Some(())
 }
 
-// The server that the words after `server` name.
+// Parses the words after `server` or `over`.
 fn ground_in(words: &str) -> Option<Ground> {
     let mut ground = Ground {
         profile: Profile::Lenient,
@@ -150,7 +150,7 @@ fn ground_in(words: &str) -> Option<Ground> {
     Some(ground)
 }
 
-// A scene that has begun: its name, and its server once that was read.
+// A scene that is being read. The ground is set once its line is read.
 #[derive(Drop)]
 struct Begun {
     name: String,
@@ -158,7 +158,7 @@ struct Begun {
     lines: Vec<Line>,
 }
 
-// Adds the scene that has begun, if there is one.
+// Adds the scene being read, if any, to `scenes`. Fails if it has no server or no step.
 fn add_scene(scenes: &mut Vec<Scene>, begun: Option<Begun>) -> Result<(), LineFault> {
     let Some(begun) = begun else {
         return Ok(());
@@ -183,7 +183,7 @@ fn add_scene(scenes: &mut Vec<Scene>, begun: Option<Begun>) -> Result<(), LineFa
     Ok(())
 }
 
-// Whether an indented line may come here: below a line `beside` or `job`, or another indented one.
+// Returns whether an indented line is allowed here: after a line `beside` or `job`, or another indented one.
 fn may_be_inner(lines: &[Line]) -> bool {
     lines.last().is_some_and(|line| {
         let text = line.text.as_str();
@@ -191,7 +191,7 @@ fn may_be_inner(lines: &[Line]) -> bool {
     })
 }
 
-// Adds a line of a scene.
+// Adds a line to the scene being read. Its first line sets the ground.
 fn add_line(alloc: Global, begun: &mut Begun, number: usize, text: &str) -> Result<(), LineFault> {
     let words = text.strip_prefix("server ").or(text.strip_prefix("over "));
     if let Some(words) = words
@@ -227,7 +227,7 @@ fn add_line(alloc: Global, begun: &mut Begun, number: usize, text: &str) -> Resu
     Ok(())
 }
 
-// Begins a scene of this name.
+// Begins a scene called `name`, which must be one word and not yet used.
 fn begin(alloc: Global, scenes: &[Scene], name: &str) -> Result<Begun, LineFault> {
     if name.is_empty() || name.contains(' ') {
         return Err(LineFault::Bad("a scene has a name of one word"));
@@ -242,7 +242,7 @@ fn begin(alloc: Global, scenes: &[Scene], name: &str) -> Result<Begun, LineFault
     })
 }
 
-// Reads one line: a remark, the beginning of a scene, or a line of the last one.
+// Reads one line: a comment, the start of a scene, or a step of the current one.
 fn read_line(
     alloc: Global,
     (scenes, begun): (&mut Vec<Scene>, &mut Option<Begun>),
@@ -263,8 +263,7 @@ fn read_line(
     }
 }
 
-/// The scenes of a file of this name and these bytes; or its first line that is of no scene, and why. A file without a
-/// scene is refused.
+/// Reads the scenes of a file from its bytes. Fails at the first invalid line, or if there is no scene.
 pub fn read_scenes<'a>(
     alloc: Global,
     name: &'a str,

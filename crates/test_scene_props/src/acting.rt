@@ -1,26 +1,25 @@
-//! What lines of a scene say that are about no server.
+//! Runs the steps of scenes that need no server.
 use crate::in_turn::{act_in_turn, act_turns};
 use crate::memory::act_memory;
 use crate::named::{get, take};
 use crate::props::Props;
 use crate::queue::act_queue;
 use crate::requests::date_now;
-use test_data_files::text::text_of;
-use test_scene_files::client::{millis_since, now_of};
-use test_scene_files::deed::{ClientDeed, Deed};
-use test_scene_files::mishap::{Mishap, differs};
 use std::alloc::Global;
 use std::sync::Wait;
 use std::thread;
 use std::time::{Clock, Duration, Instant};
+use test_data_files::text::text_of;
+use test_scene_files::client::{millis_since, now_of};
+use test_scene_files::deed::{ClientDeed, Deed};
+use test_scene_files::mishap::{Mishap, differs};
 
-// Starts the clock.
 fn start_clock<R: Wait + Clock + Drop>(rt: &R, props: &mut Props<R>) -> Result<(), Mishap> {
     props.clock = Some(now_of(rt)?);
     Ok(())
 }
 
-// When the clock was started.
+// Returns when the clock was started.
 fn begun_in(clock: Option<Instant>) -> Result<Instant, Mishap> {
     match clock {
         Some(begun) => Ok(begun),
@@ -28,20 +27,20 @@ fn begun_in(clock: Option<Instant>) -> Result<Instant, Mishap> {
     }
 }
 
-// How many milliseconds have gone since the clock was started.
+// Returns the milliseconds since the clock was started.
 fn clock_of<R: Wait + Clock + Drop>(rt: &R, props: &Props<R>) -> Result<u64, Mishap> {
     millis_since(rt, begun_in(props.clock)?)
 }
 
-// A lap ends, and the next one begins.
+// Ends a lap, and begins the next one.
 fn end_lap<R: Wait + Clock + Drop>(rt: &R, props: &mut Props<R>) -> Result<(), Mishap> {
     let lap = clock_of(rt, props)?;
     props.shortest = Some(props.shortest.map_or(lap, |shortest| shortest.min(lap)));
     start_clock(rt, props)
 }
 
-// `gone` milliseconds are less than this, or at least this. The number isn't reported, so that a scene that has to fail
-// prints the same each time.
+// Expects that `gone` is less than `millis`, or at least `millis` if not `is_below`. The error leaves out `gone`, so
+// that a scene that must fail prints the same each time.
 fn demand_time(alloc: Global, gone: u64, (millis, is_below): (u64, bool)) -> Result<(), Mishap> {
     if (gone < millis) == is_below {
         return Ok(());
@@ -51,7 +50,7 @@ fn demand_time(alloc: Global, gone: u64, (millis, is_below): (u64, bool)) -> Res
     Err(differs(alloc, wanted.as_str(), "not so"))
 }
 
-// What a client does, and what comes to it.
+// Runs a step on a connected client.
 fn act_client<R: Wait + Clock + Drop>(
     rt: &R,
     alloc: Global,
@@ -89,7 +88,7 @@ fn act_client<R: Wait + Clock + Drop>(
     }
 }
 
-/// What a line says of clients that are there, of a queue, of memory, of turns or of time.
+/// Runs a step on connected clients, a queue, memory, turns or the clock.
 pub fn act_without_server<R: Wait + Clock + Copy>(
     rt: &R,
     alloc: Global,

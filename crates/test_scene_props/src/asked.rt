@@ -1,15 +1,15 @@
-//! Requests of one kind of connection, and the outputs that they gave.
+//! The requests of one kind of connection, and their outputs.
 use crate::named::{Named, add_all, part_of};
-use test_scene_files::scene::Line;
 use std::alloc::{AllocError, Global};
 use std::sync::Wait;
+use test_scene_files::scene::Line;
 use tiny_http_io::custom_stream::CustomStream;
 use tiny_http_io::device::{ReadDevice, WriteDevice};
 use tiny_http_io::outlet::Outlet;
 use tiny_http_request::request::{Body, Request, StreamedBody};
 use tiny_http_threads::sequential::SequentialWriter;
 
-/// What an answer is written to, piece by piece.
+/// An output to which a response is written piece by piece.
 #[derive(Drop)]
 pub enum Output<D: ReadDevice + Drop, W: WriteDevice + Drop, R: Wait + Drop> {
     Raw(SequentialWriter<Outlet<W>, R>),
@@ -17,7 +17,7 @@ pub enum Output<D: ReadDevice + Drop, W: WriteDevice + Drop, R: Wait + Drop> {
     Upgraded(CustomStream<Body<D, R>, SequentialWriter<Outlet<W>, R>>),
 }
 
-/// Requests of one kind of connection, and the outputs that they gave.
+/// The requests of one kind of connection, and their outputs.
 #[derive(Drop)]
 pub struct Asked<D: ReadDevice + Drop, W: WriteDevice + Drop, R: Wait + Drop> {
     pub requests: Vec<Named<Request<D, W, R>>>,
@@ -25,7 +25,7 @@ pub struct Asked<D: ReadDevice + Drop, W: WriteDevice + Drop, R: Wait + Drop> {
 }
 
 impl<D: ReadDevice + Drop, W: WriteDevice + Drop, R: Wait + Drop> Asked<D, W, R> {
-    /// No requests.
+    /// Creates a set without requests.
     pub fn none(alloc: Global) -> Asked<D, W, R> {
         Asked {
             requests: Vec::new(alloc),
@@ -33,7 +33,7 @@ impl<D: ReadDevice + Drop, W: WriteDevice + Drop, R: Wait + Drop> Asked<D, W, R>
         }
     }
 
-    /// Takes those that the lines name.
+    /// Takes those that `lines` name.
     pub fn part(&mut self, alloc: Global, lines: &[Line]) -> Result<Asked<D, W, R>, AllocError> {
         Ok(Asked {
             requests: part_of(alloc, &mut self.requests, lines)?,
@@ -41,14 +41,14 @@ impl<D: ReadDevice + Drop, W: WriteDevice + Drop, R: Wait + Drop> Asked<D, W, R>
         })
     }
 
-    /// Adds all of a part.
+    /// Takes back what is left of a part.
     pub fn join(&mut self, part: Asked<D, W, R>) -> Result<(), AllocError> {
         let Asked { requests, outputs } = part;
         add_all(&mut self.requests, requests)?;
         add_all(&mut self.outputs, outputs)
     }
 
-    /// Drops all of them.
+    /// Drops all requests and outputs.
     pub fn clear(&mut self) {
         self.requests.clear();
         self.outputs.clear();

@@ -1,46 +1,46 @@
-//! Readers and writers of a scene that are used in turn.
+//! Readers and writers of a scene that take turns.
 use crate::memory::Bounded;
 use crate::named::{add, get, take};
 use crate::props::Props;
-use test_data_files::text::text_of;
-use test_scene_files::grounds::{TurnDeed, TurnsDeed};
-use test_scene_files::mishap::{Mishap, demand_bytes, demand_fault, demand_number};
 use std::alloc::Global;
 use std::io::{Cursor, ErrorKind, Read, Write};
 use std::sync::Wait;
+use test_data_files::text::text_of;
+use test_scene_files::grounds::{TurnDeed, TurnsDeed};
+use test_scene_files::mishap::{Mishap, demand_bytes, demand_fault, demand_number};
 use tiny_http_request::test::Recorder;
 use tiny_http_threads::sequential::{
     SequentialReader, SequentialReaderBuilder, SequentialWriter, SequentialWriterBuilder,
 };
 
-/// What gives out readers or writers.
+/// A builder of readers or writers that take turns.
 #[derive(Drop)]
 pub enum Turns<R: Wait + Drop> {
     Readers(SequentialReaderBuilder<Cursor<Vec<u8>>, R>),
     Writers(SequentialWriterBuilder<Bounded<R>, R>, Recorder<R>),
 }
 
-/// A reader or a writer that has its turn, or waits for it.
+/// A reader or a writer that has its turn or waits for it.
 #[derive(Drop)]
 pub enum InTurn<R: Wait + Drop> {
     Reader(SequentialReader<Cursor<Vec<u8>>, R>),
     Writer(SequentialWriter<Bounded<R>, R>),
 }
 
-// Readers of this text.
+// Creates readers of `text`.
 fn readers_of<R: Wait + Copy>(rt: &R, alloc: Global, text: &str) -> Result<Turns<R>, Mishap> {
     let reader = Cursor::new(text_of(alloc, text)?);
     Ok(Turns::Readers(SequentialReaderBuilder::new(*rt, alloc, reader)?))
 }
 
-// Writers to memory that takes `room` bytes.
+// Creates writers to memory that accepts `room` bytes.
 fn writers_of<R: Wait + Copy>(rt: &R, alloc: Global, room: usize) -> Result<Turns<R>, Mishap> {
     let recorder = Recorder::new(*rt, alloc)?;
     let writer = Bounded::new(&recorder, (room, ErrorKind::Other))?;
     Ok(Turns::Writers(SequentialWriterBuilder::new(*rt, alloc, writer)?, recorder))
 }
 
-// The next reader or writer.
+// Returns the next reader or writer.
 fn next_of<R: Wait + Copy>(turns: &mut Option<Turns<R>>) -> Result<InTurn<R>, Mishap> {
     match turns {
         Some(Turns::Readers(readers)) => Ok(InTurn::Reader(readers.next()?)),
@@ -49,7 +49,7 @@ fn next_of<R: Wait + Copy>(turns: &mut Option<Turns<R>>) -> Result<InTurn<R>, Mi
     }
 }
 
-/// What is done with readers or writers in turn.
+/// Runs a step that creates or checks readers or writers.
 pub fn act_turns<R: Wait + Copy>(
     rt: &R,
     alloc: Global,
@@ -79,7 +79,7 @@ pub fn act_turns<R: Wait + Copy>(
     }
 }
 
-// One read gives this text.
+// Reads once, and expects `text`.
 fn read_once<R: Wait + Drop>(
     alloc: Global,
     in_turn: &mut InTurn<R>,
@@ -99,7 +99,7 @@ fn read_once<R: Wait + Drop>(
     }
 }
 
-// One write of this text takes as many bytes.
+// Writes `text` once, and expects that this many bytes are accepted, or this error.
 fn write_once<R: Wait + Drop>(
     alloc: Global,
     in_turn: &mut InTurn<R>,
@@ -117,7 +117,7 @@ fn write_once<R: Wait + Drop>(
     }
 }
 
-/// What is done with the reader or the writer of this name.
+/// Runs a step on the reader or writer called `name`.
 pub fn act_in_turn<R: Wait + Copy>(
     alloc: Global,
     props: &mut Props<R>,

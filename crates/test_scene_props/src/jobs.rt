@@ -1,17 +1,17 @@
-//! Jobs of a pool that play lines of a queue, and what comes of lines that are played beside others.
+//! Pool jobs that play steps on a queue, and the failures of steps that run beside others.
 use crate::queue::act_queue;
-use test_scene_files::deed::{Deed, deed_in};
-use test_scene_files::mishap::Mishap;
-use test_scene_files::scene::{Line, Over};
 use std::alloc::{AllocError, Global};
 use std::sync::atomic::{AtomicBool, Ordering};
 use std::sync::{Arc, Wait};
 use std::thread::Threads;
 use std::time::Clock;
+use test_scene_files::deed::{Deed, deed_in};
+use test_scene_files::mishap::Mishap;
+use test_scene_files::scene::{Line, Over};
 use tiny_http_threads::messages_queue::MessagesQueue;
 use tiny_http_threads::task_pool::{Job, TaskPool};
 
-/// The line at which a scene failed, and why.
+/// The step at which a scene failed, and why.
 #[derive(Drop)]
 pub struct Failure {
     pub number: usize,
@@ -19,7 +19,7 @@ pub struct Failure {
     pub mishap: Mishap,
 }
 
-/// The failure at this line.
+/// Creates a failure at `line`.
 pub fn failure_at(alloc: Global, line: &Line, mishap: Mishap) -> Failure {
     let text = match String::from_str(alloc, line.text.as_str()) {
         Ok(text) => text,
@@ -32,7 +32,7 @@ pub fn failure_at(alloc: Global, line: &Line, mishap: Mishap) -> Failure {
     }
 }
 
-/// Copies of lines.
+/// Copies `lines`.
 pub fn copies_of(alloc: Global, lines: &[Line]) -> Result<Vec<Line>, AllocError> {
     let mut copies = Vec::new(alloc);
     for line in lines {
@@ -46,7 +46,7 @@ pub fn copies_of(alloc: Global, lines: &[Line]) -> Result<Vec<Line>, AllocError>
     Ok(copies)
 }
 
-/// The lines that are indented in front.
+/// Returns the indented lines at the start.
 pub fn inner_lines(lines: &[Line]) -> &[Line] {
     let count = lines.iter().position(|line| !line.is_inner);
     lines
@@ -54,7 +54,7 @@ pub fn inner_lines(lines: &[Line]) -> &[Line] {
         .unwrap_or_default()
 }
 
-/// A job that plays lines of the queue.
+/// A pool job that plays steps on the queue.
 #[derive(Drop)]
 pub struct QueueJob<R: Wait + Clock + Drop> {
     rt: R,
@@ -62,14 +62,14 @@ pub struct QueueJob<R: Wait + Clock + Drop> {
     queue: Arc<MessagesQueue<u64>>,
     lines: Vec<Line>,
     has_ended: Arc<AtomicBool>,
-    /// Where the failure is put once it is done, or none.
+    /// Receives the failure, or `None`, when the job is done.
     pub done: Arc<MessagesQueue<Option<Failure>>>,
 }
 
-/// The pool of a scene.
+/// The pool of a scene, which runs `QueueJob`s.
 pub type Pool<R> = TaskPool<QueueJob<R>, R>;
 
-// Plays lines of the queue: the one at which it failed, if it did.
+// Plays steps on the queue. Returns the step that failed, if any.
 fn play_queue<R: Wait + Clock>(
     rt: &R,
     alloc: Global,
@@ -89,7 +89,7 @@ fn play_queue<R: Wait + Clock>(
 }
 
 impl<R: Wait + Clock + Drop> Job for QueueJob<R> {
-    /// Plays the lines, and hands back the failure.
+    /// Plays the steps, and pushes the failure.
     fn run(&mut self) {
         let lines = self.lines.as_slice();
         let failure = play_queue(&self.rt, self.alloc, &self.queue, lines);
@@ -98,7 +98,7 @@ impl<R: Wait + Clock + Drop> Job for QueueJob<R> {
     }
 }
 
-/// A job that plays these lines of this queue, and says by the mark that it has ended.
+/// Creates a job that plays `lines` on `queue`, and sets `has_ended` at the end.
 pub fn job_of<R: Wait + Clock + Copy>(
     rt: &R,
     alloc: Global,
@@ -121,7 +121,7 @@ pub fn job_of<R: Wait + Clock + Copy>(
     })
 }
 
-/// The pool of a scene, where it is over one.
+/// Creates the pool of a scene, if the scene runs on one.
 pub fn pool_of<R: Wait + Clock + Threads + Copy + Send + 'static>(
     rt: &R,
     alloc: Global,

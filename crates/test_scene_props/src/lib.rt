@@ -1,6 +1,6 @@
-//! What a scene has at hand besides a server: clients, a clock, requests over memory, a queue, a pool with its jobs,
-//! readers and writers in turn; and what is done with requests, whoever gave them. `test_scenes` has the servers, and plays
-//! scenes with these. docs/CASES.md describes the language.
+//! The props of scenes, which are everything but servers: clients, a clock, requests over memory, a queue, a pool and
+//! its jobs, and readers and writers that take turns. Also runs steps on requests of any source. `test_scenes` adds the
+//! servers and plays scenes. docs/CASES.md describes the language.
 #![tactic(auto)]
 
 pub mod acting;

@@ -1,18 +1,18 @@
-//! Requests over memory: of a client that sends a text, or made of their parts.
+//! Requests over memory: read from a text that a client sends, or built from their parts.
 use crate::asked::Asked;
 use crate::named::add;
 use crate::props::Props;
 use crate::requests::date_now;
-use test_data_files::text::text_of;
-use test_scene_files::client::dated;
-use test_scene_files::grounds::{Made, MemoryDeed, Parts};
-use test_scene_files::mishap::{Mishap, demand_bytes, demand_fault, demand_text, differs};
 use std::alloc::{AllocError, Global};
 use std::io;
 use std::io::{Cursor, ErrorKind, Write};
 use std::net::SocketAddr;
 use std::sync::Wait;
 use std::time::Clock;
+use test_data_files::text::text_of;
+use test_scene_files::client::dated;
+use test_scene_files::grounds::{Made, MemoryDeed, Parts};
+use test_scene_files::mishap::{Mishap, demand_bytes, demand_fault, demand_text, differs};
 use tiny_http_request::client::ClientConnection;
 use tiny_http_request::request::{Request, RequestCreationError, new_request};
 use tiny_http_request::test::{Recorder, TestRequest};
@@ -20,7 +20,7 @@ use tiny_http_wire::ascii::AsciiString;
 use tiny_http_wire::common::{HTTPVersion, Header, Method, ParseError};
 use tiny_http_wire::device::{Metered, WriteDevice};
 
-/// A writer that keeps what it takes, up to a number of bytes, and then fails.
+/// A writer in memory that accepts a number of bytes and then fails.
 #[derive(Drop)]
 pub struct Bounded<R: Wait + Drop> {
     recorder: Recorder<R>,
@@ -29,7 +29,7 @@ pub struct Bounded<R: Wait + Drop> {
 }
 
 impl<R: Wait + Copy> Bounded<R> {
-    /// A writer to this recorder that takes `room` bytes, and then fails by `kind`.
+    /// Creates a writer to `recorder` that accepts `room` bytes, and then fails with `kind`.
     pub fn new(
         recorder: &Recorder<R>,
         (room, kind): (usize, ErrorKind),
@@ -58,7 +58,7 @@ impl<R: Wait + Drop> Write for Bounded<R> {
     }
 }
 
-/// What a request over memory is read by, and written by.
+/// The reader and the writer of a request over memory.
 pub type MemoryReader = Cursor<Vec<u8>>;
 
 pub type MemoryWriter<R> = Metered<Bounded<R>>;
@@ -66,18 +66,18 @@ pub type MemoryWriter<R> = Metered<Bounded<R>>;
 /// The requests over memory, and their outputs.
 pub type Remembered<R> = Asked<MemoryReader, MemoryWriter<R>, R>;
 
-/// A client over memory, and what was written.
+/// A client over memory, and what was written to it.
 #[derive(Drop)]
 pub struct Memory<R: Wait + Drop> {
     client: Option<ClientConnection<MemoryReader, MemoryWriter<R>, R>>,
     written: Recorder<R>,
-    // How many of the bytes that were written have been looked at.
+    // Number of written bytes that have been checked.
     seen: usize,
     bound: (usize, ErrorKind),
 }
 
 impl<R: Wait + Copy> Memory<R> {
-    /// Nothing was sent, and nothing written.
+    /// Creates a memory to which nothing has been sent or written.
     pub fn new(rt: &R, alloc: Global) -> Result<Memory<R>, Mishap> {
         Ok(Memory {
             client: None,
@@ -87,12 +87,12 @@ impl<R: Wait + Copy> Memory<R> {
         })
     }
 
-    // A writer to what is kept.
+    // Creates a writer into this memory, with its current bound.
     fn writer(&self) -> Result<MemoryWriter<R>, Mishap> {
         Ok(Metered::new(Bounded::new(&self.written, self.bound)?))
     }
 
-    // A client that sends this text.
+    // Connects a client whose whole input is `text`.
     fn connect(&mut self, rt: &R, alloc: Global, text: &str) -> Result<(), Mishap> {
         let reader = Cursor::new(text_of(alloc, text)?);
         let client = ClientConnection::over(*rt, alloc, self.writer()?, reader, None, false)?;
@@ -100,7 +100,7 @@ impl<R: Wait + Copy> Memory<R> {
         Ok(())
     }
 
-    // The next bytes that were written are these.
+    // Expects `wanted` as the next bytes written.
     fn gets(&mut self, alloc: Global, wanted: &[u8]) -> Result<(), Mishap> {
         let written = self.written.bytes()?;
         let rest = written.get(self.seen..).unwrap_or_default();
@@ -111,10 +111,9 @@ impl<R: Wait + Copy> Memory<R> {
     }
 }
 
-/// A request over memory.
 type MemoryRequest<R> = Request<MemoryReader, MemoryWriter<R>, R>;
 
-// The next request of the client.
+// Returns the next request of the client.
 fn next_of<R: Wait + Clock + Copy>(
     rt: &R,
     memory: &mut Memory<R>,
@@ -145,7 +144,7 @@ fn with_part(alloc: Global, request: TestRequest, part: &str) -> Result<TestRequ
     }
 }
 
-// A request of this method, target and version. None where the target is refused.
+// Builds a request from its method, target and version. Returns `None` if the target is refused.
 fn bare_request(alloc: Global, parts: Parts<'_>) -> Result<Option<TestRequest>, Mishap> {
     let Ok(method) = Method::from_str(alloc, parts.method) else {
         return Err(Mishap::Unplayable("no method"));
@@ -163,7 +162,7 @@ fn bare_request(alloc: Global, parts: Parts<'_>) -> Result<Option<TestRequest>, 
     }
 }
 
-// A request of these parts. None where the target is refused.
+// Builds a request from its parts. Returns `None` if the target is refused.
 fn request_of(alloc: Global, parts: Parts<'_>) -> Result<Option<TestRequest>, Mishap> {
     let Some(mut request) = bare_request(alloc, parts)? else {
         return Ok(None);
@@ -176,7 +175,7 @@ fn request_of(alloc: Global, parts: Parts<'_>) -> Result<Option<TestRequest>, Mi
     Ok(Some(request))
 }
 
-// What came of a request that was made is what the line says; the request gets its name.
+// Compares the result of building a request with the expected one, and names the request.
 fn take_made<R: Wait + Clock + Copy>(
     alloc: Global,
     props: &mut Props<R>,
@@ -196,7 +195,7 @@ fn take_made<R: Wait + Clock + Copy>(
     }
 }
 
-// Makes a request for a test.
+// Builds a request for a test.
 fn make<R: Wait + Clock + Copy>(
     rt: &R,
     alloc: Global,
@@ -213,7 +212,7 @@ fn make<R: Wait + Clock + Copy>(
     take_made(alloc, props, made, wanted)
 }
 
-// The headers and the body among the further parts of a request.
+// Collects the headers and the body among the further parts of a request.
 fn headers_and_body(alloc: Global, more: &str) -> Result<(Vec<Header>, Vec<u8>), Mishap> {
     let (mut headers, mut body) = (Vec::new(alloc), Vec::new(alloc));
     for part in more.split(" + ").filter(|part| !part.is_empty()) {
@@ -229,7 +228,7 @@ fn headers_and_body(alloc: Global, more: &str) -> Result<(Vec<Header>, Vec<u8>),
     Ok((headers, body))
 }
 
-// Makes a request of its parts, from no address.
+// Builds a request from its parts by `new_request`, without a client address.
 fn make_new<R: Wait + Clock + Copy>(
     rt: &R,
     alloc: Global,
@@ -261,7 +260,7 @@ fn make_new<R: Wait + Clock + Copy>(
     take_made(alloc, props, made, wanted)
 }
 
-// The next request is for this target, and gets its name.
+// Receives the next request, which must be for `target`, and names it.
 fn give<R: Wait + Clock + Copy>(
     rt: &R,
     alloc: Global,
@@ -275,7 +274,7 @@ fn give<R: Wait + Clock + Copy>(
     add(alloc, &mut props.remembered.requests, name, request)
 }
 
-/// What is done over memory.
+/// Runs a step over memory.
 pub fn act_memory<R: Wait + Clock + Copy>(
     rt: &R,
     alloc: Global,

@@ -1,22 +1,22 @@
-//! Values that lines of a scene name.
-use test_scene_files::mishap::Mishap;
-use test_scene_files::scene::Line;
+//! Values that the steps of a scene call by name.
 use std::alloc::{AllocError, Global};
 use std::mem;
+use test_scene_files::mishap::Mishap;
+use test_scene_files::scene::Line;
 
-/// What is known by a name.
+/// A value and its name.
 #[derive(Drop)]
 pub struct Named<T> {
     pub name: String,
     pub value: T,
 }
 
-// The place of a name. Of two that have it the later one.
+// Returns the index of a name, the last one if there are several.
 fn place_of<T>(all: &[Named<T>], name: &str) -> Option<usize> {
     all.iter().rposition(|named| named.name.as_str() == name)
 }
 
-/// Adds this value under this name.
+/// Adds a value under a name.
 pub fn add<T: Drop>(
     alloc: Global,
     all: &mut Vec<Named<T>>,
@@ -30,7 +30,7 @@ pub fn add<T: Drop>(
     }
 }
 
-/// Takes what has this name.
+/// Removes the value of this name, and returns it.
 pub fn take<T: Drop>(all: &mut Vec<Named<T>>, name: &str) -> Result<T, Mishap> {
     let place = place_of(all.as_slice(), name).unwrap_or(usize::MAX);
     if place >= all.len() {
@@ -40,7 +40,7 @@ pub fn take<T: Drop>(all: &mut Vec<Named<T>>, name: &str) -> Result<T, Mishap> {
     Ok(value)
 }
 
-/// What has this name.
+/// Returns the value of this name.
 pub fn get<'a, T>(all: &'a mut Vec<Named<T>>, name: &str) -> Result<&'a mut T, Mishap> {
     let place = place_of(all.as_slice(), name).unwrap_or(usize::MAX);
     match all.get_mut(place) {
@@ -49,7 +49,7 @@ pub fn get<'a, T>(all: &'a mut Vec<Named<T>>, name: &str) -> Result<&'a mut T, M
     }
 }
 
-/// Whether one of the lines has this name in it.
+/// Returns whether one of the lines contains this name as a word.
 pub fn is_named(lines: &[Line], name: &str) -> bool {
     lines.iter().any(|line| {
         let text = line.text.as_str();
@@ -57,7 +57,7 @@ pub fn is_named(lines: &[Line], name: &str) -> bool {
     })
 }
 
-/// Takes those that the lines name.
+/// Takes those that `lines` name.
 pub fn part_of<T: Drop>(
     alloc: Global,
     all: &mut Vec<Named<T>>,
@@ -76,7 +76,7 @@ pub fn part_of<T: Drop>(
     Ok(theirs)
 }
 
-/// Adds all of these.
+/// Appends `more` to `all`.
 pub fn add_all<T: Drop>(all: &mut Vec<Named<T>>, more: Vec<Named<T>>) -> Result<(), AllocError> {
     for named in more {
         all.push(named)?;
@@ -84,7 +84,7 @@ pub fn add_all<T: Drop>(all: &mut Vec<Named<T>>, more: Vec<Named<T>>) -> Result<
     Ok(())
 }
 
-/// Whether something has this name.
+/// Returns whether a value has this name.
 pub fn has<T>(all: &[Named<T>], name: &str) -> bool {
     place_of(all, name).is_some()
 }

@@ -1,20 +1,20 @@
-//! What a scene has at hand besides its server.
+//! The props of a scene.
 use crate::asked::Asked;
 use crate::in_turn::{InTurn, Turns};
 use crate::memory::{Memory, Remembered};
 use crate::named::{Named, add_all, part_of};
-use test_scene_files::client::Client;
-use test_scene_files::mishap::Mishap;
-use test_scene_files::scene::{Line, Over};
 use std::alloc::{AllocError, Global};
 use std::sync::{Arc, Wait};
 use std::time::Instant;
+use test_scene_files::client::Client;
+use test_scene_files::mishap::Mishap;
+use test_scene_files::scene::{Line, Over};
 use tiny_http_threads::messages_queue::MessagesQueue;
 
-// How many values the queue of a scene has room for at first.
+// Initial capacity of a scene's queue.
 const QUEUE_ROOM: usize = 8;
 
-/// What is at hand besides a server.
+/// What the steps of a scene act on besides a server.
 #[derive(Drop)]
 pub struct Props<R: Wait + Drop> {
     pub clients: Vec<Named<Client>>,
@@ -24,11 +24,11 @@ pub struct Props<R: Wait + Drop> {
     pub turns: Option<Turns<R>>,
     pub in_turn: Vec<Named<InTurn<R>>>,
     pub clock: Option<Instant>,
-    /// How many milliseconds the shortest lap took, if there was one.
+    /// Milliseconds of the shortest lap, if there was one.
     pub shortest: Option<u64>,
 }
 
-/// A value that is shared.
+/// Allocates a shared value.
 pub fn shared<T: Drop>(alloc: Global, value: T) -> Result<Arc<T>, Mishap> {
     match Arc::new(alloc, value) {
         Ok(shared) => Ok(shared),
@@ -36,7 +36,7 @@ pub fn shared<T: Drop>(alloc: Global, value: T) -> Result<Arc<T>, Mishap> {
     }
 }
 
-// The queue of a scene, without a value.
+// Creates the queue of a scene.
 fn queue_of(alloc: Global) -> Result<Arc<MessagesQueue<u64>>, Mishap> {
     match MessagesQueue::with_capacity(alloc, QUEUE_ROOM) {
         Ok(queue) => Ok(queue),
@@ -45,7 +45,7 @@ fn queue_of(alloc: Global) -> Result<Arc<MessagesQueue<u64>>, Mishap> {
 }
 
 impl<R: Wait + Copy> Props<R> {
-    /// What is at hand as a scene over this begins.
+    /// Creates the props of a scene that runs on `over`.
     pub fn over(rt: &R, alloc: Global, over: Over) -> Result<Props<R>, Mishap> {
         let mut props = Props::none(alloc);
         match over {
@@ -58,7 +58,7 @@ impl<R: Wait + Copy> Props<R> {
 }
 
 impl<R: Wait + Drop> Props<R> {
-    /// Nothing.
+    /// Creates empty props.
     pub fn none(alloc: Global) -> Props<R> {
         Props {
             clients: Vec::new(alloc),
@@ -72,7 +72,7 @@ impl<R: Wait + Drop> Props<R> {
         }
     }
 
-    /// What is over memory.
+    /// Returns what is over memory, or an error if there is nothing.
     pub fn memory(&mut self) -> Result<&mut Memory<R>, Mishap> {
         match &mut self.memory {
             Some(memory) => Ok(memory),
@@ -80,7 +80,7 @@ impl<R: Wait + Drop> Props<R> {
         }
     }
 
-    /// The queue.
+    /// Returns the queue, or an error if there is none.
     pub fn queue(&self) -> Result<&MessagesQueue<u64>, Mishap> {
         match &self.queue {
             Some(queue) => Ok(queue),
@@ -88,7 +88,7 @@ impl<R: Wait + Drop> Props<R> {
         }
     }
 
-    /// What these lines need: who and what they name, and the queue.
+    /// Takes what `lines` need: everything they name, and a handle to the queue.
     pub fn part(&mut self, alloc: Global, lines: &[Line]) -> Result<Props<R>, AllocError> {
         let mut theirs = Props::none(alloc);
         if let Some(queue) = &self.queue {
@@ -113,7 +113,7 @@ impl<R: Wait + Drop> Props<R> {
         add_all(&mut self.in_turn, in_turn)
     }
 
-    /// Drops whoever waits for another: requests and outputs, readers and writers, and then clients.
+    /// Drops what others may wait for: requests and outputs, readers and writers, and then clients.
     pub fn clear(&mut self) {
         self.remembered.clear();
         self.in_turn.clear();

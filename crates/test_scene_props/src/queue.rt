@@ -1,15 +1,15 @@
-//! The queue of a scene.
-use test_scene_files::grounds::{Popped, QueueDeed};
-use test_scene_files::mishap::{Mishap, differs};
+//! Runs the steps on a scene's queue.
 use std::alloc::Global;
 use std::sync::Wait;
 use std::time::{Clock, Duration};
+use test_scene_files::grounds::{Popped, QueueDeed};
+use test_scene_files::mishap::{Mishap, differs};
 use tiny_http_threads::messages_queue::MessagesQueue;
 
-// How often a value that doesn't count may come.
+// Maximum number of ignored values.
 const MOST_PASSED: u32 = 1_000;
 
-// A pop gave what the line says.
+// Compares the result of a pop with the expected one.
 fn demand_popped(alloc: Global, wanted: Popped, came: Option<u64>) -> Result<(), Mishap> {
     let holds = match wanted {
         Popped::Value(value) => came == Some(value),
@@ -29,7 +29,7 @@ fn demand_popped(alloc: Global, wanted: Popped, came: Option<u64>) -> Result<(),
     Err(differs(alloc, wanted.as_str(), came.as_str()))
 }
 
-// Pops until another value comes than this, or none. Each wait is for this time, if there is one.
+// Pops until a value other than `passed` comes, or none. `most` limits each wait.
 fn pop_past<R: Wait + Clock>(
     rt: &R,
     queue: &MessagesQueue<u64>,
@@ -48,7 +48,7 @@ fn pop_past<R: Wait + Clock>(
     Some(passed)
 }
 
-/// A call of the queue.
+/// Runs a step on the queue.
 pub fn act_queue<R: Wait + Clock>(
     rt: &R,
     alloc: Global,

@@ -1,28 +1,28 @@
-//! What is done with the requests of a scene, and with the outputs that they give.
+//! Runs steps on the requests of a scene and on their outputs.
 use crate::asked::{Asked, Output};
 use crate::named::{add, get, take};
-use test_data_files::text::text_of;
 use httpdate::HttpDate;
-use test_scene_files::deed::{Data, Kept, OutputDeed, RequestDeed, Whole};
-use test_scene_files::mishap::{
-    Mishap, demand, demand_bytes, demand_fault, demand_number, demand_text, differs,
-};
 use std::alloc::Global;
 use std::io;
 use std::io::{Cursor, ErrorKind, Read, Write};
 use std::net::SocketAddr;
 use std::sync::Wait;
 use std::time::Clock;
+use test_data_files::text::text_of;
+use test_scene_files::deed::{Data, Kept, OutputDeed, RequestDeed, Whole};
+use test_scene_files::mishap::{
+    Mishap, demand, demand_bytes, demand_fault, demand_number, demand_text, differs,
+};
 use tiny_http_open_request::upgrading::UpgradeError;
 use tiny_http_request::request::{BodyError, RefusedUpgrade, Request};
 use tiny_http_wire::common::{Header, Method, StatusCode};
 use tiny_http_wire::device::{Metered, ReadDevice, WriteDevice};
 use tiny_http_wire::response::Response;
 
-// How many reads of a body there are at most.
+// Maximum number of reads of a body.
 const READS: u32 = 100_000;
 
-/// The date by the clock, as a server says it: that of second 0 where the clock can't be read.
+/// Returns the current date as a server sends it: that of second 0 if the clock can't be read.
 pub fn date_now<R: Clock>(rt: &R) -> HttpDate {
     let seconds = rt.since_1970().map_or(0, |time| time.as_secs());
     match HttpDate::from_unix_secs(seconds) {
@@ -31,7 +31,7 @@ pub fn date_now<R: Clock>(rt: &R) -> HttpDate {
     }
 }
 
-// The date of second 0.
+// Returns the date of second 0.
 fn epoch() -> HttpDate {
     match HttpDate::from_unix_secs(0) {
         Ok(date) => date,
@@ -39,17 +39,17 @@ fn epoch() -> HttpDate {
     }
 }
 
-/// An answer of this text.
+/// Builds a response with this text.
 pub fn text_answer(alloc: Global, text: &str) -> io::Result<Response<Cursor<Vec<u8>>>> {
     Ok(Response::from_string(alloc, String::from_str(alloc, text)?)?)
 }
 
-// The kind of the fault of a call, if it failed.
+// Returns the kind of a call's error, if it failed.
 fn kind_of_fault<T: Drop>(outcome: io::Result<T>) -> Option<ErrorKind> {
     outcome.err().map(|fault| fault.kind())
 }
 
-// Answers by a text.
+// Responds with a text.
 fn respond_text<D: ReadDevice + Drop, W: WriteDevice + Drop, R: Wait + Clock + Drop>(
     rt: &R,
     alloc: Global,
@@ -64,7 +64,7 @@ fn respond_text<D: ReadDevice + Drop, W: WriteDevice + Drop, R: Wait + Clock + D
     Ok(request.respond(response, date_now(rt)))
 }
 
-// Answers by JSON.
+// Responds with JSON.
 fn respond_json<D: ReadDevice + Drop, W: WriteDevice + Drop, R: Wait + Clock + Drop>(
     rt: &R,
     alloc: Global,
@@ -86,7 +86,7 @@ fn respond_json<D: ReadDevice + Drop, W: WriteDevice + Drop, R: Wait + Clock + D
     Ok(request.respond(response, date_now(rt)))
 }
 
-// Answers by no data.
+// Responds without a body, and closes the connection if `is_last`.
 fn respond_empty<D: ReadDevice + Drop, W: WriteDevice + Drop, R: Wait + Clock + Drop>(
     rt: &R,
     alloc: Global,
@@ -100,7 +100,7 @@ fn respond_empty<D: ReadDevice + Drop, W: WriteDevice + Drop, R: Wait + Clock + 
     request.respond(response, date_now(rt))
 }
 
-// Answers by `count` bytes, whose length is stated, and then not in chunks, or left open.
+// Responds with `count` bytes, without a content length unless `is_sized`. With one, they are never sent in chunks.
 fn respond_bytes<D: ReadDevice + Drop, W: WriteDevice + Drop, R: Wait + Clock + Drop>(
     rt: &R,
     alloc: Global,
@@ -118,7 +118,7 @@ fn respond_bytes<D: ReadDevice + Drop, W: WriteDevice + Drop, R: Wait + Clock + 
     request.respond(response, date_now(rt))
 }
 
-// Answers a request.
+// Responds with this status and body.
 fn respond<D: ReadDevice + Drop, W: WriteDevice + Drop, R: Wait + Clock + Drop>(
     rt: &R,
     alloc: Global,
@@ -139,7 +139,7 @@ fn respond<D: ReadDevice + Drop, W: WriteDevice + Drop, R: Wait + Clock + Drop>(
     }
 }
 
-/// An answer whose head states a length, and these data.
+/// Builds a response that states a content length, with these data.
 pub fn short_answer(
     alloc: Global,
     status: u16,
@@ -148,7 +148,7 @@ pub fn short_answer(
     Response::empty(alloc, StatusCode(status)).with_data(Cursor::new(data), Some(stated))
 }
 
-// The whole body of a request is these bytes.
+// Reads the rest of a request's body, and expects these bytes.
 fn demand_body<D: ReadDevice + Drop, W: WriteDevice + Drop, R: Wait + Clock + Drop>(
     rt: &R,
     alloc: Global,
@@ -161,7 +161,7 @@ fn demand_body<D: ReadDevice + Drop, W: WriteDevice + Drop, R: Wait + Clock + Dr
     demand_bytes(alloc, wanted, body.as_slice())
 }
 
-// The fault that ends the reads of a request's body, if one does.
+// Reads a request's body, and returns the error that ends it, if any.
 fn fault_of_body<D: ReadDevice + Drop, W: WriteDevice + Drop, R: Wait + Clock + Drop>(
     rt: &R,
     request: &mut Request<D, W, R>,
@@ -178,7 +178,7 @@ fn fault_of_body<D: ReadDevice + Drop, W: WriteDevice + Drop, R: Wait + Clock + 
     None
 }
 
-// The next bytes of a request's body are these.
+// Reads the next bytes of a request's body, and expects these.
 fn demand_next<D: ReadDevice + Drop, W: WriteDevice + Drop, R: Wait + Clock + Drop>(
     rt: &R,
     alloc: Global,
@@ -191,7 +191,7 @@ fn demand_next<D: ReadDevice + Drop, W: WriteDevice + Drop, R: Wait + Clock + Dr
     demand_bytes(alloc, wanted, came.as_slice())
 }
 
-// A read of exactly `count` bytes of a request's body fails so.
+// Expects that a read of exactly `count` bytes of a request's body fails with `kind`.
 fn demand_unread<D: ReadDevice + Drop, W: WriteDevice + Drop, R: Wait + Clock + Drop>(
     rt: &R,
     alloc: Global,
@@ -203,7 +203,7 @@ fn demand_unread<D: ReadDevice + Drop, W: WriteDevice + Drop, R: Wait + Clock + 
     demand_fault(alloc, Some(kind), kind_of_fault(read))
 }
 
-// What comes of a body that is read whole, in words.
+// Describes the result of reading a whole body.
 fn words_of(whole: &Result<Vec<u8>, BodyError>) -> &'static str {
     match whole {
         Ok(_) => "a whole body",
@@ -215,7 +215,7 @@ fn words_of(whole: &Result<Vec<u8>, BodyError>) -> &'static str {
     }
 }
 
-// A request's body, of at most `most` bytes, is read whole.
+// Reads a request's whole body of at most `most` bytes, and compares the result with the expected one.
 fn demand_whole<D: ReadDevice + Drop, W: WriteDevice + Drop, R: Wait + Clock + Drop>(
     rt: &R,
     alloc: Global,
@@ -239,7 +239,7 @@ fn demand_whole<D: ReadDevice + Drop, W: WriteDevice + Drop, R: Wait + Clock + D
     }
 }
 
-// Two texts are the same, or there is none.
+// Fails unless both texts are equal or absent.
 fn demand_option(alloc: Global, wanted: Option<&str>, came: Option<&str>) -> Result<(), Mishap> {
     match (wanted, came) {
         (None, None) => Ok(()),
@@ -248,7 +248,7 @@ fn demand_option(alloc: Global, wanted: Option<&str>, came: Option<&str>) -> Res
     }
 }
 
-// Something is so or isn't, as wanted: the words for each.
+// Fails unless `came` equals `wanted`, with the words for the wanted value.
 fn demand_property(
     alloc: Global,
     (words, words_if_not): (&str, &str),
@@ -258,7 +258,7 @@ fn demand_property(
     demand(alloc, words, came == wanted)
 }
 
-// What is seen of a request's head.
+// Checks a request's header fields and target.
 fn look<D: ReadDevice + Drop, W: WriteDevice + Drop, R: Wait + Clock + Drop>(
     alloc: Global,
     request: &Request<D, W, R>,
@@ -288,7 +288,7 @@ fn look<D: ReadDevice + Drop, W: WriteDevice + Drop, R: Wait + Clock + Drop>(
     }
 }
 
-// What is seen of a request as a whole.
+// Checks a request's version, body length and count of headers, and how it is displayed.
 fn look_whole<D: ReadDevice + Drop, W: WriteDevice + Drop, R: Wait + Clock + Drop>(
     alloc: Global,
     request: &Request<D, W, R>,
@@ -314,7 +314,7 @@ fn look_whole<D: ReadDevice + Drop, W: WriteDevice + Drop, R: Wait + Clock + Dro
     }
 }
 
-// Its head and its body are lent together: its path, and what is left of its body.
+// Borrows a request's head and body together, and expects this path and this rest of the body.
 fn demand_parts<D: ReadDevice + Drop, W: WriteDevice + Drop, R: Wait + Clock + Drop>(
     rt: &R,
     alloc: Global,
@@ -329,7 +329,7 @@ fn demand_parts<D: ReadDevice + Drop, W: WriteDevice + Drop, R: Wait + Clock + D
     demand_bytes(alloc, wanted, came.as_slice())
 }
 
-/// The request is a `GET` without TLS, from this address.
+/// Expects that the request is a `GET` without TLS from this address.
 pub fn demand_plain<D: ReadDevice + Drop, W: WriteDevice + Drop, R: Wait + Clock + Drop>(
     alloc: Global,
     request: &Request<D, W, R>,
@@ -341,7 +341,7 @@ pub fn demand_plain<D: ReadDevice + Drop, W: WriteDevice + Drop, R: Wait + Clock
     demand(alloc, "it is of this client's address", is_from)
 }
 
-/// What is done with the request of this name.
+/// Runs a step on the request called `name`.
 pub fn act_asked<D: ReadDevice + Drop, W: WriteDevice + Drop, R: Wait + Clock + Drop>(
     rt: &R,
     alloc: Global,
@@ -381,7 +381,7 @@ pub fn act_asked<D: ReadDevice + Drop, W: WriteDevice + Drop, R: Wait + Clock + 
     }
 }
 
-// What is read of a request, or seen of its head.
+// Runs a step that leaves the request in place: reads its body, or checks its head.
 fn read_request<D: ReadDevice + Drop, W: WriteDevice + Drop, R: Wait + Clock + Drop>(
     rt: &R,
     alloc: Global,
@@ -411,7 +411,7 @@ fn read_request<D: ReadDevice + Drop, W: WriteDevice + Drop, R: Wait + Clock + D
     }
 }
 
-// Takes the request of this name, which is to be answered by this status. The request, and the head of the answer.
+// Takes the request called `name`. Returns it with an empty response of this status.
 fn begin_answer<D: ReadDevice + Drop, W: WriteDevice + Drop, R: Wait + Drop>(
     alloc: Global,
     asked: &mut Asked<D, W, R>,
@@ -422,7 +422,7 @@ fn begin_answer<D: ReadDevice + Drop, W: WriteDevice + Drop, R: Wait + Drop>(
     Ok((request, Response::empty(alloc, StatusCode(status))))
 }
 
-// A request that may not be upgraded to the protocol is handed back.
+// Expects that an upgrade is refused for this reason, and puts the request back.
 fn keep_upgrade<D: ReadDevice + Drop, W: WriteDevice + Drop, R: Wait + Clock + Drop>(
     rt: &R,
     alloc: Global,
@@ -446,7 +446,7 @@ fn keep_upgrade<D: ReadDevice + Drop, W: WriteDevice + Drop, R: Wait + Clock + D
     }
 }
 
-// Takes the raw writer of a request.
+// Takes the raw writer of a request, and names it.
 fn into_writer<D: ReadDevice + Drop, W: WriteDevice + Drop, R: Wait + Clock + Drop>(
     alloc: Global,
     asked: &mut Asked<D, W, R>,
@@ -457,7 +457,7 @@ fn into_writer<D: ReadDevice + Drop, W: WriteDevice + Drop, R: Wait + Clock + Dr
     add(alloc, &mut asked.outputs, output, Output::Raw(writer))
 }
 
-// Begins an answer that grows.
+// Begins a streaming response, and names it.
 fn respond_streaming<D: ReadDevice + Drop, W: WriteDevice + Drop, R: Wait + Clock + Drop>(
     rt: &R,
     alloc: Global,
@@ -473,7 +473,7 @@ fn respond_streaming<D: ReadDevice + Drop, W: WriteDevice + Drop, R: Wait + Cloc
     }
 }
 
-// Upgrades a request, and that by `try_upgrade` where it is tried.
+// Upgrades a request, with `try_upgrade` if `is_tried`, and names the stream.
 fn upgrade<D: ReadDevice + Drop, W: WriteDevice + Drop, R: Wait + Clock + Drop>(
     rt: &R,
     alloc: Global,
@@ -494,7 +494,6 @@ fn upgrade<D: ReadDevice + Drop, W: WriteDevice + Drop, R: Wait + Clock + Drop>(
     }
 }
 
-// Writes all these bytes.
 fn write_to<D: ReadDevice + Drop, W: WriteDevice + Drop, R: Wait + Clock + Drop>(
     output: &mut Output<D, W, R>,
     bytes: &[u8],
@@ -506,7 +505,6 @@ fn write_to<D: ReadDevice + Drop, W: WriteDevice + Drop, R: Wait + Clock + Drop>
     }
 }
 
-// Flushes what was written.
 fn flush<D: ReadDevice + Drop, W: WriteDevice + Drop, R: Wait + Clock + Drop>(
     output: &mut Output<D, W, R>,
 ) -> io::Result<()> {
@@ -517,7 +515,7 @@ fn flush<D: ReadDevice + Drop, W: WriteDevice + Drop, R: Wait + Clock + Drop>(
     }
 }
 
-// Ends what is written.
+// Closes a raw writer or finishes a streaming response.
 fn close<D: ReadDevice + Drop, W: WriteDevice + Drop, R: Wait + Clock + Drop>(
     output: Output<D, W, R>,
 ) -> io::Result<()> {
@@ -528,7 +526,7 @@ fn close<D: ReadDevice + Drop, W: WriteDevice + Drop, R: Wait + Clock + Drop>(
     }
 }
 
-// The next bytes that an upgraded stream reads are these.
+// Reads the next bytes of an upgraded stream, and expects these.
 fn demand_read<D: ReadDevice + Drop, W: WriteDevice + Drop, R: Wait + Clock + Drop>(
     alloc: Global,
     output: &mut Output<D, W, R>,
@@ -543,7 +541,7 @@ fn demand_read<D: ReadDevice + Drop, W: WriteDevice + Drop, R: Wait + Clock + Dr
     demand_bytes(alloc, wanted, came.as_slice())
 }
 
-// A read of an upgraded stream fails so.
+// Expects that a read of an upgraded stream fails with this kind.
 fn demand_stopped<D: ReadDevice + Drop, W: WriteDevice + Drop, R: Wait + Clock + Drop>(
     alloc: Global,
     output: &mut Output<D, W, R>,
@@ -557,7 +555,7 @@ fn demand_stopped<D: ReadDevice + Drop, W: WriteDevice + Drop, R: Wait + Clock +
     demand_fault(alloc, Some(wanted), kind_of_fault(read))
 }
 
-/// What is written to the output of this name.
+/// Runs a step on the output called `name`.
 pub fn write_asked<D: ReadDevice + Drop, W: WriteDevice + Drop, R: Wait + Clock + Drop>(
     alloc: Global,
     asked: &mut Asked<D, W, R>,

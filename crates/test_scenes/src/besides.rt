@@ -1,11 +1,7 @@
-//! What plays beside the lines of a scene: threads of its own, and jobs of a pool.
+//! Runs what a scene starts besides its own steps: threads, and jobs of a pool.
 use crate::hands::Hands;
 use crate::links::Host;
 use crate::playing::{Stage, play_lines};
-use test_scene_files::mishap::{Mishap, demand};
-use test_scene_files::scene::Line;
-use test_scene_props::jobs::{Failure, copies_of, job_of};
-use test_scene_props::props::shared;
 use std::alloc::{AllocError, Global};
 use std::net::Net;
 use std::sync::atomic::{AtomicBool, Ordering};
@@ -13,24 +9,28 @@ use std::sync::{Arc, Wait};
 use std::thread;
 use std::thread::JoinHandle;
 use std::time::{Clock, Duration};
+use test_scene_files::mishap::{Mishap, demand};
+use test_scene_files::scene::Line;
+use test_scene_props::jobs::{Failure, copies_of, job_of};
+use test_scene_props::props::shared;
 use tiny_http::connection::SocketFiles;
 use tiny_http::messages_queue::MessagesQueue;
 
-// How many milliseconds a thread that waits is watched.
+// Milliseconds for which a waiting thread is watched.
 const WATCHED: u64 = 20;
 
-// What is left at hand of a thread, and the line at which it failed.
+// The result of a thread: its remaining props, and the step at which it failed, if any.
 #[derive(Drop)]
 pub(crate) struct Done<R: Net + SocketFiles + Wait + Clock + Drop> {
     hands: Hands<R>,
     failure: Option<Failure>,
 }
 
-// What plays the lines that are beside.
+// What runs the steps: a thread or a pool job.
 #[derive(Drop)]
 enum Player<R: Net + SocketFiles + Wait + Clock + Drop> {
     Thread(JoinHandle<Done<R>>),
-    /// A job of the pool, which puts its failure here once it is done, or none.
+    /// A pool job. When it is done, it pushes its failure here, or `None`.
     Job(Arc<MessagesQueue<Option<Failure>>>),
 }
 
@@ -42,7 +42,7 @@ pub(crate) struct Beside<R: Net + SocketFiles + Wait + Clock + Drop> {
     player: Player<R>,
 }
 
-// Plays the lines of a thread, and says that it has ended.
+// Plays the steps of a thread, and marks it as ended.
 fn play_beside<R: Host>(
     rt: &R,
     alloc: Global,
@@ -55,7 +55,7 @@ fn play_beside<R: Host>(
     Done { hands, failure }
 }
 
-// Adds what plays beside the scene, by this name.
+// Adds a thread or job called `name` to the stage.
 fn add_beside<R: Host>(
     alloc: Global,
     stage: &mut Stage<R>,
@@ -70,7 +70,7 @@ fn add_beside<R: Host>(
     Ok(stage.besides.push(beside).map_err(AllocError::from)?)
 }
 
-/// Begins a thread that plays these lines.
+/// Starts a thread called `name` that plays `lines`.
 pub(crate) fn begin<R: Host>(
     rt: &R,
     alloc: Global,
@@ -90,7 +90,7 @@ pub(crate) fn begin<R: Host>(
     add_beside(alloc, stage, (name, has_ended), Player::Thread(thread))
 }
 
-/// Has the pool run a job that plays these lines.
+/// Spawns a pool job called `name` that plays `lines`.
 pub(crate) fn spawn_job<R: Host>(
     rt: &R,
     alloc: Global,
@@ -109,7 +109,7 @@ pub(crate) fn spawn_job<R: Host>(
     add_beside(alloc, stage, (name, has_ended), Player::Job(done))
 }
 
-// The place of the thread of this name.
+// Returns the index of the thread or job called `name`, the later of two, or `usize::MAX` if there is none.
 fn place_of_thread<R: Host>(stage: &Stage<R>, name: &str) -> usize {
     let place = stage
         .besides
@@ -118,7 +118,7 @@ fn place_of_thread<R: Host>(stage: &Stage<R>, name: &str) -> usize {
     place.unwrap_or(usize::MAX)
 }
 
-// Takes back what a thread has at hand that has ended, and gives its failure.
+// Takes back the props of a thread that has ended, and returns its failure, if any. For a job, returns its failure.
 fn join<R: Host>(rt: &R, stage: &mut Stage<R>, beside: Beside<R>) -> Option<Failure> {
     let Beside {
         name: _,
@@ -135,7 +135,7 @@ fn join<R: Host>(rt: &R, stage: &mut Stage<R>, beside: Beside<R>) -> Option<Fail
     }
 }
 
-// Whether it is so within this many milliseconds.
+// Returns whether `is_so` becomes true within `millis` milliseconds.
 fn comes_true<R: Host>(rt: &R, is_so: &AtomicBool, millis: u64) -> bool {
     for _ in 0..millis {
         if is_so.load(Ordering::SeqCst) {
@@ -146,7 +146,8 @@ fn comes_true<R: Host>(rt: &R, is_so: &AtomicBool, millis: u64) -> bool {
     is_so.load(Ordering::SeqCst)
 }
 
-/// The thread of this name ends within this many milliseconds.
+/// Waits until the thread or job called `name` ends, and returns its failure, if any. Fails if it takes more than
+/// `millis` milliseconds.
 pub(crate) fn end<R: Host>(
     rt: &R,
     alloc: Global,
@@ -167,7 +168,7 @@ pub(crate) fn end<R: Host>(
     Ok(join(rt, stage, beside))
 }
 
-/// The thread of this name hasn't ended after a while.
+/// Expects that the thread or job called `name` has not ended after `WATCHED` milliseconds.
 pub(crate) fn wait<R: Host>(
     rt: &R,
     alloc: Global,

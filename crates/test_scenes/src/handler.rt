@@ -1,34 +1,34 @@
 //! The handler of a scene's server.
-use test_scene_props::requests::{short_answer, text_answer};
 use std::alloc::Global;
 use std::io::{ErrorKind, Read, Write};
 use std::sync::atomic::{AtomicBool, Ordering};
 use std::sync::{Arc, Wait};
 use std::time::{Clock, Duration};
 use std::{io, thread};
+use test_scene_props::requests::{short_answer, text_answer};
 use tiny_http::common::StatusCode;
 use tiny_http::messages_queue::MessagesQueue;
 use tiny_http::response::Response;
 use tiny_http::server::{ServerRequest, current_date};
 use tiny_http::serving::Handler;
 
-// How many milliseconds a handler waits at its gate at most.
+// Maximum time in milliseconds that a handler waits at its gate.
 const LONGEST: u32 = 10_000;
 
-// How many bytes `/long` is answered by, in one write.
+// Length of the body that `/long` gets in one write.
 const LONG: usize = 20_000;
 
-/// Answers by the path of a request.
+/// Responds according to a request's path.
 #[derive(Drop)]
 pub(crate) struct ByPath<R: Wait + Clock + Drop> {
-    /// The requests that it keeps: all, or those for `/keep`.
+    /// The kept requests: all, or those for `/keep`.
     pub kept: Arc<MessagesQueue<ServerRequest<R>>>,
     pub keeps_all: Arc<AtomicBool>,
-    /// Whether it may go on that waits.
+    /// Whether a waiting handler may continue.
     pub gate: Arc<AtomicBool>,
 }
 
-// Answers by the path itself; whether the connection is to end.
+// Responds with the path as the body, and closes the connection if `is_last`.
 fn answer_path<R: Wait + Clock + Drop>(
     rt: &R,
     alloc: Global,
@@ -42,7 +42,7 @@ fn answer_path<R: Wait + Clock + Drop>(
     request.respond(response, current_date(rt))
 }
 
-// Answers by the body of the request.
+// Responds with the request's body.
 fn echo<R: Wait + Clock + Drop>(
     rt: &R,
     alloc: Global,
@@ -54,7 +54,7 @@ fn echo<R: Wait + Clock + Drop>(
     request.respond(Response::from_data(alloc, body), current_date(rt))
 }
 
-// Upgrades to a protocol that sends `hello` and no more.
+// Upgrades to a protocol in which the server sends `hello` and nothing else.
 fn greet<R: Wait + Clock + Drop>(
     rt: &R,
     alloc: Global,
@@ -68,7 +68,7 @@ fn greet<R: Wait + Clock + Drop>(
     stream.flush()
 }
 
-// Waits until the gate is open.
+// Waits until the gate is open, for at most `LONGEST` milliseconds.
 fn wait_at<R: Clock>(rt: &R, gate: &AtomicBool) {
     for _ in 0..LONGEST {
         if gate.load(Ordering::SeqCst) {
@@ -78,7 +78,7 @@ fn wait_at<R: Clock>(rt: &R, gate: &AtomicBool) {
     }
 }
 
-// Answers by `a`, which is flushed, and by `b` once the gate is open.
+// Responds with a streaming body: `a`, which is flushed, and `b` after the gate opens.
 fn grow<R: Wait + Clock + Drop>(
     rt: &R,
     alloc: Global,
@@ -94,7 +94,7 @@ fn grow<R: Wait + Clock + Drop>(
     body.finish()
 }
 
-// Answers by many bytes that one call writes.
+// Responds with a streaming body of many bytes in one write.
 fn write_long<R: Wait + Clock + Drop>(
     rt: &R,
     alloc: Global,
@@ -108,10 +108,10 @@ fn write_long<R: Wait + Clock + Drop>(
 }
 
 impl<R: Wait + Clock + Drop> Handler<R, ServerRequest<R>> for ByPath<R> {
-    /// Keeps a request for `/keep`, and each where it keeps all; drops one for `/drop`; answers one for `/echo` by
-    /// its body, `/grow` by pieces, `/long` by many bytes, `/short` by three of ten; upgrades one for `/greet`; and
-    /// answers each other one by its path, `/wait` once the gate is open. After the answer to `/close` the connection
-    /// is to end, and for `/err` and `/drop-err` it fails.
+    /// Keeps the request if its path is `/keep`, or in any case if `keeps_all` is set. Drops it for `/drop` and
+    /// `/drop-err`, responds with its body for `/echo`, in pieces for `/grow`, with many bytes for `/long`, with three
+    /// of ten bytes for `/short`, and upgrades it for `/greet`. Responds to any other with its path, to `/wait` after
+    /// the gate opens. `/close` closes the connection afterwards; `/err` and `/drop-err` return an error.
     fn handle(&self, rt: &R, alloc: Global, request: ServerRequest<R>) -> io::Result<()> {
         let path = request.url();
         if self.keeps_all.load(Ordering::SeqCst) || path == "/keep" {

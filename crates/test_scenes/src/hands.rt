@@ -1,22 +1,22 @@
-//! What the one who acts has at hand: the server and its requests, and what needs no server, by their names.
+//! What the steps of a scene or of one of its threads act on, by name: the server, its requests, and the props.
 use crate::handler::ByPath;
-use test_scene_files::mishap::Mishap;
-use test_scene_files::scene::{Line, Way};
-use test_scene_props::asked::Asked;
-use test_scene_props::named::is_named;
-use test_scene_props::props::Props;
 use std::alloc::{AllocError, Global};
 use std::net::Net;
 use std::os::fd::OwnedFd;
 use std::sync::{Arc, Wait};
 use std::time::Clock;
+use test_scene_files::mishap::Mishap;
+use test_scene_files::scene::{Line, Way};
+use test_scene_props::asked::Asked;
+use test_scene_props::named::is_named;
+use test_scene_props::props::Props;
 use tiny_http::connection::{ListenAddr, SocketFiles};
 use tiny_http::server::{Server, ServerReader, ServerWriter};
 
-/// The requests of the server, and their outputs.
+/// The server's requests and their outputs.
 pub(crate) type Served<R> = Asked<ServerReader<R>, ServerWriter<R>, R>;
 
-/// What is at hand.
+/// What the steps of a scene or of one of its threads act on.
 #[derive(Drop)]
 pub(crate) struct Hands<R: Net + SocketFiles + Wait + Clock + Drop> {
     pub server: Option<Arc<Server<R>>>,
@@ -26,12 +26,12 @@ pub(crate) struct Hands<R: Net + SocketFiles + Wait + Clock + Drop> {
     pub served: Served<R>,
     /// What needs no server.
     pub props: Props<R>,
-    /// Descriptors that nobody else can have meanwhile.
+    /// File descriptors that are held so that nobody else can have them.
     pub taken: Vec<OwnedFd>,
 }
 
 impl<R: Net + SocketFiles + Wait + Clock + Drop> Hands<R> {
-    /// A handler, and what needs no server.
+    /// Creates hands with a handler and props, and without a server.
     pub(crate) fn new(
         alloc: Global,
         (handler, way): (Arc<ByPath<R>>, Way),
@@ -48,7 +48,7 @@ impl<R: Net + SocketFiles + Wait + Clock + Drop> Hands<R> {
         }
     }
 
-    /// The server.
+    /// Returns the server, or an error if there is none.
     pub(crate) fn server(&self) -> Result<&Server<R>, Mishap> {
         match &self.server {
             Some(server) => Ok(server),
@@ -56,7 +56,7 @@ impl<R: Net + SocketFiles + Wait + Clock + Drop> Hands<R> {
         }
     }
 
-    /// The address of the server, also once that has gone.
+    /// Returns the server's address, even after the server is dropped.
     pub(crate) fn addr(&self) -> Result<&ListenAddr, Mishap> {
         match &self.addr {
             Some(addr) => Ok(addr),
@@ -64,7 +64,7 @@ impl<R: Net + SocketFiles + Wait + Clock + Drop> Hands<R> {
         }
     }
 
-    /// What these lines need: who and what they name, and the server where they name it.
+    /// Takes what `lines` need: everything they name, and a handle to the server if they name it.
     pub(crate) fn part(&mut self, alloc: Global, lines: &[Line]) -> Result<Hands<R>, AllocError> {
         let props = self.props.part(alloc, lines)?;
         let handler = Arc::try_clone(&self.handler)?;

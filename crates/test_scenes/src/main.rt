@@ -1,5 +1,5 @@
-//! Plays the scenes of files: `test_scenes FILE..`. A scene is what a server and its clients do one after another, line by
-//! line, and what each sees. Some are played side by side. docs/CASES.md describes the files.
+//! Plays the scenes of files: `test_scenes FILE..`. A scene lists step by step what a server and its clients do and
+//! what each observes. Several scenes run in parallel. docs/CASES.md describes the files.
 #![tactic(auto)]
 
 mod besides;
@@ -12,26 +12,26 @@ mod serving;
 
 use crate::links::Host;
 use crate::playing::play;
-use test_data_files::fault::FilesFault;
-use test_data_files::program::{Checker, NamedFile, run_program};
-use test_scene_files::scene::{Scene, SceneFile, read_scenes};
-use test_scene_props::jobs::Failure;
 use std::alloc::{AllocError, Global};
 use std::io::Write;
 use std::process::ExitCode;
 use std::{io, thread};
+use test_data_files::fault::FilesFault;
+use test_data_files::program::{Checker, NamedFile, run_program};
+use test_scene_files::scene::{Scene, SceneFile, read_scenes};
+use test_scene_props::jobs::Failure;
 
-// How many scenes are played side by side.
+// Number of scenes that run in parallel.
 const BESIDE: usize = 8;
 
-// The files that the command line names.
+// The files named on the command line.
 #[derive(Drop)]
 struct SceneFiles {
     files: Vec<SceneFile>,
 }
 
 impl Checker for SceneFiles {
-    /// Reads the scenes of each of these files. They are played once all are read.
+    /// Reads the scenes of these files. They are played after all files are read.
     fn check<'a, O: Write>(
         &mut self,
         alloc: Global,
@@ -49,7 +49,7 @@ impl Checker for SceneFiles {
     }
 }
 
-// Plays a scene. Its Unix socket has the number of the process and its own in its path.
+// Plays a scene. The path of its Unix socket contains the process id and the scene's number.
 fn play_at<R: Host>(
     rt: &R,
     alloc: Global,
@@ -62,7 +62,7 @@ fn play_at<R: Host>(
     play(rt, alloc, scene, path.as_str())
 }
 
-// Reports a scene that failed.
+// Prints one line for a failed scene.
 fn report<O: Write>(
     out: &mut O,
     (file, scene): (&str, &Scene),
@@ -73,7 +73,8 @@ fn report<O: Write>(
     writeln!(out, "{file}:{number}: {name}: {line}:{mishap}")
 }
 
-// Plays scenes side by side, and reports those that fail. How many did, of those that have to fail how many didn't.
+// Plays scenes in parallel, and reports those that fail. Returns how many had the wrong outcome: failures, and
+// successes of scenes that must fail.
 fn play_group<R: Host, O: Write>(
     rt: &R,
     alloc: Global,
@@ -101,7 +102,7 @@ fn play_group<R: Host, O: Write>(
     Ok(failed)
 }
 
-// Plays the scenes of a file, and says how many failed: whether none did.
+// Plays the scenes of a file, and prints how many failed. Returns whether none did.
 fn play_file<R: Host, O: Write>(
     rt: &R,
     alloc: Global,
@@ -121,8 +122,8 @@ fn play_file<R: Host, O: Write>(
     Ok(failed == 0)
 }
 
-// Plays the scenes of all files, and gives the exit status: 0 where all hold, 3 where one fails, and 1 where `out`
-// can't be written or memory is refused.
+// Plays the scenes of all files. Returns the exit status: 0 if all hold, 3 if one fails, and 1 if `out` can't be
+// written or memory is refused.
 fn play_files<R: Host, O: Write>(
     rt: &R,
     alloc: Global,
@@ -147,7 +148,7 @@ fn main(rt: HostRuntime) -> ExitCode {
     let mut read = SceneFiles {
         files: Vec::new(alloc),
     };
-    let status = run_program(&rt, "scenes", &mut read, &mut out, &mut err);
+    let status = run_program(&rt, "test_scenes", &mut read, &mut out, &mut err);
     if status != 0 {
         return ExitCode::from(status);
     }

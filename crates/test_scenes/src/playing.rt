@@ -1,8 +1,14 @@
-//! Plays a scene: line after line, and what is beside on threads of its own.
+//! Plays a scene step by step. Some steps run on threads of their own.
 use crate::besides::{Beside, begin, end, spawn_job, wait};
 use crate::hands::Hands;
 use crate::links::Host;
 use crate::serving::{act_server, connect, first_hands, place_of, take_descriptors};
+use std::alloc::Global;
+use std::net::Net;
+use std::sync::{Arc, Wait};
+use std::thread;
+use std::thread::JoinHandle;
+use std::time::Clock;
 use test_scene_files::deed::{ClientDeed, Deed, OutputDeed, RequestDeed, deed_in};
 use test_scene_files::mishap::{Mishap, demand};
 use test_scene_files::scene::{Line, Scene, Way};
@@ -10,15 +16,9 @@ use test_scene_props::acting::act_without_server;
 use test_scene_props::jobs::{Failure, Pool, failure_at, inner_lines, pool_of};
 use test_scene_props::named::{get, has};
 use test_scene_props::requests::{act_asked, demand_plain, write_asked};
-use std::alloc::Global;
-use std::net::Net;
-use std::sync::{Arc, Wait};
-use std::thread;
-use std::thread::JoinHandle;
-use std::time::Clock;
 use tiny_http::connection::SocketFiles;
 
-/// A scene that is played: what is at hand, the threads and jobs, the pool, and the thread that serves.
+/// A scene that is being played: what its steps act on, its threads and jobs, its pool, and the thread that serves.
 #[derive(Drop)]
 pub(crate) struct Stage<R: Net + SocketFiles + Wait + Clock + Drop> {
     pub hands: Hands<R>,
@@ -27,7 +27,7 @@ pub(crate) struct Stage<R: Net + SocketFiles + Wait + Clock + Drop> {
     serving: Option<JoinHandle<bool>>,
 }
 
-// What is done with the request of this name, over memory or of the server.
+// Runs a step on the request of this name, which is over memory or the server's.
 fn act_request<R: Host>(
     rt: &R,
     alloc: Global,
@@ -44,7 +44,7 @@ fn act_request<R: Host>(
     act_asked(rt, alloc, &mut hands.served, name, deed)
 }
 
-// What is done with the output of this name, over memory or of the server.
+// Runs a step on the output of this name, which is over memory or the server's.
 fn act_output<R: Host>(
     alloc: Global,
     hands: &mut Hands<R>,
@@ -56,7 +56,7 @@ fn act_output<R: Host>(
     write_asked(alloc, &mut hands.served, name, deed)
 }
 
-// What a line says, where it is about no thread.
+// Runs a step that starts, ends or watches no thread.
 fn act<R: Host>(rt: &R, alloc: Global, hands: &mut Hands<R>, deed: Deed<'_>) -> Result<(), Mishap> {
     match deed {
         Deed::Client(name, ClientDeed::Connects) => connect(rt, alloc, hands, name),
@@ -75,7 +75,7 @@ fn act<R: Host>(rt: &R, alloc: Global, hands: &mut Hands<R>, deed: Deed<'_>) -> 
     }
 }
 
-/// Plays the lines of a thread: the line at which it failed, if it did.
+/// Plays the steps of a thread. Returns the step that failed, if any.
 pub(crate) fn play_lines<R: Host>(
     rt: &R,
     alloc: Global,
@@ -93,7 +93,7 @@ pub(crate) fn play_lines<R: Host>(
     None
 }
 
-// One line of a scene, with those below it.
+// Plays one step of a scene. `below` holds the lines after it.
 fn play_line<R: Host>(
     rt: &R,
     alloc: Global,
@@ -120,7 +120,7 @@ fn play_line<R: Host>(
     }
 }
 
-// All lines of a scene.
+// Plays all steps of a scene until one fails.
 fn play_all<R: Host>(
     rt: &R,
     alloc: Global,
@@ -143,7 +143,7 @@ fn play_all<R: Host>(
     None
 }
 
-// Has a thread serve by the handler that keeps all, until the server is unblocked.
+// Starts a thread that serves with the handler that keeps all requests, until the server is unblocked.
 fn begin_to_serve<R: Host>(rt: &R, alloc: Global, stage: &mut Stage<R>) -> Result<(), Mishap> {
     let Some(server) = &stage.hands.server else {
         return Err(Mishap::Unplayable("there is no server"));
@@ -157,7 +157,7 @@ fn begin_to_serve<R: Host>(rt: &R, alloc: Global, stage: &mut Stage<R>) -> Resul
     wait_until_served(rt, alloc, &mut stage.hands)
 }
 
-// The lines by which a scene waits until its server serves: a client's request is handed to the handler.
+// The steps that wait until the server serves: a client's request reaches the handler.
 const UNTIL_SERVED: [&str; 6] = [
     "someone connects",
     "someone sends GET /keep HTTP/1.1\\r\\nHost: h\\r\\nConnection: close\\r\\n\\r\\n",
@@ -167,7 +167,6 @@ const UNTIL_SERVED: [&str; 6] = [
     "server num_connections = 0",
 ];
 
-// Waits until the server serves.
 fn wait_until_served<R: Host>(rt: &R, alloc: Global, hands: &mut Hands<R>) -> Result<(), Mishap> {
     for line in UNTIL_SERVED {
         if let Some(deed) = deed_in(line) {
@@ -177,8 +176,8 @@ fn wait_until_served<R: Host>(rt: &R, alloc: Global, hands: &mut Hands<R>) -> Re
     Ok(())
 }
 
-// Ends a scene: requests, outputs and clients go first, so that nobody waits for them. Whoever serves is unblocked, and
-// ends without a fault. Each thread has ended by a line.
+// Ends a scene. Drops requests, outputs and clients first, so that nothing waits for them, and unblocks a serving
+// thread, which must end without an error. Fails if a step has not waited for the end of each thread.
 fn clear<R: Host>(rt: &R, alloc: Global, stage: &mut Stage<R>) -> Result<(), Mishap> {
     stage.hands.served.clear();
     stage.hands.props.clear();
@@ -235,8 +234,8 @@ fn play_once<R: Host>(
     }
 }
 
-/// Plays a scene as often as it says, and in each way that it names: its failure, if it fails. A Unix socket is made
-/// at this path.
+/// Plays a scene as often as it states, and in each of its ways, until it fails. Returns the failure, if any. `path` is
+/// the path of its Unix socket.
 pub(crate) fn play<R: Host>(rt: &R, alloc: Global, scene: &Scene, path: &str) -> Option<Failure> {
     let ground = scene.ground;
     for _ in 0..ground.repeats {

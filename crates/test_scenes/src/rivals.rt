@@ -1,19 +1,19 @@
-//! Servers beside that of a scene: at the same address, at a path where something is already, or with TLS.
+//! Creates further servers beside that of a scene: at the same address, at a path that is in use, or with TLS.
 use crate::hands::Hands;
 use crate::links::Host;
 use crate::serving::{Place, config_of, path_beside, path_in};
-use test_scene_files::deed::{Found, ServerDeed};
-use test_scene_files::mishap::{Mishap, demand, demand_fault, demand_text, differs};
-use test_scene_props::props::shared;
 use std::alloc::Global;
 use std::io::ErrorKind;
 use std::net::SocketAddr;
 use std::path::{Path, PathBuf};
+use test_scene_files::deed::{Found, ServerDeed};
+use test_scene_files::mishap::{Mishap, demand, demand_fault, demand_text, differs};
+use test_scene_props::props::shared;
 use tiny_http::connection::{ConfigListenAddr, ListenAddr};
 use tiny_http::server::{Server, ServerConfig, ServerError, SslConfig};
 use tiny_http::{Limits, Profile};
 
-// A second server where this one listens.
+// Creates a second server at the same address.
 fn second_server<R: Host>(
     rt: &R,
     alloc: Global,
@@ -25,7 +25,7 @@ fn second_server<R: Host>(
     }
 }
 
-// A second server is refused by this kind.
+// Expects that creating a second server failed with this kind.
 fn demand_refused<R: Host>(
     alloc: Global,
     made: Result<Server<R>, ServerError>,
@@ -38,7 +38,7 @@ fn demand_refused<R: Host>(
     }
 }
 
-// A second server takes the place of the first, which goes.
+// Creates a second server at the same address, which replaces the first. The first is dropped.
 fn follow<R: Host>(rt: &R, alloc: Global, hands: &mut Hands<R>) -> Result<(), Mishap> {
     let Ok(second) = second_server(rt, alloc, hands.addr()?)? else {
         return Err(Mishap::Unplayable("there is no second server here"));
@@ -47,11 +47,11 @@ fn follow<R: Host>(rt: &R, alloc: Global, hands: &mut Hands<R>) -> Result<(), Mi
     Ok(())
 }
 
-// The name of a file in the folder of the program, which is no socket.
+// A file in the program's folder that is not a socket.
 const PLAIN: &str = "closing.scenes";
 
-// Makes a server with limits at a path where this is: the kind by which it is refused, if it is, and whether what was
-// there is still there.
+// Creates a server with limits at a path where this file exists. Returns the error's kind, if it fails, and whether the
+// file still exists.
 fn made_at<R: Host>(
     rt: &R,
     alloc: Global,
@@ -79,7 +79,7 @@ fn made_at<R: Host>(
     Ok((refusal, is_there))
 }
 
-// The same where a link is at this path, to a socket on which nobody listens.
+// Does the same with a symbolic link at this path, to a socket on which nobody listens.
 fn made_at_link<R: Host>(
     rt: &R,
     alloc: Global,
@@ -98,7 +98,7 @@ fn made_at_link<R: Host>(
     Ok((refusal, is_there))
 }
 
-// The kind by which a server with limits at this path is refused, if it is. One that is made goes at once.
+// Creates a server with limits at this path, and drops it at once. Returns the error's kind, if it fails.
 fn refusal_at<R: Host>(rt: &R, alloc: Global, path: &str) -> Result<Option<ErrorKind>, Mishap> {
     let Ok(config) = config_of(rt, alloc, Place::Path(path)) else {
         return Err(Mishap::OutOfMemory);
@@ -110,8 +110,8 @@ fn refusal_at<R: Host>(rt: &R, alloc: Global, path: &str) -> Result<Option<Error
     }
 }
 
-// A server with limits at a path where this is. It takes over a stale socket, whose file goes with it; what else is
-// there stays.
+// Creates a server with limits at a path where this file exists, and expects this error or none. The server takes over
+// a stale socket, whose file it removes when it is dropped. Any other file stays.
 fn demand_made_at<R: Host>(
     rt: &R,
     alloc: Global,
@@ -131,7 +131,7 @@ fn demand_made_at<R: Host>(
     demand(alloc, "what was there is still there", is_there)
 }
 
-// The outcome of a server with TLS at this address.
+// Creates a server with TLS at this address.
 fn with_tls<R: Host>(
     rt: &R,
     alloc: Global,
@@ -148,7 +148,7 @@ fn with_tls<R: Host>(
     Server::new(*rt, alloc, config)
 }
 
-// The outcome of a server with TLS where this one listens.
+// Creates a server with TLS at the same address.
 fn rival_with_tls<R: Host>(
     rt: &R,
     alloc: Global,
@@ -167,7 +167,7 @@ fn rival_with_tls<R: Host>(
     }
 }
 
-// A server with TLS at another address of the same kind is refused in these words, and leaves no file.
+// Expects that a server with TLS at another address of the same kind fails with this message, and leaves no file.
 fn demand_no_tls<R: Host>(
     rt: &R,
     alloc: Global,
@@ -194,7 +194,7 @@ fn demand_no_tls<R: Host>(
     demand(alloc, "there is no file", !is_there)
 }
 
-// A server that is given this address, which is taken, and then any, listens at another one.
+// Expects that a server given this address, which is in use, and then any free port listens at another address.
 fn demand_second<R: Host>(rt: &R, alloc: Global, addr: &ListenAddr) -> Result<(), Mishap> {
     let ListenAddr::IP(first) = addr else {
         return Err(Mishap::Unplayable("only TCP has two addresses"));
@@ -210,7 +210,7 @@ fn demand_second<R: Host>(rt: &R, alloc: Global, addr: &ListenAddr) -> Result<()
     demand(alloc, "it is at another address", is_another)
 }
 
-// The server's address is that of its Unix socket, and is shown by its path.
+// Expects that the server's address is that of its Unix socket, and is displayed as its path.
 fn demand_shown<R: Host>(
     alloc: Global,
     server: &Server<R>,
@@ -223,7 +223,7 @@ fn demand_shown<R: Host>(
     demand(alloc, "it is a Unix socket's", shown.to_unix().is_some())
 }
 
-/// A look at the server's address, or another server.
+/// Runs a step that checks the server's address or creates another server.
 pub(crate) fn act_rival<R: Host>(
     rt: &R,
     alloc: Global,

@@ -1,14 +1,8 @@
-//! The server of a scene: how it is made, and its calls.
+//! Creates the server of a scene, and makes its calls.
 use crate::handler::ByPath;
 use crate::hands::Hands;
 use crate::links::Host;
 use crate::rivals::act_rival;
-use test_scene_files::client::Client;
-use test_scene_files::deed::{Given, ServerDeed};
-use test_scene_files::mishap::{Mishap, demand, demand_fault, demand_number, demand_text, differs};
-use test_scene_files::scene::{Ground, Over, Way};
-use test_scene_props::named::add;
-use test_scene_props::props::{Props, shared};
 use std::alloc::{AllocError, Global};
 use std::io::ErrorKind;
 use std::net::TcpListener;
@@ -19,32 +13,38 @@ use std::sync::Arc;
 use std::sync::atomic::{AtomicBool, Ordering};
 use std::time::Duration;
 use std::{io, thread};
+use test_scene_files::client::Client;
+use test_scene_files::deed::{Given, ServerDeed};
+use test_scene_files::mishap::{Mishap, demand, demand_fault, demand_number, demand_text, differs};
+use test_scene_files::scene::{Ground, Over, Way};
+use test_scene_props::named::add;
+use test_scene_props::props::{Props, shared};
 use tiny_http::connection::{ConfigListenAddr, ListenAddr, Listener};
 use tiny_http::counts::Counts;
 use tiny_http::messages_queue::MessagesQueue;
 use tiny_http::server::{Server, ServerConfig, ServerError, ServerRequest, Stopped};
 use tiny_http::{Limits, Profile};
 
-// How many seconds a request may take to come that has to.
+// Maximum time in seconds in which an expected request must arrive.
 const LONGEST: u64 = 10;
 
-// How often something is looked for that has to come, a millisecond apart.
+// Number of checks, a millisecond apart, for something expected.
 const TURNS: u32 = 10_000;
 
-// How many descriptors are taken at most. A process has no more by the system's own bound, unless that was raised.
+// Maximum number of descriptors taken. By default the system allows a process no more.
 const MOST_DESCRIPTORS: u32 = 1_048_576;
 
-// How many requests the queue of those that are kept has room for at first.
+// Initial capacity of the queue of kept requests.
 const KEPT_ROOM: usize = 8;
 
-/// Where a scene's server listens: an address of TCP, or the path of a Unix socket.
+/// Where a scene's server listens: a TCP address, or the path of a Unix socket.
 #[derive(Clone, Copy)]
 pub(crate) enum Place<'a> {
     Tcp(&'static str),
     Path(&'a str),
 }
 
-/// Where it listens for which no path is needed.
+/// Returns where the server of a scene listens. Only a Unix socket uses `path`.
 pub(crate) fn place_of(over: Over, path: &str) -> Place<'_> {
     match over {
         Over::Ipv6 => Place::Tcp("[::1]:0"),
@@ -53,7 +53,7 @@ pub(crate) fn place_of(over: Over, path: &str) -> Place<'_> {
     }
 }
 
-/// The address to listen at.
+/// Builds the server's configuration, without TLS.
 pub(crate) fn config_of<R: Host>(
     rt: &R,
     alloc: Global,
@@ -69,7 +69,7 @@ pub(crate) fn config_of<R: Host>(
     Ok(ServerConfig { addr, ssl: None })
 }
 
-// A server over a listener of its own.
+// Creates a server over an existing listener.
 fn listening_server<R: Host>(
     rt: &R,
     alloc: Global,
@@ -89,7 +89,7 @@ fn listening_server<R: Host>(
     }
 }
 
-// The server of a scene.
+// Creates the server of a scene.
 fn server_of<R: Host>(
     rt: &R,
     alloc: Global,
@@ -109,7 +109,7 @@ fn server_of<R: Host>(
     }
 }
 
-// A handler that keeps no request yet.
+// Creates a handler that has kept no request yet.
 fn handler_of<R: Host>(alloc: Global, keeps_all: bool) -> Result<Arc<ByPath<R>>, Mishap> {
     let Ok(kept) = MessagesQueue::with_capacity(alloc, KEPT_ROOM) else {
         return Err(Mishap::OutOfMemory);
@@ -122,12 +122,12 @@ fn handler_of<R: Host>(alloc: Global, keeps_all: bool) -> Result<Arc<ByPath<R>>,
     shared(alloc, by_path)
 }
 
-// Whether a scene over this has a server.
+// Returns whether a scene has a server.
 fn has_server(over: Over) -> bool {
     !matches!(over, Over::Queue | Over::Pool | Over::Memory | Over::Turns)
 }
 
-/// What is at hand as a scene begins.
+/// Creates what the steps act on when a scene begins.
 pub(crate) fn first_hands<R: Host>(
     rt: &R,
     alloc: Global,
@@ -148,7 +148,7 @@ pub(crate) fn first_hands<R: Host>(
     Ok(hands)
 }
 
-/// Takes all descriptors of the process but so many.
+/// Uses up all file descriptors of the process but `left`.
 pub(crate) fn take_descriptors<R: Host>(
     rt: &R,
     hands: &mut Hands<R>,
@@ -170,7 +170,7 @@ pub(crate) fn take_descriptors<R: Host>(
     Ok(())
 }
 
-// What a call gave is what the line says; the request gets its name.
+// Compares the result of a receiving call with the expected one, and names the request.
 fn take_given<R: Host>(
     alloc: Global,
     hands: &mut Hands<R>,
@@ -191,13 +191,13 @@ fn take_given<R: Host>(
     }
 }
 
-// The next request that the handler has kept.
+// Returns the next request that the handler kept, waiting at most `LONGEST` seconds.
 fn next_kept<R: Host>(rt: &R, hands: &Hands<R>) -> Option<ServerRequest<R>> {
     let most = Duration::from_secs(LONGEST);
     hands.handler.kept.pop_timeout(rt, most)
 }
 
-// The next request, in the way of the scene.
+// Returns the next request, received in the scene's way.
 fn next_given<R: Host>(
     rt: &R,
     hands: &Hands<R>,
@@ -211,14 +211,14 @@ fn next_given<R: Host>(
     }
 }
 
-// A call that waits for a request without end, as `recv`: none is a fault of kind `Other`.
+// Returns the next item of `incoming_requests`, which waits without a timeout.
 fn next_incoming<R: Host>(
     hands: &Hands<R>,
 ) -> Result<io::Result<Option<ServerRequest<R>>>, Mishap> {
     Ok(Ok(hands.server()?.incoming_requests().next()))
 }
 
-// What `recv` gives.
+// Calls `recv`.
 fn received<R: Host>(hands: &Hands<R>) -> Result<io::Result<Option<ServerRequest<R>>>, Mishap> {
     Ok(match hands.server()?.recv() {
         Ok(request) => Ok(Some(request)),
@@ -226,7 +226,7 @@ fn received<R: Host>(hands: &Hands<R>) -> Result<io::Result<Option<ServerRequest
     })
 }
 
-// What `try_recv` gives, within a number of turns where a request or a fault has to come.
+// Calls `try_recv`, repeatedly if a request or an error is expected.
 fn tried<R: Host>(
     rt: &R,
     hands: &Hands<R>,
@@ -245,7 +245,7 @@ fn tried<R: Host>(
     Ok(Ok(None))
 }
 
-// In time as many clients are connected.
+// Waits until `count` clients are connected.
 fn demand_clients<R: Host>(
     rt: &R,
     alloc: Global,
@@ -261,7 +261,7 @@ fn demand_clients<R: Host>(
     demand_number(alloc, count as u64, server.num_connections() as u64)
 }
 
-// The count of this name.
+// Returns the counter of this name.
 fn count_in(counts: &Counts, field: &str) -> Option<u64> {
     Some(match field {
         "connections" => counts.connections,
@@ -283,7 +283,7 @@ fn count_in(counts: &Counts, field: &str) -> Option<u64> {
     })
 }
 
-// In time this count is this number, or above where it may be.
+// Waits until the counter has the wanted value, or a greater one if `may_be_above`.
 fn demand_count<R: Host>(
     rt: &R,
     alloc: Global,
@@ -305,7 +305,7 @@ fn demand_count<R: Host>(
     }
 }
 
-/// The path of the server's Unix socket.
+/// Returns the path of the server's Unix socket.
 pub(crate) fn path_in(addr: &ListenAddr) -> Result<Path<'_>, Mishap> {
     let ListenAddr::Unix(addr) = addr else {
         return Err(Mishap::Unplayable("only a Unix socket has a path"));
@@ -316,12 +316,13 @@ pub(crate) fn path_in(addr: &ListenAddr) -> Result<Path<'_>, Mishap> {
     }
 }
 
-/// A path beside that of the server's Unix socket.
+/// Returns a path next to that of the server's Unix socket.
 pub(crate) fn path_beside(alloc: Global, addr: &ListenAddr) -> Result<String, Mishap> {
     Ok(format!(in alloc; "{}.beside", path_in(addr)?.display())?)
 }
 
-// The file of the server's Unix socket gets another name, under which the socket is met once that file is gone.
+// Links the file of the server's Unix socket to a second name, which still reaches the socket after the file is
+// removed.
 fn link_beside<R: Host>(rt: &R, alloc: Global, addr: &ListenAddr) -> Result<(), Mishap> {
     let link = path_beside(alloc, addr)?;
     match rt.hard_link(path_in(addr)?, Path::new(link.as_str())) {
@@ -330,7 +331,8 @@ fn link_beside<R: Host>(rt: &R, alloc: Global, addr: &ListenAddr) -> Result<(), 
     }
 }
 
-// Nobody listens at the address of the server: of TCP in time, and of a Unix socket now, by the link beside its file.
+// Expects that nobody listens at the server's address. Waits for a TCP address, and checks a Unix socket once, through
+// the second name of its file, which it removes.
 fn demand_free<R: Host>(rt: &R, alloc: Global, addr: &ListenAddr) -> Result<(), Mishap> {
     let ListenAddr::IP(addr) = addr else {
         let link = path_beside(alloc, addr)?;
@@ -348,7 +350,7 @@ fn demand_free<R: Host>(rt: &R, alloc: Global, addr: &ListenAddr) -> Result<(), 
     Err(differs(alloc, "the address is free", "someone listens there"))
 }
 
-// Whether the file of the server's Unix socket is there.
+// Expects that the file of the server's Unix socket exists, or that it doesn't.
 fn demand_file<R: Host>(
     rt: &R,
     alloc: Global,
@@ -363,7 +365,7 @@ fn demand_file<R: Host>(
     demand(alloc, words, rt.is_socket(path_in(addr)?) == is_there)
 }
 
-// Stops the server; whether all was answered.
+// Stops the server, and expects that everything is answered, or that it isn't.
 fn stop<R: Host>(
     alloc: Global,
     server: &Server<R>,
@@ -378,7 +380,7 @@ fn stop<R: Host>(
     demand_text(alloc, wanted, came)
 }
 
-// The server goes.
+// Drops the server.
 fn let_go<R: Host>(hands: &mut Hands<R>) -> Result<(), Mishap> {
     match hands.server.take() {
         Some(server) => {
@@ -389,7 +391,7 @@ fn let_go<R: Host>(hands: &mut Hands<R>) -> Result<(), Mishap> {
     }
 }
 
-// Serves until that ends.
+// Calls `serve`, and compares its error once it returns.
 fn serve<R: Host>(
     alloc: Global,
     hands: &Hands<R>,
@@ -399,7 +401,7 @@ fn serve<R: Host>(
     demand_fault(alloc, wanted, served.err().map(|fault| fault.kind()))
 }
 
-// Serves on some threads until that ends.
+// Calls `serve_by`, and compares its error once it returns.
 fn serve_by<R: Host>(
     alloc: Global,
     hands: &Hands<R>,
@@ -410,7 +412,7 @@ fn serve_by<R: Host>(
     demand_fault(alloc, wanted, served.err().map(|fault| fault.kind()))
 }
 
-/// A call that gives a request, or none.
+/// Runs a step that receives a request, or passes other steps on to `act_rival`.
 fn act_giving<R: Host>(
     rt: &R,
     alloc: Global,
@@ -434,7 +436,7 @@ fn act_giving<R: Host>(
     take_given(alloc, hands, given, came)
 }
 
-/// A call of the server, or a look at it.
+/// Runs a step on the server.
 pub(crate) fn act_server<R: Host>(
     rt: &R,
     alloc: Global,
@@ -481,7 +483,7 @@ pub(crate) fn act_server<R: Host>(
     }
 }
 
-/// A client that is connected to the scene's server.
+/// Connects a client to the scene's server, and names it.
 pub(crate) fn connect<R: Host>(
     rt: &R,
     alloc: Global,

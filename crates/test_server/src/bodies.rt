@@ -1,9 +1,9 @@
-//! Bodies whose reader is interrupted.
+//! Tests of bodies whose reader is interrupted.
 use crate::memory_fixture::{client, connect_to, next, now};
 use std::io::{ErrorKind, Read};
 use std::test::Fail;
 
-// The kind of a read's fault; None where it met none.
+// Returns the kind of a read's error, if any.
 fn kind_of<B: Read>(body: &mut B) -> Option<ErrorKind> {
     match body.read(&mut [0; 9]) {
         Ok(_) => None,
@@ -11,10 +11,10 @@ fn kind_of<B: Read>(body: &mut B) -> Option<ErrorKind> {
     }
 }
 
-// A body of 2000 bytes of which 10 come.
+// A body of 2000 bytes of which 10 arrive.
 const CUT: &[u8] = b"POST / HTTP/1.1\r\nContent-Length: 2000\r\n\r\n0123456789";
 
-// A reader that is interrupted is a fault, and `read_exact` doesn't try again.
+// An interrupted read is an error, and `read_exact` does not retry it.
 #[test]
 fn an_interrupted_body_is_a_fault(rt: HostRuntime) -> Result<(), Fail> {
     let alloc = rt.alloc();

@@ -1,4 +1,4 @@
-//! What waits in front of a writer, and what is read ahead of a reader.
+//! Tests of what is buffered before a writer, and of what is read ahead from a reader.
 ghost use Rattle.std.specs.Prelude.{⊤};
 
 use crate::same::assert_same;
@@ -9,19 +9,19 @@ use tiny_http_socket::corked::Corked;
 use tiny_http_socket::read_ahead::{BeforeRead, ReadAhead};
 use tiny_http_wire::device::{Budget, ByPieces, Canned, WriteDevice};
 
-// A writer that takes so many bytes, with nothing in front of it.
+// Creates a writer that accepts `room` bytes, with an empty buffer.
 fn corked_of(rt: &impl Abort, alloc: Global, room: usize) -> Corked<Budget> {
     let writer = Budget::new(alloc, room, ErrorKind::BrokenPipe);
     Corked::new(alloc, writer).expect(rt, "memory")
 }
 
-// These bytes are taken, all at once.
+// Asserts that these bytes are accepted at once.
 fn assert_takes(rt: &impl Abort, corked: &mut Corked<Budget>, bytes: &[u8]) {
     let taken = corked.write_out(bytes).expect(rt, "they are taken");
     assert_same(rt, taken, bytes.len());
 }
 
-// What fits waits, and a flush sends it.
+// Asserts that what fits is buffered, and that a flush sends it.
 fn assert_waits(rt: &impl Abort, alloc: Global) {
     let mut corked = corked_of(rt, alloc, 100);
     assert_takes(rt, &mut corked, b"ab");
@@ -32,7 +32,7 @@ fn assert_waits(rt: &impl Abort, alloc: Global) {
     assert_same(rt, corked.into_inner().bytes(), b"abc".as_slice());
 }
 
-// A large piece goes past what waits, behind it.
+// Asserts that a large piece bypasses the buffer, and is sent after what it holds.
 fn assert_goes_past(rt: &impl Abort, alloc: Global) {
     let mut corked = corked_of(rt, alloc, 100_000);
     assert_takes(rt, &mut corked, b"ab");
@@ -44,12 +44,12 @@ fn assert_goes_past(rt: &impl Abort, alloc: Global) {
     assert_same(rt, sent.get(..3), Some(b"abA".as_slice()));
 }
 
-// The kind of the fault of a write of one byte, if it fails.
+// Writes one byte, and returns the error's kind, if any.
 fn fault_of(corked: &mut Corked<Budget>) -> Option<ErrorKind> {
     corked.write_out(b"x").err().map(|fault| fault.kind())
 }
 
-// A fault that is met as what waits is sent is reported by the next call, once.
+// Asserts that an error in sending the buffer is reported by the next call, once.
 fn assert_tells_once(rt: &impl Abort, alloc: Global) {
     let mut corked = corked_of(rt, alloc, 3);
     assert_takes(rt, &mut corked, b"abcd");
@@ -68,12 +68,12 @@ fn what_is_written_waits(rt: HostRuntime) {
     assert_tells_once(&rt, rt.alloc());
 }
 
-// How often a reader was called.
+// Number of calls of the reader.
 #[derive(Drop)]
 struct Calls(u32);
 
 impl BeforeRead for Calls {
-    // The tests say how often.
+    // The tests assert the number of calls.
     ghost does = { λ _ _. ⊤ };
 
     fn before_read(&mut self) {
@@ -81,7 +81,7 @@ impl BeforeRead for Calls {
     }
 }
 
-// The next bytes are these, and the reader has been called so often by then.
+// Asserts the next bytes, and the number of calls of the reader by then.
 fn assert_next(
     rt: &impl Abort,
     ahead: &mut ReadAhead<ByPieces<Canned>>,
@@ -94,7 +94,7 @@ fn assert_next(
     assert_same(rt, (buf.get(..n), calls.0), (Some(wanted), count));
 }
 
-// A reader that gives three bytes a call is called where none of them is left.
+// Asserts that a reader of three bytes a call is called only when none of them is left.
 fn assert_reads_ahead(rt: &impl Abort, alloc: Global) {
     let bytes = b"abcdef".to_vec(alloc).expect(rt, "memory");
     let reader = ByPieces::new(Canned::new(bytes, None), 3);

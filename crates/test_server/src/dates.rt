@@ -1,4 +1,4 @@
-//! The date of a clock.
+//! Test of the date from a clock.
 use crate::same::{assert_holds, assert_same};
 use httpdate::HttpDate;
 use std::io;
@@ -7,7 +7,7 @@ use std::process::Abort;
 use std::time::{Clock, Duration};
 use tiny_http::server::current_date;
 
-// A clock that stands at a time since 1970, or can't be read.
+// A clock that always shows the same time, in milliseconds since 1970, or can't be read.
 #[derive(Drop)]
 struct FixedClock(Option<u64>);
 
@@ -24,7 +24,7 @@ impl Clock for FixedClock {
     }
 }
 
-// A clock at `millis` milliseconds gives the date of `wanted` seconds.
+// Asserts that a clock at `millis` milliseconds gives the date of `wanted` seconds.
 fn assert_seconds(rt: &impl Abort, millis: Option<u64>, wanted: u64) {
     let found = current_date(&FixedClock(millis));
     let wanted = HttpDate::from_unix_secs(wanted).expect(rt, "a date");

@@ -1,4 +1,4 @@
-//! Entries that threads make under a lock, and the shares of a ledger that count them.
+//! Test of entries that threads make under a lock, and of the ledger shares that count them.
 ghost use Rattle.std.specs.Prelude.{◌≡◌, ◌+◌, ◌<◌, ◌≤◌};
 
 use crate::same::assert_same;
@@ -9,7 +9,7 @@ use std::thread;
 use std::thread::Threads;
 use tiny_http::roster::Roster;
 
-// Enters so often. The share, and how often it was let in.
+// Enters `times` times. Returns the share, and how often it was let in.
 fn enters<L: Ledger, R: Wait>(
     rt: &R,
     roster: &Roster<L>,
@@ -30,7 +30,7 @@ fn enters<L: Ledger, R: Wait>(
     (mine, entered)
 }
 
-// Two threads enter twice each. Their shares in one, and how often they were let in.
+// Enters twice on each of two threads. Returns their merged shares, and how often they were let in.
 fn two_threads<L: Ledger + Send + Sync, R: Threads + Wait + Sync>(
     rt: &R,
     roster: &Roster<L>,
@@ -52,7 +52,8 @@ fn two_threads<L: Ledger + Send + Sync, R: Threads + Wait + Sync>(
     (both, one + two)
 }
 
-// Three threads with a share each. How often they were let in, and what the roster counts and reports at its end.
+// Runs three threads with one share each. Returns how often they were let in, and what the roster counts and reports at
+// its end.
 fn three_threads<L: Ledger + Send + Sync, R: Threads + Wait + Sync>(
     rt: &R,
     blank: Blank,

@@ -1,4 +1,4 @@
-//! A server and a client of it, what the client reads, and the texts of answers. What goes wrong here ends the test.
+//! A server and its client, what the client reads, and the texts of responses. Any failure here ends the test.
 use crate::same::assert_same;
 use std::alloc::{AllocError, Global};
 use std::io;
@@ -10,23 +10,23 @@ use std::time::{Clock, Duration};
 use tiny_http::response::Response;
 use tiny_http::server::{Server, ServerRequest, ServerRuntime, current_date};
 
-// A wait is for so many turns of 1 ms at most.
+// Maximum number of attempts of 1 ms each.
 pub const TURNS: u32 = 10_000;
 
-/// The headers in front of an answer's own, its date left out.
+/// The first field lines of every response, without the date.
 pub const DATED: &str = "Server: tiny-http (Rust)\r\nDate: \r\n";
 
-/// What a server and its clients need of the system, and an end where something goes wrong.
+/// What a server and its clients need of the system, and the ability to abort on a failure.
 pub trait Host: ServerRuntime + Sync + Abort {}
 
 impl<R: ServerRuntime + Sync + Abort> Host for R {}
 
-/// A server that listens on loopback.
+/// Starts a server that listens on loopback.
 pub fn serve<R: Host>(rt: &R, alloc: Global) -> Server<R> {
     Server::http(*rt, alloc, "127.0.0.1:0").expect(rt, "a server")
 }
 
-/// A client of this server, each read of whom waits for 1 ms.
+/// Connects a client to `server`, with a read timeout of 1 ms.
 pub fn connect<R: Host>(rt: &R, server: &Server<R>) -> TcpStream {
     let addr = server.server_addr().to_ip().expect(rt, "an address of TCP");
     let client = TcpStream::connect(rt, addr).expect(rt, "a client");
@@ -35,17 +35,17 @@ pub fn connect<R: Host>(rt: &R, server: &Server<R>) -> TcpStream {
     client
 }
 
-/// Sends these bytes.
+/// Sends `bytes`.
 pub fn send_bytes<S: Write>(rt: &impl Abort, stream: &mut S, bytes: &[u8]) {
     stream.write_all(bytes).expect(rt, "it is sent");
 }
 
-/// Sends this text.
+/// Sends `text`.
 pub fn send<S: Write>(rt: &impl Abort, stream: &mut S, text: &str) {
     send_bytes(rt, stream, text.as_bytes());
 }
 
-/// Reads once, for a number of turns at most.
+/// Reads once, retrying up to `TURNS` timeouts.
 pub fn read_once<S: Read>(stream: &mut S, buf: &mut [u8]) -> io::Result<usize> {
     for _ in 0..TURNS {
         match stream.read(buf) {
@@ -56,7 +56,7 @@ pub fn read_once<S: Read>(stream: &mut S, buf: &mut [u8]) -> io::Result<usize> {
     Err(ErrorKind::TimedOut.into())
 }
 
-/// Reads until so many bytes are there, or the end.
+/// Reads until `count` bytes are read or the input ends.
 pub fn read_up_to<S: Read>(alloc: Global, stream: &mut S, count: usize) -> io::Result<Vec<u8>> {
     let mut bytes = Vec::new(alloc);
     let mut buf = [0u8; 1];
@@ -69,17 +69,17 @@ pub fn read_up_to<S: Read>(alloc: Global, stream: &mut S, count: usize) -> io::R
     Ok(bytes)
 }
 
-/// All that comes up to the end.
+/// Reads all bytes up to the end.
 pub fn read_all<S: Read>(rt: &impl Abort, alloc: Global, stream: &mut S) -> Vec<u8> {
     read_up_to(alloc, stream, usize::MAX).expect(rt, "an end of what is read")
 }
 
-// Whether the date of an answer begins here.
+// Returns whether the date of a response begins here.
 fn is_date(text: &[u8]) -> bool {
     text.starts_with(b"Date: ")
 }
 
-// The bytes of answers, without their dates, each of which has 29.
+// Copies responses without their dates of 29 bytes each.
 fn undated(alloc: Global, text: &[u8]) -> Result<Vec<u8>, AllocError> {
     let mut bytes = Vec::new(alloc);
     let mut left = 0u32;
@@ -96,13 +96,13 @@ fn undated(alloc: Global, text: &[u8]) -> Result<Vec<u8>, AllocError> {
     Ok(bytes)
 }
 
-// The bytes are this text, but for the dates.
+// Asserts that the bytes are this text, except for the dates.
 fn assert_answers(rt: &impl Abort, alloc: Global, found: &[u8], wanted: &str) {
     let found = undated(alloc, found).expect(rt, "memory");
     assert_same(rt, str::from_utf8(&found).ok(), Some(wanted));
 }
 
-/// The next bytes that the client gets are these, but for the date, of which there is one.
+/// Asserts that the next bytes from the server are these, except for exactly one date.
 pub fn assert_reads_next<S: Read>(rt: &impl Abort, alloc: Global, stream: &mut S, wanted: &[&str]) {
     let wanted = joined(alloc, wanted).expect(rt, "memory");
     let length = wanted.len().saturating_add(29);
@@ -110,7 +110,7 @@ pub fn assert_reads_next<S: Read>(rt: &impl Abort, alloc: Global, stream: &mut S
     assert_answers(rt, alloc, &found, wanted.as_str());
 }
 
-// Texts one after another.
+// Concatenates texts.
 fn joined(alloc: Global, texts: &[&str]) -> Result<String, AllocError> {
     let mut all = String::new(alloc);
     for text in texts {
@@ -119,12 +119,12 @@ fn joined(alloc: Global, texts: &[&str]) -> Result<String, AllocError> {
     Ok(all)
 }
 
-/// An answer of this text.
+/// Builds a response with this text.
 pub fn text(alloc: Global, text: &str) -> Result<Response<io::Cursor<Vec<u8>>>, AllocError> {
     Response::from_string(alloc, String::from_str(alloc, text)?)
 }
 
-/// Answers a request by this text. Whether that could be sent.
+/// Responds to a request with this text. Returns whether it could be sent.
 pub fn respond<R: Clock + Wait + Drop>(
     rt: &R,
     alloc: Global,

@@ -1,4 +1,4 @@
-//! Halves of a connection.
+//! Tests of the halves of a connection.
 use crate::same::{assert_holds, assert_same, assert_shown};
 use httpdate::HttpDate;
 use std::alloc::Global;
@@ -16,12 +16,12 @@ use tiny_http_socket::refined_tcp_stream::RefinedTcpStream;
 use tiny_http_wire::device::{ReadDevice, WriteDevice};
 use tiny_http_wire::response::Response;
 
-/// Sockets of TCP, and an end where something goes wrong.
+/// TCP sockets, and the ability to abort on a failure.
 pub trait Tcp: Net<Listener = TcpListener, Stream = TcpStream> + Abort {}
 
 impl<R: Net<Listener = TcpListener, Stream = TcpStream> + Abort> Tcp for R {}
 
-/// What connections and their clients need of the system, and an end where something goes wrong.
+/// What connections and their clients need of the system, and the ability to abort on a failure.
 pub trait Host: Tcp + SocketFiles + Wait + Copy + Drop {}
 
 impl<R: Tcp + SocketFiles + Wait + Copy + Drop> Host for R {}
@@ -32,20 +32,19 @@ type Halves = (RefinedTcpStream, RefinedTcpStream);
 // A connection over two halves.
 type Client<R> = ClientConnection<RefinedTcpStream, RefinedTcpStream, R>;
 
-// A request of it.
+// A request of such a connection.
 type ClientRequest<R> = Request<RefinedTcpStream, RefinedTcpStream, R>;
 
-// Wed, 04 May 1983 11:17:00 GMT.
+// Returns Wed, 04 May 1983 11:17:00 GMT.
 fn now(rt: &impl Abort) -> HttpDate {
     HttpDate::from_unix_secs(420_895_020).expect(rt, "a date")
 }
 
-// Sends this text.
 fn send<S: Write>(rt: &impl Abort, stream: &mut S, text: &str) {
     stream.write_all(text.as_bytes()).expect(rt, "it is sent");
 }
 
-// What comes up to the end is this text.
+// Reads to the end, and asserts the text.
 fn assert_reads<S: Read>(rt: &impl Abort, alloc: Global, stream: &mut S, wanted: &str) {
     let mut bytes = Vec::new(alloc);
     let read = stream.read_to_end(&mut bytes);
@@ -53,7 +52,7 @@ fn assert_reads<S: Read>(rt: &impl Abort, alloc: Global, stream: &mut S, wanted:
     assert_same(rt, str::from_utf8(&bytes).ok(), Some(wanted));
 }
 
-// The halves of this connection.
+// Splits a connection into its halves.
 fn halves_of<C>(rt: &impl Abort, alloc: Global, connection: C) -> Halves
 where
     Connection: From<C>,
@@ -62,33 +61,33 @@ where
     halves.expect(rt, "memory")
 }
 
-// A read takes so many bytes.
+// Reads once, and asserts the number of bytes.
 fn assert_read<S: Read>(rt: &impl Abort, stream: &mut S, wanted: usize) {
     let mut buf = [0u8; 8];
     let count = stream.read(&mut buf).expect(rt, "a read");
     assert_same(rt, count, wanted);
 }
 
-// A read of a half takes these bytes.
+// Reads once from a half, and asserts the bytes.
 fn assert_reads_in(rt: &impl Abort, half: &mut RefinedTcpStream, wanted: &[u8]) {
     let mut buf = [0u8; 8];
     let count = half.read_in(&mut buf).expect(rt, "a read");
     assert_same(rt, buf.get(..count), Some(wanted));
 }
 
-// A write takes so many bytes.
+// Writes once, and asserts the number of bytes.
 fn assert_writes_out(rt: &impl Abort, half: &mut RefinedTcpStream, bytes: &[u8], wanted: usize) {
     let count = half.write_out(bytes).expect(rt, "a write");
     assert_same(rt, count, wanted);
 }
 
-// A write was refused, as nobody reads.
+// Asserts that a write failed since the peer no longer reads.
 fn assert_broken(rt: &impl Abort, written: io::Result<usize>) {
     let fault = written.err().expect(rt, "no write");
     assert_same(rt, fault.kind(), ErrorKind::BrokenPipe);
 }
 
-// The halves of a connection are dropped, the writing one first.
+// Drops the halves of a connection, the writing one first.
 fn assert_halves_close_alone<R: Net + Abort>(rt: &R, alloc: Global) {
     let (ours, mut theirs) = UnixStream::pair(rt).expect(rt, "a pair");
     let (mut reader, mut writer) = halves_of(rt, alloc, ours);
@@ -110,7 +109,7 @@ fn a_half_closes_its_direction_alone(rt: HostRuntime) {
     assert_halves_close_alone(&rt, rt.alloc());
 }
 
-// The reading half of a connection is dropped first.
+// Drops the reading half of a connection first.
 fn assert_reading_half_closes_alone<R: Net + Abort>(rt: &R, alloc: Global) {
     let (ours, mut theirs) = UnixStream::pair(rt).expect(rt, "a pair");
     let (reader, mut writer) = halves_of(rt, alloc, ours);
@@ -126,7 +125,7 @@ fn the_reading_half_closes_its_direction_alone(rt: HostRuntime) {
     assert_reading_half_closes_alone(&rt, rt.alloc());
 }
 
-// The two ends of a TCP connection.
+// Creates the two ends of a TCP connection.
 fn tcp_pair<R: Tcp>(rt: &R) -> (TcpStream, TcpStream) {
     let listener = TcpListener::bind(rt, "127.0.0.1:0").expect(rt, "a listener");
     let addr = listener.local_addr().expect(rt, "an address");
@@ -135,7 +134,7 @@ fn tcp_pair<R: Tcp>(rt: &R) -> (TcpStream, TcpStream) {
     (ours, theirs)
 }
 
-// Another handle of a connection, each read of which waits for 10 s.
+// Creates another handle of a connection, with a read timeout of 10 s.
 fn handle_of(rt: &impl Abort, stream: &TcpStream) -> TcpStream {
     let handle = stream.try_clone().expect(rt, "a handle");
     let timed = handle.set_read_timeout(Some(Duration::from_secs(10)));
@@ -143,7 +142,7 @@ fn handle_of(rt: &impl Abort, stream: &TcpStream) -> TcpStream {
     handle
 }
 
-// The halves of a TCP connection are dropped, the writing one first.
+// Drops the halves of a TCP connection, the writing one first.
 fn assert_halves_of_tcp<R: Host>(rt: &R, alloc: Global) {
     let (ours, mut theirs) = tcp_pair(rt);
     let mut handle = handle_of(rt, &ours);
@@ -161,7 +160,7 @@ fn halves_of_a_tcp_connection(rt: HostRuntime) {
     assert_halves_of_tcp(&rt, rt.alloc());
 }
 
-// Whether small pieces are sent at once over this connection.
+// Returns whether `TCP_NODELAY` is set.
 fn nodelay_of(rt: &impl Abort, connection: &Connection) -> bool {
     let Connection::Tcp(stream) = connection else {
         panic!(rt; "no TCP");
@@ -169,7 +168,7 @@ fn nodelay_of(rt: &impl Abort, connection: &Connection) -> bool {
     stream.nodelay().expect(rt, "it is known")
 }
 
-// Small pieces are to be sent at once, and then not.
+// Sets and clears `TCP_NODELAY`.
 fn assert_nodelay_is_set<R: Host>(rt: &R, alloc: Global) {
     let (ours, _theirs) = tcp_pair(rt);
     let connection = Connection::from(ours);
@@ -184,13 +183,13 @@ fn small_pieces_are_sent_at_once(rt: HostRuntime) {
     assert_nodelay_is_set(&rt, rt.alloc());
 }
 
-// The address at which one listens.
+// Returns the address of a listener.
 fn addr_of(rt: &impl Abort, listener: &Listener) -> SocketAddr {
     let addr = listener.local_addr().expect(rt, "an address");
     addr.to_ip().expect(rt, "an address of TCP")
 }
 
-// Of these two addresses the second is bound, as the first is taken.
+// Asserts that the second of two addresses is bound, as the first is in use.
 fn assert_binds_second<R: Host>(rt: &R, alloc: Global, first: SocketAddr, second: SocketAddr) {
     let both = [first, second].to_vec(alloc).expect(rt, "memory");
     let listener = ConfigListenAddr::IP(both).bind(rt).expect(rt, "a listener");
@@ -198,7 +197,7 @@ fn assert_binds_second<R: Host>(rt: &R, alloc: Global, first: SocketAddr, second
     assert_holds(rt, "another port is bound", port != first.port());
 }
 
-// The first address that can be bound is.
+// Asserts that the first address that can be bound is used.
 fn assert_addresses_in_turn<R: Host>(rt: &R, alloc: Global) {
     let taken = TcpListener::bind(rt, "127.0.0.1:0").expect(rt, "a listener");
     let first = taken.local_addr().expect(rt, "an address");
@@ -213,7 +212,7 @@ fn addresses_are_tried_in_turn(rt: HostRuntime) {
     assert_addresses_in_turn(&rt, rt.alloc());
 }
 
-// A connection over the halves of this one.
+// Creates a connection over the halves of `connection`.
 fn client_over<C, R: Host>(rt: &R, alloc: Global, connection: C) -> Client<R>
 where
     Connection: From<C>,
@@ -222,12 +221,12 @@ where
     ClientConnection::new(*rt, alloc, writer, reader).expect(rt, "memory")
 }
 
-// The next request of a connection, if it has one.
+// Returns the next request of a connection, if any.
 fn next_of<R: Host>(rt: &R, client: &mut Client<R>) -> Option<ClientRequest<R>> {
     client.next(now(rt)).expect(rt, "memory")
 }
 
-// The request of a client has its address.
+// Asserts that a request has its client's address.
 fn assert_client_over_tcp<R: Host>(rt: &R, alloc: Global) {
     let (ours, mut theirs) = tcp_pair(rt);
     send(
@@ -246,7 +245,7 @@ fn a_client_over_tcp_has_an_address(rt: HostRuntime) {
     assert_client_over_tcp(&rt, rt.alloc());
 }
 
-// A half whose connection has ended counts its failures.
+// Asserts that a half counts the failures after its connection has ended.
 fn assert_failures<R: Net + Abort>(rt: &R, alloc: Global) {
     let (ours, theirs) = UnixStream::pair(rt).expect(rt, "a pair");
     let (_, mut writer) = halves_of(rt, alloc, ours);
@@ -264,7 +263,7 @@ fn failures_are_counted(rt: HostRuntime) {
     assert_failures(&rt, rt.alloc());
 }
 
-// A listener gives a connection of this client, and its address.
+// Asserts that a listener accepts this client, and returns its address.
 fn assert_accepts(rt: &impl Abort, listener: &Listener, client: &TcpStream) {
     let wanted = client.local_addr().expect(rt, "an address");
     let (connection, from) = listener.accept().expect(rt, "a connection");
@@ -273,7 +272,7 @@ fn assert_accepts(rt: &impl Abort, listener: &Listener, client: &TcpStream) {
     assert_same(rt, peer, from);
 }
 
-// A listener shows its address, and accepts a client that has one.
+// Asserts that a listener displays its address, and accepts a client with an address.
 fn assert_addresses_of_tcp<R: Host>(rt: &R, alloc: Global) {
     let listener = TcpListener::bind(rt, "127.0.0.1:0").expect(rt, "a listener");
     let listener = Listener::from(listener);
@@ -290,7 +289,7 @@ fn addresses_of_tcp(rt: HostRuntime) {
     assert_addresses_of_tcp(&rt, rt.alloc());
 }
 
-// The connection has one request, for `/a` and of no address.
+// Asserts that the connection has one request, for `/a` and without an address.
 fn assert_one_request<R: Host>(rt: &R, client: &mut Client<R>) -> ClientRequest<R> {
     assert_holds(rt, "it is without TLS", !client.secure());
     let request = next_of(rt, client).expect(rt, "a request");
@@ -303,7 +302,7 @@ fn assert_one_request<R: Host>(rt: &R, client: &mut Client<R>) -> ClientRequest<
 const ANSWER: &str = "HTTP/1.1 200 OK\r\nServer: tiny-http (Rust)\r\n\
     Date: Wed, 04 May 1983 11:17:00 GMT\r\nContent-Length: 1\r\n\r\na";
 
-// A client of a Unix socket has one request, which is answered after its connection was dropped.
+// Responds to a Unix socket client's only request after its connection is dropped.
 fn assert_client_over_halves<R: Host>(rt: &R, alloc: Global) {
     let (ours, mut theirs) = UnixStream::pair(rt).expect(rt, "a pair");
     send(

@@ -1,4 +1,4 @@
-//! The number of those who are in.
+//! Test of a headcount.
 use crate::same::{assert_holds, assert_same};
 use tiny_http::headcount::Headcount;
 

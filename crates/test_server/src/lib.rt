@@ -1,5 +1,5 @@
-//! Tests of what no scene reaches: requests over memory, halves of connections, queues and counts shared by threads,
-//! and servers with clocks of their own.
+//! Tests of what scenes can't reach: requests over memory, halves of connections, queues and counters shared by
+//! threads, and servers with clocks of their own.
 #![tactic(auto)]
 
 #[cfg(test)]

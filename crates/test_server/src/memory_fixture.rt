@@ -1,4 +1,4 @@
-//! Connections over memory whose output a test can look into.
+//! Connections over memory whose output a test can inspect.
 use httpdate::HttpDate;
 use std::alloc::{AllocError, Global};
 use std::io::ErrorKind;
@@ -19,17 +19,17 @@ pub(crate) const DROPPED: &str =
     "HTTP/1.1 500 Internal Server Error\r\nServer: tiny-http (Rust)\r\nDate: Wed, 04 May 1983 11:17:00 GMT\r\n\
         Content-Length: 0\r\n\r\n";
 
-/// The head of an answer 200 with a text, but for the length.
+/// The head of a 200 with a text, except for the content length.
 pub(crate) const TEXT: &str =
     "HTTP/1.1 200 OK\r\nServer: tiny-http (Rust)\r\nDate: Wed, 04 May 1983 11:17:00 GMT\r\n\
         Content-Type: text/plain; charset=UTF-8\r\n";
 
-/// Wed, 04 May 1983 11:17:00 GMT.
+/// Returns Wed, 04 May 1983 11:17:00 GMT.
 pub(crate) fn now() -> Result<HttpDate, Fail> {
     Ok(HttpDate::from_unix_secs(420_895_020)?)
 }
 
-/// Waits until there is such a count, 10,000 turns of 1 ms at most, and says whether there is.
+/// Waits until `count` is at least `want`, for at most 10,000 turns of 1 ms. Returns whether it is.
 pub(crate) fn is_reached<R: Clock>(rt: &R, count: &AtomicU64, want: u64) -> bool {
     for _ in 0..10_000u32 {
         if count.load(Ordering::SeqCst) >= want {
@@ -50,7 +50,7 @@ pub(crate) struct Bench<R: Wait + Copy> {
     pub output: Recorder<R>,
 }
 
-/// A connection to this client.
+/// Creates a connection to `client`.
 pub(crate) fn connect_to<R: Wait + Copy>(
     rt: R,
     alloc: Global,
@@ -61,7 +61,7 @@ pub(crate) fn connect_to<R: Wait + Copy>(
     Ok(Bench { client, output })
 }
 
-/// A client that sends these bytes and then ends, or stops by a fault.
+/// Creates a client that sends these bytes and then ends, or fails with `stop`.
 pub(crate) fn client(
     alloc: Global,
     bytes: &[u8],
@@ -70,7 +70,7 @@ pub(crate) fn client(
     Ok(Canned::new(bytes.to_vec(alloc)?, stop))
 }
 
-/// A connection to a client that sends these bytes and ends.
+/// Creates a connection to a client that sends these bytes and then ends.
 pub(crate) fn connect<R: Wait + Copy>(
     rt: R,
     alloc: Global,
@@ -79,7 +79,7 @@ pub(crate) fn connect<R: Wait + Copy>(
     connect_to(rt, alloc, self::client(alloc, client, None)?)
 }
 
-/// The next request, which there must be.
+/// Returns the next request, or an error if there is none.
 pub(crate) fn next<R: Wait + Copy>(bench: &mut Bench<R>) -> Result<Asked<R>, Fail> {
     match bench.client.next(now()?)? {
         Some(request) => Ok(request),
@@ -87,7 +87,7 @@ pub(crate) fn next<R: Wait + Copy>(bench: &mut Bench<R>) -> Result<Asked<R>, Fai
     }
 }
 
-/// The output is this text.
+/// Asserts that the output is this text.
 pub(crate) fn assert_output<R: Wait + Copy + Abort>(
     rt: &R,
     output: &Recorder<R>,
@@ -98,7 +98,7 @@ pub(crate) fn assert_output<R: Wait + Copy + Abort>(
     Ok(())
 }
 
-/// The answer 200 with this text.
+/// Builds a 200 with this text.
 pub(crate) fn text(alloc: Global, text: &str) -> Result<Response<io::Cursor<Vec<u8>>>, AllocError> {
     Response::from_string(alloc, String::from_str(alloc, text)?)
 }

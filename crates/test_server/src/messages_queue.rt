@@ -1,4 +1,4 @@
-//! A queue that threads share.
+//! Tests of a queue shared by threads.
 use crate::same::{assert_holds, assert_same};
 use std::alloc::Global;
 use std::process::Abort;
@@ -9,36 +9,35 @@ use std::thread::{JoinHandle, Threads};
 use std::time::{Clock, Duration, Instant};
 use tiny_http::messages_queue::{MessagesQueue, Popped, QueueState};
 
-// So many threads push, and as many pop.
+// Number of threads that push, and of those that pop.
 const THREADS: usize = 8;
 
-// So many values each of them pushes.
+// Number of values that each of them pushes.
 const VALUES: usize = 10_000;
 
-// A value: who pushed it, and its number.
+// A value: the index of its pusher, and its number.
 type Numbered = (usize, usize);
 
-// What these tests need of the system, and an end where something goes wrong.
+// What these tests need of the system, and the ability to abort on a failure.
 trait Host: Threads + Wait + Abort + Copy + Send + 'static {}
 
 impl<R: Threads + Wait + Abort + Copy + Send + 'static> Host for R {}
 
-// An empty queue.
+// Creates an empty queue.
 fn empty_queue<T: Drop>(rt: &impl Abort, alloc: Global) -> Arc<MessagesQueue<T>> {
     MessagesQueue::with_capacity(alloc, 8).expect(rt, "memory")
 }
 
-// A value is pushed.
 fn push<T: Drop, R: Wait + Abort>(rt: &R, queue: &MessagesQueue<T>, value: T) {
     queue.push(rt, value).ok().expect(rt, "memory");
 }
 
-// A mark is added.
+// Adds an unblock mark.
 fn unblock<T: Drop, R: Wait + Abort>(rt: &R, queue: &MessagesQueue<T>) {
     queue.unblock(rt).expect(rt, "memory");
 }
 
-// What a pop finds.
+// Asserts the result of a pop.
 fn assert_pops(rt: &impl Abort, queue: &mut QueueState<usize>, wanted: Popped<usize>) {
     assert_same(rt, queue.pop(), wanted);
 }
@@ -49,7 +48,7 @@ fn room_past_all_memory_is_refused(rt: HostRuntime) {
     assert_holds(&rt, "there is no such room", refused.is_err());
 }
 
-// Whether a value is pushed. Else it comes back.
+// Pushes a value. Returns whether it was accepted; otherwise the queue returns it.
 fn is_pushed(rt: &impl Abort, queue: &mut QueueState<usize>, value: usize) -> bool {
     match queue.push(value) {
         Ok(()) => true,
@@ -60,13 +59,13 @@ fn is_pushed(rt: &impl Abort, queue: &mut QueueState<usize>, value: usize) -> bo
     }
 }
 
-// A value is pushed, and a mark behind it. Whether either could be.
+// Pushes a value, and then an unblock mark. Returns whether each was accepted.
 fn push_both(rt: &impl Abort, queue: &mut QueueState<usize>, value: usize) -> (bool, bool) {
     let is_there = is_pushed(rt, queue, value);
     (is_there, queue.unblock().is_ok())
 }
 
-// A value and a mark are popped, where each could be pushed.
+// Asserts that the value and the mark are popped, if each was accepted.
 fn assert_pops_both(
     rt: &impl Abort,
     queue: &mut QueueState<usize>,
@@ -81,7 +80,7 @@ fn assert_pops_both(
     }
 }
 
-// Run with each allocation failing in turn it shows what a refused push or mark leaves.
+// Run with each allocation failing in turn, this shows what a refused push or mark leaves behind.
 #[test]
 fn a_refusal_changes_nothing(rt: HostRuntime) {
     let mut queue = QueueState::new(rt.alloc());
@@ -95,18 +94,18 @@ fn a_refusal_changes_nothing(rt: HostRuntime) {
     assert_pops(&rt, &mut queue, Popped::Empty);
 }
 
-// Another holder of a queue or a count.
+// Creates another handle of a shared value.
 fn shared<T>(rt: &impl Abort, value: &Arc<T>) -> Arc<T> {
     Arc::try_clone(value).expect(rt, "memory")
 }
 
-// The most rounds in which a value or a mark is awaited, and what a mark is answered by.
+// Maximum number of rounds that wait for a value or a mark; also the reply to a mark.
 const ROUNDS: u16 = 2_000;
 
 // The value that ends the rounds.
 const LAST: u16 = 2_001;
 
-// Answers each value by itself, and each mark by `ROUNDS`, up to the last value.
+// Replies to each value by itself and to each mark by `ROUNDS`, up to the last value.
 fn answer_each<R: Wait + Abort>(rt: &R, queue: &MessagesQueue<u16>, answers: &MessagesQueue<u16>) {
     for _ in rt.forever() {
         let found = queue.pop(rt);
@@ -117,7 +116,7 @@ fn answer_each<R: Wait + Abort>(rt: &R, queue: &MessagesQueue<u16>, answers: &Me
     }
 }
 
-// A thread that answers each value and each mark.
+// Starts a thread that replies to each value and each mark.
 fn start_answers<R: Host>(
     rt: &R,
     queue: &Arc<MessagesQueue<u16>>,
@@ -128,7 +127,7 @@ fn start_answers<R: Host>(
     started.ok().expect(rt, "a thread")
 }
 
-// A value, in every other round a mark, and then its answer.
+// Pushes a value, or a mark in every other round, and asserts the reply.
 fn assert_answered<R: Wait + Abort>(
     rt: &R,
     queue: &MessagesQueue<u16>,
@@ -144,14 +143,14 @@ fn assert_answered<R: Wait + Abort>(
     assert_same(rt, (round, answers.pop(rt)), (round, Some(wanted)));
 }
 
-// Whether fewer than 5 s have gone.
+// Returns whether fewer than 5 s have passed.
 fn is_early<R: Clock>(rt: &R, start: &Instant) -> bool {
     start
         .elapsed(rt)
         .is_ok_and(|spent| spent < Duration::from_secs(5))
 }
 
-// A value or a mark that came behind its wake would sometimes be found by nobody, and the round would not end.
+// If a value or a mark were added after its wake-up, sometimes nobody would find it, and the round would not end.
 #[test]
 fn no_wake_is_lost(rt: HostRuntime) -> Result<(), Fail> {
     let queue = empty_queue(&rt, rt.alloc());
@@ -169,7 +168,7 @@ fn no_wake_is_lost(rt: HostRuntime) -> Result<(), Fail> {
     Ok(())
 }
 
-// Pushes all values of one thread. The number of those that came back.
+// Pushes all values of one thread. Returns how many were refused.
 fn push_all<R: Wait>(rt: &R, queue: &MessagesQueue<Numbered>, pusher: usize) -> usize {
     let mut refused = 0usize;
     for number in 0..VALUES {
@@ -180,7 +179,7 @@ fn push_all<R: Wait>(rt: &R, queue: &MessagesQueue<Numbered>, pusher: usize) -> 
     refused
 }
 
-// What came up to the first mark, in the order in which it came. `None` where there is no memory to keep it.
+// Pops up to the first mark. Returns the values in order, or `None` if memory is refused.
 fn pop_all<R: Wait>(
     rt: &R,
     alloc: Global,
@@ -196,7 +195,7 @@ fn pop_all<R: Wait>(
     unreachable!()
 }
 
-// Whether each pusher's values stand in their order.
+// Returns whether the values of each pusher are in order.
 fn is_in_order(came: &[Numbered]) -> bool {
     let mut least = [0usize; THREADS];
     for (pusher, number) in came {
@@ -211,7 +210,7 @@ fn is_in_order(came: &[Numbered]) -> bool {
     true
 }
 
-// Counts each value where it stands among all.
+// Counts each value at its index among all.
 fn count_in(seen: &mut [u8], came: &[Numbered]) {
     for (pusher, number) in came {
         let at = pusher.saturating_mul(VALUES).saturating_add(*number);
@@ -221,7 +220,7 @@ fn count_in(seen: &mut [u8], came: &[Numbered]) {
     }
 }
 
-// A thread that pushes all its values.
+// Starts a thread that pushes all its values.
 fn start_pusher<R: Host>(
     rt: &R,
     queue: &Arc<MessagesQueue<Numbered>>,
@@ -232,7 +231,7 @@ fn start_pusher<R: Host>(
     started.ok().expect(rt, "a thread")
 }
 
-// Eight threads that push all their values.
+// Starts eight threads that push all their values.
 fn start_pushers<R: Host>(
     rt: &R,
     alloc: Global,
@@ -246,7 +245,7 @@ fn start_pushers<R: Host>(
     pushing
 }
 
-// A thread that pops up to the first mark.
+// Starts a thread that pops up to the first mark.
 fn start_popper<R: Host>(
     rt: &R,
     alloc: Global,
@@ -257,7 +256,7 @@ fn start_popper<R: Host>(
     started.ok().expect(rt, "a thread")
 }
 
-// Eight threads that pop up to a mark each.
+// Starts eight threads that pop up to one mark each.
 fn start_poppers<R: Host>(
     rt: &R,
     alloc: Global,
@@ -271,7 +270,7 @@ fn start_poppers<R: Host>(
     popping
 }
 
-// Eight threads push all their values, and then there is a mark for each that pops.
+// Pushes all values on eight threads, and then a mark for each popping thread.
 fn push_by_eight<R: Host>(rt: &R, alloc: Global, queue: &Arc<MessagesQueue<Numbered>>) {
     for pusher in start_pushers(rt, alloc, queue) {
         assert_same(rt, pusher.join(rt), 0);
@@ -281,7 +280,7 @@ fn push_by_eight<R: Host>(rt: &R, alloc: Global, queue: &Arc<MessagesQueue<Numbe
     }
 }
 
-// What one thread popped is in order, and is counted.
+// Asserts that the values popped by one thread are in order, and counts them.
 fn assert_in_order(rt: &impl Abort, came: Option<Vec<Numbered>>, seen: &mut [u8]) {
     let came = came.expect(rt, "memory");
     assert_holds(rt, "each pusher's values are in order", is_in_order(&came));

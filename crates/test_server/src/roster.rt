@@ -1,4 +1,4 @@
-//! Threads that share one server, and count the requests that they answer.
+//! Test of threads that share one server, and count the requests to which they respond.
 ghost use Rattle.std.specs.Prelude.{◌≡◌, ◌+◌, ◌<◌};
 
 use crate::fixture::{Host, connect, read_all, respond, send, serve};
@@ -14,10 +14,10 @@ use tiny_http::connection::SocketFiles;
 use tiny_http::roster::Roster;
 use tiny_http::server::{Server, ServerRequest};
 
-// So many clients have one request each.
+// Number of clients with one request each.
 const CLIENTS: usize = 100;
 
-// What the answering threads share.
+// What the responding threads share.
 #[derive(Drop)]
 struct Shared<'a, L: Ledger, R: Net + SocketFiles + Wait + Clock + Drop> {
     alloc: Global,
@@ -25,14 +25,14 @@ struct Shared<'a, L: Ledger, R: Net + SocketFiles + Wait + Clock + Drop> {
     roster: &'a Roster<L>,
 }
 
-// Answers a request by its path.
+// Responds to a request with its path.
 fn answer_path<R: Host>(rt: &R, alloc: Global, request: ServerRequest<R>) {
     if let Ok(path) = String::from_str(alloc, request.url()) {
         respond(rt, alloc, request, path.as_str());
     }
 }
 
-// Answers requests until it is unblocked, and enters once for each. The share.
+// Responds to requests until it is unblocked, and enters the roster once for each. Returns the share.
 fn answers<L: Ledger, R: Host>(rt: &R, shared: &Shared<'_, L, R>, mut mine: Share<L>) -> Share<L>
     requires { 0 < mine.parts }
     ensures { result.parts ≡ mine.parts }
@@ -47,7 +47,7 @@ fn answers<L: Ledger, R: Host>(rt: &R, shared: &Shared<'_, L, R>, mut mine: Shar
     mine
 }
 
-// Two threads answer. Their shares in one.
+// Responds on two threads. Returns their merged shares.
 fn two_answer<L, R>(
     rt: &R,
     shared: &Shared<'_, L, R>,
@@ -76,7 +76,7 @@ where
     both
 }
 
-// Four threads answer. Their shares in one.
+// Responds on four threads. Returns their merged shares.
 fn four_answer<L, R>(rt: &R, shared: &Shared<'_, L, R>, mine: Share<L>) -> Share<L>
 where
     L: Ledger + Send + Sync,
@@ -103,7 +103,7 @@ where
     all
 }
 
-// A client that has asked for the path of its number, which it is to be answered by.
+// Connects a client, and requests the path with its number. Returns the client and that path.
 fn ask_path<R: Host>(
     rt: &R,
     alloc: Global,
@@ -117,14 +117,14 @@ fn ask_path<R: Host>(
     (client, path)
 }
 
-// A client gets the path that it asked for.
+// Asserts that a client gets the path that it requested.
 fn assert_gets_path<R: Host>(rt: &R, alloc: Global, asked: (TcpStream, String)) {
     let (mut client, path) = asked;
     let answer = read_all(rt, alloc, &mut client);
     assert!(rt; answer.as_slice().ends_with(path.as_bytes()), "{path}");
 }
 
-// The clients send a request each, and then each gets the path that it asked for. Then the threads are unblocked.
+// Sends the requests of all clients, asserts that each gets the path that it requested, and unblocks the threads.
 fn ask_all<R: Host>(rt: &R, alloc: Global, server: &Server<R>) {
     let mut asked = Vec::new(alloc);
     for number in 0..CLIENTS {
@@ -137,14 +137,14 @@ fn ask_all<R: Host>(rt: &R, alloc: Global, server: &Server<R>) {
     unblock_four(rt, server);
 }
 
-// Four marks, one for each thread.
+// Adds four unblock marks, one for each thread.
 fn unblock_four<R: Host>(rt: &R, server: &Server<R>) {
     for _ in 0..4u8 {
         server.unblock().expect(rt, "memory");
     }
 }
 
-// Four threads answer all clients, each of which gets its path. What the roster counts.
+// Responds to all clients on four threads, and asserts that each gets its path. Returns the count of the roster.
 fn serve_all<L, R>(rt: &R, alloc: Global, server: &Server<R>, blank: Blank) -> u64
 where
     L: Ledger + Send + Sync,

@@ -1,4 +1,4 @@
-//! Many threads at the requests of one connection.
+//! Test of many threads that respond to the requests of one connection.
 use crate::memory_fixture::{
     Asked, Bench, DROPPED, TEXT, assert_output, connect, is_reached, next, now, text,
 };
@@ -15,10 +15,10 @@ use std::{io, thread};
 
 const THREADS: usize = 8;
 
-// So many requests each thread gets.
+// Number of requests that each thread gets.
 const EACH: usize = 250;
 
-// A request, and its number.
+// A request and its number.
 #[derive(Drop)]
 struct Dealt<R: Wait + Clock + Copy> {
     number: usize,
@@ -28,7 +28,7 @@ struct Dealt<R: Wait + Clock + Copy> {
 // The requests of a thread.
 type Share<R> = Vec<Dealt<R>>;
 
-// Drops every fourth request, takes the raw writer of another, and answers the others.
+// Drops every fourth request, takes the raw writer of another, and responds to the others.
 fn treat<R: Wait + Clock + Copy>(
     alloc: Global,
     date: HttpDate,
@@ -49,7 +49,7 @@ fn treat<R: Wait + Clock + Copy>(
     Ok(())
 }
 
-// Treats the requests of one thread, and says how many went well.
+// Handles the requests of one thread. Returns how many succeeded.
 fn treat_all<R: Wait + Clock + Copy>(
     alloc: Global,
     date: HttpDate,
@@ -81,7 +81,7 @@ fn deal<R: Wait + Clock + Copy>(
         if round == 0 {
             mixed = mixed.wrapping_mul(1_103_515_245).wrapping_add(12_345) % 2_147_483_648;
         }
-        // Odd numbers are prime to 8, so each round deals to each thread once.
+        // Odd numbers are coprime to 8, so each round deals to each thread once.
         let at = round.wrapping_mul(mixed | 1).wrapping_add(mixed >> 8) % THREADS;
         let request = next(bench)?;
         if let Some(share) = shares.get_mut(at) {
@@ -107,7 +107,7 @@ fn start<R: Threads + Wait + Clock + Copy + Send + Sync + 'static>(
     Ok(handles)
 }
 
-// What the client is to get.
+// Returns the output that the client must get.
 fn wanted(alloc: Global) -> Result<String, Fail> {
     let mut wanted = String::new(alloc);
     for number in 0..THREADS * EACH {
@@ -120,7 +120,7 @@ fn wanted(alloc: Global) -> Result<String, Fail> {
     Ok(wanted)
 }
 
-// A turn that is lost, or a thread that isn't woken, shows as threads that aren't done in time.
+// If a turn were lost or a thread not woken, the threads would not be done in time.
 #[test]
 fn each_segment_comes_once_and_in_order(rt: HostRuntime) -> Result<(), Fail> {
     let alloc = rt.alloc();

@@ -1,9 +1,9 @@
-//! The head of an answer, read alone (RFC 9112, sections 2.2, 4 and 5).
+//! Tests of reading the head of a response alone (RFC 9112, sections 2.2, 4 and 5).
 use std::alloc::Global;
 use std::test::Fail;
 use tiny_http_client::answer_head::{AnswerHead, AnswerHeadFault, read_answer_head};
 
-// The head that these bytes begin with, and its length.
+// Reads the head at the start of `bytes`. Returns it and its length.
 fn read(alloc: Global, bytes: &[u8]) -> Result<(AnswerHead, usize), Fail> {
     match read_answer_head(alloc, bytes)? {
         Some(read) => Ok(read),
@@ -11,7 +11,7 @@ fn read(alloc: Global, bytes: &[u8]) -> Result<(AnswerHead, usize), Fail> {
     }
 }
 
-// White space is optional round a value, and the phrase may be missing.
+// White space around a value is optional, and the reason phrase may be absent.
 #[test]
 fn a_head_is_read(rt: HostRuntime) -> Result<(), Fail> {
     let alloc = rt.alloc();
@@ -19,7 +19,7 @@ fn a_head_is_read(rt: HostRuntime) -> Result<(), Fail> {
     let (head, length) = read(alloc, bytes)?;
     assert_eq!(rt; (head.version.0, head.version.1), (1, 0));
     assert_eq!(rt; head.status.0, 404);
-    // The body stands behind it.
+    // The body follows the head.
     assert_eq!(rt; length, 32);
     let [a, c] = head.headers.as_slice() else {
         return Err("not two headers".into());
@@ -59,7 +59,7 @@ fn a_head_is_unfinished_or_malformed(rt: HostRuntime) -> Result<(), Fail> {
     Ok(())
 }
 
-// A head with this many headers, of 33 bytes each.
+// Builds a head with `count` headers of 33 bytes each.
 fn head_of(alloc: Global, count: usize) -> Result<Vec<u8>, Fail> {
     let mut bytes = b"HTTP/1.1 200 OK\r\n".to_vec(alloc)?;
     for _ in 0..count {

@@ -1,16 +1,16 @@
-//! Texts of ASCII, taken and refused.
+//! Tests of ASCII texts, accepted and refused.
 use crate::same::{assert_holds, assert_same, assert_shown};
 use std::alloc::Global;
 use std::process::Abort;
 use std::test::Fail;
 use tiny_http_wire::ascii::{AsciiString, FromAsciiError};
 
-// The text of these bytes.
+// Creates a text from `bytes`.
 fn ascii(alloc: Global, bytes: &[u8]) -> Result<AsciiString, Fail> {
     Ok(AsciiString::from_ascii(bytes.to_vec(alloc)?)?)
 }
 
-// The fault of these bytes.
+// Returns the error for `bytes`.
 fn refused(alloc: Global, bytes: &[u8]) -> Result<FromAsciiError, Fail> {
     match AsciiString::from_ascii(bytes.to_vec(alloc)?) {
         Ok(_) => Err("accepted".into()),
@@ -18,7 +18,7 @@ fn refused(alloc: Global, bytes: &[u8]) -> Result<FromAsciiError, Fail> {
     }
 }
 
-// The text, as it is and trimmed.
+// Asserts the text, as it is and trimmed.
 fn assert_texts(rt: &impl Abort, text: &AsciiString) {
     assert_same(rt, text.as_str(), " Ab\t");
     assert_same(rt, text.as_ascii().as_str(), " Ab\t");
@@ -75,7 +75,7 @@ fn refuses(rt: HostRuntime) -> Result<(), Fail> {
     Ok(())
 }
 
-// The copy is this text, and another case is another text.
+// Asserts that the copy is the same text, and that another case is a different one.
 fn assert_copy(rt: &impl Abort, text: &AsciiString, copy: &AsciiString, other: &AsciiString) {
     assert_same(rt, copy.as_str(), "chunked");
     assert_holds(rt, "a copy is equal", copy == text);

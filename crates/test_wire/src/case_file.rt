@@ -1,4 +1,4 @@
-//! Files of cases: lines that aren't of the format, and how runs that differ are reported.
+//! Tests of the reader of case files, and of the reports of runs that differ.
 use crate::same::assert_same;
 use std::alloc::Global;
 use std::io::{ErrorKind, Write};
@@ -16,7 +16,7 @@ use test_data_files::fault::FilesFault;
 use test_data_files::program::NamedFile;
 use tiny_http_wire::device::ReadDevice;
 
-// Files, the line of each that isn't of the format, and why.
+// Files, the number of the first invalid line, and why it is invalid.
 const BAD: &[(&str, usize, &str)] = &[
     ("", 1, "there is no case"),
     ("# a\n", 2, "there is no case"),
@@ -27,8 +27,8 @@ const BAD: &[(&str, usize, &str)] = &[
         4,
         "an earlier case has this name",
     ),
-    ("case a\ncase b\n", 2, "the case in front has no step"),
-    ("case a\nnow 5\n", 3, "the case in front has no step"),
+    ("case a\ncase b\n", 2, "the case before has no step"),
+    ("case a\nnow 5\n", 3, "the case before has no step"),
     (
         "case a\nanswer 0 200\n+ header no colon\n",
         3,
@@ -37,23 +37,23 @@ const BAD: &[(&str, usize, &str)] = &[
     (
         "case a\nask\ncase b\n",
         3,
-        "the last step of the case in front has no reply",
+        "the last step of the case before has no reply",
     ),
     (
         "case a\nask\n",
         3,
-        "the last step of the case in front has no reply",
+        "the last step of the case before has no reply",
     ),
-    ("case a\nask\nask\n", 3, "the step in front has no reply"),
+    ("case a\nask\nask\n", 3, "the step before has no reply"),
     (
         "case a\nask\n  done\n  done\n",
         4,
-        "the step in front has a reply already",
+        "the step before has a reply already",
     ),
     (
         "case a\n  done\n",
         2,
-        "no step stands in front of this reply",
+        "no step comes before this reply",
     ),
     ("case a\nasks\n", 2, "no such line"),
     ("case a\n#\n ask\n", 3, "no such line"),
@@ -72,7 +72,7 @@ const BAD: &[(&str, usize, &str)] = &[
     (
         "case a\ntakes +5 Other\n",
         2,
-        "no number stands where one has to",
+        "a number is missing",
     ),
     ("case a\nclient \\q\n", 2, "a backslash begins no escape"),
     ("case a\nclient \\x4\n", 2, "a backslash begins no escape"),
@@ -84,7 +84,7 @@ const BAD: &[(&str, usize, &str)] = &[
     (
         "case a\n+ data x\n",
         2,
-        "no answer stands in front of this part",
+        "no answer comes before this part",
     ),
     (
         "case a\nanswer 0\n",
@@ -97,7 +97,7 @@ const BAD: &[(&str, usize, &str)] = &[
         3,
         "an answer has no such part, or has it already",
     ),
-    ("case a\nuncut x\n", 2, "nothing stands behind uncut"),
+    ("case a\nuncut x\n", 2, "nothing may follow uncut"),
     ("case a\nuncut\nuncut\n", 3, "the case says so already"),
     (
         "case a\nprofile lenient\n",
@@ -112,12 +112,12 @@ const BAD: &[(&str, usize, &str)] = &[
     (
         "case a\nprofile strict\nclient G\nvary 1\nask\n  ended\n",
         7,
-        "the case in front varies bytes, and the strict profile has no plain reading",
+        "the case before varies bytes, and the strict profile has no plain reading",
     ),
     (
         "case a\nclient G\nvary 2\nask\n  ended\n",
         6,
-        "the case in front varies more bytes than its client sends",
+        "the case before varies more bytes than its client sends",
     ),
     (
         "case a\nclient caf\u{e9}\n",
@@ -139,7 +139,7 @@ fn lines_that_are_not_of_the_format(rt: HostRuntime) -> Result<(), Fail> {
     Ok(())
 }
 
-// What came of a trial, in short.
+// The outcome of a trial, in brief.
 #[derive(Clone, Copy, Debug)]
 struct Found {
     reply: &'static str,
@@ -149,7 +149,7 @@ struct Found {
     end: &'static str,
 }
 
-// What the case says.
+// The outcome that the case states.
 const GOOD: Found = Found {
     reply: "ended",
     output: "a\r\nb",
@@ -178,7 +178,7 @@ impl Found {
     }
 }
 
-// Outcomes of the case, whether a call was made to fail, and what differs first.
+// Outcomes of the case, whether a call was made to fail, and the first difference.
 const DIFFERENCES: &[(Found, bool, &str)] = &[
     (GOOD, false, ""),
     (GOOD, true, ""),
@@ -235,8 +235,8 @@ const DIFFERENCES: &[(Found, bool, &str)] = &[
         false,
         "failures: 1, 0",
     ),
-    // A front of the output is left where a call was made to fail, and no reply but that of a write or an answer
-    // reports it.
+    // After an injected failure a prefix of the output is enough. It is reported only by a reply to a write or a
+    // response.
     (
         Found {
             failures: 1,
@@ -274,7 +274,7 @@ const DIFFERENCES: &[(Found, bool, &str)] = &[
     ),
 ];
 
-// What differs first in this outcome of the case; nothing where none does.
+// Returns the first difference of this outcome from the case, or nothing if there is none.
 fn difference_of(alloc: Global, found: Found, is_made_to_fail: bool) -> Result<String, Fail> {
     let Ok(cases) = read_cases(alloc, "a.cases", CASE.as_bytes()) else {
         return Err("no case".into());
@@ -298,7 +298,7 @@ fn outcomes_that_differ(rt: HostRuntime) -> Result<(), Fail> {
     Ok(())
 }
 
-// A case of which a body is read, with two answers.
+// A case that reads a body and has two responses.
 const READ: &str =
     "case a\nclient GG\nask\n  handed 0 G\nread 0 3\n  given abc\ndrop 0\n  done\noutput HTTP/xHTTP/y\n";
 
@@ -306,7 +306,8 @@ const TIMED_OUT: &str =
     "HTTP/xHTTP/1.1 408 Request Timeout\r\nServer: tiny-http (Rust)\r\nDate: Wed, 04 May 1983 11:17:00 GMT\r\n\
         Content-Length: 0\r\n\r\n";
 
-// Replies and an output of which the client's bytes were cut, by this fault or an end, and what differs first.
+// Replies and output of a trial whose client's bytes were cut, the error there or none for an end, and the first
+// difference.
 type CutRow = (
     &'static [&'static str],
     &'static str,
@@ -375,7 +376,7 @@ const CUTS: &[CutRow] = &[
     ),
 ];
 
-// What came of these steps.
+// Builds the outcome of these replies and this output.
 fn outcome_of(alloc: Global, lines: &[&str], output: &str) -> Result<Outcome, Fail> {
     let mut replies = Vec::new(alloc);
     for line in lines {
@@ -391,7 +392,7 @@ fn outcome_of(alloc: Global, lines: &[&str], output: &str) -> Result<Outcome, Fa
     })
 }
 
-// A difference in one line; nothing where there is none.
+// Formats a difference on one line, or nothing if there is none.
 fn shown(alloc: Global, difference: Option<Difference>) -> Result<String, Fail> {
     match difference {
         Some(it) => {
@@ -402,7 +403,7 @@ fn shown(alloc: Global, difference: Option<Difference>) -> Result<String, Fail> 
     }
 }
 
-// What differs first in a cut of the case.
+// Returns the first difference of a trial whose client's bytes were cut.
 fn difference_of_cut(alloc: Global, row: &CutRow) -> Result<String, Fail> {
     let (replies, output, stop, _) = row;
     let Ok(cases) = read_cases(alloc, "a.cases", READ.as_bytes()) else {
@@ -424,7 +425,7 @@ fn cuts_that_differ(rt: HostRuntime) -> Result<(), Fail> {
     Ok(())
 }
 
-// What a client sends, the reply to an `ask`, and what differs from a plain reading of it by the lenient profile.
+// A client's bytes, the reply to an `ask`, and its difference from a plain reading under the lenient profile.
 const PLAIN: &[[&str; 3]] = &[
     ["GET / HTTP/1.1\r\n\r\n", "handed 0 GET / 1.1 0 -", ""],
     [
@@ -456,7 +457,7 @@ const PLAIN: &[[&str; 3]] = &[
     ],
 ];
 
-// The same by the standard profile.
+// The same under the standard profile.
 const PLAIN_STANDARD: &[[&str; 3]] = &[
     [
         "GET / HTTP/1.2\r\nHost: a\r\n\r\n",
@@ -486,7 +487,7 @@ const PLAIN_STANDARD: &[[&str; 3]] = &[
 
 const STANDARD_CASE: &str = "case a\nprofile standard\nclient G\nask\n  ended\n";
 
-// What differs from a plain reading by the profile of the case in this file.
+// Returns the difference from a plain reading under the profile of the case in `file`.
 fn difference_of_plain(
     alloc: Global,
     file: &str,
@@ -517,7 +518,7 @@ fn a_plain_reading_differs(rt: HostRuntime) -> Result<(), Fail> {
     Ok(())
 }
 
-// What is done to the case, what three calls of its reader then give, and how a report says it.
+// The fault injected into a case, the results of the reader's next calls, and how a report describes it.
 type HarmRow = (
     Option<Harm>,
     &'static [Result<&'static str, ErrorKind>],
@@ -544,7 +545,7 @@ const HARMS: &[HarmRow] = &[
     (
         Some(Harm::Once(1, ErrorKind::TimedOut)),
         &[Ok("G"), Err(ErrorKind::TimedOut), Ok("G")],
-        "1 bytes a read, TimedOut once behind 1",
+        "1 bytes a read, TimedOut once after 1",
     ),
     (
         Some(Harm::Byte(1, b'x')),
@@ -553,7 +554,7 @@ const HARMS: &[HarmRow] = &[
     ),
 ];
 
-// A call of a reader gives these bytes, or fails so.
+// Asserts the bytes or the error of a read.
 fn assert_reads(rt: &impl Abort, reader: &mut Reader, wanted: Result<&str, ErrorKind>) {
     let mut buf = [0u8; 9];
     let found = match reader.read_in(&mut buf) {
@@ -563,7 +564,7 @@ fn assert_reads(rt: &impl Abort, reader: &mut Reader, wanted: Result<&str, Error
     assert_same(rt, found, wanted.map(str::as_bytes));
 }
 
-// The trial in which this is done.
+// Creates the trial with this fault.
 fn trial_of(harm: Option<Harm>) -> Trial {
     match harm {
         Some(harm) => Trial::harmed(harm),
@@ -571,7 +572,7 @@ fn trial_of(harm: Option<Harm>) -> Trial {
     }
 }
 
-// A cut, a fault or a changed byte reaches the reader.
+// Asserts that a cut, an error or a changed byte reaches the reader.
 fn assert_harm(rt: &impl Abort, alloc: Global, case: &Case, row: &HarmRow) -> Result<(), Fail> {
     let (harm, wanted, words) = *row;
     let trial = trial_of(harm);
@@ -598,7 +599,7 @@ fn a_trial_changes_what_the_client_sends(rt: HostRuntime) -> Result<(), Fail> {
     Ok(())
 }
 
-/// A way to run a case that gives the one where the reader fails once, and else the other.
+/// A runner that returns `once` if the reader fails once, and otherwise `found`.
 #[derive(Drop)]
 struct Fixed {
     found: Found,
@@ -626,7 +627,7 @@ impl Runner for Fixed {
     }
 }
 
-// Two ways to run the case, the second with another outcome where the reader fails once, and what is reported of it.
+// Runs the case in two ways, the second with another outcome if the reader fails once, and asserts the report.
 fn assert_report(
     rt: &impl Abort,
     alloc: Global,
@@ -651,7 +652,7 @@ fn assert_report(
     Ok(())
 }
 
-// What differs in the first way isn't tried in the second.
+// A case that differs in the first way is not tried in the second.
 #[test]
 fn runs_that_differ_are_reported(rt: HostRuntime) -> Result<(), Fail> {
     let done = Found {
@@ -672,7 +673,7 @@ fn runs_that_differ_are_reported(rt: HostRuntime) -> Result<(), Fail> {
     assert_report(&rt, rt.alloc(), [done, GOOD, GOOD], wanted.as_str())
 }
 
-// What comes where the reader fails once, and how it is said that this isn't what comes of the cut there.
+// Outcomes of a trial whose reader fails once, and how a report states their difference from a cut there.
 const ONCE: &[(Found, &str)] = &[
     (
         Found {
@@ -709,8 +710,8 @@ fn a_fault_that_is_no_cut_is_reported(rt: HostRuntime) -> Result<(), Fail> {
     for (once, what) in ONCE {
         let wanted = format!(in rt.alloc();
             "a.cases: 1 cases, 5 runs, 3 cuts, 2 faults, 0 changes, 0 differ\n\
-            a, 1 bytes a read, TimedOut once behind 0: {what}\n\
-            a, 1 bytes a read, Interrupted once behind 0: {what}\n\
+            a, 1 bytes a read, TimedOut once after 0: {what}\n\
+            a, 1 bytes a read, Interrupted once after 0: {what}\n\
             a.cases: 1 cases, 5 runs, 3 cuts, 2 faults, 0 changes, 2 differ\n"
         )?;
         assert_report(&rt, rt.alloc(), [GOOD, GOOD, *once], wanted.as_str())?;
@@ -718,8 +719,7 @@ fn a_fault_that_is_no_cut_is_reported(rt: HostRuntime) -> Result<(), Fail> {
     Ok(())
 }
 
-// Writes twice and flushes: what each call took, and then what was taken, how often it failed, and the calls after
-// that.
+// Writes twice and flushes. Returns what each call accepted, the number of failures, and the number of calls after one.
 fn write_by(writer: &mut Trier) -> ([Option<usize>; 3], (u64, u64)) {
     let calls = [
         writer.write(b"hello").ok(),

@@ -1,4 +1,4 @@
-//! Chunked bodies, decoded.
+//! Tests of decoding chunked bodies.
 use crate::same::assert_same;
 use std::io::Read;
 use std::process::Abort;
@@ -6,7 +6,7 @@ use std::test::Fail;
 use tiny_http_wire::chunked::{Decoder, Decoding};
 use tiny_http_wire::device::{Canned, ReadDevice, Stop};
 
-// A read into four bytes gives these, and then the decoding has stopped so or not.
+// Asserts the bytes of a read into four bytes, and how the decoding has stopped then, if it has.
 fn assert_step(
     rt: &impl Abort,
     decoding: &mut Decoding,
@@ -38,7 +38,7 @@ fn a_decoding_apart_from_its_reader(rt: HostRuntime) -> Result<(), Fail> {
     Ok(())
 }
 
-// A read by the trait of std, into four bytes, gives these.
+// Asserts the bytes of a read into four bytes through the trait of std.
 fn assert_read(rt: &impl Abort, decoder: &mut Decoder<Canned>, wanted: &[u8]) -> Result<(), Fail> {
     let mut buf = [0u8; 4];
     let n = Read::read(decoder, &mut buf)?;

@@ -1,4 +1,4 @@
-//! Codes, versions, methods and headers, made, shown and compared.
+//! Tests of status codes, versions, methods and headers.
 use crate::same::{assert_holds, assert_same, assert_shown};
 use httpdate::HttpDate;
 use std::alloc::Global;
@@ -20,7 +20,7 @@ fn name(alloc: Global, bytes: &[u8]) -> Result<HeaderField, Fail> {
     Ok(HeaderField::from_bytes(bytes.to_vec(alloc)?)?)
 }
 
-// The methods that have a name of their own.
+// Returns the standard methods and their names.
 fn nine_methods() -> [(&'static str, Method); 9] {
     [
         ("GET", Method::Get),
@@ -42,7 +42,7 @@ where
     StatusCode::from(number).as_u16()
 }
 
-// Codes from numbers of 8 bits, of 16, and of 32.
+// Converts numbers of 8, 16 and 32 bits to status codes.
 fn codes() -> [[u16; 3]; 3] {
     [
         [code(-1i8), code(127i8), code(200u8)],
@@ -77,7 +77,7 @@ const CODES_AGAINST_NUMBERS: &[(u16, u16, Ordering)] = &[
     (0, 65535, Ordering::Less),
 ];
 
-// The code stands so to the number.
+// Asserts how a status code compares to a number.
 fn assert_code(rt: &impl Abort, code: u16, number: u16, order: Ordering) {
     let status = StatusCode(code);
     assert_same(rt, (code, status.cmp_u16(number)), (code, order));
@@ -104,7 +104,7 @@ const VERSIONS_AGAINST_PAIRS: &[(HTTPVersion, (u8, u8), Ordering)] = &[
     (HTTPVersion(2, 0), (1, 1), Ordering::Greater),
 ];
 
-// The version stands so to the pair.
+// Asserts how a version compares to a pair of numbers.
 fn assert_version(rt: &impl Abort, version: HTTPVersion, pair: (u8, u8), order: Ordering) {
     assert_same(rt, (version, version.cmp_pair(pair)), (version, order));
     assert_same(
@@ -163,7 +163,7 @@ fn headers_are_shown(rt: HostRuntime) -> Result<(), Fail> {
     Ok(())
 }
 
-// Names are equal but for case.
+// Asserts that field names are equal regardless of case.
 fn assert_names(rt: &impl Abort, field: &HeaderField, same: &HeaderField, other: &HeaderField) {
     let found = (field.equiv("content-Type"), field.equiv("Content_type"));
     assert_same(rt, found, (true, false));
@@ -186,7 +186,7 @@ fn a_name_that_is_not_ascii_is_refused(rt: HostRuntime) -> Result<(), Fail> {
     Ok(())
 }
 
-// Whether these bytes are no header.
+// Returns whether these bytes are refused as a header.
 fn is_refused(alloc: Global, field: &[u8], value: &[u8]) -> Result<bool, Fail> {
     Ok(Header::from_bytes(field.to_vec(alloc)?, value.to_vec(alloc)?).is_err())
 }
@@ -214,7 +214,7 @@ fn headers_are_copied(rt: HostRuntime) -> Result<(), Fail> {
     Ok(())
 }
 
-// The method of this name has a copy that is equal.
+// Asserts that the copy of the method called `name` is equal to it.
 fn assert_copy(rt: &impl Abort, alloc: Global, name: &str) -> Result<(), Fail> {
     let method = Method::from_str(alloc, name)?;
     let copy = method.try_clone()?;
@@ -271,7 +271,7 @@ fn a_date(rt: HostRuntime) -> Result<(), Fail> {
     assert_shown(&rt, rt.alloc(), &date, "Wed, 04 May 1983 11:17:00 GMT")
 }
 
-// The method has this name, and is shown by it.
+// Asserts the name of a method, and that it is displayed by it.
 fn assert_named(rt: &impl Abort, alloc: Global, method: &Method, name: &str) -> Result<(), Fail> {
     assert_same(rt, method.as_str(), name);
     assert_shown(rt, alloc, method, name)

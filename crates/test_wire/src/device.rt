@@ -1,4 +1,4 @@
-//! Readers and writers in memory.
+//! Tests of readers and writers in memory.
 use crate::same::{assert_holds, assert_same};
 use std::alloc::Global;
 use std::io;
@@ -9,7 +9,7 @@ use tiny_http_wire::device::{
     Budget, ByPieces, Canned, FailsAt, Metered, ReadDevice, WriteDevice, put, put_all, read_front,
 };
 
-// The bytes that are read into this buffer, or the fault.
+// Reads once. Returns the bytes, or the error's kind.
 fn read<'a, R: ReadDevice>(reader: &mut R, buf: &'a mut [u8]) -> Result<&'a [u8], ErrorKind> {
     match reader.read_in(buf) {
         Ok(n) => Ok(&buf[..n]),
@@ -17,7 +17,7 @@ fn read<'a, R: ReadDevice>(reader: &mut R, buf: &'a mut [u8]) -> Result<&'a [u8]
     }
 }
 
-// What the first three reads into four bytes answer.
+// Asserts the results of the next three reads into four bytes.
 fn reads<R: ReadDevice>(rt: &impl Abort, reader: &mut R, wanted: [Result<&[u8], ErrorKind>; 3]) {
     let mut buf = [0u8; 4];
     for want in wanted {
@@ -67,7 +67,7 @@ fn a_reader_fails_once(rt: HostRuntime) -> Result<(), Fail> {
     Ok(())
 }
 
-// Two writes and a flush, of which the call of this number fails: what each answers.
+// Writes twice and flushes, and returns the results.
 fn write_twice(writer: &mut FailsAt<Slow>) -> [Result<usize, ErrorKind>; 3] {
     [
         writer.write(b"hello").map_err(|e| e.kind()),
@@ -76,7 +76,7 @@ fn write_twice(writer: &mut FailsAt<Slow>) -> [Result<usize, ErrorKind>; 3] {
     ]
 }
 
-// A flush reaches the stream, which fails by another kind.
+// A flush reaches the inner stream, which fails with another kind.
 #[test]
 fn a_writer_fails_once(rt: HostRuntime) {
     let late = Err(ErrorKind::TimedOut);
@@ -110,7 +110,7 @@ fn a_metered_reader_ends(rt: HostRuntime) -> Result<(), Fail> {
     Ok(())
 }
 
-// The fault, if this is one.
+// Returns the error's kind, if any.
 fn kind_of<T: Copy>(outcome: Result<T, io::Error>) -> Option<ErrorKind> {
     match outcome {
         Ok(_) => None,
@@ -118,7 +118,8 @@ fn kind_of<T: Copy>(outcome: Result<T, io::Error>) -> Option<ErrorKind> {
     }
 }
 
-// Of the front of so many bytes come these, and the rest of the buffer stays; into no room comes none.
+// Asserts that a read of at most `most` bytes returns these and leaves the rest of the buffer, and that a read into an
+// empty buffer returns 0.
 fn assert_front(
     rt: &impl Abort,
     reader: &mut Canned,
@@ -132,7 +133,7 @@ fn assert_front(
     Ok(())
 }
 
-// After the bytes there is the fault alone.
+// Asserts that only the error follows the bytes.
 fn assert_no_front(rt: &impl Abort, reader: &mut Canned) {
     let mut buf = [0u8; 4];
     let fault = kind_of(read_front(reader, 1, &mut buf));
@@ -154,7 +155,7 @@ fn a_front_is_read_alone(rt: HostRuntime) -> Result<(), Fail> {
     Ok(())
 }
 
-// Takes these bytes without a fault.
+// Asserts that a budget accepts these bytes without an error.
 fn assert_taken(rt: &impl Abort, budget: &mut Budget) -> Result<(), Fail> {
     put(budget, b"hello")?;
     put_all(budget, &[])?;
@@ -163,7 +164,7 @@ fn assert_taken(rt: &impl Abort, budget: &mut Budget) -> Result<(), Fail> {
     Ok(())
 }
 
-// Fails at this, for the time of this count.
+// Asserts that a budget fails in these writes, and has then failed `count` times.
 fn assert_failing(rt: &impl Abort, mut budget: &mut Budget, count: u64) {
     let fault = kind_of(put_all(&mut budget, &[b" ", b"world"]));
     let found = (fault, WriteDevice::failures(&budget));
@@ -180,7 +181,7 @@ fn a_budget_takes_its_bytes_and_then_fails(rt: HostRuntime) -> Result<(), Fail> 
     Ok(())
 }
 
-// Room is all that bounds a budget.
+// A budget is limited only by its room.
 #[test]
 fn a_budget_takes_many_bytes(rt: HostRuntime) -> Result<(), Fail> {
     let bytes = [b'x'; 65_537];
@@ -190,7 +191,7 @@ fn a_budget_takes_many_bytes(rt: HostRuntime) -> Result<(), Fail> {
     Ok(())
 }
 
-// Takes at most two bytes at a call, and of `!` none. Flushing fails.
+// A writer that accepts at most two bytes a call, and none beginning with `!`. Its flushes fail.
 #[derive(Drop)]
 struct Slow(Vec<u8>);
 
@@ -209,7 +210,7 @@ impl Write for Slow {
     }
 }
 
-// Takes bytes, and none of none, without a fault.
+// Asserts that bytes are accepted without an error, and that an empty write returns 0.
 fn assert_slowly_taken(rt: &impl Abort, metered: &mut Metered<Slow>) -> Result<(), Fail> {
     put(metered, b"hello")?;
     assert_same(rt, metered.failures(), 0);
@@ -217,7 +218,7 @@ fn assert_slowly_taken(rt: &impl Abort, metered: &mut Metered<Slow>) -> Result<(
     Ok(())
 }
 
-// A write and a flush fail, and are counted.
+// Asserts that a write and a flush fail, and are counted.
 fn assert_counted(rt: &impl Abort, metered: &mut Metered<Slow>) {
     let fault = kind_of(metered.write_out(b"!"));
     assert_same(rt, fault, Some(ErrorKind::WriteZero));
@@ -226,7 +227,7 @@ fn assert_counted(rt: &impl Abort, metered: &mut Metered<Slow>) {
     assert_same(rt, fault, Some(ErrorKind::ConnectionReset));
 }
 
-// A writer that is lent fails, and is counted.
+// Asserts that a borrowed writer fails, and is counted.
 fn assert_lent(rt: &impl Abort, mut metered: &mut Metered<Slow>) {
     let lent = (&mut metered).flush_out();
     assert_holds(rt, "a lent writer fails", lent.is_err());

@@ -1,4 +1,4 @@
-//! A writer of chunks (RFC 9112, section 7.1).
+//! Tests of a writer of chunks (RFC 9112, section 7.1).
 use crate::same::assert_same;
 use std::alloc::Global;
 use std::io;
@@ -10,7 +10,7 @@ use tiny_http_wire::encoder::Encoder;
 
 const ROOM: usize = 100_000;
 
-// So many bytes, each unlike its neighbours.
+// Creates `count` bytes, each different from its neighbours.
 fn data(alloc: Global, count: usize) -> Result<Vec<u8>, Fail> {
     let mut bytes = Vec::new(alloc);
     for place in 0..count {
@@ -19,7 +19,7 @@ fn data(alloc: Global, count: usize) -> Result<Vec<u8>, Fail> {
     Ok(bytes)
 }
 
-// A chunk of 8192 bytes.
+// Formats a chunk of 8192 bytes.
 fn chunk(alloc: Global, bytes: &[u8]) -> Result<Vec<u8>, Fail> {
     let mut text = b"2000\r\n".to_vec(alloc)?;
     text.extend_from_slice(bytes)?;
@@ -27,7 +27,7 @@ fn chunk(alloc: Global, bytes: &[u8]) -> Result<Vec<u8>, Fail> {
     Ok(text)
 }
 
-// How many bytes one write takes: with nothing held, a full chunk at most; else what fills it.
+// A write accepts at most a full chunk if none is begun, and otherwise what fills it.
 #[test]
 fn what_a_write_takes(rt: HostRuntime) -> Result<(), Fail> {
     let bytes = data(rt.alloc(), 20_000)?;
@@ -39,7 +39,7 @@ fn what_a_write_takes(rt: HostRuntime) -> Result<(), Fail> {
     Ok(())
 }
 
-// A stream that fails once, by a time-out, after it took so many bytes. It takes what comes later.
+// A stream that fails once, with a timeout, after it accepted `room` bytes. Later writes succeed.
 #[derive(Drop)]
 struct FailsOnce {
     taken: Vec<u8>,
@@ -78,7 +78,7 @@ impl Write for FailsOnce {
     }
 }
 
-/// A stream that takes all bytes, and counts its flushes.
+/// A stream that accepts everything, and counts its flushes.
 #[derive(Drop)]
 pub(crate) struct Flushes {
     pub count: u64,
@@ -95,7 +95,7 @@ impl Write for Flushes {
     }
 }
 
-// Neither a full chunk is flushed nor the end of the body.
+// Neither a full chunk nor the end of the body is flushed.
 #[test]
 fn a_body_is_encoded_without_a_flush(rt: HostRuntime) -> Result<(), Fail> {
     let bytes = data(rt.alloc(), 20_000)?;
@@ -106,12 +106,13 @@ fn a_body_is_encoded_without_a_flush(rt: HostRuntime) -> Result<(), Fail> {
     Ok(())
 }
 
-// The kind of a fault, if there was one.
+// Returns the error's kind, if any.
 fn fault<T: Drop>(outcome: Result<T, io::Error>) -> Option<ErrorKind> {
     outcome.err().map(|e| e.kind())
 }
 
-// A writer that fails after so many bytes took no more, and each later call is an error of its own.
+// Asserts that a writer that fails after `room` bytes gets no more, and that each later call fails with an error of its
+// own.
 fn assert_failed(rt: &impl Abort, alloc: Global, bytes: &[u8], room: usize) -> Result<(), Fail> {
     let whole = chunk(alloc, bytes)?;
     let mut writer = Metered::new(FailsOnce::new(alloc, room));

@@ -1,11 +1,11 @@
-//! Streams whose first call fails, and the end that a writer is told.
+//! Tests of streams whose first call fails, and of the end that a writer is passed.
 use crate::same::assert_same;
 use std::io;
 use std::io::{ErrorKind, Read, Write};
 use tiny_http_io::custom_stream::CustomStream;
 use tiny_http_wire::device::{Metered, ReadDevice, WriteDevice};
 
-// A stream whose first call fails by this kind. Each later one would do.
+// A stream whose first call fails with this kind. Each later one would succeed.
 #[derive(Drop)]
 struct FailsFirst {
     kind: ErrorKind,
@@ -45,7 +45,7 @@ fn failing(kind: ErrorKind) -> Metered<FailsFirst> {
     Metered::new(FailsFirst { kind, calls: 0 })
 }
 
-// A fault is reported at its call. The next call is made as if there was none.
+// An error is returned by its call. The next call is made as if there had been none.
 #[test]
 fn a_metered_read_that_failed_is_not_made_again(rt: HostRuntime) {
     for kind in [ErrorKind::Interrupted, ErrorKind::TimedOut] {
@@ -69,7 +69,7 @@ fn a_metered_write_that_failed_is_not_made_again(rt: HostRuntime) {
     }
 }
 
-// A writer that counts how often it is told that no byte follows.
+// A writer that counts the calls of `end_out`.
 #[derive(Drop)]
 struct Told {
     writer: Metered<Vec<u8>>,
@@ -98,7 +98,7 @@ impl WriteDevice for Told {
     }
 }
 
-// Tells a writer of any type its end.
+// Calls `end_out` of a writer of any type.
 fn tell<W: WriteDevice>(writer: &mut W) {
     writer.end_out();
 }

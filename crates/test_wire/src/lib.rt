@@ -1,5 +1,5 @@
-//! Tests of the types and calls beneath threads: of `tiny_http_wire`, of what a client reads, and of the files of cases
-//! and scenes. What a call makes of bytes is in the rows of the program `test_calls`.
+//! Tests of types and calls that use no threads: of `tiny_http_wire`, of what a client reads, and of the readers of
+//! case and scene files. Calls on bytes are tested by the rows of the program `test_calls`.
 #![tactic(auto)]
 
 #[cfg(test)]

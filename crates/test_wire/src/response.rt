@@ -1,4 +1,4 @@
-//! Answers, made, and printed to writers of several kinds.
+//! Tests of responses: creating them, and printing them to several kinds of writers.
 use crate::encoder::Flushes;
 use crate::same::{assert_holds, assert_same, assert_shown};
 use httpdate::HttpDate;
@@ -17,7 +17,7 @@ fn text(alloc: Global, text: &str) -> Result<Response<Cursor<Vec<u8>>>, Fail> {
     Ok(Response::from_string(alloc, String::from_str(alloc, text)?)?)
 }
 
-// The code, the length of the data, and how many headers there are.
+// Asserts the status code, the length of the data, and the count of headers.
 fn assert_answer<R>(rt: &impl Abort, answer: &Response<R>, code: u16, length: usize, count: usize) {
     assert_same(rt, answer.status_code(), StatusCode(code));
     assert_same(rt, answer.data_length(), Some(length));
@@ -60,7 +60,7 @@ fn answers_of_data_and_of_none(rt: HostRuntime) -> Result<(), Fail> {
     Ok(())
 }
 
-// A request: its version, its header line, and the protocol of its upgrade.
+// A request: its version, one header line, and the protocol of its upgrade.
 #[derive(Clone, Copy)]
 struct Asking {
     version: HTTPVersion,
@@ -74,7 +74,7 @@ const PLAIN: Asking = Asking {
     upgrade: None,
 };
 
-// Prints the answer into this writer, and answers the fault, if there is one.
+// Prints a response into `writer`, and returns the error's kind, if any.
 fn print_into<R: ReadDevice + Drop, W: WriteDevice>(
     alloc: Global,
     answer: Response<R>,
@@ -92,7 +92,7 @@ fn print_into<R: ReadDevice + Drop, W: WriteDevice>(
     Ok(outcome.err().map(|e| e.kind()))
 }
 
-// The answer is printed so.
+// Asserts how a response is printed.
 fn assert_printed<R: ReadDevice + Drop>(
     rt: &impl Abort,
     alloc: Global,
@@ -106,7 +106,7 @@ fn assert_printed<R: ReadDevice + Drop>(
     Ok(())
 }
 
-// How often printing this answer flushes.
+// Returns how often printing a response flushes.
 fn flushes<R: ReadDevice + Drop>(
     alloc: Global,
     answer: Response<R>,
@@ -117,13 +117,13 @@ fn flushes<R: ReadDevice + Drop>(
     Ok(writer.into_inner().count)
 }
 
-// An answer whose data are three bytes, and whose length isn't known.
+// Builds a response with three bytes of data of unknown length.
 fn stream(alloc: Global) -> Result<Response<Canned>, Fail> {
     let data = Canned::new(b"abc".to_vec(alloc)?, None);
     Ok(Response::empty(alloc, StatusCode(200)).with_data(data, None))
 }
 
-// However its body is sent.
+// For every way to send the body.
 #[test]
 fn an_answer_is_printed_without_a_flush(rt: HostRuntime) -> Result<(), Fail> {
     let alloc = rt.alloc();
@@ -149,7 +149,7 @@ fn an_answer_is_printed_without_a_flush(rt: HostRuntime) -> Result<(), Fail> {
     Ok(())
 }
 
-// The answer with one header more.
+// Adds a header to a response.
 fn with_header<R: Drop>(
     alloc: Global,
     answer: Response<R>,
@@ -179,7 +179,7 @@ fn builders_in_a_chain(rt: HostRuntime) -> Result<(), Fail> {
     assert_printed(&rt, alloc, answer, CHAINED)
 }
 
-// A second Content-Type takes the place of the first, the last readable length counts, and Connection is left out.
+// A second Content-Type replaces the first, the last valid length counts, and Connection is ignored.
 #[test]
 fn headers_that_are_not_added(rt: HostRuntime) -> Result<(), Fail> {
     let alloc = rt.alloc();

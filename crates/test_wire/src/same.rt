@@ -1,20 +1,20 @@
-//! Assertions as calls: a function that calls them is cheaper to prove than one that asserts in place.
+//! Assertions as functions: a caller of these is cheaper to prove than one that asserts in place.
 use std::alloc::Global;
 use std::fmt::{Debug, Display};
 use std::process::Abort;
 use std::test::Fail;
 
-/// The two are equal. A row of a table puts its key into both, so that a failure names it.
+/// Asserts that both values are equal. A row of a table puts its key into both, so that a failure names it.
 pub(crate) fn assert_same<T: PartialEq + Debug + Copy>(rt: &impl Abort, found: T, wanted: T) {
     assert_eq!(rt; found, wanted);
 }
 
-/// It holds that, in these words.
+/// Asserts `holds`, and names `words` otherwise.
 pub(crate) fn assert_holds(rt: &impl Abort, words: &str, holds: bool) {
     assert!(rt; holds, "not so: {words}");
 }
 
-/// The value is shown by this text.
+/// Asserts how a value is displayed.
 pub(crate) fn assert_shown<T: Display>(
     rt: &impl Abort,
     alloc: Global,

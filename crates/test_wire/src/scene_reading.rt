@@ -1,4 +1,4 @@
-//! Files of scenes: what is refused, and what is read.
+//! Tests of the reader of scene files.
 use crate::same::assert_same;
 use std::process::Abort;
 use std::test::Fail;
@@ -7,7 +7,7 @@ use test_scene_files::deed::deed_in;
 use test_scene_files::scene::{Over, read_scenes};
 use tiny_http_body::framing::Profile;
 
-// Files, the line of each that isn't of the format, and why.
+// Files, the number of the first invalid line, and why it is invalid.
 const BAD: &[(&str, usize, &str)] = &[
     ("", 1, "there is no scene"),
     ("# a\n", 2, "there is no scene"),
@@ -89,7 +89,7 @@ fn files_that_are_not_of_the_format(rt: HostRuntime) -> Result<(), Fail> {
     Ok(())
 }
 
-// Lines that are no lines of a scene.
+// Lines that are not steps of a scene.
 const NO_LINES: &[&str] = &[
     "ann",
     "ann connect",
@@ -259,7 +259,7 @@ fn a_file_of_two_scenes(rt: HostRuntime) -> Result<(), Fail> {
     Ok(())
 }
 
-// The lines of the second scene.
+// The steps of the second scene.
 const LINES: [(usize, &str, bool); 3] = [
     (8, "beside bob", false),
     (9, "pause 1", true),

@@ -1,4 +1,4 @@
-//! What is said of two things that differ.
+//! Tests of the errors of values that differ.
 use crate::same::assert_same;
 use std::alloc::Global;
 use std::io::ErrorKind;
@@ -8,7 +8,7 @@ use test_scene_files::mishap::{
     Mishap, demand, demand_bytes, demand_fault, demand_number, demand_text,
 };
 
-// What is reported is this.
+// Asserts the error message.
 fn assert_said(
     rt: &impl Abort,
     alloc: Global,
@@ -65,7 +65,7 @@ fn nothing_is_said_of_what_is_the_same(rt: HostRuntime) -> Result<(), Fail> {
     assert_said(&rt, alloc, demand_bytes(alloc, b"a", b"a"), "")
 }
 
-// Of long texts a part is shown, from 60 bytes before the first that differs.
+// A part of a long text is shown, from 60 bytes before the first difference.
 #[test]
 fn a_part_of_a_long_text_is_shown(rt: HostRuntime) -> Result<(), Fail> {
     let alloc = rt.alloc();

@@ -1,4 +1,4 @@
-//! What a server sends, read as a client reads it.
+//! Tests of a server's output, read as a client reads it.
 use crate::same::assert_same;
 use example_greeter::serve_bytes;
 use httpdate::HttpDate;
@@ -8,10 +8,10 @@ use std::test::Fail;
 use tiny_http_client::answer::{AnswerFault, read_answer};
 use tiny_http_wire::common::{HTTPVersion, Method};
 
-// Whether an answer is one to a HEAD, its version, its status and its body.
+// Whether a response is to a HEAD, its version, its status and its body.
 type Wanted = (bool, HTTPVersion, u16, &'static str);
 
-// A GET, a HEAD, a version above 1.1, a request that takes chunks, and a head that is none.
+// A GET, a HEAD, a version above 1.1, a request that accepts chunks, and an invalid head.
 const CLIENT: &[u8] =
     b"GET / HTTP/1.1\r\n\r\nHEAD /a HTTP/1.1\r\n\r\nGET / HTTP/2.0\r\n\r\nPOST /b HTTP/1.1\r\nTE: chunked\r\n\r\n\
         qsd\r\n";
@@ -31,7 +31,7 @@ const ANSWERS: &[Wanted] = &[
     (false, V1_1, 400, ""),
 ];
 
-// Reads one answer, which is to be this one, and gives what follows it.
+// Reads one response, asserts that it is `wanted`, and returns the bytes after it.
 fn rest_after<'a>(
     rt: &impl Abort,
     alloc: Global,

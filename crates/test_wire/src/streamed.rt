@@ -1,4 +1,4 @@
-//! A body that grows while it is sent (RFC 9112, sections 6.3 and 7.1).
+//! Tests of streaming bodies (RFC 9112, sections 6.3 and 7.1).
 use crate::same::assert_same;
 use std::alloc::Global;
 use std::io::{ErrorKind, Write};
@@ -8,7 +8,7 @@ use tiny_http_wire::streamed::{Streamed, StreamedForm};
 
 const ROOM: usize = 100_000;
 
-// What is sent of a body of this form: of two bytes, a flush, and as many bytes more as are to fill a piece.
+// Returns what is sent of a body in this form after two bytes, a flush, and `more` bytes.
 fn sent(alloc: Global, form: StreamedForm, more: usize) -> Result<Vec<u8>, Fail> {
     let mut body = Streamed::new(Budget::new(alloc, ROOM, ErrorKind::Other), form);
     body.write_all(b"hi")?;
@@ -19,7 +19,7 @@ fn sent(alloc: Global, form: StreamedForm, more: usize) -> Result<Vec<u8>, Fail>
     Ok(body.get_ref().bytes().to_vec(alloc)?)
 }
 
-// Bytes are held until they fill a piece of 8192, or are flushed.
+// Bytes are buffered until they fill a piece of 8192, or are flushed.
 #[test]
 fn a_piece_is_sent_once_it_is_full(rt: HostRuntime) -> Result<(), Fail> {
     let alloc = rt.alloc();
@@ -35,7 +35,7 @@ fn a_piece_is_sent_once_it_is_full(rt: HostRuntime) -> Result<(), Fail> {
     Ok(())
 }
 
-// The end is that of the form, also where no byte came.
+// The form determines the end, even of an empty body.
 #[test]
 fn a_body_is_finished(rt: HostRuntime) -> Result<(), Fail> {
     let alloc = rt.alloc();

@@ -1,4 +1,5 @@
-//! How often a printed answer calls the reader of its data and the writer: each call may be one of the system.
+//! Tests of how often printing a response calls the reader of its data and the writer, as each call may be a system
+//! call.
 use crate::same::assert_same;
 use httpdate::HttpDate;
 use std::alloc::Global;
@@ -9,7 +10,7 @@ use tiny_http_wire::common::{HTTPVersion, StatusCode};
 use tiny_http_wire::device::{Metered, ReadDevice};
 use tiny_http_wire::response::Response;
 
-// So many bytes, and how often some were asked for.
+// A number of bytes that are left, and the number of reads.
 #[derive(Drop)]
 struct Data {
     left: usize,
@@ -28,7 +29,7 @@ impl ReadDevice for Data {
     }
 }
 
-// A writer that takes all, and counts how often it is given something.
+// A writer that accepts everything, and counts its writes.
 #[derive(Drop)]
 struct Taker(u64);
 
@@ -43,7 +44,7 @@ impl Write for Taker {
     }
 }
 
-// How often data of 20,000 bytes, and the writer, are called as they are printed to a client of this minor version.
+// Returns how often the reader of 20,000 bytes of data and the writer are called, for a client of this minor version.
 fn calls_of(alloc: Global, minor: u8, length: Option<usize>) -> Result<(u64, u64), Fail> {
     let mut data = Data {
         left: 20_000,
@@ -65,14 +66,14 @@ fn calls_of(alloc: Global, minor: u8, length: Option<usize>) -> Result<(u64, u64
     Ok((data.calls, writes))
 }
 
-// A head of up to 512 bytes is one write. The data go through a buffer of 8,192 bytes.
+// A head of up to 512 bytes is one write. The data pass through a buffer of 8,192 bytes.
 #[test]
 fn data_of_known_length_are_sent_in_large_pieces(rt: HostRuntime) -> Result<(), Fail> {
     assert_same(&rt, calls_of(rt.alloc(), 1, Some(20_000))?, (3, 4));
     Ok(())
 }
 
-// To version 1.0 the data are gathered up to their end: three pieces, and the end behind the last one.
+// For version 1.0 the data are collected up to their end: three pieces, and then the end.
 #[test]
 fn gathered_data_are_read_in_large_pieces(rt: HostRuntime) -> Result<(), Fail> {
     let (reads, _) = calls_of(rt.alloc(), 0, None)?;

@@ -1,4 +1,4 @@
-//! Answers of files: a file of the system, and stand-ins for one.
+//! Tests of responses from files: a file of the system, and substitutes for one.
 use super::assert_printed;
 use crate::same::{assert_holds, assert_same};
 use std::fs::{File, Metadata, OpenFile};
@@ -9,7 +9,7 @@ use tiny_http_wire::common::StatusCode;
 use tiny_http_wire::device::Metered;
 use tiny_http_wire::response::{Response, ResponseBox};
 
-// A stand-in for a file: its bytes, and the length by its metadata, if these can be read.
+// A substitute for a file: its bytes, and the length in its metadata, if this can be read.
 #[derive(Drop)]
 struct Stand {
     bytes: Cursor<Vec<u8>>,
@@ -47,7 +47,7 @@ const HELLO: &str =
     "HTTP/1.1 200 OK\r\nServer: tiny-http (Rust)\r\nDate: Wed, 04 May 1983 11:17:00 GMT\r\nContent-Length: 5\r\n\r\n\
         hello";
 
-// Without a length.
+// The response without a content length.
 const HELLO_IN_CHUNKS: &str =
     "HTTP/1.1 200 OK\r\nServer: tiny-http (Rust)\r\nDate: Wed, 04 May 1983 11:17:00 GMT\r\n\
         Transfer-Encoding: chunked\r\n\r\n5\r\nhello\r\n0\r\n\r\n";
@@ -69,7 +69,7 @@ fn a_file_by_its_metadata(rt: HostRuntime) -> Result<(), Fail> {
     Ok(())
 }
 
-// From the threshold on it is sent in chunks, and says no length.
+// From the threshold on a file is sent in chunks, without a content length.
 #[test]
 fn a_file_by_the_threshold(rt: HostRuntime) -> Result<(), Fail> {
     for (threshold, whole) in [(5, HELLO_IN_CHUNKS), (6, HELLO), (usize::MAX, HELLO)] {

@@ -1,4 +1,4 @@
-//! Answers made of texts and of codes, and headers made of texts.
+//! Tests of responses from texts and status codes, and of headers from texts.
 use super::{Asking, PLAIN, ROOM, assert_answer, assert_printed, print_into};
 use crate::same::{assert_same, assert_shown};
 use std::alloc::Global;
@@ -20,7 +20,8 @@ const MADE: [(&str, &str); 6] = [
     ("X", "a:b"),
 ];
 
-// Those that make none: delimiters and white space in a name, and what ends a line or isn't ASCII in a value.
+// Names and values that are refused: an empty name, or one with delimiters or white space; a value with outer white
+// space, control bytes or non-ASCII.
 const REFUSED: [(&str, &str); 17] = [
     ("", "a"),
     ("X Y", "a"),
@@ -41,7 +42,7 @@ const REFUSED: [(&str, &str); 17] = [
     ("X", "caf\u{e9}"),
 ];
 
-// The texts make this header.
+// Asserts that the texts make this header.
 fn assert_made(rt: &impl Abort, alloc: Global, name: &str, value: &str) -> Result<(), Fail> {
     let header = Header::new(alloc, name, value)?;
     assert_same(rt, header.field.as_str().as_str(), name);
@@ -65,7 +66,7 @@ fn headers_of_texts(rt: HostRuntime) -> Result<(), Fail> {
     Ok(())
 }
 
-// An answer with these headers, as a function makes it that answers an `io::Result` (RFC 9110, section 15.5.6).
+// Builds a response with these headers, in a function that returns an `io::Result` (RFC 9110, section 15.5.6).
 fn not_allowed(alloc: Global, allowed: &str) -> io::Result<Response<Cursor<Vec<u8>>>> {
     let answer = Response::status(alloc, StatusCode(405))?;
     let answer = answer.with(alloc, "Allow", allowed)?;
@@ -86,7 +87,7 @@ fn an_answer_with_headers_of_texts(rt: HostRuntime) -> Result<(), Fail> {
     Ok(())
 }
 
-// The answer of a code is this text.
+// Asserts that the response of a status code has this text.
 fn assert_status(rt: &impl Abort, alloc: Global, code: u16, text: &str) -> Result<(), Fail> {
     let answer = Response::status(alloc, StatusCode(code))?;
     assert_answer(rt, &answer, code, text.len(), 1);
@@ -116,7 +117,7 @@ fn an_answer_of_data(rt: HostRuntime) -> Result<(), Fail> {
     Ok(())
 }
 
-// The answer is printed so where it is asked for so.
+// Asserts how a response is printed for this request.
 fn assert_asked(
     rt: &impl Abort,
     alloc: Global,
@@ -137,7 +138,7 @@ const NOT_MODIFIED: &str =
 const NO_CONTENT: &str =
     "HTTP/1.0 204 No Content\r\nServer: tiny-http (Rust)\r\nDate: Wed, 04 May 1983 11:17:00 GMT\r\n\r\n";
 
-// They have neither length nor coding (RFC 9110, section 8.6; RFC 9112, section 6.1).
+// They have neither a content length nor a transfer coding (RFC 9110, section 8.6; RFC 9112, section 6.1).
 #[test]
 fn answers_without_content(rt: HostRuntime) -> Result<(), Fail> {
     let alloc = rt.alloc();
@@ -163,7 +164,7 @@ const EMPTY: &str =
 const OK: &str =
     "HTTP/1.1 200 OK\r\nServer: tiny-http (Rust)\r\nDate: Wed, 04 May 1983 11:17:00 GMT\r\nContent-Length: 0\r\n\r\n";
 
-// `empty` says the length 0, and so does an answer whose code has content.
+// `empty` states the length 0, and so does `contentless` for a status whose response has content.
 #[test]
 fn answers_of_length_0(rt: HostRuntime) -> Result<(), Fail> {
     let alloc = rt.alloc();

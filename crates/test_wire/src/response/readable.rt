@@ -1,5 +1,5 @@
-//! Headers that a client reads as they were meant, and headers that it doesn't (RFC 9110, section 5.5; RFC 9112,
-//! section 5).
+//! Tests of header fields that a client reads as intended, and of some that it doesn't (RFC 9110, section 5.5; RFC
+//! 9112, section 5).
 use crate::same::assert_same;
 use std::alloc::Global;
 use std::io;
@@ -8,7 +8,7 @@ use std::test::Fail;
 use tiny_http_wire::common::{Header, StatusCode};
 use tiny_http_wire::response::Response;
 
-// Names with values, and whether a client reads them so.
+// Field names and values, and whether a client reads them as intended.
 const ROWS: [(&str, &str, bool); 14] = [
     ("Location", "/a", true),
     ("X", "", true),
@@ -26,7 +26,7 @@ const ROWS: [(&str, &str, bool); 14] = [
     ("X", "\r\n", false),
 ];
 
-// The answer with this header more.
+// Adds this header field to a response.
 fn with_field(
     alloc: Global,
     answer: Response<io::Empty>,
@@ -43,7 +43,7 @@ fn with_field(
     }
 }
 
-// An answer with this header, and one that has others round it, are so.
+// Asserts whether a response is readable with this field alone, and with others around it.
 fn assert_row(rt: &impl Abort, alloc: Global, row: (&str, &str, bool)) -> Result<(), Fail> {
     let (name, value, _) = row;
     let answer = with_field(alloc, Response::empty(alloc, StatusCode(302)), name, value)?;
