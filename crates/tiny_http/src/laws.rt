@@ -2,10 +2,10 @@
 
 pub use tiny_http_client::laws::streamed_chunks_are_read;
 pub use tiny_http_connection_laws::laws::{
-    close_is_the_last, conversation_is_read, numbers_are_as_told, output_joins_the_segments,
-    reads_give_the_body, requests_begin_the_pipeline, response_can_be_read,
-    size_of_what_is_skipped, slots_are_read, steps_are_taken_in_turn, steps_can_be_read,
-    the_end_has_a_reason,
+    close_is_the_last, conversation_is_read, numbers_match_their_accounts,
+    output_joins_the_segments, reads_give_the_body, requests_begin_the_pipeline,
+    response_can_be_read, size_of_what_is_skipped, slots_are_read, steps_are_taken_in_turn,
+    steps_can_be_read, the_end_has_a_reason,
 };
 pub use tiny_http_core::laws::{
     fronts_are_unfinished, one_client_answer, one_framing, one_list_of_client_answers,

@@ -21,8 +21,8 @@
 //! connection respond to that connection's requests itself.
 //!
 //! Each call gets the runtime, which locks, waits and opens sockets, and the allocator as arguments: none is implicit.
-//! `httpdate` makes dates of a program's own. If `?` converts an error to an `io::Error`, the program lists the crate of
-//! that error: `tiny_http_head` for a `ParseError`, as after `Response::with`, `tiny_http_request` for a `BodyError`.
+//! A program lists `httpdate` if it makes dates, and the crate of each error that `?` converts to an `io::Error`:
+//! `tiny_http_head` for a `ParseError`, as after `Response::with`, and `tiny_http_request` for a `BodyError`.
 //!
 //! What a program needs, by module:
 //!

@@ -90,13 +90,13 @@ written_in _ = []
 -- NUMBER k IS AS ITS ACCOUNT SAYS. Its response is that of the step which answered it, else the server's or none. Its
 -- 100 has the date on which it was first asked for, if its head expects one. Nothing is done for a refused head, which
 -- the server answers.
-abbrev pub IsAsTold : ℕ → Slot → Item → Account → Type 0
-IsAsTold k s (Asks r) a =
+abbrev pub MatchesAccount : ℕ → Slot → Item → Account → Type 0
+MatchesAccount k s (Asks r) a =
     (condition_of s.stage ≡ a.condition)
     × (maker k s.stage ≡ a.by)
     × (written_in s.stage ≡ a.written)
     × (s.continued ≡ (if r.framing.owes_continue then a.asked else None))
-IsAsTold k s (Refuses refusal manner no_body last) a = (s.stage ≡ ByServer) × (a ≡ untouched) × (s.continued ≡ None)
+MatchesAccount k s (Refuses refusal manner no_body last) a = (s.stage ≡ ByServer) × (a ≡ untouched) × (s.continued ≡ None)
 
 -- ---- turns
 

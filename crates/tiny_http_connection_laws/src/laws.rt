@@ -17,7 +17,7 @@ ghost use Rattle.tiny_http_client.specs.SentTexts.{methods, whole_answers, remai
 ghost use Rattle.tiny_http_response.specs.Readable.{IsReadable};
 ghost use Rattle.tiny_http_connection_laws.specs.InShort.{handed, requests_from, ReadsInOrder, sent, segment_of};
 ghost use Rattle.tiny_http_connection_laws.specs.InShort.{AreOfOneHead, maker, IsAmong};
-ghost use Rattle.tiny_http_connection_laws.specs.Accounts.{Finished, account, IsAsTold, IsThrough, IsHanded, takes};
+ghost use Rattle.tiny_http_connection_laws.specs.Accounts.{Finished, account, MatchesAccount, IsThrough, IsHanded, takes};
 ghost use Rattle.tiny_http_connection_laws.specs.Accounts.{waits_its_turn};
 ghost use Rattle.tiny_http_connection_laws.specs.Accounts.{is_done_early, IsTaken, is_ask, is_read, HasEnd};
 ghost use Rattle.tiny_http_connection_laws.specs.Accounts.{OneEndsRequests, OneStops};
@@ -90,7 +90,7 @@ pub fn output_joins_the_segments()
 /// EACH NUMBER IS AS ITS STEPS SAY, by their replies. Each request that was handed out has a number. It is finished if
 /// a step finished it, and has the response of the step that was done, or else the server's. Its raw writer or stream
 /// has the bytes of its writes, joined, and its 100 the date on which it was first asked for.
-pub fn numbers_are_as_told()
+pub fn numbers_match_their_accounts()
     ensures reached { (p : Profile) (feed : Feed) (before after : Sink) (steps : List TimedValue)
         (replies : List ReplyValue) (held : List ℕ) (ended : Bool) (unread : Option Feed)
         → (c : IsConversation p feed before steps replies after held ended unread)
@@ -102,7 +102,7 @@ pub fn numbers_are_as_told()
         → (c : IsConversation p feed before steps replies after held ended unread)
         → (k : ℕ) (s : Slot)
         → slice_get c.end.reached.slots k ≡ Some s
-        → IsAsTold k s s.item (account k steps replies) }
+        → MatchesAccount k s s.item (account k steps replies) }
 {}
 
 /// STEPS ARE TAKEN IN TURN. A step other than a read, for a request that was handed out and takes it, is done or
