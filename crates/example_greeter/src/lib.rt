@@ -1,6 +1,6 @@
-//! A server over a `Connection` whose responses depend on the requests. Its contract states that its responses are a
-//! conversation, so the connection theorem also holds for a program that isn't a list of steps. The crate is built on
-//! `tiny_http_core` and `tiny_http_wire`.
+//! A server that drives a `Connection` and chooses each response by its request. Its contract states that the exchange
+//! is a conversation, which shows that the connection theorem also applies to a program that isn't a list of steps. The
+//! crate is built on `tiny_http_core` and `tiny_http_wire`.
 #![tactic(auto)]
 
 ghost use Rattle.std.specs.Prelude.{◌≡◌, Some};

@@ -9,7 +9,7 @@ use std::io::ErrorKind;
 use tiny_http_core::driver::Reply;
 use tiny_http_core::exchange::Head;
 
-/// A reply, printed as one line without its end.
+/// A reply, printed as one line without a line break.
 #[derive(Drop)]
 pub struct ReplyLine<'a>(pub &'a Reply);
 
@@ -50,7 +50,7 @@ impl fmt::Display for Handed<'_> {
     }
 }
 
-/// Bytes of a body, printed as a space and two hexadecimal digits per byte, or as nothing if empty.
+/// Bytes of a body, printed as one space and then two hexadecimal digits per byte, or as nothing if there are none.
 #[derive(Drop)]
 struct Bytes<'a>(&'a [u8]);
 
@@ -71,7 +71,7 @@ impl fmt::Display for Bytes<'_> {
     }
 }
 
-// Returns the name of a kind of fault that the replies distinguish, else `Other`.
+// Returns the name of this error kind, or `Other` if the replies don't distinguish it.
 fn name_of(kind: ErrorKind) -> &'static str
     ensures { result.now ≡ kind_name kind }
 {

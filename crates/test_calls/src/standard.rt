@@ -49,7 +49,8 @@ fn add_if(
     Ok(())
 }
 
-/// Adds which of a host, the value of a Host field and the target of a `CONNECT` a text is, or `refused` if it is none.
+/// Adds each of `host`, `host-value` (the value of a Host field) and `authority` (the target of a `CONNECT`) that the
+/// text is, or `refused` if it is none of them.
 pub fn validate_host(alloc: Global, text: &[u8], to: &mut Vec<Finding>) -> Result<(), AllocError> {
     add_if(alloc, to, "host", is_host(text))?;
     add_if(alloc, to, "host-value", is_host_value(text))?;

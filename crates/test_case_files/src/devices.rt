@@ -57,7 +57,7 @@ impl Trier {
         self.failures
     }
 
-    /// Returns the number of calls after one that failed.
+    /// Returns the number of calls made after the first failure.
     pub fn later(&self) -> u64 {
         self.later
     }

@@ -1,4 +1,4 @@
-//! Runs the steps of scenes that need no server.
+//! Runs those steps of a scene that need no server.
 use crate::in_turn::{act_in_turn, act_turns};
 use crate::memory::act_memory;
 use crate::named::{get, take};
@@ -32,15 +32,15 @@ fn clock_of<R: Wait + Clock + Drop>(rt: &R, props: &Props<R>) -> Result<u64, Mis
     millis_since(rt, begun_in(props.clock)?)
 }
 
-// Ends a lap, and begins the next one.
+// Ends a lap, keeps its time if it is the shortest so far, and begins the next one.
 fn end_lap<R: Wait + Clock + Drop>(rt: &R, props: &mut Props<R>) -> Result<(), Mishap> {
     let lap = clock_of(rt, props)?;
     props.shortest = Some(props.shortest.map_or(lap, |shortest| shortest.min(lap)));
     start_clock(rt, props)
 }
 
-// Expects that `gone` is less than `millis`, or at least `millis` if not `is_below`. The error leaves out `gone`, so
-// that a scene that must fail prints the same each time.
+// Fails unless the elapsed time `gone` is less than `millis` (if `is_below`) or at least `millis` (otherwise). The
+// error leaves out `gone`, so that a scene that must fail prints the same each time.
 fn demand_time(alloc: Global, gone: u64, (millis, is_below): (u64, bool)) -> Result<(), Mishap> {
     if (gone < millis) == is_below {
         return Ok(());

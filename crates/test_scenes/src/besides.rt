@@ -109,7 +109,7 @@ pub(crate) fn spawn_job<R: Host>(
     add_beside(alloc, stage, (name, has_ended), Player::Job(done))
 }
 
-// Returns the index of the thread or job called `name`, the later of two, or `usize::MAX` if there is none.
+// Returns the index of the last thread or job called `name`, or `usize::MAX` if there is none.
 fn place_of_thread<R: Host>(stage: &Stage<R>, name: &str) -> usize {
     let place = stage
         .besides

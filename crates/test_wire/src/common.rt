@@ -163,7 +163,7 @@ fn headers_are_shown(rt: HostRuntime) -> Result<(), Fail> {
     Ok(())
 }
 
-// Asserts that field names are equal regardless of case.
+// Asserts that field names are compared regardless of case.
 fn assert_names(rt: &impl Abort, field: &HeaderField, same: &HeaderField, other: &HeaderField) {
     let found = (field.equiv("content-Type"), field.equiv("Content_type"));
     assert_same(rt, found, (true, false));
@@ -271,7 +271,7 @@ fn a_date(rt: HostRuntime) -> Result<(), Fail> {
     assert_shown(&rt, rt.alloc(), &date, "Wed, 04 May 1983 11:17:00 GMT")
 }
 
-// Asserts the name of a method, and that it is displayed by it.
+// Asserts that `name` is the method's name, and that the method is displayed as `name`.
 fn assert_named(rt: &impl Abort, alloc: Global, method: &Method, name: &str) -> Result<(), Fail> {
     assert_same(rt, method.as_str(), name);
     assert_shown(rt, alloc, method, name)

@@ -8,7 +8,7 @@ use std::test::Fail;
 use tiny_http_client::answer::{AnswerFault, read_answer};
 use tiny_http_wire::common::{HTTPVersion, Method};
 
-// Whether a response is to a HEAD, its version, its status and its body.
+// An expected response: whether it is to a HEAD, then its version, its status and its body.
 type Wanted = (bool, HTTPVersion, u16, &'static str);
 
 // A GET, a HEAD, a version above 1.1, a request that accepts chunks, and an invalid head.

@@ -1,10 +1,10 @@
-//! Temporary errors of accepting.
+//! The errors of `accept` that are temporary.
 use std::io;
 
-// Linux's numbers of temporary errors: a firewall rule (EPERM), a signal (EINTR), out of memory (ENOMEM), out of
-// descriptors in the system (ENFILE) or the process (EMFILE), and errors of a connection before it was accepted
-// (ENONET, EPROTO, ENOPROTOOPT, EOPNOTSUPP, ENETDOWN, ENETUNREACH, ECONNABORTED, ECONNRESET, ENOBUFS, ETIMEDOUT,
-// EHOSTDOWN, EHOSTUNREACH).
+// Linux's errno values of temporary errors: a firewall rule (EPERM), a signal (EINTR), out of memory (ENOMEM, ENOBUFS),
+// out of descriptors in the system (ENFILE) or the process (EMFILE), and errors of a connection before it was accepted
+// (ENONET, EPROTO, ENOPROTOOPT, EOPNOTSUPP, ENETDOWN, ENETUNREACH, ECONNABORTED, ECONNRESET, ETIMEDOUT, EHOSTDOWN,
+// EHOSTUNREACH).
 const PASSING: [i32; 17] = [
     1, 4, 12, 23, 24, 64, 71, 92, 95, 100, 101, 103, 104, 105, 110, 112, 113,
 ];

@@ -12,7 +12,7 @@ use tiny_http_limits::times::time_left;
 use tiny_http_socket::connection::Connection;
 use tiny_http_socket::connection_timers::ConnectionTimers;
 
-/// A connection handle: what a server keeps of an open connection.
+/// What a server keeps of an open connection.
 #[derive(Drop)]
 pub(crate) struct ConnectionHandle {
     pub socket: Arc<Connection>,
@@ -26,11 +26,11 @@ struct Connections {
     counts: Counts,
 }
 
-/// The connections of a server, which its threads share.
+/// A server's open connections, within its limits, and the counts of those that have closed. Its threads share it.
 #[derive(Drop)]
 pub(crate) struct ConnectionRegistry {
     connections: Mutex<Connections>,
-    // A connection is closed, or the server is.
+    // Notified when a connection or the server closes.
     changed: Condvar,
     // The count of upgraded connections.
     upgraded: Arc<AtomicU64>,
@@ -152,7 +152,7 @@ impl ConnectionRegistry {
         }
     }
 
-    /// Waits until no client is connected, for `time` at most from `begun` on. Returns whether none is.
+    /// Waits until no client is connected, for at most `time` since `begun`. Returns whether none is left.
     pub fn wait_until_empty<R: Wait + Clock>(
         &self,
         rt: &R,

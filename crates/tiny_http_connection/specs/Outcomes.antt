@@ -24,9 +24,9 @@ use Rattle.tiny_http_connection.specs.Steps.{StepValue, Upgrade, Write, number_o
 abbrev pub fault_reply : ErrorKind → ReplyValue
 fault_reply kind = if is_closed_client kind then Done else Fault kind
 
--- How a step uses the writer: not at all; or it writes and flushes its texts, and no reply reports a fault; or it
--- writes its own text, flushes it or not, and reports a fault of the writer in it, else that of its response's data, if
--- any. If both fail, either may be reported.
+-- How a step uses the writer. `Unused`: not at all. `Unreported`: it writes and flushes its texts, and no reply reports
+-- a fault. `Reported`: it writes `own`, and flushes if `flushes` holds; `report` makes the reply for a fault of the
+-- writer, or for `broken`, the fault of its response's data, if any. If both fail, either may be reported.
 pub data WriterUse : Type 0 where
   Unused : WriterUse
   Unreported : WriterUse
@@ -40,7 +40,7 @@ pub record Outcome : Type 0 where
   pub asking_ended : Bool
   pub writer : WriterUse
 
--- What is reached of a pipeline, what isn't yet, and whether the requests have ended.
+-- How far a pipeline was reached: the slots so far, the items after them, and whether asking has ended.
 pub record Reached : Type 0 where
   pub slots : List Slot
   pub rest : List Item
@@ -77,9 +77,9 @@ asks_from date writer slots (Refuses refusal manner no_body last ∷ items) =
     asks_from date (if turn_has_come (length slots) slots then Unreported else writer)
     (slots ++ new_slot date (Refuses refusal manner no_body last) ∷ []) items
 
--- The reply to an Ask: Ended after an earlier Ended; NotYet while the last request that was handed out holds the
--- reader; Ended after a chunked body that was given up before its end; else the next request of the pipeline, or its
--- end.
+-- The reply to an Ask: Ended once asking has ended; NotYet while the last request that was handed out holds the reader;
+-- Ended after a chunked body that was given up before its end; else the next request of the pipeline, or Ended if there
+-- is none.
 abbrev pub ask : HttpDate → Reached → Outcome
 ask date old =
     if old.asking_ended then unchanged old Ended else
@@ -97,7 +97,7 @@ abbrev pub read_reply : ℕ → List ℕ → Stop → ReplyValue
 read_reply n [] close = close_reply close
 read_reply n (b ∷ left) close = Given (take n (b ∷ left))
 
--- the number ends in this stage, and its body is given up
+-- the slot once its number is finished in this stage: its body is given up, and no 100 is owed
 abbrev pub finished_as : Bool → Slot → Stage → Slot
 finished_as closes s stage = record s { stage = stage; given_up = true; owed = false; closes = closes }
 
@@ -117,7 +117,7 @@ abbrev pub fault_in : Ending → Option ErrorKind
 fault_in Whole = None
 fault_in (Broken kind) = Some kind
 
--- whether a number takes a step
+-- whether a number in this stage, with a 100 owed or not, accepts a step
 abbrev pub accepts_step : Stage → Bool → StepValue → Bool
 accepts_step Unanswered owed (AsReader k) = true
 accepts_step Unanswered owed (Read k n) = not owed
@@ -152,22 +152,22 @@ abbrev pub use_in_turn : Bool → WriterUse
 use_in_turn true = Unreported
 use_in_turn false = Unused
 
--- no head is read after the number, if this holds
+-- the same outcome, but if `ends` holds, no further head is read
 abbrev pub ends_asking : Bool → Outcome → Outcome
 ends_asking ends o = record o { asking_ended = o.asking_ended || ends }
 
--- No head is read after a request that gets the connection's stream now, if it holds the next head or would be the
--- last.
+-- Whether no head is read after a request that takes over the connection's stream now: it holds the next head, or would
+-- be the last if it were answered.
 abbrev pub ends_with_stream : Request → Bool → ℕ → Bool → Bool
 ends_with_stream r owed given end_reported = holds_next_head r || ends_when_finished r owed given end_reported
 
--- A response asks to close the connection: no further head is read, and the response of the last number that was
--- reached says that the connection closes, if it isn't made yet.
+-- If a response asks to close the connection, no further head is read, and the response to the last number that was
+-- reached says that the connection closes, unless it was already made.
 abbrev pub asked_to_close : Bool → Reached → Reached
 asked_to_close closes old =
     if closes then record old { slots = with_last closing_slot old.slots; asking_ended = true } else old
 
--- the request of this slot is answered by the response
+-- the request of this slot is answered with the response
 abbrev pub answers_slot : Bool → HttpDate → Reached → Request → ℕ → ResponseValue → Option Slot → Outcome
 answers_slot found date old r k response None = unchanged old NoSuch
 answers_slot found date old r k response (Some s) =
@@ -177,7 +177,7 @@ answers_slot found date old r k response (Some s) =
     (changes old k (finished_as closes s (Answered response date found)) Done
     (Reported text.bytes (fault_in text.ending) true fault_reply))
 
--- the request of this number is answered by the response
+-- the request of this number is answered with the response
 abbrev pub answers : Bool → HttpDate → Reached → Request → ℕ → ResponseValue → Outcome
 answers found date old r k response = answers_slot found date old r k response (slice_get old.slots k)
 
@@ -199,12 +199,12 @@ reads old r s k n =
     })
     (read_reply n (rest_of r s.given).bytes r.body.stop) Unused
 
--- it gets the connection's stream, by its raw writer or an upgrade
+-- the request takes over the connection's stream, by its raw writer or an upgrade
 abbrev pub streams : Reached → Request → Slot → ℕ → Slot → WriterUse → Outcome
 streams old r s k new writer =
     ends_asking (ends_with_stream r s.owed s.given s.end_reported) (changes old k new Done writer)
 
--- the effect of a step that the number of a request takes, once it needn't wait
+-- the effect of a step that a request's number accepts and that needn't wait
 abbrev pub effect : Bool → HttpDate → Reached → Request → Slot → Bool → StepValue → Outcome
 effect found date old r s turn (AsReader k) =
     if s.owed then changes old k (record s { owed = false; continued = Some date }) Done Unreported

@@ -1,5 +1,5 @@
--- The program's steps and replies as values of the definitions. The laws of `InShort` can be understood without this
--- file.
+-- How the program's steps and replies correspond to the values that the definitions use. The laws of `InShort` can be
+-- understood without this file.
 use Rattle.std.specs.Prelude.{◌≡◌, ◌⊎◌, ◌<◌, ◌^◌, List, [], ◌∷◌, length, Option, Some, Bool, true, false, not, ◌&&◌}
 use Rattle.std.specs.Prelude.{◌||◌, Result, Ok, Err, string_bytes}
 use Rattle.std.specs.IoError.{error_kind}
@@ -20,7 +20,7 @@ use Rattle.tiny_http_connection.specs.Steps.{Done, Refused, NoSuch, Memory, Time
 use Rattle.tiny_http_connection.specs.Outcomes.{fault_reply}
 use Rattle.tiny_http_response.specs.Sending.{Sends, IsFlushed}
 
--- the response states its data, of fewer than 2^63 bytes
+-- the value of a response whose data are stated, and fewer than 2^63 bytes
 abbrev pub IsResponse : {D : Type 0} → (D → Option Feed) → ResponseState D → ResponseValue → Type 0
 IsResponse feed r value =
     (value.answer ≡ r.answer) × (feed r.data_reader ≡ Some value.content) × (length value.content.bytes < 2 ^ 63)
@@ -60,13 +60,13 @@ seen reply.Memory = Memory
 abbrev pub IsOfWriter : Sink → Sink → ErrorKind → Type 0
 IsOfWriter old new kind = (new.failures ≡ next_count old.failures) × StatesKind new.last_kind kind
 
--- the writer's failure count is unchanged, or the reply is its fault
+-- the writer's failure count is unchanged, or the reply reports a fault of the writer
 abbrev pub ReportsOfWriter : Sink → Sink → ReplyValue → Type 0
 ReportsOfWriter old new reply =
     (new.failures ≡ old.failures) ⊎ ((kind : ErrorKind) × (reply ≡ Fault kind) × IsOfWriter old new kind)
 
--- WHETHER ALL WAS SENT ON after a step, given whether it was before. A Write that is done may hold its bytes back; a
--- Flush, a response and an upgrade that are done hold none. The other steps leave it unchanged.
+-- WHETHER ALL BYTES WERE SENT ON after a step, given whether they were before it. A Write that is done may hold its
+-- bytes back; a Flush, a response or an upgrade that is done holds none back. The other steps change nothing.
 abbrev pub all_sent_after : {D : Type 0} → Step D → ReplyValue → Bool → Bool
 all_sent_after step.Ask reply sent = sent
 all_sent_after (step.AsReader k) reply sent = sent
@@ -79,7 +79,7 @@ all_sent_after (step.Upgrade k p r) reply sent = sent || is_done reply
 all_sent_after (step.Finish k) reply sent = sent
 all_sent_after (step.Drop k) reply sent = sent
 
--- the same after all these steps
+-- whether all bytes were sent on after all these steps, each with its reply
 abbrev pub all_sent : {D : Type 0} → List (Timed D) → List Reply → Bool → Bool
 all_sent [] [] sent = sent
 all_sent (t ∷ steps) (r ∷ replies) sent = all_sent steps replies (all_sent_after t.step (seen r) sent)
@@ -95,7 +95,7 @@ abbrev pub write_reply : {T : Type 0} → Result T Error → ReplyValue
 write_reply (Ok x) = Done
 write_reply (Err e) = Fault (error_kind e)
 
--- the replies of a call that sent a response
+-- the reply is one to a call that sent a response, with or without a fault
 abbrev pub IsAnswered : ReplyValue → Type 0
 IsAnswered Done = Unit {0}
 IsAnswered (Fault kind) = Unit {0}

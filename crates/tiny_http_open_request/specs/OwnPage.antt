@@ -1,9 +1,9 @@
--- What a writer into memory of its own states.
+-- What clauses see of an `OwnPage`, a writer into its own memory.
 use Rattle.std.specs.Prelude.{Some, None, false}
 use Rattle.tiny_http_io.specs.Device.{Sink}
 use Rattle.tiny_http_open_request.specs.declared.error_response.OwnPage.{OwnPage}
 
--- no bytes are held back
+-- the sink of a page: all bytes that it took count as sent, and none are held back
 abbrev pub page_sink : OwnPage → Sink
 page_sink p =
     record

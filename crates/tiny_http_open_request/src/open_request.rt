@@ -38,7 +38,8 @@ use tiny_http_response::response_context::{Persistence, ResponseContext};
 use tiny_http_response::sending::send_unless_ended;
 use tiny_http_standard_head::validation::{asks_chunked, names_protocol};
 
-/// A request that was handed out and has no response yet, without its head.
+/// What the server still owes a request that the application holds: how its response is printed, whether a 100 is owed,
+/// whether the connection closes, and its body. The head went to the application.
 #[derive(Drop)]
 pub struct OpenRequest<B> {
     /// How its response is printed.

@@ -85,8 +85,9 @@ fn closing_of(number: u8) -> Option<Closing> {
     }
 }
 
-/// The state of a connection that threads share besides its halves: the limits, what it waits for from the client, and
-/// what became of it so far.
+/// A connection's state that its threads share, apart from its reader and writer: the limits, the phase (what is
+/// awaited from the client), whether it was stopped, and its counts. Its methods compute how long each wait may last;
+/// it runs no timer.
 #[derive(Drop)]
 pub struct ConnectionTimers {
     limits: Option<Limits>,

@@ -270,8 +270,9 @@ fn share<T: Drop>(
     Ok(Arc::new(alloc, queue)?)
 }
 
-/// An item and its numbers, which threads share. Texts and the item are handed out, so nothing is read or written under
-/// the lock.
+/// An item that threads use one at a time, in the order of the numbers issued to them. A number may be left with a
+/// text, which whoever then holds the item writes in its turn. The item and the texts are moved out, so no I/O is done
+/// under the lock.
 #[derive(Drop)]
 pub(crate) struct TurnQueue<T> {
     state: Mutex<TurnQueueState<T>>,
