@@ -1,4 +1,4 @@
--- Greetings: each request that is handed out gets a response at once, by its path.
+-- Greetings: each request that is handed out gets a response at once, according to its path.
 use Rattle.std.specs.Prelude.{◌≡◌, ℕ, List, [], ◌∷◌, ◌++◌, map, length, ◌-◌, ◌^◌, Option, Some, None, Bool, true, false}
 use Rattle.httpdate.specs.declared.date.HttpDate.{HttpDate}
 use Rattle.tiny_http_wire.specs.Device.{Feed, Sink, whole_feed}
@@ -13,19 +13,19 @@ use Rattle.tiny_http_core.specs.ResponseValue.{response_of}
 use Rattle.tiny_http_core.specs.Steps.{Ask, Respond, ReplyValue, Handed, TimedValue}
 use Rattle.tiny_http_core.specs.Conversation.{IsConversation}
 
--- the status is 200 for the root, and 404 for any other path
+-- Whether the status is the one for the path: 200 for the root, and 404 for any other.
 pub record IsStatus (path : List ℕ) (status : ℕ) : Type 0 where
   pub root : path ≡ 47 ∷ [] → status ≡ 200
   pub other : (path ≡ 47 ∷ [] → ⊥) → status ≡ 404
 
--- a request that was handed out, the status of its response, and the connection's reply to the Respond
+-- A request that was handed out, the status of its response, and the connection's reply to the Respond.
 pub record Greeting : Type 0 where
   pub number : ℕ
   pub head : Head
   pub status : ℕ
   pub reply : ReplyValue
 
--- each response has the status of its path
+-- whether each response has the status for its request's path
 abbrev pub AreByPath : List Greeting → Type 0
 AreByPath [] = Unit {0}
 AreByPath (g ∷ greetings) = IsStatus g.head.path g.status × AreByPath greetings
@@ -36,7 +36,7 @@ steps_of now [] = []
 steps_of now (g ∷ greetings) =
     (now, Ask) ∷ (now, Respond g.number (response_of g.status [] [])) ∷ steps_of now greetings
 
--- the replies to these steps
+-- the replies to the steps of these greetings
 abbrev pub replies_of : List Greeting → List ReplyValue
 replies_of [] = []
 replies_of (g ∷ greetings) =
@@ -46,18 +46,18 @@ abbrev pub is_handed : ReplyValue → Bool
 is_handed (Handed number message framing) = true
 is_handed _ = false
 
--- the reply to an Ask after the greetings, if there was one
+-- the reply to the Ask after the greetings, if there was one
 abbrev pub last_reply : Option Reply → List ReplyValue
 last_reply None = []
 last_reply (Some r) = seen r ∷ []
 
--- That Ask hands out no request. There is none only after 2^64 - 1 greetings.
+-- Whether the Ask after the greetings hands out no request. There is no such Ask only after 2^64 - 1 greetings.
 abbrev pub EndsGreetings : List Greeting → Option Reply → Type 0
 EndsGreetings greetings None = length greetings ≡ 2 ^ 64 - 1
 EndsGreetings greetings (Some r) = is_handed (seen r) ≡ false
 
--- Some greetings by the path, then an Ask with this reply, are a conversation with this client. Its output is what the
--- writer took and what is held.
+-- Whether some greetings, each with the status for its path, then an Ask with this reply, are a conversation with this
+-- client. Its output is what the writer took and what is held.
 pub record Greets (client : Feed) (before : Sink) (now : HttpDate) (after : Sink) (held : List ℕ) (ended : Bool)
     (unread : Option Feed) (last : Option Reply) : Type 0 where
   pub greetings : List Greeting
@@ -67,11 +67,12 @@ pub record Greets (client : Feed) (before : Sink) (now : HttpDate) (after : Sink
       (steps_of now greetings ++ map (λ _. (now, Ask)) (last_reply last)) (replies_of greetings ++ last_reply last)
       after held ended unread
 
--- a writer that took nothing
+-- what a writer that took nothing states
 abbrev pub nothing_taken : Sink
 nothing_taken = record { taken = Some []; sent = []; failures = 0; last_kind = None; has_ended = false }
 
--- The same with a client that sends these bytes and ends, over a writer in memory that took nothing before.
+-- Whether some greetings, then an Ask with this reply, are a conversation with a client that sends these bytes and
+-- ends, over a writer in memory that took nothing before.
 pub record GreetsClient (client : List ℕ) (now : HttpDate) (writer : Budget) (held : List ℕ) (ended : Bool)
     (last : Option Reply) : Type 0 where
   pub unread : Option Feed

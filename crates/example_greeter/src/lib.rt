@@ -30,11 +30,11 @@ fn status_of(head: &Head) -> StatusCode
     StatusCode(404)
 }
 
-/// Responds to each request by its path, with 200 for the root and 404 for any other, without a body and on this date,
-/// until none is handed out.
+/// Responds to each request according to its path, with 200 for the root and 404 for any other, without a body and
+/// dated `now`, until no request is handed out.
 ///
-/// Returns the reader and the writer with their buffers, and the reply by which the connection handed out no request:
-/// `Ended`, or `Memory` if memory for a head was refused. There is no such reply after 2^64 - 1 requests.
+/// Returns the reader and the writer with their buffers, and the last reply, which handed out no request: `Ended`, or
+/// `Memory` if memory for a head was refused. After 2^64 - 1 requests it stops, and returns `None` for the reply.
 pub fn serve<R: ReadDevice + Drop, W: WriteDevice + Drop>(
     alloc: Global,
     reader: R,
@@ -62,7 +62,8 @@ pub fn serve<R: ReadDevice + Drop, W: WriteDevice + Drop>(
     (source, outlet, None)
 }
 
-/// Serves a client in memory that sends these bytes and ends. The writer fails if memory for its bytes is refused.
+/// Serves a client in memory that sends these bytes and ends. Returns the writer with its buffer, and the last reply.
+/// The writer fails if memory for its bytes is refused.
 pub fn serve_bytes(alloc: Global, bytes: Vec<u8>, now: HttpDate) -> (Outlet<Budget>, Option<Reply>)
     ensures { GreetsClient bytes.items now (outlet_writer result.0) (outlet_held result.0) (outlet_ended result.0)
         result.1 }

@@ -7,19 +7,19 @@ use Rattle.tiny_http_wire.specs.Common.{version_text, method_text}
 use Rattle.tiny_http_wire.specs.Heads.{Message}
 use Rattle.tiny_http_core.specs.Steps.{ReplyValue, Handed, Ended, Given, Fault, NotYet, Done, Refused, NoSuch, Memory}
 
--- the name of a kind of fault
+-- the name of an error kind, or Other if the replies don't distinguish it
 abbrev pub kind_name : ErrorKind → List ℕ
 kind_name InvalidData = codes "InvalidData"
 kind_name UnexpectedEof = codes "UnexpectedEof"
 kind_name OutOfMemory = codes "OutOfMemory"
 kind_name _ = codes "Other"
 
--- the content length, or -
+-- the text of a content length, or - if there is none
 abbrev pub length_text : Option ℕ → List ℕ
 length_text None = codes "-"
 length_text (Some n) = decimal n
 
--- a request's number, method, target, version, number of headers, and length
+-- the text of a request that was handed out: its number, method, target, version, number of headers, and length
 abbrev pub handed_text : ℕ → Message → Option ℕ → List ℕ
 handed_text k m said =
     codes "handed " ++ decimal k ++ codes " " ++ method_text m.method ++ codes " " ++ m.path ++ codes " "
@@ -30,12 +30,12 @@ handed_text k m said =
 abbrev pub hex_byte : ℕ → List ℕ
 hex_byte b = get_or (codes "0123456789abcdef") (b / 16) 0 ∷ get_or (codes "0123456789abcdef") (b % 16) 0 ∷ []
 
--- a space and the bytes; nothing if there are none
+-- a space and the hexadecimal digits of the bytes, or nothing if there are no bytes
 abbrev pub bytes_text : List ℕ → List ℕ
 bytes_text [] = []
 bytes_text (b ∷ bytes) = codes " " ++ flat_map hex_byte (b ∷ bytes)
 
--- a reply without the end of its line
+-- the line of a reply, without a line break
 abbrev pub reply_text : ReplyValue → List ℕ
 reply_text (Handed k message framing) = handed_text k message framing.body_length
 reply_text (Fault kind) = codes "fault " ++ kind_name kind
@@ -47,6 +47,6 @@ reply_text NoSuch = codes "nosuch"
 reply_text Memory = codes "memory"
 reply_text Refused = codes "refused"
 
--- a reply's line, with the LF that ends it
+-- the line of a reply, with the LF that ends it
 abbrev pub reply_line : ReplyValue → List ℕ
 reply_line reply = reply_text reply ++ codes "\n"

@@ -34,7 +34,7 @@ use Rattle.replay_script.specs.declared.script_data.ScriptData.{ScriptData}
 abbrev pub script_lines : List ℕ → List (List ℕ)
 script_lines script = slice_split (λ b. b == 10) script
 
--- line n, counted from 1, is the first that isn't in the grammar
+-- whether line n, counted from 1, is the first that isn't in the grammar
 abbrev pub IsFirstBadLine : List (List ℕ) → ℕ → Type 0
 IsFirstBadLine lines n =
     (front : List (List ℕ)) × (bad : List ℕ) × (rest : List (List ℕ))
@@ -78,7 +78,7 @@ said_step (UpgradeLine number status protocol) = Some (Upgrade number protocol.n
 said_step (FinishLine number) = Some (Finish number)
 said_step (DropLine number) = Some (Drop number)
 
--- the date of the steps from a line on
+-- the date of the steps after this line: that of a `now` line, else `now`
 abbrev pub date_behind : HttpDate → ScriptLine → HttpDate
 date_behind now Blank = now
 date_behind now (Now date) = date
@@ -93,28 +93,28 @@ date_behind now (UpgradeLine number status protocol) = now
 date_behind now (FinishLine number) = now
 date_behind now (DropLine number) = now
 
--- at most one step, on its date
+-- a list of the step with this date, or the empty list if there is no step
 abbrev pub on_date : HttpDate → Option StepValue → List TimedValue
 on_date now None = []
 on_date now (Some step) = (now, step) ∷ []
 
--- the steps of lines, from a date on
+-- the steps of these lines; the date is that of the steps before the first `now` line
 abbrev pub steps_from : HttpDate → List ScriptLine → List TimedValue
 steps_from now [] = []
 steps_from now (line ∷ lines) =
     on_date (date_behind now line) (said_step line) ++ steps_from (date_behind now line) lines
 
--- these are the steps of a script; before any line `now` the date is second 420895020
+-- whether these are the steps of a script; the date before the first `now` line is second 420895020
 abbrev pub IsScript : List ℕ → List TimedValue → Type 0
 IsScript script steps =
     (lines : List ScriptLine) × (first : HttpDate)
     × AllZip IsLine (script_lines script) lines × (unix_secs first ≡ 420_895_020) × (steps ≡ steps_from first lines)
 
--- a response as a value
+-- the value of a response
 abbrev pub response_value : ResponseState ScriptData → ResponseValue
 response_value response = record { answer = response.answer; content = data_feed response.data_reader }
 
--- a step as a value
+-- the value of a step
 abbrev pub step_value : Step ScriptData → StepValue
 step_value AskStep = Ask
 step_value (AsReaderStep number) = AsReader number
@@ -127,6 +127,6 @@ step_value (UpgradeStep number protocol response) = Upgrade number (string_bytes
 step_value (FinishStep number) = Finish number
 step_value (DropStep number) = Drop number
 
--- a step and its date as a value
+-- the value of a step with its date
 abbrev pub timed_value : Timed ScriptData → TimedValue
 timed_value timed = (timed.now, step_value timed.step)

@@ -9,15 +9,15 @@ use Rattle.replay_script.specs.declared.line.ScriptLine.TheVariants.{Write, Flus
 use Rattle.replay_script.specs.declared.line.Content.{Content}
 use Rattle.replay_script.specs.declared.line.Content.TheVariants.{Text, Empty, Stream, Broken}
 
--- the text is at least one decimal digit, and they write this number
+-- whether a text is at least one decimal digit, and the digits write this number
 abbrev pub WritesNumber : List ℕ → ℕ → Type 0
 WritesNumber digits n = IsNumeral 10 digits × (digits_value 10 digits ≡ n)
 
--- the text is such a number, a space, and the rest
+-- whether a text is this number in decimal digits, a space, and the rest
 abbrev pub BeginsByNumber : List ℕ → ℕ → List ℕ → Type 0
 BeginsByNumber text n rest = (digits : List ℕ) × (text ≡ digits ++ 32 ∷ rest) × WritesNumber digits n
 
--- the text is a number of 64 bits, a space, a status code of 16 bits, a space, and the rest
+-- whether a text is a 64-bit number, a space, a 16-bit status code, a space, and the rest
 abbrev pub BeginsByNumbers : List ℕ → ℕ → ℕ → List ℕ → Type 0
 BeginsByNumbers text number status rest =
     (behind : List ℕ)
@@ -26,15 +26,15 @@ BeginsByNumbers text number status rest =
     × (number < 2 ^ 64)
     × (status < 2 ^ 16)
 
--- the text is the seconds of a date, up to the end of the year 9999
+-- whether a text is the seconds of this date since 1970, up to the end of the year 9999
 abbrev pub WritesDate : List ℕ → HttpDate → Type 0
 WritesDate text date = WritesNumber text (unix_secs date) × (unix_secs date < 253_402_300_800)
 
--- the text is the seconds of some date
+-- whether a text is the seconds of some date
 abbrev pub IsDate : List ℕ → Type 0
 IsDate text = (date : HttpDate) × WritesDate text date
 
--- the text is a number of 16 bits
+-- whether a text is this number, of 16 bits
 abbrev pub WritesCount : List ℕ → ℕ → Type 0
 WritesCount digits count = WritesNumber digits count × (count < 2 ^ 16)
 
@@ -45,7 +45,7 @@ WritesContent text Empty = text ≡ codes "empty"
 WritesContent text (Stream count) = (digits : List ℕ) × (text ≡ codes "stream " ++ digits) × WritesCount digits count
 WritesContent text (Broken count) = (digits : List ℕ) × (text ≡ codes "broken " ++ digits) × WritesCount digits count
 
--- the text is some content
+-- whether a text is the content of some response
 abbrev pub IsContent : List ℕ → Type 0
 IsContent text = (content : Content) × WritesContent text content
 
@@ -54,16 +54,16 @@ abbrev pub WritesAnswer : List ℕ → ℕ → ℕ → Content → Type 0
 WritesAnswer words number status content =
     (text : List ℕ) × BeginsByNumbers words number status text × WritesContent text content
 
--- the words are some response
+-- whether the words are those of some response
 abbrev pub IsAnswer : List ℕ → Type 0
 IsAnswer words = (number : ℕ) × (status : ℕ) × (content : Content) × WritesAnswer words number status content
 
--- the grammar of what follows `read`: a number of 64 bits, a space, and one of 16 bits
+-- the grammar of what follows `read`: a 64-bit number, a space, and a 16-bit number
 abbrev pub WritesRead : List ℕ → ℕ → ℕ → Type 0
 WritesRead words number count =
     (digits : List ℕ) × BeginsByNumber words number digits × (number < 2 ^ 64) × WritesCount digits count
 
--- the grammar of a line, and what it means
+-- the grammar of a line, and what the line means
 abbrev pub SaysLine : List ℕ → ScriptLine → Type 0
 SaysLine text Blank = (text ≡ []) ⊎ ((comment : List ℕ) × (text ≡ codes "#" ++ comment))
 SaysLine text (Now date) = (digits : List ℕ) × (text ≡ codes "now " ++ digits) × WritesDate digits date
@@ -86,14 +86,14 @@ SaysLine text (Finish number) =
 SaysLine text (Drop number) =
     (digits : List ℕ) × (text ≡ codes "drop " ++ digits) × WritesNumber digits number × (number < 2 ^ 64)
 
--- the text is some line
+-- whether a text is a line with some meaning
 abbrev pub SaysSome : List ℕ → Type 0
 SaysSome text = (line : ScriptLine) × SaysLine text line
 
--- the line is ASCII and means this
+-- whether a line is ASCII and has this meaning
 abbrev pub IsLine : List ℕ → ScriptLine → Type 0
 IsLine bytes line = IsAscii bytes × SaysLine bytes line
 
--- the line is ASCII and in the grammar
+-- whether a line is ASCII and in the grammar
 abbrev pub IsGood : List ℕ → Type 0
 IsGood bytes = IsAscii bytes × SaysSome bytes

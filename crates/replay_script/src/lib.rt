@@ -1,4 +1,4 @@
-//! The script of `replay`: the grammar of its lines, the steps of a connection that they name, and the lines that
+//! The script of `replay`: the grammar of its lines, the steps of a connection that the lines name, and the lines that
 //! report the replies. The crate is built on `tiny_http_core` and `tiny_http_wire`.
 #![tactic(auto)]
 

@@ -1,4 +1,4 @@
-//! Parser of a script's lines.
+//! A parser for the lines of a script.
 ghost use Rattle.std.specs.Prelude.{◌≡◌, ◌<◌, ◌^◌, ℕ, List, ◌↔◌, IfSome, IsSomeAnd, IsSome};
 ghost use Rattle.std.specs.Option.{SomeIff};
 ghost use Rattle.std.specs.Str.Parse.{IsNumeral, digits_value};
@@ -13,7 +13,7 @@ use httpdate::HttpDate;
 pub enum ScriptLine<'a> {
     /// An empty line or a comment.
     Blank,
-    /// The date of all later steps.
+    /// Sets the date of the steps from here on.
     Now(HttpDate),
     /// Asks for the next request.
     Ask,
@@ -29,7 +29,7 @@ pub enum ScriptLine<'a> {
     Write(u64, &'a str),
     /// Sends what was written under this number.
     Flush(u64),
-    /// Upgrades the request of this number with this status code to this protocol.
+    /// Upgrades the request of this number to this protocol, with this status code.
     Upgrade(u64, u16, &'a str),
     /// Ends the raw writer of this number, or the stream of its upgrade.
     Finish(u64),
@@ -44,13 +44,13 @@ pub enum Content<'a> {
     Text(&'a str),
     /// No data.
     Empty,
-    /// This many bytes `x`, of unstated length.
+    /// This many bytes `x`, without a stated length.
     Stream(u16),
-    /// This many bytes `x`, of unstated length, then a fault in place of the end.
+    /// This many bytes `x`, without a stated length, and then a fault in place of the end.
     Broken(u16),
 }
 
-// Parses a decimal number below 2^64. `parse` accepts a leading plus; a script doesn't.
+// Parses a decimal number below 2^64. It refuses a leading plus, which `parse` accepts.
 fn number_in(digits: &str) -> Option<u64>
     ensures { SomeIff result (IsNumeral 10 digits.now × (digits_value 10 digits.now < 2 ^ 64))
         (digits_value 10 digits.now) }
@@ -135,7 +135,7 @@ fn read_in(words: &str) -> Option<(u64, u16)>
     Some((number, count_in(digits)?))
 }
 
-/// Parses a line of any characters. Returns `None` if it isn't in the grammar.
+/// Parses a line, which may have characters that aren't ASCII. Returns `None` if the line isn't in the grammar.
 pub fn text_in(text: &str) -> Option<ScriptLine<'_>>
     ensures some { IfSome result (λ line. SaysLine text.now line) }
     ensures found { SaysSome text.now → IsSome result }
@@ -181,7 +181,7 @@ pub fn text_in(text: &str) -> Option<ScriptLine<'_>>
     Some(ScriptLine::Read(number, count))
 }
 
-/// Parses a line. Returns `None` if it isn't in the grammar, or has a byte from 128 on.
+/// Parses a line. Returns `None` if the line isn't ASCII or isn't in the grammar.
 pub fn line_in(bytes: &[u8]) -> Option<ScriptLine<'_>>
     ensures says { IfSome result (λ line. IsLine bytes.now line) }
     ensures good { IsSome result ↔ IsGood bytes.now }

@@ -20,15 +20,15 @@ use tiny_http_wire::common::StatusCode;
 use tiny_http_wire::device::Stop;
 use tiny_http_wire::response::Response;
 
-/// An error of reading a script.
+/// An error in reading a script.
 #[derive(Clone, Copy, Debug, PartialEq, Eq)]
 pub enum ScriptFault {
-    /// The first line that isn't in the grammar, counted from 1 over all lines.
+    /// The number of the first line that isn't in the grammar, counted from 1 over all lines.
     BadLine(usize),
     OutOfMemory,
 }
 
-/// Returns the date of the steps before any line `now`: Wed, 04 May 1983 11:17:00 GMT.
+/// Returns the date of the steps before the first `now` line: Wed, 04 May 1983 11:17:00 GMT.
 pub fn first_date() -> HttpDate
     ensures { unix_secs result ≡ 420_895_020 }
 {
@@ -38,14 +38,14 @@ pub fn first_date() -> HttpDate
     }
 }
 
-// Splits a script at each LF. The end ends the last line, too.
+// Splits a script at each LF. The end of the script also ends the last line.
 fn split_lines(alloc: Global, script: &[u8]) -> Result<Vec<&[u8]>, AllocError>
     ensures { IfOk result (λ lines. map (λ line. line.now) lines.items ≡ script_lines script.now) }
 {
     script.split(|b| *b == b'\n').collect(alloc)
 }
 
-// Parses the lines. Fails at the first one that isn't in the grammar.
+// Parses the lines. Fails at the first line that isn't in the grammar, or if memory is refused.
 fn read_lines<'a>(alloc: Global, lines: &[&'a [u8]]) -> Result<Vec<ScriptLine<'a>>, ScriptFault>
     ensures says { IfOk result (λ said. AllZip IsLine (map (λ line. line.now) lines.now) said.items) }
     ensures bad { (n : ℕ) → result ≡ Err (ScriptFault.BadLine n)
@@ -72,7 +72,7 @@ fn text_response(
     ensures { IfOk result (λ response. response_value response ≡ response_of status.0 (text_plain ∷ []) text.now) }
 {
     let data = ScriptData::from_text(String::from_str(alloc, text)?);
-    // The header is that of every text, and an empty one takes no memory.
+    // The header is the same for every text, and an empty text takes no memory.
     let response = Response::from_string(alloc, String::new(alloc))?.with_status_code(status);
     Ok(response.with_data(data, Some(text.len())))
 }
@@ -109,7 +109,8 @@ fn response_with(
     }
 }
 
-/// Returns the step that a line names, if it names one. It takes memory for a response and for the bytes of a `write`.
+/// Returns the step that a line names, if it names one. Fails if memory is refused for a response, a protocol or the
+/// bytes of a `write`.
 pub fn step_in(alloc: Global, line: &ScriptLine<'_>) -> Result<Option<Step<ScriptData>>, AllocError>
     ensures { IfOk result (λ step. option_map step_value step ≡ said_step line.now) }
 {
@@ -138,7 +139,7 @@ pub fn step_in(alloc: Global, line: &ScriptLine<'_>) -> Result<Option<Step<Scrip
     }
 }
 
-// Returns the date of the steps from a line on.
+// Returns the date of the steps after this line: that of a `now` line, otherwise `now`.
 fn date_from(now: HttpDate, line: &ScriptLine<'_>) -> HttpDate
     ensures { result ≡ date_behind now line.now }
 {
@@ -148,7 +149,7 @@ fn date_from(now: HttpDate, line: &ScriptLine<'_>) -> HttpDate
     }
 }
 
-// Appends the step that a line names, if it names one, on this date.
+// Appends the step that a line names, if it names one, with this date.
 fn add_step(
     alloc: Global,
     steps: &mut Vec<Timed<ScriptData>>,
@@ -164,7 +165,7 @@ fn add_step(
     Ok(())
 }
 
-// Returns the steps of these lines, from a date on.
+// Returns the steps of these lines. `first` is the date of the steps before the first `now` line.
 fn read_steps(
     alloc: Global,
     first: HttpDate,
@@ -181,7 +182,8 @@ fn read_steps(
     Ok(steps)
 }
 
-/// Returns the steps that a script names, each with its date. Fails at its first bad line, or if memory is refused.
+/// Returns the steps that a script names, each with its date. Fails with `BadLine` at the first line that isn't in the
+/// grammar, and with `OutOfMemory` if memory is refused.
 pub fn read_script(alloc: Global, script: &[u8]) -> Result<Vec<Timed<ScriptData>>, ScriptFault>
     ensures steps { IfOk result (λ steps. IsScript script.now (map timed_value steps.items)) }
     ensures bad { (n : ℕ) → result ≡ Err (ScriptFault.BadLine n) → IsFirstBadLine (script_lines script.now) n }

@@ -19,21 +19,21 @@ pub enum ScriptData {
 #[derive(Drop)]
 pub struct Given {
     canned: Canned,
-    // They are in memory.
+    // The bytes are in memory.
     ghost few: { length canned.bytes < 2 ^ 63 },
 }
 
 /// A number of bytes `x`, then an end or a fault. They take no memory.
 #[derive(Drop)]
 pub struct Xs {
-    // How many bytes are left.
+    // The number of bytes that are left.
     left: usize,
     stop: Stop,
-    // A number of 16 bits counts them.
+    // A 16-bit number counts the bytes.
     ghost few: { left < 2 ^ 16 },
 }
 
-// Writes `x` to the front of `to`, at most `count` times, and returns how often.
+// Writes `x` to the front of `to`, at most `count` times, and returns the number of bytes written.
 fn write_xs(count: usize, to: &mut [u8]) -> usize
     ensures count { result ≡ min count (length to.old) }
     ensures len { length to.new ≡ length to.old }
@@ -47,14 +47,14 @@ fn write_xs(count: usize, to: &mut [u8]) -> usize
 impl ScriptData {
     ghost use Rattle.replay_script.specs.ScriptData.{data_feed, xs};
 
-    /// Returns the bytes of a text, then the end.
+    /// Returns data that give the bytes of a text, then the end.
     pub fn from_text(text: String) -> ScriptData
         ensures { data_feed result ≡ whole_feed (string_bytes text) }
     {
         ScriptData::from_bytes(text.into_bytes(), None)
     }
 
-    /// Returns these bytes, then the end, or a fault of this kind in its place.
+    /// Returns data that give these bytes, then the end, or a fault of this kind in its place.
     pub fn from_bytes(bytes: Vec<u8>, fault: Option<ErrorKind>) -> ScriptData
         ensures { data_feed result ≡ record { bytes = bytes.items; stop = stop_of fault } }
     {
@@ -62,7 +62,7 @@ impl ScriptData {
         ScriptData::Given(Given { canned })
     }
 
-    /// Returns `count` bytes `x`, then this stop.
+    /// Returns data that give `count` bytes `x`, then this stop.
     pub fn xs(count: u16, stop: Stop) -> ScriptData
         ensures { data_feed result ≡ xs count stop }
     {

@@ -1,5 +1,6 @@
-//! Accepting clients. Each is a job of the worker pool, which reads its requests and puts them into the server's queue.
-//! Once the server serves by a handler, the clients themselves go into the queue, and `serve` takes them out.
+//! Accepting clients. Each client is a job of the worker pool, which reads the client's requests and puts them into the
+//! server's queue. Once the server serves with a handler, the clients themselves go into the queue, and `serve` takes
+//! them out.
 ghost use Rattle.std.specs.Prelude.{◌≡◌};
 ghost use Rattle.tiny_http.specs.Message.{received};
 
@@ -43,7 +44,7 @@ const LINGER_READS: u32 = 4_096;
 /// A message in a server's queue.
 #[derive(Drop)]
 pub(crate) enum Message<R: Wait + Clock + Drop> {
-    /// The error by which accepting ended.
+    /// The error that ended accepting.
     Error(io::Error),
     /// A request that was read.
     NewRequest(ServerRequest<R>),
@@ -52,9 +53,9 @@ pub(crate) enum Message<R: Wait + Clock + Drop> {
 }
 
 impl<R: Wait + Clock + Drop> Message<R> {
-    /// Converts a queue message to a request or an error, or to `None` if only a mark was popped. A client that is to
-    /// be served goes back into the queue, and the result is `None`, too; the client is closed if the queue has no
-    /// room.
+    /// Converts a queue message to a request or an error, or to `None` if only a mark was popped. If the message is a
+    /// client that is to be served, the client goes back into the queue, and the result is `None`, too; if the queue
+    /// has no room, the client is closed.
     pub fn received(
         messages: &Messages<R>,
         rt: &R,
@@ -77,8 +78,8 @@ impl<R: Wait + Clock + Drop> Message<R> {
 /// The queue of a server.
 pub(crate) type Messages<R> = MessagesQueue<Message<R>>;
 
-// Drops what is in the queue of a closed server. Once the server was stopped a mark stays there, so that each waiting
-// call returns.
+// Drops what is in the queue of a closed server. Once the server was stopped it leaves a mark there, so that each
+// waiting call returns.
 fn drop_waiting<R: Wait + Clock + Drop>(rt: &R, messages: &Messages<R>, ending: &Ending) {
     messages.clear(rt);
     if ending.has_stopped() {
@@ -87,8 +88,8 @@ fn drop_waiting<R: Wait + Clock + Drop>(rt: &R, messages: &Messages<R>, ending: 
 }
 
 // Closes a connection in stages, once all is answered (RFC 9112, section 9.6): shuts down writing, then discards what
-// the client still sends, until it closes, is silent for too long or sends too much; under limits for 5 seconds at
-// most. A connection that is closed with unread bytes is reset, and the client may lose the last response.
+// the client still sends, until the client closes, is silent for too long or sends too much; under limits for at most 5
+// seconds. A connection that is closed with unread bytes is reset, and the client may lose the last response.
 fn close_in_stages<R: Clock>(rt: &R, socket: &Connection, has_limits: bool) {
     let begun = time_of(rt);
     let most = Duration::from_secs(LINGER_SECS);
@@ -109,15 +110,16 @@ fn close_in_stages<R: Clock>(rt: &R, socket: &Connection, has_limits: bool) {
     }
 }
 
-/// A client that was accepted. Its connection is closed when this is dropped, except for requests that are held.
+/// A client that was accepted. Its connection is closed when it is dropped, except for the requests that are still
+/// held.
 #[derive(Drop)]
 pub(crate) struct Client<R: Wait + Clock + Drop> {
     rt: R,
     ending: Arc<Ending>,
     connection: ClientConnection<ServerReader<R>, ServerWriter<R>, R>,
-    // Shared by its two halves.
+    // Shared by the two halves of the connection.
     cork: Arc<Cork<TimedWriter<R>>>,
-    // Used to close it.
+    // Used to close the connection.
     socket: Arc<Connection>,
     has_limits: bool,
     // Counts the client as connected until it is dropped.
@@ -125,9 +127,9 @@ pub(crate) struct Client<R: Wait + Clock + Drop> {
 }
 
 impl<R: Wait + Clock + Copy> Client<R> {
-    // Puts its requests into the queue until it has no further one. If the server begins to serve, it returns the
-    // request that came then. A request is dropped if the queue has no room for it. After the server was closed nothing
-    // takes requests from the queue, so a thread that adds one then empties the queue.
+    // Puts the client's requests into the queue until there is no further one. If the server begins to serve with a
+    // handler, returns the request that came then. A request is dropped if the queue has no room for it. After the
+    // server was closed nothing takes requests from the queue, so a thread that adds one then empties the queue.
     fn read_requests(
         &mut self,
         messages: &Messages<R>,
@@ -151,8 +153,8 @@ impl<R: Wait + Clock + Copy> Client<R> {
         None
     }
 
-    // Hands its requests to a handler until it has no further one. Responses leave together. Once the server was
-    // closed, the next request is dropped and is the last.
+    // Hands the client's requests to a handler until there is no further one. Responses leave together. Once the server
+    // was closed, the next request is dropped and is the last.
     fn answer_requests<H: Handler<R, ServerRequest<R>>>(&mut self, alloc: Global, handler: &H) {
         let Ok(flush_policy) = Arc::try_clone(self.cork.flush_policy()) else {
             return;
@@ -172,7 +174,7 @@ impl<R: Wait + Clock + Copy> Client<R> {
         }
     }
 
-    // Waits until all its requests are answered, and closes the connection.
+    // Waits until all the client's requests are answered, and closes the connection.
     fn close(&mut self) {
         self.cork.send();
         if self.connection.wait_for_answers().is_ok() {
@@ -189,7 +191,8 @@ pub(crate) struct Arrival<R: Wait + Clock + Drop> {
 }
 
 impl<R: Wait + Clock + Copy> Arrival<R> {
-    // Puts it into the queue. Once the server was closed nothing takes it, and the queue is emptied.
+    // Puts the client into the queue. Once the server was closed nothing takes a client from the queue, which is then
+    // emptied.
     fn put(self, rt: &R, messages: &Messages<R>, ending: &Ending) {
         let _ = messages.push(rt, Message::NewClient(self));
         if ending.is_closed() {
@@ -197,8 +200,8 @@ impl<R: Wait + Clock + Copy> Arrival<R> {
         }
     }
 
-    /// Hands its requests to a handler, waits until all are answered, and closes the connection. Once the server was
-    /// closed, the next request is dropped and is the last.
+    /// Hands the client's requests to a handler, waits until all are answered, and closes the connection. Once the
+    /// server was closed, the next request is dropped and is the last.
     pub fn answer_by<H: Handler<R, ServerRequest<R>>>(&mut self, alloc: Global, handler: &H) {
         let next = self.next.take();
         if self.client.ending.is_closed() {
@@ -227,7 +230,7 @@ pub(crate) struct Reading<R: Wait + Clock + Drop> {
 
 impl<R: Wait + Clock + Copy> Job for Reading<R> {
     /// Puts the client's requests into the queue, waits until all are answered, and closes the connection. If the
-    /// server serves by then, it puts the client itself into the queue, to be served.
+    /// server serves with a handler by then, it puts the client itself into the queue, to be served.
     fn run(&mut self) {
         let Some(mut client) = self.client.take() else {
             return;
@@ -253,7 +256,7 @@ pub(crate) struct Accepting<R: Wait + Clock + Drop> {
     pub limits: Option<Limits>,
     pub listener: Listener,
     pub ending: Arc<Ending>,
-    // Set once the server serves by a handler.
+    // Set once the server serves with a handler.
     pub serving: Arc<AtomicBool>,
     pub messages: Arc<Messages<R>>,
     pub registry: Arc<ConnectionRegistry>,
@@ -261,7 +264,8 @@ pub(crate) struct Accepting<R: Wait + Clock + Drop> {
 }
 
 impl<R: Wait + Clock + Threads + Copy + Send + 'static> Accepting<R> {
-    /// Accepts clients until the server is closed or accepting fails. The error is put into the queue.
+    /// Accepts clients until the server is closed or accepting fails. The error that ends accepting is put into the
+    /// queue.
     pub fn run(self) {
         self.accept_all();
         self.ending.end_accepting();
@@ -296,7 +300,7 @@ impl<R: Wait + Clock + Threads + Copy + Send + 'static> Accepting<R> {
         }
     }
 
-    // Has a worker read this client's requests, or queues it to be served. If that fails, the client is closed.
+    // Has a worker read this client's requests, or queues the client to be served. If that fails, the client is closed.
     fn begin(&self, connection: Connection, remote_addr: Option<SocketAddr>) {
         let Some(client) = self.client(connection, remote_addr) else {
             return;
@@ -320,8 +324,8 @@ impl<R: Wait + Clock + Threads + Copy + Send + 'static> Accepting<R> {
         }
     }
 
-    // Returns the client of this connection, or `None` if memory is refused or the limit of its address is reached. It
-    // sets TCP_NODELAY, so that small responses are sent at once, and ignores a failure of that.
+    // Returns the client of this connection, or `None` if memory is refused, a limit refuses the client, or the server
+    // was closed. It sets TCP_NODELAY, so that small responses are sent at once, and ignores a failure of that.
     fn client(&self, connection: Connection, remote_addr: Option<SocketAddr>) -> Option<Client<R>> {
         let _ = connection.set_nodelay(true);
         let (rt, alloc) = (self.rt, self.alloc);
@@ -332,7 +336,7 @@ impl<R: Wait + Clock + Threads + Copy + Send + 'static> Accepting<R> {
         let timers = ConnectionTimers::new(alloc, self.limits, upgraded).ok()?;
         let guard = self.enter(remote_addr, &socket, &timers)?;
         if self.ending.is_closed() {
-            // The server was stopped before the client was registered.
+            // The server was closed before the client was registered.
             return None;
         }
         let secure = reader.secure();
@@ -377,7 +381,8 @@ impl<R: Wait + Clock + Threads + Copy + Send + 'static> Accepting<R> {
         Some((TimedReader::new(rt, reader, socket, timers), writer))
     }
 
-    // Counts a client of this address as connected. Returns `None` if a limit refuses it.
+    // Counts a client of this address as connected. Returns `None` if a limit refuses the client, memory is refused, or
+    // no further handle can be made.
     fn enter(
         &self,
         remote_addr: Option<SocketAddr>,

@@ -1,14 +1,14 @@
-//! The stages of a server's end.
+//! The stages of a server's shutdown.
 use std::sync::atomic::{AtomicBool, Ordering};
 
-/// The stage of a server's end, which its threads share.
+/// The stage of a server's shutdown, which the server's threads share.
 #[derive(Drop)]
 pub(crate) struct Ending {
     // No further client is accepted.
     is_closed: AtomicBool,
-    // The accepting thread is past its last client.
+    // The accepting thread accepts no further client.
     has_accepted_all: AtomicBool,
-    // A call of `stop` has waited.
+    // A call of `stop` has finished its wait.
     has_stopped: AtomicBool,
 }
 
@@ -32,7 +32,7 @@ impl Ending {
         self.is_closed.load(Ordering::SeqCst)
     }
 
-    /// Notes that the accepting thread accepts no further client.
+    /// Records that the accepting thread accepts no further client.
     pub fn end_accepting(&self) {
         self.has_accepted_all.store(true, Ordering::SeqCst);
     }
@@ -42,12 +42,12 @@ impl Ending {
         self.has_accepted_all.load(Ordering::SeqCst)
     }
 
-    /// Notes that a call of `stop` has waited.
+    /// Records that a call of `stop` has finished its wait.
     pub fn stop(&self) {
         self.has_stopped.store(true, Ordering::SeqCst);
     }
 
-    /// Returns whether a call of `stop` has waited.
+    /// Returns whether a call of `stop` has finished its wait.
     pub fn has_stopped(&self) -> bool {
         self.has_stopped.load(Ordering::SeqCst)
     }

@@ -1,8 +1,8 @@
 //! A small HTTP server: it accepts clients and hands out their requests, which any thread may read and respond to.
 //!
 //! `Server::http` listens at an address, `recv` waits for a request, and `respond` sends a response. Responses leave in
-//! the order of the requests of their connection, so `respond` waits until those before are answered. A request that is
-//! dropped gets an empty 500. Threads may share a server, and each may receive requests. A loop over
+//! the order of the requests of their connection, so `respond` waits until the earlier requests are answered. A request
+//! that is dropped gets an empty 500. Threads may share a server, and each may receive requests. A loop over
 //! `incoming_requests` is a whole program:
 //!
 //! ```text

@@ -78,7 +78,7 @@ impl ConnectionRegistry {
         counts
     }
 
-    /// Returns how often accepting failed and continued.
+    /// Returns how many times accepting failed and then continued.
     pub fn accept_faults<R: Wait>(&self, rt: &R) -> u64 {
         self.connections.lock(rt).counts.accept_faults
     }
@@ -105,7 +105,7 @@ impl ConnectionRegistry {
         self.changed.notify_all();
     }
 
-    // Adds a client and returns its number, or `None` if a limit refuses it.
+    // Adds a client and returns its number, or `None` if a limit refuses the client or memory is refused.
     fn enter<R: Wait>(
         &self,
         rt: &R,
@@ -136,12 +136,12 @@ impl ConnectionRegistry {
             handle.timers.end_stream();
         }
         drop(connections);
-        // Its connection ends here, before other threads are notified.
+        // The client's connection ends here, before other threads are notified.
         drop(left);
         self.changed.notify_all();
     }
 
-    /// Stops reading heads, and ends the connections that wait for one.
+    /// Stops the reading of heads, and ends the connections that wait for one.
     pub fn stop<R: Wait>(&self, rt: &R) {
         let connections = self.connections.lock(rt);
         for entry in connections.table.entries() {
@@ -177,12 +177,12 @@ impl ConnectionRegistry {
     }
 }
 
-/// Returns the time of the clock, or 0 if it can't be read.
+/// Returns the time of the monotonic clock, or 0 if it can't be read.
 pub(crate) fn time_of<R: Clock>(rt: &R) -> Duration {
     rt.monotonic().unwrap_or(Duration::from_secs(0))
 }
 
-/// A connection guard: its client counts as connected until it is dropped.
+/// The guard of an open connection: the client counts as connected until the guard is dropped.
 pub(crate) struct ConnectionGuard<R: Wait + Clock + Drop> {
     rt: R,
     registry: Arc<ConnectionRegistry>,
@@ -190,7 +190,8 @@ pub(crate) struct ConnectionGuard<R: Wait + Clock + Drop> {
 }
 
 impl<R: Wait + Clock + Drop> ConnectionGuard<R> {
-    /// Counts a client of this address as connected. Returns `None` if a limit refuses it.
+    /// Counts a client of this address as connected. Returns `None` if a limit refuses the client, memory is refused,
+    /// or no further handle to the registry can be made.
     pub fn enter(
         rt: R,
         registry: &Arc<ConnectionRegistry>,

@@ -80,13 +80,13 @@ pub type ServerRequest<R> = Request<ServerReader<R>, ServerWriter<R>, R>;
 /// The body of a `ServerRequest`.
 pub type ServerBody<R> = Body<ServerReader<R>, R>;
 
-/// The result of `into_writer` on a `ServerRequest`: the connection's output, in its turn.
+/// The result of `into_writer` on a `ServerRequest`: the connection's output, in the turn of the request.
 pub type ServerOutput<R> = SequentialWriter<Outlet<ServerWriter<R>>, R>;
 
 /// The result of `upgrade` on a `ServerRequest`.
 pub type ServerStream<R> = CustomStream<ServerBody<R>, ServerOutput<R>>;
 
-/// The result of a call that stops a server.
+/// The result of stopping a server.
 #[derive(Clone, Copy, Debug, PartialEq, Eq)]
 pub enum Stopped {
     /// Every request that was handed out is answered, and every connection is closed.
@@ -95,11 +95,11 @@ pub enum Stopped {
     TimeOver,
 }
 
-/// An error of making a server.
+/// An error in making a server.
 #[derive(Debug, Drop, Error)]
 pub enum ServerError {
-    /// It can't listen at the address, the host's name isn't found, the text isn't an address, or the system has no
-    /// thread for it.
+    /// The server can't listen at the address, the host's name isn't found, the text isn't an address, or the system
+    /// has no thread for the server.
     #[error("{0}")]
     Io(io::Error),
     /// TLS was requested, which isn't implemented.
@@ -195,15 +195,15 @@ impl SslConfig {
 ///
 /// When it is dropped, it accepts no further client and removes the file of its Unix socket; the accepting thread ends
 /// soon after. Requests that were handed out can still be answered. Each other request, queued or later, gets an empty
-/// 500. The connection of a later one ends with it; that of a queued one ends with its next request, or when the client
-/// closes it. A client that is being accepted at that moment may be turned away.
+/// 500. The connection of a later request ends with that request; the connection of a queued request ends with its next
+/// request, or when the client closes it. A client that is being accepted at that moment may be turned away.
 ///
 /// The date of a request, which is that of its 500 if it is dropped, is read before the wait for its head: on an idle
 /// connection it is older than the request.
 pub struct Server<R: Net + SocketFiles + Wait + Clock + Drop> {
     pub(crate) rt: R,
     ending: Arc<Ending>,
-    // Set once the server serves by a handler.
+    // Set once the server serves with a handler.
     pub(crate) serving: Arc<AtomicBool>,
     pub(crate) messages: Arc<Messages<R>>,
     pub(crate) registry: Arc<ConnectionRegistry>,
@@ -217,7 +217,7 @@ impl<R: ServerRuntime> Server<R> {
         Server::http_with(rt, alloc, addr, Profile::Lenient)
     }
 
-    /// Makes a server as `http` does, which reads the heads of all its clients by this profile.
+    /// Makes a server as `http` does, but reads the heads of all its clients under this profile.
     pub fn http_with<A: ToSocketAddrs>(
         rt: R,
         alloc: Global,
@@ -228,7 +228,7 @@ impl<R: ServerRuntime> Server<R> {
         Server::new_with(rt, alloc, ServerConfig { addr, ssl: None }, profile)
     }
 
-    /// Makes a server at this path, where it makes a file. Fails as `new` does.
+    /// Makes a server at this path, where it makes the file of a Unix socket. Fails as `new` does.
     pub fn http_unix(rt: R, alloc: Global, path: Path<'_>) -> Result<Server<R>, ServerError> {
         let path = PathBuf::from_str(alloc, path.path_text()).map_err(|_| ServerError::Memory)?;
         let addr = ConfigListenAddr::unix_from_path(path);
@@ -244,7 +244,7 @@ impl<R: ServerRuntime> Server<R> {
         Server::new_with(rt, alloc, config, Profile::Lenient)
     }
 
-    /// Makes a server as `new` does, which reads the heads of all its clients by this profile.
+    /// Makes a server as `new` does, but reads the heads of all its clients under this profile.
     pub fn new_with(
         rt: R,
         alloc: Global,
@@ -258,8 +258,8 @@ impl<R: ServerRuntime> Server<R> {
     }
 
     /// Makes a server for an open port: as `new_with` does, with these limits for its clients. After a temporary accept
-    /// error, such as out of descriptors or a connection that its client has reset, it waits and tries again. It takes
-    /// over the file of a Unix socket on which no process listens.
+    /// error, such as that no descriptor is left or that a client has reset its connection, it waits and tries again.
+    /// It takes over the file of a Unix socket on which no process listens.
     pub fn with(
         rt: R,
         alloc: Global,
@@ -298,11 +298,11 @@ impl<R: ServerRuntime> Server<R> {
         made
     }
 
-    /// Makes a server over this listening socket, which has to be blocking: a nonblocking one ends accepting with
+    /// Makes a server over this listening socket, which has to be blocking: on a nonblocking socket accepting ends with
     /// `WouldBlock`. Heads are read under `Lenient`. The file of a Unix socket is removed when the server is dropped.
     ///
-    /// Fails with `Ssl` if there are TLS settings, `Io` if the socket has no address or the system has no thread for
-    /// the server, and `Memory` if memory is refused. Then the file stays.
+    /// Fails with `Ssl` if there are TLS settings, with `Io` if the socket has no address or the system has no thread
+    /// for the server, and with `Memory` if memory is refused. The file then stays.
     pub fn from_listener(
         rt: R,
         alloc: Global,
@@ -315,7 +315,7 @@ impl<R: ServerRuntime> Server<R> {
         Server::from_listener_with(rt, alloc, listener, ssl, Profile::Lenient)
     }
 
-    /// Makes a server as `from_listener` does, which reads the heads of all its clients by this profile.
+    /// Makes a server as `from_listener` does, but reads the heads of all its clients under this profile.
     pub fn from_listener_with(
         rt: R,
         alloc: Global,
@@ -408,7 +408,7 @@ impl<R: Net + SocketFiles + Wait + Clock + Drop> Server<R> {
         IncomingRequests { server: self }
     }
 
-    /// Returns the address at which it listens.
+    /// Returns the address at which the server listens.
     pub fn server_addr(&self) -> ListenAddr {
         match self.listening_addr.clone() {
             Ok(addr) => addr,
@@ -427,20 +427,20 @@ impl<R: Net + SocketFiles + Wait + Clock + Drop> Server<R> {
         self.registry.counts(&self.rt)
     }
 
-    /// Returns how often accepting failed and continued, which happens only under limits.
+    /// Returns how many times accepting failed and then continued, as it does only under limits.
     pub fn accept_faults(&self) -> u64 {
         self.registry.accept_faults(&self.rt)
     }
 
-    /// Waits for a request. Fails with the error by which accepting ended, which one call reports, or with kind `Other`
-    /// if `unblock` was called. After such an accept error no further client is accepted, and requests come only from
-    /// those that were.
+    /// Waits for a request. Fails with the error that ended accepting, which one call reports, or with kind `Other` if
+    /// `unblock` was called. After an accept error no further client is accepted, and requests come only from clients
+    /// that were accepted before.
     ///
-    /// A server that serves by a handler returns only requests of clients that came before. If a client waits for the
-    /// next call of `serve`, it fails at once with kind `Other`, as if `unblock` had been called.
+    /// If the server serves with a handler, `recv` returns only requests of clients that came before. If a client waits
+    /// for the next call of `serve`, `recv` fails at once with kind `Other`, as if `unblock` had been called.
     ///
     /// Once the server was stopped, each call fails with kind `Other`. A server with limits doesn't hand out a request
-    /// after a response broke off on its connection: its own response would be lost.
+    /// if an earlier response on its connection broke off: the response to the request would be lost.
     pub fn recv(&self) -> io::Result<ServerRequest<R>> {
         for _ in self.rt.forever() {
             let popped = self.messages.pop(&self.rt);
@@ -453,8 +453,8 @@ impl<R: Net + SocketFiles + Wait + Clock + Drop> Server<R> {
         Err(ErrorKind::Other.into())
     }
 
-    /// Returns a request if one has come, without waiting, and `None` if `recv` would fail with kind `Other`. Fails
-    /// with the error by which accepting ended, which one call reports.
+    /// Returns a request if one has come, without waiting, and `None` if `recv` would wait or fail with kind `Other`.
+    /// Fails with the error that ended accepting, which one call reports.
     pub fn try_recv(&self) -> io::Result<Option<ServerRequest<R>>> {
         for _ in self.rt.forever() {
             let popped = self.messages.try_pop(&self.rt);
@@ -466,8 +466,8 @@ impl<R: Net + SocketFiles + Wait + Clock + Drop> Server<R> {
         Ok(None)
     }
 
-    // Converts a queue message to the result of `recv`. Once the server was stopped it is `None`, and another waiting
-    // call returns, too.
+    // Converts a queue message to the result of `recv`. Once the server was stopped the result is `None`, and another
+    // waiting call returns, too.
     fn received(&self, popped: Option<Message<R>>) -> io::Result<Option<ServerRequest<R>>> {
         if self.has_stopped() {
             let _ = self.messages.unblock(&self.rt);
@@ -476,7 +476,7 @@ impl<R: Net + SocketFiles + Wait + Clock + Drop> Server<R> {
         Message::received(&self.messages, &self.rt, popped)
     }
 
-    /// Has one call that waits for a request, now or later, return without one. Fails if memory is refused.
+    /// Makes one call that waits for a request, now or later, return without one. Fails if memory is refused.
     pub fn unblock(&self) -> Result<(), AllocError> {
         self.messages.unblock(&self.rt)
     }
@@ -489,17 +489,17 @@ impl<R: Net<Listener = TcpListener, Stream = TcpStream> + SocketFiles + Wait + C
     /// and requests in the queue are dropped, so that they get a 500. A connection whose request is answered is closed
     /// after its response.
     ///
-    /// The call waits, for `time` at most, until every request that was handed out is answered and every connection is
+    /// The call waits, for at most `time`, until every request that was handed out is answered and every connection is
     /// closed; then each call that waits for a request, and `serve`, returns. A later call waits again for what is
-    /// left. A handler that makes this call is waited for, too, so the call takes the whole time. It takes longer if a
-    /// client doesn't read a 500 that is sent here.
+    /// left. If a handler makes this call, the call waits for that handler's own request, too, and so takes the whole
+    /// time. It takes longer if a client doesn't read a 500 that is sent here.
     pub fn stop(&self, time: Duration) -> Stopped {
         let begun = time_of(&self.rt);
         self.close_down();
         self.registry.stop(&self.rt);
         let is_empty = self.registry.wait_until_empty(&self.rt, begun, time);
         if !self.ending.has_accepted_all() {
-            // There may have been no descriptor for it before.
+            // There may have been no descriptor for this connection before.
             self.connect_to_itself();
         }
         self.ending.stop();
@@ -512,8 +512,8 @@ impl<R: Net<Listener = TcpListener, Stream = TcpStream> + SocketFiles + Wait + C
 }
 
 impl<R: Net + SocketFiles + Wait + Clock + Drop> Server<R> {
-    /// Waits for a request, for `timeout` at most, and then returns `None`. Less than a millisecond counts as 0.
-    /// Otherwise it is like `try_recv`.
+    /// Waits for a request for at most `timeout`, and returns `None` if none has come by then. A timeout of less than a
+    /// millisecond counts as 0. Otherwise it is like `try_recv`.
     pub fn recv_timeout(&self, timeout: Duration) -> io::Result<Option<ServerRequest<R>>> {
         let begun = time_of(&self.rt);
         let mut left = timeout;
@@ -530,8 +530,8 @@ impl<R: Net + SocketFiles + Wait + Clock + Drop> Server<R> {
 }
 
 impl<R: Net + SocketFiles + Wait + Clock + Drop> Server<R> {
-    // Ends accepting, for which it connects to itself once, drops the requests in the queue, and removes the file of a
-    // Unix socket. A second call does nothing.
+    // Ends accepting, for which the server connects to itself once, drops the requests in the queue, and removes the
+    // file of a Unix socket. A second call does nothing.
     fn close_down(&self) {
         if !self.ending.close() {
             return;
@@ -547,7 +547,7 @@ impl<R: Net + SocketFiles + Wait + Clock + Drop> Server<R> {
         self.messages.clear(rt);
     }
 
-    // Connects to itself, so that the accepting thread wakes.
+    // Connects to the server's own address, so that the accepting thread wakes.
     fn connect_to_itself(&self) {
         let rt = &self.rt;
         match &self.listening_addr {
@@ -566,8 +566,8 @@ impl<R: Net + SocketFiles + Wait + Clock + Drop> Server<R> {
 }
 
 impl<R: Net + SocketFiles + Wait + Clock + Drop> Drop for Server<R> {
-    /// Ends accepting, for which it connects to itself once, drops the requests in the queue, and removes the file of a
-    /// Unix socket.
+    /// Ends accepting, for which the server connects to itself once, drops the requests in the queue, and removes the
+    /// file of a Unix socket.
     fn drop(self) {
         self.close_down();
         let Server {
@@ -603,15 +603,15 @@ pub struct IncomingRequests<'a, R: Net + SocketFiles + Wait + Clock + Drop> {
 }
 
 impl<R: Net + SocketFiles + Wait + Clock + Drop> IncomingRequests<'_, R> {
-    /// Waits for the next request. Returns `None` if `recv` fails: once for the error by which accepting ended, once
-    /// for each `unblock`, and if a client waits for `serve`. A later call waits again, unless the server was stopped.
+    /// Waits for the next request. Returns `None` if `recv` fails: once for the error that ended accepting, once for
+    /// each `unblock`, and if a client waits for `serve`. A later call waits again, unless the server was stopped.
     pub fn next(&mut self) -> Option<ServerRequest<R>> {
         self.server.recv().ok()
     }
 }
 
-/// Returns the date of the system clock, in whole seconds. It is second 0 if the clock can't be read, or is before 1970
-/// or after 9999.
+/// Returns the date of the system clock, in whole seconds. Returns second 0 of 1970 if the clock can't be read, or is
+/// before 1970 or after the year 9999.
 pub fn current_date<R: Clock>(rt: &R) -> HttpDate {
     date_of(rt.since_1970().ok())
 }
@@ -627,7 +627,7 @@ fn date_of(time: Option<Duration>) -> HttpDate
     }
 }
 
-// Returns the date of second 0.
+// Returns the date of second 0 of 1970.
 fn epoch() -> HttpDate
     ensures { unix_secs result ≡ 0 }
 {

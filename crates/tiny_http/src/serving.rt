@@ -1,6 +1,6 @@
-//! Serving by a handler. With `serve` the worker of each connection responds to that connection's requests itself, one
-//! after another, without a queue or another thread between, and consecutive responses leave together. With `serve_by`
-//! a number of threads receive the requests of all connections.
+//! Serving with a handler. With `serve` the worker of each connection responds to that connection's requests itself,
+//! one after another, without a queue or another thread between, and consecutive responses leave together. With
+//! `serve_by` a number of threads receive the requests of all connections.
 use crate::accepting::{Arrival, Message};
 use crate::server::{Host, Server, ServerRequest, ServerRuntime};
 use std::alloc::Global;
@@ -18,30 +18,31 @@ pub trait Handler<R, Q> {
     /// Responds to a request. A request that is dropped gets an empty 500, even if this call drops it because it fails;
     /// the server ignores the error.
     ///
-    /// Under `serve_by` it may wait for its turn, as `recv` and `respond` do. The rest applies to `serve`, too.
+    /// Under `serve_by` the call may wait for the request's turn, as a program that calls `recv` and `respond` does.
+    /// The rest applies to `serve`, too.
     ///
-    /// It may keep the request and respond later from any thread. The next request is handed out meanwhile, once the
-    /// body of the kept one was read or given up, but under `Standard` not before the response to a kept one that asks
-    /// for an upgrade. Responding to the next one then waits for the kept one's response, in this call, and no further
-    /// request of the connection is handed out meanwhile.
+    /// The call may keep the request and respond later from any thread. The next request is handed out meanwhile, once
+    /// the body of the kept request was read or given up, but under `Standard` not before the response to a kept
+    /// request that asks for an upgrade. The response to the next request then waits, in this call, for the response to
+    /// the kept request, and no further request of the connection is handed out meanwhile.
     ///
     /// What this call writes, up to 16,384 bytes, may be held until it has returned, and so may responses to earlier
-    /// requests of the connection. A handler that does more after its response, whose data come slowly, or that waits
-    /// for something else from this client, hands the request to another thread and returns; or it takes a raw writer
-    /// and flushes that.
+    /// requests of the connection. If a handler does more after its response, if the response's data come slowly, or if
+    /// the handler waits for something else from this client, it hands the request to another thread and returns; or it
+    /// takes a raw writer and flushes that.
     fn handle(&self, rt: &R, alloc: Global, request: Q) -> io::Result<()>;
 }
 
-// A worker's work with a handler.
+// What a worker does with a handler.
 #[derive(Drop)]
 enum Work<R: Wait + Clock + Drop> {
-    // Responding to the requests of a client, then closing its connection.
+    // Responds to the requests of a client, then closes its connection.
     Client(Arrival<R>),
-    // Responding to a request that was in the queue before the server served. `None` once it is done.
+    // Responds to a request that was in the queue before the server served. `None` once it is done.
     Request(R, Option<ServerRequest<R>>),
 }
 
-// Work, with the allocator and the handler that it needs.
+// A worker's work, with the allocator and the handler that it needs.
 #[derive(Drop)]
 struct Service<H, R: Wait + Clock + Drop> {
     alloc: Global,
@@ -67,10 +68,10 @@ impl<H: Handler<R, ServerRequest<R>> + Drop, R: Wait + Clock + Copy> Job for Ser
 }
 
 impl<R: ServerRuntime> Server<R> {
-    /// Serves by this handler until `unblock` is called, the server was stopped, or accepting ends, whose error is
-    /// returned. It also fails if memory or threads for its first workers are refused; a later client without a worker
-    /// is closed. Each client has a worker, which hands its requests to the handler one after another. Further workers
-    /// hand it the requests that came before this call.
+    /// Serves with this handler until `unblock` is called, the server was stopped, or accepting ends, whose error is
+    /// returned. It also fails if memory or threads for its first workers are refused; if there is no worker for a
+    /// later client, that client is closed. Each client has a worker, which hands the client's requests to the handler
+    /// one after another. Further workers hand the handler the requests that came before this call.
     ///
     /// Responses are held in a buffer of the connection, of 16,384 bytes, so a later response may report a fault of the
     /// socket. What is held is sent before the connection is read, when more comes than there is room for, when a
@@ -78,7 +79,7 @@ impl<R: ServerRuntime> Server<R> {
     /// `Standard`, and at the end. A flush of a raw writer or of an upgraded stream sends it too, and so does a 100.
     ///
     /// Once the first workers run the server serves, even after this call has returned: clients that come then wait for
-    /// the next call. The clients that it has begun with are served until they or the server end.
+    /// the next call. The clients whose workers have begun are served until the clients or the server end.
     ///
     /// A client that reads no response blocks its worker once the socket takes no more, and its further requests aren't
     /// read then: a client that sends many requests has to read meanwhile.
@@ -114,10 +115,11 @@ impl<R: ServerRuntime> Server<R> {
 }
 
 impl<R: Host> Server<R> {
-    /// Responds by this handler on `threads` threads, each of which receives one request after another, until `unblock`
-    /// is called once, the server was stopped, or accepting ends, whose error is returned. It returns when all threads
-    /// have ended, each after its last response. It also fails if memory is refused; the threads that were started have
-    /// ended by then. It returns at once, as `recv` does, if `serve` was called before and a client waits for it.
+    /// Responds with this handler on `threads` threads, each of which receives one request after another, until
+    /// `unblock` is called once, the server was stopped, or accepting ends, whose error is returned. It returns when
+    /// all threads have ended, each after its last response. It also fails if memory is refused; the threads that were
+    /// started have ended by then. It returns at once, as `recv` does, if `serve` was called before and a client waits
+    /// for its next call.
     ///
     /// This is the loop over `recv` that a program would write. Each response is sent when the handler makes it, and a
     /// request may be kept and answered later. An error of the handler is ignored. With 0 threads nothing is answered.
@@ -146,7 +148,7 @@ impl<R: Host> Server<R> {
         Ok(())
     }
 
-    // Responds to requests until there is none. Passes the unblock on to a thread that still runs.
+    // Responds to requests until no more come, and then passes the unblock on to a thread that still runs.
     fn answer_on<H: Handler<R, ServerRequest<R>>>(
         &self,
         alloc: Global,
@@ -160,7 +162,7 @@ impl<R: Host> Server<R> {
         ended
     }
 
-    // Responds to requests until there is none. Fails with the error by which accepting ended.
+    // Responds to requests until no more come. Fails with the error that ended accepting.
     fn answer_until_unblocked<H: Handler<R, ServerRequest<R>>>(
         &self,
         alloc: Global,

@@ -28,13 +28,13 @@ use Rattle.tiny_http_io.specs.Source.{SourceState, GoesOn, IsAtEnd, SkipsBytes, 
 use Rattle.tiny_http_io.specs.declared.source.InputState.{InputState}
 use Rattle.tiny_http_io.specs.InputState.{after_body, after_fault, after_abandoned}
 
--- What is still to come of a body, and the feed after it, which has no byte if no head follows.
+-- What is still to come of a body, and the feed after the body, which is empty if no head follows.
 pub record Remaining : Type 0 where
   pub body : Feed
   pub behind : Feed
 
--- a whole chunked body ends, and the input continues after it; one that is cut or broken stops with its fault, and no
--- head follows
+-- what remains of a chunked body with these data: a whole body ends, and the input continues after it; a body that is
+-- cut or broken stops with its fault, and no head follows
 abbrev pub chunks_remaining : List ℕ → Result Feed ErrorKind → Remaining
 chunks_remaining bytes (Ok feed) = record { body = whole_feed bytes; behind = feed }
 chunks_remaining bytes (Err kind) = record { body = record { bytes = bytes; stop = Fault kind }; behind = stopped End }
@@ -42,35 +42,35 @@ chunks_remaining bytes (Err kind) = record { body = record { bytes = bytes; stop
 abbrev pub coming_remaining : Coming → Remaining
 coming_remaining c = chunks_remaining c.bytes c.behind
 
--- the rules for the lines of a chunked body
+-- the rules for the lines of a chunked body, by whether they are the standard's
 abbrev pub chunk_rules : Bool → ChunkRules
 chunk_rules true = chunks.Standard
 chunk_rules false = chunks.Lenient
 
--- the stop of a body that the input's stop cuts: the input's own, but by the standard an end is also a fault (RFC 9112,
--- section 8)
+-- the stop of a body that the input's stop cuts: the input's own stop, but by the standard an end is also a fault (RFC
+-- 9112, section 8)
 abbrev pub cut_stop : Bool → Stop → Stop
 cut_stop false stop = stop
 cut_stop true stop = Fault (fault_of stop)
 
--- the input, with its stop as a body reports it
+-- the input's feed, with its stop as a body reports it
 abbrev pub cut_feed : Bool → Feed → Feed
 cut_feed by_standard feed = record { bytes = feed.bytes; stop = cut_stop by_standard feed.stop }
 
--- n bytes of the input; if there are fewer, no head follows
+-- what remains of a body of n bytes of the input; if the input has fewer, no head follows
 abbrev pub counted_remaining : Bool → ℕ → Feed → Remaining
 counted_remaining by_standard n feed =
     record { body = feed_front n (cut_feed by_standard feed); behind = skipped n feed }
 
--- the input is after the body already
+-- what remains of a body that was taken from the input already
 abbrev pub taken_remaining : Feed → Feed → Remaining
 taken_remaining body feed = record { body = body; behind = feed }
 
--- the whole rest of the input; no head follows
+-- what remains of a body that is the whole rest of the input; no head follows
 abbrev pub rest_remaining : Feed → Remaining
 rest_remaining feed = record { body = feed; behind = stopped End }
 
--- what is still to come of the body if the input still gives this feed
+-- what remains of a body if the input still has this feed
 abbrev pub remaining : UnreadBody → Option Feed → Option Remaining
 remaining (Over stop) feed = option_map (taken_remaining (stopped stop)) feed
 remaining (WithHead bytes) feed = option_map (taken_remaining (whole_feed (cursor_bytes bytes))) feed
@@ -78,8 +78,8 @@ remaining (Counted n by_standard) feed = option_map (counted_remaining by_standa
 remaining (Chunked decoding) feed = option_map coming_remaining (decoding_coming decoding feed)
 remaining Rest feed = option_map rest_remaining feed
 
--- A chunked body of which nothing was read: a whole one gives its data and leaves the rest; any other gives the data
--- that are there, then the fault.
+-- whether this decodes a chunked body of which nothing was read: a whole body decodes to its data and leaves the rest;
+-- any other body decodes to the data that are there, then the fault
 pub record IsNewDecoding (by_standard : Bool) (d : Decoding) : Type 0 where
   pub rules : decoding_rules d ≡ chunk_rules by_standard
   pub whole : (bytes body rest : List ℕ) (stop : Stop) → WholeChunksBy (chunk_rules by_standard) bytes body rest
@@ -90,27 +90,28 @@ pub record IsNewDecoding (by_standard : Bool) (d : Decoding) : Type 0 where
       → decoding_coming d (Some (record { bytes = bytes; stop = stop }))
       ≡ Some (record { bytes = body; behind = Err kind })
 
+-- whether this is a chunked body of which nothing was read
 abbrev pub IsNewChunked : Bool → UnreadBody → Type 0
 IsNewChunked by_standard b = (d : Decoding) × (b ≡ Chunked d) × IsNewDecoding by_standard d
 
--- these bytes of the body, then what remains
+-- these bytes of a body, then what remains of the body
 abbrev pub prepend_body : List ℕ → Remaining → Remaining
 prepend_body bs r = record { body = prepend bs r.body; behind = r.behind }
 
 abbrev pub prepended_body : List ℕ → Option Remaining → Option Remaining
 prepended_body bs r = option_map (prepend_body bs) r
 
--- no byte of the body is left, and this is how it stops
+-- whether no byte of the body is left and the body stops in this way, if what remains is stated
 abbrev pub BodyStops : Stop → Option Remaining → Type 0
 BodyStops stop None = ⊤
 BodyStops stop (Some r) = r.body ≡ stopped stop
 
--- no byte of the body is left
+-- whether no byte of the body is left, if what remains is stated
 abbrev pub NoneRemains : Option Remaining → Type 0
 NoneRemains None = ⊤
 NoneRemains (Some r) = r.body.bytes ≡ []
 
--- the body is still read from the input
+-- whether the body is still read from the input
 abbrev pub is_streaming : UnreadBody → Bool
 is_streaming (Over stop) = false
 is_streaming (WithHead bytes) = false
@@ -118,7 +119,7 @@ is_streaming (Counted n by_standard) = true
 is_streaming (Chunked decoding) = true
 is_streaming Rest = true
 
--- nothing more of the body is read from the input, and no fault ended it
+-- whether nothing more of the body is read from the input, and no fault ended the body
 abbrev pub is_whole : UnreadBody → Bool
 is_whole (Over End) = true
 is_whole (Over (Fault kind)) = false
@@ -127,7 +128,7 @@ is_whole (Counted n by_standard) = false
 is_whole (Chunked decoding) = false
 is_whole Rest = false
 
--- how many bytes of it are left, if that is known
+-- the number of bytes of a body that are left, if that is known
 abbrev pub bytes_left : UnreadBody → Option ℕ
 bytes_left (Over End) = Some 0
 bytes_left (Over (Fault kind)) = None
@@ -153,12 +154,12 @@ abbrev pub is_skipped : Remainder → Bool
 is_skipped left.Skipped = true
 is_skipped _ = false
 
--- what an upgraded connection reads: by the standard all further input, otherwise the body of its request
+-- the body that an upgraded connection reads: by the standard all further input, otherwise the body of its request
 abbrev pub stream_body : Bool → UnreadBody → UnreadBody
 stream_body true b = Rest
 stream_body false b = b
 
--- what is reported from now on, if the body keeps it
+-- the end or fault that each further read of the body reports, if the body keeps it
 abbrev pub body_stop : UnreadBody → Option Stop
 body_stop (Over stop) = Some stop
 body_stop (WithHead bytes) = None
@@ -178,21 +179,23 @@ abbrev pub IsChunkedBy : ChunkRules → UnreadBody → Type 0
 IsChunkedBy rules (Chunked decoding) = decoding_rules decoding ≡ rules
 IsChunkedBy rules _ = ⊥
 
--- A counted body is over, with its end or a fault. It ends without a fault if all its bytes had come; otherwise, by the
--- standard, it ends with one.
+-- whether a counted body is over, with its end or a fault. It ends without a fault if all its bytes had come;
+-- otherwise, by the standard, it ends with a fault.
 abbrev pub IsCountedOver : Bool → Bool → UnreadBody → Type 0
 IsCountedOver by_standard has_come (Over End) = (has_come || not by_standard) ≡ true
 IsCountedOver by_standard has_come (Over (Fault kind)) = has_come ≡ false
 IsCountedOver by_standard has_come _ = ⊥
 
--- A body in memory stays there: after n of `count` bytes this is left, and nothing once the end was reported.
+-- whether a body in memory stays in memory: after n of `count` bytes the others are left, and none once the end was
+-- reported
 abbrev pub StaysHeld : ℕ → ℕ → Bool → UnreadBody → Type 0
 StaysHeld count n end_reported (WithHead bytes) =
     (n + length (cursor_bytes bytes) ≡ count) × (end_reported ≡ true → length (cursor_bytes bytes) ≡ 0)
 StaysHeld count n end_reported _ = ⊥
 
--- The body after a read that gave n bytes and reported its end or fault, or not. A counted body is over with its last
--- byte; any other that is read from the input is over once its end or fault was reported.
+-- whether this is the body after a read that returned n bytes, and reported an end or fault if `end_reported`. A
+-- counted body is over with its last byte; any other body that is read from the input is over once its end or fault was
+-- reported.
 abbrev pub ReadsOn : UnreadBody → ℕ → Bool → UnreadBody → Type 0
 ReadsOn (Over stop) n end_reported new = (new ≡ Over stop) × (n ≡ 0)
 ReadsOn (WithHead bytes) n end_reported new = StaysHeld (length (cursor_bytes bytes)) n end_reported new
@@ -203,22 +206,24 @@ ReadsOn (Chunked decoding) n end_reported new =
     MatchBool end_reported (IsBodyOver new) (IsChunkedBy (decoding_rules decoding) new)
 ReadsOn Rest n end_reported new = MatchBool end_reported (IsBodyOver new) (new ≡ Rest)
 
--- how many bytes a call gave
+-- the number of bytes that a call returned
 abbrev pub bytes_given : {E : Type 0} → Result ℕ E → ℕ
 bytes_given (Ok n) = n
 bytes_given (Err e) = 0
 
--- 1 if the body is over; 1 if a fault ended it
+-- 1 if the body is over, and otherwise 0
 abbrev pub over_count : UnreadBody → ℕ
 over_count (Over stop) = 1
 over_count _ = 0
 
+-- 1 if a fault ended the body, and otherwise 0
 abbrev pub fault_stops : UnreadBody → ℕ
 fault_stops (Over (Fault kind)) = 1
 fault_stops _ = 0
 
--- THE ENDS AND FAULTS OF THE INPUT THAT A CALL MEETS, if it gave n bytes of a body and left this of it. A counted body
--- meets one only if it is cut, and a chunked one only if a fault ends it, since its own end is a line.
+-- THE ENDS AND FAULTS OF THE INPUT THAT A CALL MEETS: how many, if the call returned n bytes of a body and left the
+-- body `new`. A counted body meets one only if it is cut, and a chunked body only if a fault ends it, since its own end
+-- is a line.
 abbrev pub ends_met : UnreadBody → ℕ → UnreadBody → ℕ
 ends_met (Over stop) n new = 0
 ends_met (WithHead bytes) n new = 0
@@ -226,7 +231,8 @@ ends_met (Counted left by_standard) n new = if n == left then 0 else over_count 
 ends_met (Chunked decoding) n new = fault_stops new
 ends_met Rest n new = over_count new
 
--- the body is finished: it is empty or in memory, or all its bytes were given, or its end or fault was reported
+-- whether the body is finished: it is empty or in memory, or all its bytes were returned, or its end or fault was
+-- reported
 abbrev pub body_finished : Form → ℕ → ℕ → Bool → Bool
 body_finished form.Nothing n given end_reported = true
 body_finished form.WithHead n given end_reported = true
@@ -234,13 +240,13 @@ body_finished form.Counted n given end_reported = given == n || end_reported
 body_finished form.Chunked n given end_reported = end_reported
 body_finished form.Rest n given end_reported = end_reported
 
--- the stops that a finished body of this form may have: one in memory is never over, and an absent one has ended
+-- whether a finished body of this form may have this stop: a body in memory is never over, and an absent body has ended
 abbrev pub MayBeOver : Form → Stop → Type 0
 MayBeOver form.WithHead stop = ⊥
 MayBeOver form.Nothing stop = stop ≡ End
 MayBeOver _ stop = ⊤
 
--- what was read of the body fits its profile, form and length
+-- whether what was read of the body fits its profile, form and length
 abbrev pub Fits : Bool → UnreadBody → Form → ℕ → ℕ → Bool → Type 0
 Fits standard (Over stop) shape n given end_reported =
     (body_finished shape n given end_reported ≡ true) × MayBeOver shape stop
@@ -252,8 +258,8 @@ Fits standard (Chunked decoding) shape n given end_reported =
     (shape ≡ form.Chunked) × (end_reported ≡ false) × (decoding_rules decoding ≡ chunk_rules standard)
 Fits standard Rest shape n given end_reported = (shape ≡ form.Rest) × (end_reported ≡ false)
 
--- A buffer was filled from the body: with all its bytes; or with fewer, and none is left; or a fault came before any
--- byte, and stays. If the buffer had room and got none, the body was at its end.
+-- whether a buffer was filled from the body: it is full; or it has fewer bytes, and none is left; or a fault came
+-- before any byte, and stays. If a nonempty buffer got no byte, the body was at its end.
 abbrev pub FillsFromBody : UnreadBody → Option Feed → UnreadBody → Option Feed → Result ℕ ErrorKind → List ℕ → Type 0
 FillsFromBody old from new to (Ok n) buf =
     (remaining old from ≡ prepended_body (take n buf) (remaining new to))
@@ -264,7 +270,7 @@ FillsFromBody old from new to (Err kind) buf =
     (remaining new to ≡ remaining old from) × ReadsOn old 0 true new × BodyStops (Fault kind) (remaining old from)
     × (new ≡ Over (Fault kind))
 
--- The input state after a read that left this of the body.
+-- the input state after a read that left this body
 abbrev pub body_input_state : UnreadBody → InputState → InputState
 body_input_state (Over End) input_state = after_body input_state
 body_input_state (Over (Fault kind)) input_state = after_fault kind input_state
@@ -273,10 +279,10 @@ body_input_state (Counted n by_standard) input_state = input_state
 body_input_state (Chunked decoding) input_state = input_state
 body_input_state Rest input_state = input_state
 
--- WHAT A READ GIVES of a body, and what it leaves. The bytes that came are the next of the body, at most as many as
--- fit. No byte into a buffer with room is the end of the body; a fault is the body's own. A counted body is over with
--- its last byte; any other that is read from the input is over once its end or fault was reported. After the first
--- fault the source has ended. The input advances or stays.
+-- WHAT A READ RETURNS of a body, and what it leaves. The bytes that came are the next of the body, at most as many as
+-- fit. A read into a nonempty buffer that returns 0 is at the end of the body; a fault is the body's own. A counted
+-- body is over with its last byte; any other body that is read from the input is over once its end or fault was
+-- reported. After the first fault the source has ended. The input advances or stays.
 pub record ReadsRemaining {R : Type 0} (old new : UnreadBody) (from to : SourceState R) (r : Result ℕ Error)
     (buf : List ℕ) : Type 0 where
   pub bound : IfOk r (λ n. n ≤ length buf)
@@ -290,9 +296,9 @@ pub record ReadsRemaining {R : Type 0} (old new : UnreadBody) (from to : SourceS
   pub at_end : OnErr r (body_stop old ≡ None → IsAtEnd to)
   pub goes_on : GoesOn from.feed to.feed
 
--- ONE READ of a body. A read into an empty buffer changes nothing. A body that isn't read from the source leaves it
--- alone, and one that is over reports its end or fault again. Otherwise what is left of the body gives the input state:
--- the next head, once the body is over.
+-- ONE READ of a body. A read into an empty buffer changes nothing. A body that isn't read from the source leaves the
+-- source unchanged, and a body that is over reports its end or fault again. Otherwise what is left of the body
+-- determines the input state: the next head, once the body is over.
 pub record ReadsBody {R : Type 0} (old new : UnreadBody) (from to : SourceState R) (r : Result ℕ Error)
     (buf : List ℕ) : Type 0 where
   pub reads : ReadsRemaining old new from to r buf
@@ -302,7 +308,8 @@ pub record ReadsBody {R : Type 0} (old new : UnreadBody) (from to : SourceState 
   pub reports_stop : IfSome (body_stop old) (λ stop. 0 < length buf → AnswersStop stop r × (new ≡ old))
   pub input_state : is_streaming old ≡ true → to.input_state ≡ body_input_state new from.input_state
 
--- One read, into a buffer with room, of a body that isn't read from the input, and so isn't afterwards.
+-- The effect of one read, into a nonempty buffer, of a body that isn't read from the input, neither before nor
+-- afterwards.
 pub record ReadsHeld (old new : UnreadBody) (r : Result ℕ Error) (buf : List ℕ) : Type 0 where
   pub bound : IfOk r (λ n. n ≤ length buf)
   pub bytes : (feed : Option Feed) → IfOk r (λ n. remaining old feed ≡ prepended_body (take n buf) (remaining new feed))
@@ -314,8 +321,8 @@ pub record ReadsHeld (old new : UnreadBody) (r : Result ℕ Error) (buf : List �
   pub reports_stop : IfSome (body_stop old) (λ stop. AnswersStop stop r × (new ≡ old))
   pub stays_held : is_streaming new ≡ false
 
--- An unread body is skipped: the bytes of a counted one are skipped before the next head. Otherwise nothing changes:
--- they were read with the head, or there are none.
+-- The effect of skipping an unread body: the bytes of a counted body are skipped before the next head. For any other
+-- body nothing changes.
 abbrev pub PassesOver : {R : Type 0} → UnreadBody → SourceState R → SourceState R → Type 0
 PassesOver (Counted left by_standard) old new = SkipsBytes left old new
 PassesOver (Over stop) old new = new ≡ old
@@ -323,8 +330,8 @@ PassesOver (WithHead bytes) old new = new ≡ old
 PassesOver (Chunked decoding) old new = new ≡ old
 PassesOver Rest old new = new ≡ old
 
--- A body is given up: the rest of a counted one is skipped without calling the reader; after a chunked one no head
--- follows; otherwise nothing changes, and the rest of the input is left to the source.
+-- The effect of giving up a body: the rest of a counted body is skipped without calling the reader; after a chunked
+-- body no head follows; otherwise nothing changes, and the rest of the input is left to the source.
 abbrev pub GivesUp : {R : Type 0} → UnreadBody → SourceState R → SourceState R → Type 0
 GivesUp (Over stop) old new = new ≡ old
 GivesUp (WithHead bytes) old new = new ≡ old

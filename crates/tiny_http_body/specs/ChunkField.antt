@@ -5,14 +5,14 @@ use Rattle.tiny_http_text.specs.Bytes.{colon}
 use Rattle.tiny_http_body.specs.declared.chunked.field.Field.{Field}
 use Rattle.tiny_http_body.specs.declared.chunked.field.Field.TheVariants.{Empty, Name, Value, Wrong}
 
--- the state after one more byte
+-- the state of a field line after one more byte
 abbrev pub field_step : Field → ℕ → Field
 field_step Empty b = if is_token_byte b then Name else Wrong
 field_step Name b = if is_token_byte b then Name else (if b == colon then Value else Wrong)
 field_step Value b = if is_value_byte b then Value else Wrong
 field_step Wrong b = Wrong
 
--- whether the bytes are a field line
+-- whether the bytes so far are a field line
 abbrev pub is_whole_field : Field → Bool
 is_whole_field Empty = false
 is_whole_field Name = false

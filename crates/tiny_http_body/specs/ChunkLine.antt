@@ -16,17 +16,17 @@ use Rattle.tiny_http_body.specs.declared.chunked.line.Scan.{Scan}
 use Rattle.tiny_http_body.specs.ChunkSize.{size_step, standard_step}
 use Rattle.tiny_http_body.specs.ChunkField.{field_step, is_whole_field}
 
--- the meaning after one more byte
+-- the meaning of a line after one more byte
 abbrev pub said_step : ChunkRules → Said → ℕ → Said
 said_step Lenient said b = record { size = size_step said.size b; field = said.field }
 said_step Standard said b = record { size = standard_step said.size b; field = field_step said.field b }
 
--- the meaning after these bytes
+-- the meaning of a line after these bytes
 abbrev pub said_after : ChunkRules → Said → List ℕ → Said
 said_after rules said [] = said
 said_after rules said (b ∷ bs) = said_after rules (said_step rules said b) bs
 
--- the meaning before the first byte
+-- the meaning of a line before its first byte
 abbrev pub nothing_said : Said
 nothing_said = record { size = size.Blank; field = field.Empty }
 
@@ -35,23 +35,24 @@ abbrev pub is_trailer_said : ChunkRules → Said → Bool
 is_trailer_said Lenient said = true
 is_trailer_said Standard said = is_whole_field said.field
 
--- whether a byte that doesn't end the line is malformed
+-- whether a byte that doesn't end the line is malformed: by the standard, an LF is
 abbrev pub breaks_line : ChunkRules → ℕ → Bool
 breaks_line Lenient b = false
 breaks_line Standard b = b == line_feed
 
--- The state after one more byte, which may follow a CR. A CR is held back, since it may begin the end of the line.
+-- the scan after one more byte; the flags say whether a CR came before it and whether it is a CR. A CR is held back,
+-- since it may begin the end of the line.
 abbrev pub scan_with : ChunkRules → Said → Bool → ℕ → Bool → Scan
 scan_with rules said false b true = record { said = said; after_return = true }
 scan_with rules said false b false = record { said = said_step rules said b; after_return = false }
 scan_with rules said true b true = record { said = said_step rules said 13; after_return = true }
 scan_with rules said true b false = record { said = said_step rules (said_step rules said 13) b; after_return = false }
 
--- the state after one more byte that doesn't end the line
+-- the scan after one more byte that doesn't end the line
 abbrev pub scan_step : ChunkRules → Scan → ℕ → Scan
 scan_step rules s b = scan_with rules s.said s.after_return b (b == 13)
 
--- this line was consumed
+-- whether this line was consumed, with its CR LF
 pub record OneLine (rules : ChunkRules) (old new : Option Feed) (line : ChunkLine) : Type 0 where
   pub text : List ℕ
   pub gives : old ≡ prepended (text ++ crlf) new
@@ -59,7 +60,7 @@ pub record OneLine (rules : ChunkRules) (old new : Option Feed) (line : ChunkLin
   pub length_is : line.length ≡ length text
   pub said_is : line.said ≡ said_after rules nothing_said text
 
--- Each of the bytes was needed: with fewer of them their stop would be reported instead of the line.
+-- whether each of the bytes was needed: with fewer of them, the stop after those would be reported instead of the line
 abbrev pub AreNeeded : ChunkRules → List ℕ → Type 0
 AreNeeded rules gone =
     (front more : List ℕ) (stop : Stop)
@@ -67,14 +68,14 @@ AreNeeded rules gone =
     → 0 < length more
     → ChunkLineFaultBy rules front stop (fault_of stop)
 
--- there is no line, and some of the bytes in its place were consumed
+-- whether there is no line, with a fault of this kind, and some of the bytes in its place were consumed
 pub record NoLine (rules : ChunkRules) (old new : Option Feed) (kind : ErrorKind) : Type 0 where
   pub gone : List ℕ
   pub gives : old ≡ prepended gone new
   pub fault : (feed : Feed) → new ≡ Some feed → ChunkLineFaultBy rules (gone ++ feed.bytes) feed.stop kind
   pub needed : AreNeeded rules gone
 
--- no byte is left of the feed, if it is stated, and this kind reports its stop
+-- whether no byte is left of the feed and this kind reports its stop, if the feed is stated
 abbrev pub CutBy : ErrorKind → Option Feed → Type 0
 CutBy kind None = ⊤
 CutBy kind (Some feed) = (feed.bytes ≡ []) × (kind ≡ fault_of feed.stop)

@@ -1,4 +1,4 @@
--- Chunked bodies as functions that compute them.
+-- Chunked bodies, as functions that compute them.
 use Rattle.std.specs.Prelude.{ℕ, zero, suc, ◌+◌, Bool, true, false, not, ◌&&◌, ◌||◌, ◌==◌, nat_lt, nat_le, List, []}
 use Rattle.std.specs.Prelude.{◌∷◌, ◌++◌, length, take, drop, Option, Some, None, Result, Ok, Err, if◌then◌else◌}
 use Rattle.std.specs.List.{list_all}
@@ -15,7 +15,7 @@ use Rattle.tiny_http_body.specs.declared.chunked.ChunkRules.{ChunkRules}
 use Rattle.tiny_http_body.specs.declared.chunked.ChunkRules.TheVariants.{Lenient, Standard}
 use Rattle.tiny_http_head.specs.HeadReading.{line, front_while}
 
--- the size in a chunk-size line
+-- the text of the size in a chunk-size line, without blanks around it
 abbrev pub digits_of : List ℕ → List ℕ
 digits_of text = trimmed is_bws (front_while (λ b. not (b == semicolon)) text)
 
@@ -31,7 +31,7 @@ abbrev pub size_by : ChunkRules → List ℕ → Option ℕ
 size_by Lenient text = size_of text
 size_by Standard text = if (has_bare_front is_bws text && list_all is_value_byte text) then size_of text else None
 
--- whether the text is a field line, or with `some` the rest of one after bytes of its name
+-- whether the text is a field line, or, with `some`, the rest of a field line after bytes of its name
 abbrev pub is_field_behind : Bool → List ℕ → Bool
 is_field_behind some [] = false
 is_field_behind some (b ∷ bs) =
@@ -63,11 +63,12 @@ abbrev pub short_in : Stop → List ℕ → Option (List ℕ × List ℕ) → Li
 short_in stop bytes None = Err (if (nat_le (longest_line + 2) (length bytes)) then InvalidData else fault_of stop)
 short_in stop bytes (Some l) = Ok (l.0, drop (length l.0 + 2) bytes)
 
--- a line that begins here and isn't too long
+-- the line that begins here and the bytes after its CR LF, or the fault if there is no line or it is too long
 abbrev pub short_line : Stop → List ℕ → LineRead
 short_line stop bytes = short_in stop bytes (line (take (longest_line + 2) bytes))
 
--- by the standard a lone LF is a fault
+-- the line that begins here and the bytes after its CR LF, or the fault, by these rules; by the standard a lone LF is a
+-- fault
 abbrev pub line_by : ChunkRules → Stop → List ℕ → LineRead
 line_by Lenient stop bytes = short_line stop bytes
 line_by Standard stop bytes =
@@ -115,6 +116,6 @@ abbrev pub decoded_by : ChunkRules → ℕ → Stop → List ℕ → Decoded
 decoded_by rules zero stop bytes = broken [] InvalidData
 decoded_by rules (suc fuel) stop bytes = chunk_in rules (decoded_by rules fuel stop) stop (line_by rules stop bytes)
 
--- the same by the lenient rules
+-- the result of decoding a chunked body by the lenient rules
 abbrev pub decoded : ℕ → Stop → List ℕ → Decoded
 decoded fuel stop bytes = decoded_by Lenient fuel stop bytes

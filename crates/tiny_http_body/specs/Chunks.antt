@@ -24,15 +24,16 @@ longest_line = LONGEST_LINE
 abbrev pub most_trailers : ℕ
 most_trailers = MOST_TRAILERS
 
--- space or tab
+-- whether the byte is a space or a tab
 abbrev pub is_bws : ℕ → Bool
 is_bws b = b == 9 || b == 32
 
--- a hexadecimal digit of either case
+-- whether the byte is a hexadecimal digit of either case
 abbrev pub is_hex : ℕ → Bool
 is_hex b = nat_lt (digit_value b) 16
 
--- chunk-size [ chunk-ext ]: the text before the first `;`, without blanks around it, is 1 to 16 hexadecimal digits
+-- whether the text is a chunk-size [ chunk-ext ] of this size: the text before the first `;`, without blanks around it,
+-- is 1 to 16 hexadecimal digits
 pub record SizeText (text : List ℕ) (size : ℕ) : Type 0 where
   pub part : List ℕ
   pub extension : List ℕ
@@ -46,17 +47,18 @@ pub record SizeText (text : List ℕ) (size : ℕ) : Type 0 where
   pub hexadecimal : IsTrue (list_all is_hex digits)
   pub value : size ≡ digits_value 16 digits
 
--- By the standard the text begins with its digits, and has no control byte except tab.
+-- whether the text is a chunk-size [ chunk-ext ] of this size, by these rules. By the standard the text begins with its
+-- digits, and has no control byte except tab.
 abbrev pub SizeTextBy : ChunkRules → List ℕ → ℕ → Type 0
 SizeTextBy Lenient text size = SizeText text size
 SizeTextBy Standard text size =
     SizeText text size × IsTrue (has_bare_front is_bws text) × IsTrue (list_all is_value_byte text)
 
--- a line that isn't too long
+-- whether the text is a line that isn't too long
 abbrev pub IsShortLine : List ℕ → Type 0
 IsShortLine text = (length text ≤ longest_line) × (has_crlf text ≡ false)
 
--- By the standard it ends at its first LF.
+-- whether the text is a line that isn't too long, by these rules; by the standard the line ends at its first LF
 abbrev pub IsShortLineBy : ChunkRules → List ℕ → Type 0
 IsShortLineBy Lenient text = IsShortLine text
 IsShortLineBy Standard text = IsShortLine text × HasNo line_feed text
@@ -74,11 +76,11 @@ pub record IsChunkBy (rules : ChunkRules) (c : Chunk) : Type 0 where
   pub sized : SizeTextBy rules c.size_line (length c.bytes)
   pub not_last : 0 < length c.bytes
 
--- last-chunk = "0" [ chunk-ext ] CRLF, without the CRLF
+-- whether the text is a last-chunk = "0" [ chunk-ext ] CRLF, without the CRLF
 abbrev pub IsLastLineBy : ChunkRules → List ℕ → Type 0
 IsLastLineBy rules text = IsShortLineBy rules text × SizeTextBy rules text 0
 
--- field-line = field-name ":" OWS field-value OWS, with no control byte except tab in the value
+-- whether the text is a field-line = field-name ":" OWS field-value OWS, with no control byte except tab in the value
 pub record FieldText (text : List ℕ) : Type 0 where
   pub name : List ℕ
   pub value : List ℕ
@@ -86,12 +88,12 @@ pub record FieldText (text : List ℕ) : Type 0 where
   pub name_is : IsTrue (is_token name)
   pub value_is : IsTrue (list_all is_value_byte value)
 
--- the text of a trailer line: by the standard it is a field line
+-- whether the text may be a trailer line: any nonempty text, but by the standard a field line
 abbrev pub TrailerTextBy : ChunkRules → List ℕ → Type 0
 TrailerTextBy Lenient text = 0 < length text
 TrailerTextBy Standard text = FieldText text
 
--- a line of the trailer section, which is skipped
+-- whether the text is a line of the trailer section, which is skipped
 abbrev pub IsTrailerLineBy : ChunkRules → List ℕ → Type 0
 IsTrailerLineBy rules text = IsShortLineBy rules text × TrailerTextBy rules text
 
@@ -101,7 +103,7 @@ lines_text lines = flat_map (λ text. text ++ crlf) lines
 abbrev pub data_of : List Chunk → List ℕ
 data_of chunks = flat_map (λ c. c.bytes) chunks
 
--- the bytes are chunks, a last chunk, a trailer section and the rest; the body is the data of the chunks
+-- whether the bytes are chunks, a last chunk, a trailer section and the rest, and the body is the data of the chunks
 pub record WholeChunksBy (rules : ChunkRules) (bytes body rest : List ℕ) : Type 0 where
   pub chunks : List Chunk
   pub last : List ℕ
@@ -113,18 +115,18 @@ pub record WholeChunksBy (rules : ChunkRules) (bytes body rest : List ℕ) : Typ
   pub are_trailers : AllByRecursion (IsTrailerLineBy rules) trailers
   pub few_trailers : length trailers ≤ most_trailers
 
--- no CR LF begins within the maximum length of a line
+-- whether no CR LF begins within the maximum length of a line
 abbrev pub HasNoShortLine : List ℕ → Type 0
 HasNoShortLine bytes = has_crlf (take (longest_line + 2) bytes) ≡ false
 
--- there is no line where one must be: the longest one would fit, or the bytes end
+-- whether there is no line where one must be, with a fault of this kind: the longest line would fit, or the bytes end
 abbrev pub ChunkLineFault : List ℕ → Stop → ErrorKind → Type 0
 ChunkLineFault bytes stop kind =
     HasNoShortLine bytes
     × (((longest_line + 2 ≤ length bytes) × (kind ≡ InvalidData))
     ⊎ ((length bytes < longest_line + 2) × (kind ≡ fault_of stop)))
 
--- There is an LF before the first CR LF, within the bytes that a line with its end may have.
+-- whether there is an LF before the first CR LF, within the bytes that a line with its end may have
 pub record LoneFeed (bytes : List ℕ) : Type 0 where
   pub text : List ℕ
   pub rest : List ℕ
@@ -132,14 +134,15 @@ pub record LoneFeed (bytes : List ℕ) : Type 0 where
   pub lone : has_crlf (text ++ line_feed ∷ []) ≡ false
   pub near : length text < longest_line + 2
 
--- By the standard a lone LF is a fault, whatever follows it.
+-- whether there is no line where one must be, by these rules, with a fault of this kind; by the standard a lone LF is a
+-- fault, whatever follows it
 abbrev pub ChunkLineFaultBy : ChunkRules → List ℕ → Stop → ErrorKind → Type 0
 ChunkLineFaultBy Lenient bytes stop kind = ChunkLineFault bytes stop kind
 ChunkLineFaultBy Standard bytes stop kind =
     (LoneFeed bytes × (kind ≡ InvalidData))
     ⊎ (HasNo line_feed (take (longest_line + 2) bytes) × ChunkLineFault bytes stop kind)
 
--- a nonempty line that isn't a field line
+-- whether the bytes begin with a nonempty line that isn't a field line
 pub record NoField (bytes : List ℕ) : Type 0 where
   pub text : List ℕ
   pub rest : List ℕ
@@ -148,19 +151,19 @@ pub record NoField (bytes : List ℕ) : Type 0 where
   pub not_empty : 0 < length text
   pub no_field : FieldText text → ⊥
 
--- there is no trailer line where one must be
+-- whether there is no trailer line where one must be, with a fault of this kind
 abbrev pub TrailerFaultBy : ChunkRules → List ℕ → Stop → ErrorKind → Type 0
 TrailerFaultBy Lenient bytes stop kind = ChunkLineFault bytes stop kind
 TrailerFaultBy Standard bytes stop kind =
     ChunkLineFaultBy Standard bytes stop kind ⊎ (NoField bytes × (kind ≡ InvalidData))
 
--- what there is instead of the CR LF after a chunk's data
+-- whether a fault of this kind comes instead of the CR LF after a chunk's data
 abbrev pub CloseFault : List ℕ → Stop → ErrorKind → Type 0
 CloseFault [] stop kind = kind ≡ fault_of stop
 CloseFault (a ∷ []) stop kind = ((a ≡ 13) × (kind ≡ fault_of stop)) ⊎ ((a ≡ 13 → ⊥) × (kind ≡ InvalidData))
 CloseFault (a ∷ b ∷ bs) stop kind = ((a ∷ b ∷ [] ≡ crlf) → ⊥) × (kind ≡ InvalidData)
 
--- The rest of a body after its whole chunks: the data of the next chunk that are there, and the fault.
+-- The ways in which a body can break off after its whole chunks.
 pub data Remainder : Type 0 where
   NoSizeLine : Remainder
   BadSize : (text rest : List ℕ) → Remainder
@@ -169,6 +172,8 @@ pub data Remainder : Type 0 where
   CutTrailer : (last : List ℕ) (trailers : List (List ℕ)) (next : List ℕ) → Remainder
   LongTrailer : (last : List ℕ) (trailers : List (List ℕ)) (next : List ℕ) → Remainder
 
+-- whether a body breaks off in this way after its whole chunks: `part` is the data of the next chunk that are there,
+-- and `kind` the fault
 abbrev pub RemainderBreaksBy : ChunkRules → Remainder → List ℕ → Stop → List ℕ → ErrorKind → Type 0
 -- no chunk-size line
 RemainderBreaksBy rules NoSizeLine bytes stop part kind = (part ≡ []) × ChunkLineFaultBy rules bytes stop kind
@@ -208,7 +213,7 @@ RemainderBreaksBy rules (LongTrailer last trailers next) bytes stop part kind =
     × (length trailers ≡ most_trailers + 1)
     × (part ≡ []) × (kind ≡ InvalidData)
 
--- the bytes are whole chunks and a remainder; the data are those of the whole chunks and of the unfinished one
+-- whether the bytes are whole chunks and a remainder; the body is the data of these chunks and of the unfinished one
 pub record CutChunksBy (rules : ChunkRules) (bytes : List ℕ) (stop : Stop) (body : List ℕ)
     (kind : ErrorKind) : Type 0 where
   pub chunks : List Chunk
@@ -220,7 +225,7 @@ pub record CutChunksBy (rules : ChunkRules) (bytes : List ℕ) (stop : Stop) (bo
   pub are_chunks : AllByRecursion (IsChunkBy rules) chunks
   pub breaks : RemainderBreaksBy rules way rest stop part kind
 
--- the same by the lenient rules
+-- whether this is a chunk by the lenient rules
 abbrev pub IsChunk : Chunk → Type 0
 IsChunk c = IsChunkBy Lenient c
 

@@ -1,4 +1,4 @@
--- What a decoder of a chunked body still gives (RFC 9112, section 7.1).
+-- What is still to come from a decoder of a chunked body (RFC 9112, section 7.1).
 use Rattle.std.specs.Prelude.{◌≡◌, ℕ, ◌+◌, ◌<◌, ◌≤◌, nat_lt, List, [], ◌++◌, length, take, Option, Some, None, Result}
 use Rattle.std.specs.Prelude.{Ok, Err, IfOk, IfErr, OnErr, IsSome, IfSome, ⊤}
 use Rattle.std.specs.Option.{option_map}
@@ -15,16 +15,16 @@ use Rattle.tiny_http_io.specs.Device.{AnswersStop, Feed, prepended, TakesFront, 
 use Rattle.tiny_http_body.specs.ChunkReading.{Decoded, decoded_by, data_at, trailer_section, broken}
 use Rattle.tiny_http_body.specs.declared.chunked.ChunkRules.{ChunkRules}
 
--- the data that are still to come, and the reader's feed after the body, or the fault
+-- the data still to come, and the reader's feed after the body, or the fault
 pub record Coming : Type 0 where
   pub bytes : List ℕ
   pub behind : Result Feed ErrorKind
 
--- decodes a chunked body from its beginning
+-- the result of decoding a chunked body from its beginning
 abbrev pub body_by : ChunkRules → Stop → List ℕ → Decoded
 body_by rules stop bytes = decoded_by rules (length bytes + 1) stop bytes
 
--- decodes the body from here on
+-- the result of decoding the rest of a chunked body from this state on
 unfoldable pub decoded_from_by : ChunkRules → Next → Feed → Decoded
 decoded_from_by rules Line feed = body_by rules feed.stop feed.bytes
 decoded_from_by rules (Data left) feed =
@@ -32,36 +32,37 @@ decoded_from_by rules (Data left) feed =
 decoded_from_by rules Over feed = record { body = []; ends = Ok feed.bytes }
 decoded_from_by rules (Broken kind) feed = broken [] kind
 
--- decodes what comes after the last chunk's line, with at most this many trailer lines
+-- the result of decoding what comes after the last chunk's line, with at most this many trailer lines
 unfoldable pub trailers_from : ChunkRules → ℕ → Feed → Decoded
 trailers_from rules most feed = trailer_section rules most feed.stop feed.bytes
 
--- the rest of the bytes with their stop, or the fault
+-- the feed of the rest of the bytes with their stop, or the fault
 abbrev pub rest_at : Stop → Result (List ℕ) ErrorKind → Result Feed ErrorKind
 rest_at stop (Ok rest) = Ok (record { bytes = rest; stop = stop })
 rest_at stop (Err kind) = Err kind
 
--- the same, by the result of decoding
+-- the data still to come and the feed after the body, or the fault, by the result of decoding
 abbrev pub coming_of : Stop → Decoded → Coming
 coming_of stop d = record { bytes = d.body; behind = rest_at stop d.ends }
 
--- what is still to come of the body from here on, if the reader's feed is stated
+-- what is still to come of the body from this state on, if the reader's feed is stated
 abbrev pub comes : ChunkRules → Next → Option Feed → Option Coming
 comes rules next feed = option_map (λ f. coming_of f.stop (decoded_from_by rules next f)) feed
 
--- what comes after the last chunk's line, with at most this many trailer lines
+-- what is still to come after the last chunk's line, with at most this many trailer lines, if the reader's feed is
+-- stated
 abbrev pub trails : ChunkRules → ℕ → Option Feed → Option Coming
 trails rules most feed = option_map (λ f. coming_of f.stop (trailers_from rules most f)) feed
 
--- the data that a decoding still gives with a reader of this feed, and the feed after the body, or the fault
+-- the data still to come from a decoding with a reader of this feed, and the feed after the body, or the fault
 abbrev pub decoding_coming : Decoding → Option Feed → Option Coming
 decoding_coming d feed = comes d.rules d.next feed
 
--- the rules that it follows
+-- the rules that a decoding follows
 abbrev pub decoding_rules : Decoding → ChunkRules
 decoding_rules d = d.rules
 
--- decodes the body from here on, by the bytes that follow and their stop
+-- the result of decoding the rest of the body, by the bytes that follow and their stop
 abbrev pub decoding_reads : Decoding → Feed → Decoded
 decoding_reads d feed = decoded_from_by d.rules d.next feed
 
@@ -73,44 +74,44 @@ pub record TakesNeeded (reads : Feed → Decoded) (old new : Option Feed) : Type
   pub needed : (front more : List ℕ) (stop : Stop) → taken ≡ front ++ more → 0 < length more
       → (reads (record { bytes = front; stop = stop })).ends ≡ Err (fault_of stop)
 
--- no line is to be read before the next byte of data, the end or the fault
+-- whether no line is to be read before the next byte of data, the end or the fault
 abbrev pub IsReady : Next → Type 0
 IsReady Line = ⊥
 IsReady (Data left) = 0 < left
 IsReady Over = ⊤
 IsReady (Broken kind) = ⊤
 
--- 1 if a fault comes next
+-- 1 if a fault comes next, and otherwise 0
 abbrev pub broken_count : Next → ℕ
 broken_count Line = 0
 broken_count (Data left) = 0
 broken_count Over = 0
 broken_count (Broken kind) = 1
 
--- the end or the fault that is reported from now on
+-- the end or the fault that is reported from this state on, if it is known
 abbrev pub next_stop : Next → Option Stop
 next_stop Line = None
 next_stop (Data left) = None
 next_stop Over = Some End
 next_stop (Broken kind) = Some (Fault kind)
 
--- the end or the fault that a decoding reports from now on
+-- the end or the fault that a decoding reports from now on, if it is known
 abbrev pub decoding_stop : Decoding → Option Stop
 decoding_stop d = next_stop d.next
 
--- these data, then what comes
+-- these data, then what is still to come
 abbrev pub prepend_data : List ℕ → Coming → Coming
 prepend_data bs c = record { bytes = bs ++ c.bytes; behind = c.behind }
 
--- these data, then what comes, if it is stated
+-- these data, then what is still to come, if that is stated
 abbrev pub prepended_data : List ℕ → Option Coming → Option Coming
 prepended_data bs c = option_map (prepend_data bs) c
 
--- the body is over, and this feed comes after it
+-- what is still to come if the body is over and this feed comes after it
 abbrev pub over_at : Feed → Coming
 over_at feed = record { bytes = []; behind = Ok feed }
 
--- only this fault comes, if what comes is stated
+-- whether nothing but this fault is still to come, if that is stated
 abbrev pub BreaksBy : ErrorKind → Option Coming → Type 0
 BreaksBy kind None = ⊤
 BreaksBy kind (Some c) = c ≡ record { bytes = []; behind = Err kind }
@@ -119,35 +120,36 @@ BreaksBy kind (Some c) = c ≡ record { bytes = []; behind = Err kind }
 abbrev pub decoder_inner : {R : Type 0} → Decoder R → R
 decoder_inner d = d.inner
 
--- the data that it still gives, and the feed after the body, or the fault
+-- the data still to come from a decoder, and the feed after the body, or the fault
 abbrev pub decoder_coming : {R : Type 0} → (R → Option Feed) → Decoder R → Option Coming
 decoder_coming feed d = decoding_coming d.decoding (feed d.inner)
 
--- decodes the body from here on
+-- the result of decoding the rest of a decoder's body
 abbrev pub decoder_reads : {R : Type 0} → Decoder R → Feed → Decoded
 decoder_reads d feed = decoding_reads d.decoding feed
 
--- the end or the fault that it reports from now on
+-- the end or the fault that a decoder reports from now on, if it is known
 abbrev pub decoder_stop : {R : Type 0} → Decoder R → Option Stop
 decoder_stop d = decoding_stop d.decoding
 
--- the data of a whole body end; any others stop with the fault
+-- how the data of a body stop: with an end if the body is whole, and otherwise with the fault
 abbrev pub stop_behind : Result Feed ErrorKind → Stop
 stop_behind (Ok rest) = End
 stop_behind (Err kind) = Fault kind
 
--- the data as a reader's feed
+-- the data still to come, as a reader's feed
 abbrev pub feed_of : Coming → Feed
 feed_of c = record { bytes = c.bytes; stop = stop_behind c.behind }
 
--- what the decoder gives as a reader
+-- the feed of a decoder as a reader, if the inner reader's feed is stated
 abbrev pub decoder_feed : {R : Type 0} → (R → Option Feed) → Decoder R → Option Feed
 decoder_feed feed d = option_map feed_of (decoder_coming feed d)
 
--- ONE READ. The bytes that came are the next of the body's data. A nonempty read that gives none is at the body's end,
--- and the inner reader is just after the body. An error comes only where the data break off, and takes none. Whatever
--- the reader states, a read into an empty buffer changes nothing, a reported end or fault is reported from then on,
--- only bytes at the reader's front are taken, and up to a fault none beyond the one that shows it.
+-- ONE READ of a decoder. The bytes that came are the next of the body's data. A read into a nonempty buffer that
+-- returns 0 is at the body's end, and the inner reader is just after the body. An error comes only where the data break
+-- off, and takes none. Whatever the reader states, a read into an empty buffer changes nothing, a reported end or fault
+-- is reported from then on, only bytes at the reader's front are taken, and up to a fault none beyond the one that
+-- shows it.
 pub record ReadsData {R : Type 0} (feed : R → Option Feed) (old new : Decoder R) (r : Result ℕ Error)
     (buf : List ℕ) : Type 0 where
   pub bound : IfOk r (λ n. n ≤ length buf)

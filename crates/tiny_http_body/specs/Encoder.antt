@@ -6,33 +6,34 @@ use Rattle.std.specs.declared.io.ErrorKind.TheVariants.{BrokenPipe}
 use Rattle.tiny_http_io.specs.Device.{Sink, Took, Failed}
 use Rattle.tiny_http_body.specs.ChunkedPrinting.{full_chunks, left_over}
 
--- The inner writer, what it states, the bytes of an unfinished chunk, and whether the writer has failed.
+-- What clauses see of an `Encoder`: the inner writer, what the writer states, the bytes of an unfinished chunk, and
+-- whether the writer has failed.
 pub record EncoderState (W : Type 0) : Type 0 where
   pub writer : W
   pub sink : Sink
   pub held : List ℕ
   pub failed : Bool
 
--- the inner writer
+-- the inner writer of an encoder
 abbrev pub encoder_writer : {W : Type 0} → EncoderState W → W
 encoder_writer e = e.writer
 
--- the writer has failed
+-- whether the inner writer of an encoder has failed
 abbrev pub encoder_failed : {W : Type 0} → EncoderState W → Bool
 encoder_failed e = e.failed
 
--- The bytes given between two states of a writer: their full chunks were written, and the rest is held.
+-- whether the bytes given between two states of a writer were written up to their last full chunk, and the rest is held
 pub record Encoded (start now : Sink) (given held : List ℕ) : Type 0 where
   pub written : Took start now (full_chunks given)
   pub rest : held ≡ left_over given
 
--- Since this state of its writer an encoder was given these bytes and didn't fail: their full chunks were written, and
--- the rest is held.
+-- whether an encoder was given these bytes since its writer was in the state `start`, and didn't fail: their full
+-- chunks were written, and the rest is held
 abbrev pub HasEncoded : {W : Type 0} → Sink → List ℕ → EncoderState W → Type 0
 HasEncoded start given e = (e.failed ≡ false) × Encoded start e.sink given e.held
 
--- A call took bytes from the front of a text: together with the held ones their full chunks were written, and the rest
--- is held. Or the writer failed within the full chunks of all of them.
+-- whether a call took bytes from the front of a text: the full chunks of the held bytes and those taken were written,
+-- and the rest is held. Or whether the writer failed within the full chunks of the held bytes and the whole text.
 abbrev pub Encodes : Sink → Sink → List ℕ → List ℕ → Result ℕ Error → List ℕ → Type 0
 Encodes old new was held (Ok n) text =
     (n ≤ length text)
@@ -41,6 +42,6 @@ Encodes old new was held (Ok n) text =
     × (held ≡ left_over (was ++ take n text))
 Encodes old new was held (Err e) text = Failed old new (full_chunks (was ++ text)) (error_kind e)
 
--- the result after the writer's first fault
+-- whether the result is `BrokenPipe`, as it is after the writer's first fault
 abbrev pub IsBroken : {T : Type 0} → Result T Error → Type 0
 IsBroken r = IsErr r × IfErr r (λ e. error_kind e ≡ BrokenPipe)

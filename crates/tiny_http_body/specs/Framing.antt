@@ -17,26 +17,26 @@ use Rattle.tiny_http_body.specs.declared.framing.Form.{Form}
 use Rattle.tiny_http_body.specs.declared.framing.Form.TheVariants.{Rest, Nothing, WithHead, Counted, Chunked}
 use Rattle.tiny_http_body.specs.declared.framing.Framing.{Framing}
 
--- the maximum length of a head in bytes, the CR LF of its empty line included, or None if it may have any number
+-- the maximum length of a head in bytes, the CR LF of its empty line included, or `None` if there is no maximum
 abbrev pub head_limit : HeadRules → Option ℕ
 head_limit Lenient = None
 head_limit Strict = Some STRICT_HEAD
 
--- the value of the first field with that name
+-- the value of the first field with this name
 abbrev pub value_of : List ℕ → List Header → Option (List ℕ)
 value_of name [] = None
 value_of name (h ∷ hs) = if same_name h.field name then Some h.value else value_of name hs
 
--- the elements of all fields with that name, stripped of white space (bytes 9 to 13, and 32)
+-- the elements of all fields with this name, stripped of white space (bytes 9 to 13, and 32)
 abbrev pub elements_of : List ℕ → List Header → List (List ℕ)
 elements_of name headers = elements_by_name is_blank name headers
 
--- the value contains the word, case-insensitively
+-- whether the value, if there is one, contains the word, case-insensitively
 abbrev pub mentions : List ℕ → Option (List ℕ) → Bool
 mentions word None = false
 mentions word (Some value) = contains_word word (lowercase value)
 
--- the length that a value gives, after an optional plus
+-- the length that a value gives, if there is one, after an optional plus sign
 abbrev pub length_in_value : Option (List ℕ) → Option ℕ
 length_in_value None = None
 length_in_value (Some value) = length_in value
@@ -48,7 +48,7 @@ lenient_length headers =
     if is_some (value_of (codes "Transfer-Encoding") headers) then None
     else length_in_value (value_of (codes "Content-Length") headers)
 
--- the last of these is chunked, case-insensitively
+-- whether the last of these codings is chunked, case-insensitively
 abbrev pub EndsWithChunked : List (List ℕ) → Type 0
 EndsWithChunked codings =
     (before : List (List ℕ))
@@ -58,33 +58,33 @@ EndsWithChunked codings =
 
 -- THE LENGTH UNDER STRICT (RFC 9112, sections 6.1 to 6.3), by the elements of Content-Length and Transfer-Encoding:
 -- without codings it is the one length, or there is none; with codings alone the last one must be chunked. With
--- elements of both none is valid.
+-- elements of both fields no length is valid.
 abbrev pub IsStrictLength : List (List ℕ) → List (List ℕ) → Option ℕ → Type 0
 IsStrictLength lengths [] n = IsOneLength lengths n
 IsStrictLength [] (coding ∷ codings) n = (n ≡ None) × EndsWithChunked (coding ∷ codings)
 IsStrictLength (length ∷ lengths) (coding ∷ codings) n = ⊥
 
--- the content length by the fields, or that they give none
+-- whether this is the content length that the fields give, or they give none (`None`)
 abbrev pub IsBodyLength : HeadRules → List Header → Option ℕ → Type 0
 IsBodyLength Lenient headers n = n ≡ lenient_length headers
 IsBodyLength Strict headers n =
     IsStrictLength (elements_of (codes "Content-Length") headers) (elements_of (codes "Transfer-Encoding") headers) n
 
--- whether a 100 is due; None if the expectation can't be met
+-- whether a 100 is due; `None` if the expectation can't be met
 abbrev pub expectation : Option (List ℕ) → Option Bool
 expectation None = Some false
 expectation (Some value) = if same_name value (codes "100-continue") then Some true else None
 
--- the first Connection value contains the word upgrade
+-- whether the first Connection value contains the word upgrade
 abbrev pub names_upgrade : List Header → Bool
 names_upgrade headers = mentions (codes "upgrade") (value_of (codes "Connection") headers)
 
--- there is a Transfer-Encoding field
+-- whether there is a Transfer-Encoding field
 abbrev pub names_coding : List Header → Bool
 names_coding headers = is_some (value_of (codes "Transfer-Encoding") headers)
 
--- HOW THE BODY IS READ: an upgrade takes precedence over a coding, and a coding over a length. A body of 1 to
--- `LONGEST_WITH_HEAD` bytes is read with its head, unless a 100 is due.
+-- HOW THE BODY IS READ: whether it has this form. An upgrade takes precedence over a coding, and a coding over a
+-- length. A body of 1 to `LONGEST_WITH_HEAD` bytes is read with its head, unless a 100 is due.
 abbrev pub IsForm : Form → Bool → Bool → Bool → Option ℕ → Type 0
 IsForm Rest upgrade coded owed n = upgrade ≡ true
 IsForm Chunked upgrade coded owed n = (upgrade ≡ false) × (coded ≡ true)
@@ -100,7 +100,7 @@ is_last v connection =
     (mentions (codes "close") connection || mentions (codes "upgrade") connection)
     || ((v.0 == 1 && v.1 == 0) && not (mentions (codes "keep-alive") connection))
 
--- HOW A HEAD FRAMES ITS REQUEST, or why it is refused: its framing is invalid, which is checked first, or an
+-- HOW A HEAD FRAMES ITS REQUEST, or why the head is refused: the framing is invalid, which is checked first, or an
 -- expectation can't be met.
 abbrev pub Frames : HeadRules → HTTPVersion → List Header → Result Framing FramingFault → Type 0
 Frames p v headers (Err Invalid) = (n : Option ℕ) → IsBodyLength p headers n → ⊥

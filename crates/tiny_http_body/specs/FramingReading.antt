@@ -1,4 +1,4 @@
--- The framing of a request as functions that compute it, by which the law of framing is proved.
+-- The framing of a request, as functions that compute it. The law of framing is proved by them.
 use Rattle.std.specs.Prelude.{ℕ, Bool, true, false, not, ◌&&◌, ◌==◌, nat_le, List, [], ◌∷◌, Option, Some, None}
 use Rattle.std.specs.Prelude.{Result, Ok, Err, codes, if◌then◌else◌}
 use Rattle.tiny_http_head.specs.declared.common.Header.{Header}
@@ -17,7 +17,7 @@ use Rattle.tiny_http_body.specs.declared.framing.Framing.{Framing}
 use Rattle.tiny_http_body.specs.Framing.{value_of, elements_of, lenient_length, expectation, names_upgrade}
 use Rattle.tiny_http_body.specs.Framing.{names_coding, is_last}
 
--- the value found before or, if there is none, that of the first field with that name
+-- the value found before or, if there is none, the value of the first field with this name
 abbrev pub first_value : Option (List ℕ) → List ℕ → List Header → Option (List ℕ)
 first_value None name headers = value_of name headers
 first_value (Some value) name headers = Some value
@@ -32,7 +32,7 @@ form_by true coded owed n = Rest
 form_by false true owed n = Chunked
 form_by false false owed n = sized_form owed n
 
--- the one length, or the framing is invalid
+-- the one length, or `Invalid` if the elements don't give one
 abbrev pub uncoded_length : Result (Option ℕ) InvalidLength → Result (Option ℕ) FramingFault
 uncoded_length (Ok n) = Ok n
 uncoded_length (Err fault) = Err Invalid
@@ -46,12 +46,12 @@ strict_length lengths [] = uncoded_length (one_length lengths)
 strict_length [] (coding ∷ codings) = if ends_with_chunked coding codings then Ok None else Err Invalid
 strict_length (length ∷ lengths) (coding ∷ codings) = Err Invalid
 
--- whether the last coding is chunked, computed one by one
+-- whether the last coding is chunked, computed coding by coding
 abbrev pub chunked_on : Bool → List (List ℕ) → Bool
 chunked_on was [] = was
 chunked_on was (coding ∷ codings) = chunked_on (same_name coding (codes "chunked")) codings
 
--- the content length by the fields
+-- the content length that the fields give, or the fault
 abbrev pub body_length : HeadRules → List Header → Result (Option ℕ) FramingFault
 body_length Lenient headers = Ok (lenient_length headers)
 body_length Strict headers =
@@ -74,6 +74,6 @@ abbrev pub framed_if : HTTPVersion → List Header → Result (Option ℕ) Frami
 framed_if v headers (Err fault) = Err fault
 framed_if v headers (Ok n) = framed_by v headers n (expectation (value_of (codes "Expect") headers))
 
--- the framing that the version and the fields give, or why the head is refused
+-- the framing that the version and the fields give, or the reason why the head is refused
 unfoldable pub framing : HeadRules → HTTPVersion → List Header → Result Framing FramingFault
 framing p v headers = framed_if v headers (body_length p headers)

@@ -10,7 +10,8 @@ use Rattle.tiny_http_body.specs.declared.chunks.TheConstants.{CHUNK}
 use Rattle.tiny_http_body.specs.declared.streamed.StreamedForm.{StreamedForm}
 use Rattle.tiny_http_body.specs.declared.streamed.StreamedForm.TheVariants.{Chunks, Plain, Absent}
 
--- The inner writer, what it states, how the body is sent, the held bytes, and whether the writer has failed.
+-- What clauses see of a `Streamed`: the inner writer, what the writer states, how the body is sent, the held bytes, and
+-- whether the writer has failed.
 pub record StreamedState (W : Type 0) : Type 0 where
   pub writer : W
   pub sink : Sink
@@ -18,7 +19,7 @@ pub record StreamedState (W : Type 0) : Type 0 where
   pub held : List ℕ
   pub failed : Bool
 
--- a body of which nothing was given yet
+-- the state of a body of which nothing was given yet
 abbrev pub begun : {W : Type 0} → W → Sink → StreamedForm → StreamedState W
 begun writer sink form = record { writer = writer; sink = sink; form = form; held = []; failed = false }
 
@@ -34,19 +35,20 @@ end_text Chunks = codes "0\r\n\r\n"
 end_text Plain = []
 end_text Absent = []
 
--- pieces of a body as they are sent, and the bytes that they join to
+-- the text of these pieces of a body as they are sent
 abbrev pub pieces_text : StreamedForm → List (List ℕ) → List ℕ
 pieces_text form pieces = flat_map (piece_text form) pieces
 
+-- the bytes that these pieces join to
 abbrev pub joined : List (List ℕ) → List ℕ
 joined pieces = flat_map (λ piece. piece) pieces
 
--- a piece has at most as many bytes as a chunk
+-- whether a piece has at most as many bytes as a chunk
 abbrev pub IsPiece : List ℕ → Type 0
 IsPiece bytes = length bytes ≤ CHUNK
 
--- The bytes given to a body between two states of a writer: all except the held ones, fewer than a chunk, were sent in
--- pieces.
+-- whether all bytes given to a body between two states of a writer were sent in pieces, except the held bytes, which
+-- are fewer than a chunk
 pub record SentPieces (form : StreamedForm) (start now : Sink) (given held : List ℕ) : Type 0 where
   pub pieces : List (List ℕ)
   pub sent : Took start now (pieces_text form pieces)
@@ -54,25 +56,25 @@ pub record SentPieces (form : StreamedForm) (start now : Sink) (given held : Lis
   pub bounds : AllByRecursion IsPiece pieces
   pub few : length held < CHUNK
 
--- Since this state of its writer a body was given these bytes and didn't fail.
+-- whether a body was given these bytes since its writer was in the state `start`, and didn't fail
 abbrev pub HasStreamed : {W : Type 0} → Sink → List ℕ → StreamedState W → Type 0
 HasStreamed start given s = (s.failed ≡ false) × SentPieces s.form start s.sink given s.held
 
--- THE WHOLE BODY of these bytes was sent, in pieces, with its end
+-- THE WHOLE BODY: whether these bytes were sent, in pieces, and then the end of the body
 pub record EndsStreamed (form : StreamedForm) (start now : Sink) (given : List ℕ) : Type 0 where
   pub pieces : List (List ℕ)
   pub sent : Took start now (pieces_text form pieces ++ end_text form)
   pub joins : given ≡ joined pieces
   pub bounds : AllByRecursion IsPiece pieces
 
--- bytes that don't fill a piece are held; those that fill one are sent
+-- whether bytes that don't fill a piece are held, and bytes that fill one are sent
 abbrev pub Holds : StreamedForm → Sink → Sink → List ℕ → List ℕ → Type 0
 Holds form old new held bytes =
     ((length bytes < CHUNK) × (new ≡ old) × (held ≡ bytes))
     ⊎ ((length bytes ≡ CHUNK) × Took old new (piece_text form bytes) × (held ≡ []))
 
--- ONE WRITE takes bytes from the front of a text, at least one if there is one, after the held ones. Or the writer
--- failed within the piece that they fill.
+-- ONE WRITE takes bytes from the front of a text, at least one unless the text is empty, after the held bytes. Or the
+-- writer failed within the piece that these bytes fill.
 abbrev pub Gathers : StreamedForm → Sink → Sink → List ℕ → List ℕ → Result ℕ Error → List ℕ → Type 0
 Gathers form old new was held (Ok n) text =
     (n ≤ length text) × (0 < length text → 0 < n) × Holds form old new held (was ++ take n text)

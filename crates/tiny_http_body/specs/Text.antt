@@ -19,18 +19,19 @@ pub record Text : Type 0 where
   pub bytes : List ℕ
   pub ending : Ending
 
--- a text after another
+-- these bytes, then the text
 abbrev pub prepend_text : List ℕ → Text → Text
 prepend_text front text = record { bytes = front ++ text.bytes; ending = text.ending }
 
+-- the text of these bytes, which ends whole
 abbrev pub whole : List ℕ → Text
 whole bytes = record { bytes = bytes; ending = Whole }
 
--- no byte is sent, and this fault is reported
+-- the text of which no byte is sent and this fault is reported
 abbrev pub nothing_sent : ErrorKind → Text
 nothing_sent kind = record { bytes = []; ending = Broken kind }
 
--- a body without a transfer coding, cut at its length (RFC 9112, section 6.2): whole if there are n bytes
+-- a body without a transfer coding, cut at n bytes (RFC 9112, section 6.2): whole if the data have n bytes
 abbrev pub identity_body : ℕ → Feed → Text
 identity_body n feed =
     record {
@@ -42,11 +43,11 @@ identity_body n feed =
 abbrev pub data_behind : ℕ → Feed → Feed
 data_behind n feed = record { bytes = drop n feed.bytes; stop = feed.stop }
 
--- A call took at most the first n bytes of the data, and exactly these if it returns Ok.
+-- whether a call took at most the first n bytes of the data, and exactly these if it returns Ok
 abbrev pub TakesUpTo : {T : Type 0} → ℕ → Feed → Option Feed → Result T Error → Type 0
 TakesUpTo n old new r = (k : ℕ) × (k ≤ n) × (new ≡ Some (data_behind k old)) × OnOk r (k ≡ n)
 
--- a body sent in chunks, up to its last full one if its data fail
+-- the text of a body in chunks: the whole body, or, if the data fail, its full chunks and the fault
 abbrev pub chunked_until : Stop → List ℕ → Text
 chunked_until End bytes = whole (chunked bytes)
 chunked_until (Fault kind) bytes = record { bytes = full_chunks bytes; ending = Broken kind }
@@ -54,8 +55,8 @@ chunked_until (Fault kind) bytes = record { bytes = full_chunks bytes; ending = 
 abbrev pub chunked_body : Feed → Text
 chunked_body feed = chunked_until feed.stop feed.bytes
 
--- The result of a call that prints a text: all of it was written, or all before it breaks off with its fault as the
--- error, or the writer failed within it.
+-- The result of a call that prints a text: all of the text was written; or all bytes before it breaks off were written,
+-- and its fault is the error; or the writer failed within the text.
 abbrev pub Prints : {T : Type 0} → Sink → Sink → Result T Error → Text → Type 0
 Prints old new (Ok x) text = (text.ending ≡ Whole) × Took old new text.bytes
 Prints old new (Err e) text =

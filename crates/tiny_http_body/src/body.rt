@@ -15,32 +15,32 @@ use std::io::{Cursor, ErrorKind};
 use tiny_http_io::device::{ReadDevice, Stop, read_front};
 use tiny_http_io::source::{InputState, Source};
 
-/// Maximum number of bytes of a body of known length that are skipped before the next head, by the standard.
+/// Maximum number of unread bytes of a body of known length that are skipped before the next head, by the standard.
 pub const MOST_SKIPPED: usize = 65_536;
 
 /// What is left of a body when its request is finished.
 #[derive(Clone, Copy, Debug, PartialEq, Eq)]
 pub enum Remainder {
-    /// Few enough bytes to skip, so that the next head can follow.
+    /// Few enough bytes to skip them, so that the next head can follow.
     Skipped,
     /// More than `MOST_SKIPPED` bytes of a known length.
     Long,
-    /// An unknown number: chunks are unread, or the body is cut or broken.
+    /// An unknown number of bytes: chunks are unread, or the body is cut or broken.
     Endless,
 }
 
 /// The unread part of a request's body.
 #[derive(Drop)]
 pub enum UnreadBody {
-    /// Nothing: this end or fault is reported.
+    /// Nothing is left: each read reports this end or fault.
     Over(Stop),
     /// Bytes that were read with the head.
     WithHead(Cursor<Vec<u8>>),
-    /// A number of bytes of the input.
+    /// A number of bytes of the input, not read yet.
     Counted {
         /// The number of bytes left.
         left: usize,
-        /// Whether an end of input before the last of them is a fault rather than the end of the body.
+        /// Whether an end of input before the last of these bytes is a fault, rather than the end of the body.
         by_standard: bool,
     },
     /// Chunks of the input.
@@ -59,7 +59,8 @@ fn report(stop: Stop) -> Result<usize, io::Error>
     }
 }
 
-/// Makes a body of `left` bytes of the input. By the standard an end of input before the last of them is a fault.
+/// Makes a body of the next `left` bytes of the input. By the standard an end of input before the last of these bytes
+/// is a fault.
 pub fn counted(left: usize, by_standard: bool) -> UnreadBody
     ensures remaining { (feed : Option Feed)
         → remaining result feed ≡ option_map (counted_remaining by_standard left) feed }
@@ -72,7 +73,8 @@ pub fn counted(left: usize, by_standard: bool) -> UnreadBody
     }
 }
 
-/// Makes a body whose chunks are next in the input. Their lines are read by the rules of the profile.
+/// Makes a chunked body whose first chunk is next in the input. Its lines are read by `ChunkRules::Standard` if
+/// `by_standard` is true, and otherwise by `ChunkRules::Lenient`.
 pub fn chunked(by_standard: bool) -> UnreadBody
     ensures { IsNewChunked by_standard result }
 {
@@ -84,7 +86,7 @@ pub fn chunked(by_standard: bool) -> UnreadBody
 }
 
 impl UnreadBody {
-    // Reads some bytes of a body of known length. After one that is cut no head follows.
+    // Reads some bytes of a body of known length. After a body that is cut no head follows.
     fn read_counted<R: ReadDevice>(
         &mut self,
         source: &mut Source<R>,
@@ -126,7 +128,7 @@ impl UnreadBody {
         }
     }
 
-    // Reads some data of a chunked body. After one that is cut or broken no head follows.
+    // Reads some data of a chunked body. After a body that is cut or broken no head follows.
     fn read_chunked<R: ReadDevice>(
         &mut self,
         source: &mut Source<R>,
@@ -195,9 +197,9 @@ impl UnreadBody {
         buf: &mut [u8],
     ) -> Result<usize, io::Error>
         ensures reads { ReadsBody self.old self.new source.old source.new result buf.new }
-        // The source's reader isn't asked for a second end or fault, nor for more than the bytes that came.
+        // The source's reader reports at most one end or fault, and none if bytes came.
         ensures stop_count { Tells (R.stop_count source.old.reader) (R.stop_count source.new.reader) result }
-        // It is asked for none if the body has its own end.
+        // It reports none if the body has its own end.
         ensures whole { R.stop_count source.new.reader
             ≤ R.stop_count source.old.reader + ends_met self.old (bytes_given result) self.new }
     {
@@ -221,8 +223,8 @@ impl UnreadBody {
         read
     }
 
-    /// Reads some bytes of a body that isn't read from the input, as `read` does, but without a source. `buf` must have
-    /// room.
+    /// Reads some bytes of a body that isn't read from the input, as `read` does, but without a source. `buf` must not
+    /// be empty.
     pub fn read_held(&mut self, buf: &mut [u8]) -> Result<usize, io::Error>
         requires held { is_streaming self.old ≡ false }
         requires room { 0 < length buf.old }
@@ -236,7 +238,7 @@ impl UnreadBody {
         }
     }
 
-    // Returns the input state after a read that left this of the body.
+    // Returns the input state after a read that left this body, given the state before.
     fn input_state_after(&self, input_state: InputState) -> InputState
         ensures { result ≡ body_input_state self.now input_state }
     {
@@ -247,7 +249,7 @@ impl UnreadBody {
         }
     }
 
-    // Reads into the buffer from `at` on.
+    // Reads some bytes into the buffer from `at` on.
     fn read_behind<R: ReadDevice>(
         &mut self,
         source: &mut Source<R>,
@@ -266,8 +268,8 @@ impl UnreadBody {
         self.read(source, &mut buf[at..])
     }
 
-    /// Reads until `buf` is full or no byte is left, and returns how many bytes there are. A fault is reported if no
-    /// byte came before it, and otherwise by the next read.
+    /// Reads until `buf` is full or no byte is left, and returns how many bytes were read. A fault before the first
+    /// byte is reported; a later one is reported by the next read.
     pub fn fill<R: ReadDevice>(
         &mut self,
         source: &mut Source<R>,
@@ -279,11 +281,11 @@ impl UnreadBody {
         ensures goes_on { GoesOn source.old.feed source.new.feed }
         ensures input_state { is_streaming self.old ≡ true
             → source.new.input_state ≡ body_input_state self.new source.old.input_state }
-        // The source's reader isn't asked for a second end or fault, nor after the buffer is full.
+        // The source's reader reports at most one end or fault, and none if the buffer was filled.
         ensures stop_count { R.stop_count source.new.reader ≤ R.stop_count source.old.reader + 1 }
         ensures lazy { IfOk result
             (λ n. n ≡ length buf.new → R.stop_count source.new.reader ≤ R.stop_count source.old.reader) }
-        // Nor is it asked for one if the body has its own end.
+        // It reports none if the body has its own end.
         ensures whole { R.stop_count source.new.reader
             ≤ R.stop_count source.old.reader + ends_met self.old (bytes_given result) self.new }
     {
@@ -303,14 +305,14 @@ impl UnreadBody {
         Ok(at)
     }
 
-    /// Returns whether the body is still read from the input, so that the next head comes after unread bytes of it.
+    /// Returns whether the body is still read from the input, so that its unread bytes come before the next head.
     pub fn holds_reader(&self) -> bool
         ensures { result ≡ is_streaming self.now }
     {
         !matches!(self, UnreadBody::Over(_) | UnreadBody::WithHead(_))
     }
 
-    /// Returns what would be left if the request were finished now.
+    /// Returns what would be left of the body if its request were finished now.
     pub fn remainder(&self) -> Remainder
         ensures { result ≡ remainder self.now }
     {
@@ -321,8 +323,8 @@ impl UnreadBody {
         }
     }
 
-    /// Returns the number of bytes left to read, if it is known: for a body of known length, and for one that reached
-    /// its end. Fewer come if the client's bytes end early.
+    /// Returns the number of bytes left to read, if it is known: for a body of known length, and for a body that
+    /// reached its end. Fewer come if the client's input ends early.
     pub fn left(&self) -> Option<usize>
         ensures { result ≡ bytes_left self.now }
     {
@@ -344,8 +346,8 @@ impl UnreadBody {
         matches!(self, UnreadBody::Over(Stop::End) | UnreadBody::WithHead(_))
     }
 
-    /// Turns the body into the stream of an upgraded connection: by the standard all further input, otherwise still the
-    /// body of the request.
+    /// Turns the body into the stream of an upgraded connection: by the standard all further input, and otherwise still
+    /// the body of the request.
     pub fn become_stream(&mut self, by_standard: bool)
         ensures { self.new ≡ stream_body by_standard self.old }
     {
@@ -354,8 +356,8 @@ impl UnreadBody {
         }
     }
 
-    /// Discards the rest of the body. The rest of a counted body is skipped by the next head. After a chunked body
-    /// whose end wasn't reported no head follows. A body that is the whole rest of the input is left to the source.
+    /// Discards the rest of the body. The rest of a counted body is skipped before the next head. After a chunked body
+    /// whose end wasn't reached no head follows. A body that is the whole rest of the input is left to the source.
     pub fn give_up<R: ReadDevice>(&mut self, source: &mut Source<R>)
         ensures over { self.new ≡ UnreadBody.Over Stop.End }
         ensures gives_up { GivesUp self.old source.old source.new }

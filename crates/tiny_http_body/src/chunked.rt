@@ -31,16 +31,16 @@ pub const MOST_TRAILERS: usize = 128;
 /// The rules for the lines of a chunked body: its chunk-size lines and its trailer section.
 ///
 /// By both rules a chunk size has 1 to 16 hexadecimal digits of either case, and CR LF follows a chunk's data. A
-/// malformed line is reported once it has ended.
+/// malformed line is reported once the line has ended.
 #[derive(Clone, Copy, Debug, PartialEq, Eq)]
 pub enum ChunkRules {
     /// A line ends at its first CR LF. The chunk size is the text before the first `;`, without bytes 9 and 32 around
     /// it. Of extensions and trailer lines only the length is checked.
     Lenient,
-    /// By the standard (RFC 9112, sections 2.2 and 7.1 to 7.1.2). A line ends at its first LF; without a CR before it,
-    /// it is `InvalidData` as soon as it was read. A chunk-size line begins with its digits; bytes 9 and 32 may follow,
-    /// then an extension, which begins with `;`. A trailer line is a field line: a token, immediately a colon, and a
-    /// value. Extensions and values have no byte 0 to 8, 10 to 31 or 127.
+    /// By the standard (RFC 9112, sections 2.2 and 7.1 to 7.1.2). A line ends at its first LF; an LF without a CR
+    /// before it is `InvalidData` as soon as it is read. A chunk-size line begins with its digits; bytes 9 and 32 may
+    /// follow, then an extension, which begins with `;`. A trailer line is a field line: a token, a colon directly
+    /// after it, and a value. Extensions and values have no byte 0 to 8, 10 to 31 or 127.
     Standard,
 }
 
@@ -57,7 +57,7 @@ enum Next {
     Broken(ErrorKind),
 }
 
-// Consumes the CR LF after a chunk's data. Other bytes are `InvalidData`.
+// Consumes the CR LF after a chunk's data. Fails with `InvalidData` for other bytes, and as `next_byte` does.
 fn close_chunk<R: ReadDevice>(reader: &mut R) -> Result<(), ErrorKind>
     ensures closed { (rules : ChunkRules)
         → OnOk result (comes rules Next.Line (R.feed reader.new) ≡ comes rules (Next.Data 0) (R.feed reader.old)) }
@@ -122,7 +122,7 @@ fn skip_trailers<R: ReadDevice>(reader: &mut R, rules: ChunkRules) -> Next
     }
 }
 
-// Consumes a chunk-size line, and after that of the last chunk the trailer section.
+// Consumes a chunk-size line and, after the line of the last chunk, the trailer section.
 fn open_chunk<R: ReadDevice>(reader: &mut R, rules: ChunkRules) -> Next
     ensures comes { comes rules result (R.feed reader.new) ≡ comes rules Next.Line (R.feed reader.old) }
     ensures ready { IsReady result }
@@ -169,7 +169,7 @@ fn go_to_data<R: ReadDevice>(reader: &mut R, rules: ChunkRules, next: Next) -> N
     }
 }
 
-// Reads some of the `left` bytes of data. An end of input is `UnexpectedEof`.
+// Reads some of the `left` bytes of data. Fails with `UnexpectedEof` at the end of input.
 fn read_data<R: ReadDevice>(reader: &mut R, left: u64, buf: &mut [u8]) -> Result<usize, io::Error>
     requires left { 0 < left }
     requires room { 0 < length buf.old }
@@ -198,11 +198,11 @@ pub struct Decoding {
 impl Decoding {
     /// Starts at the first byte of a body, by the lenient rules.
     pub fn new() -> Decoding
-        // A whole body gives its data and leaves the rest.
+        // A whole body decodes to its data and leaves the rest.
         ensures whole { (bytes body rest : List ℕ) (stop : Stop) → WholeChunks bytes body rest
             → decoding_coming result (Some (record { bytes = bytes; stop = stop }))
             ≡ Some (record { bytes = body; behind = Ok (record { bytes = rest; stop = stop }) }) }
-        // Any other gives the data that are there, then the fault.
+        // Any other body decodes to the data that are there, then the fault.
         ensures front { (bytes body : List ℕ) (stop : Stop) (kind : ErrorKind) → CutChunks bytes stop body kind
             → decoding_coming result (Some (record { bytes = bytes; stop = stop }))
             ≡ Some (record { bytes = body; behind = Err kind }) }
@@ -214,11 +214,11 @@ impl Decoding {
 
     /// Starts at the first byte of a body, by these rules.
     pub fn new_with(rules: ChunkRules) -> Decoding
-        // A whole body by the rules gives its data and leaves the rest.
+        // A body that is whole by these rules decodes to its data and leaves the rest.
         ensures whole { (bytes body rest : List ℕ) (stop : Stop) → WholeChunksBy rules bytes body rest
             → decoding_coming result (Some (record { bytes = bytes; stop = stop }))
             ≡ Some (record { bytes = body; behind = Ok (record { bytes = rest; stop = stop }) }) }
-        // Any other gives the data that are there, then the fault.
+        // Any other body decodes to the data that are there, then the fault.
         ensures front { (bytes body : List ℕ) (stop : Stop) (kind : ErrorKind) → CutChunksBy rules bytes stop body kind
             → decoding_coming result (Some (record { bytes = bytes; stop = stop }))
             ≡ Some (record { bytes = body; behind = Err kind }) }
@@ -231,12 +231,14 @@ impl Decoding {
         }
     }
 
-    /// Reads some data into the front of `buf` and returns how many bytes: 0 at the end, or if `buf` is empty. It takes
-    /// no memory. Chunk-size lines, CR LFs and the trailer section are consumed, and nothing after it (RFC 9112,
-    /// section 7.1). What breaks the `ChunkRules`, `LONGEST_LINE` or `MOST_TRAILERS` is `InvalidData`. The reader's end
-    /// within the body is `UnexpectedEof`; its fault keeps its kind. Data before a fault come first, even of an
-    /// unfinished chunk. The end comes once the trailer section was read. After it, or a fault, each call reports the
-    /// same without calling the reader.
+    /// Reads some data into the front of `buf` and returns how many bytes: 0 at the end, or if `buf` is empty. It
+    /// allocates nothing. Chunk-size lines, CR LFs and the trailer section are consumed, and nothing after the trailer
+    /// section (RFC 9112, section 7.1). The end is reported once the trailer section was read.
+    ///
+    /// Fails with `InvalidData` if the body breaks the `ChunkRules`, `LONGEST_LINE` or `MOST_TRAILERS`, with
+    /// `UnexpectedEof` if the reader ends within the body, and with the reader's kind if the reader fails. The data
+    /// before a fault are returned first, even those of an unfinished chunk. After the end or a fault, each call
+    /// reports it again without calling the reader.
     pub fn read<R: ReadDevice>(
         &mut self,
         reader: &mut R,
@@ -244,7 +246,7 @@ impl Decoding {
     ) -> Result<usize, io::Error>
         ensures bound { IfOk result (λ n. n ≤ length buf.new) }
         ensures rules { decoding_rules self.new ≡ decoding_rules self.old }
-        // The bytes that came are the next of the data.
+        // The bytes that came are the next ones of the data.
         ensures data { IfOk result
             (λ n. decoding_coming self.old (R.feed reader.old)
             ≡ prepended_data (take n buf.new) (decoding_coming self.new (R.feed reader.new))) }
@@ -256,18 +258,19 @@ impl Decoding {
         ensures again { OnErr result
             (decoding_coming self.new (R.feed reader.new) ≡ decoding_coming self.old (R.feed reader.old)) }
         ensures empty { length buf.new ≡ 0 → (result ≡ Ok 0) × (self.new ≡ self.old) × (reader.new ≡ reader.old) }
-        // Whatever the reader states, it isn't called again after the end or a fault, and the same is reported.
+        // Whatever the reader states, it isn't called again after the end or a fault, and each call reports the same
+        // stop.
         ensures zero_is_end { IfOk result (λ n. n ≡ 0 → 0 < length buf.new → decoding_stop self.new ≡ Some Stop.End) }
         ensures broken { IfErr result (λ e. decoding_stop self.new ≡ Some (Stop.Fault (error_kind e))) }
         ensures stays { IsSome (decoding_stop self.old) → (self.new ≡ self.old) × (reader.new ≡ reader.old) }
         ensures reports_stop { IfSome (decoding_stop self.old) (λ stop. 0 < length buf.new → AnswersStop stop result) }
-        // Only bytes at the front of what the reader gives are consumed.
+        // Only bytes at the front of the reader's feed are consumed.
         ensures takes { TakesFront (R.feed reader.old) (R.feed reader.new) }
         // Up to a fault no byte is consumed beyond the one that shows it.
         ensures needed { OnErr result (TakesNeeded (decoding_reads self.old) (R.feed reader.old) (R.feed reader.new)) }
-        // The reader isn't asked for a second end or fault, nor for more than the bytes that came.
+        // The reader reports at most one end or fault, and none if bytes came.
         ensures stop_count { Tells (R.stop_count reader.old) (R.stop_count reader.new) result }
-        // It is asked for none if the body has its own end, which is a line.
+        // It reports none unless this call fails, since the body's own end is a line.
         ensures whole { R.stop_count reader.new ≤ R.stop_count reader.old + fault_count result }
     {
         if buf.is_empty() {
@@ -302,8 +305,8 @@ impl Decoding {
     }
 }
 
-/// A reader of the data of a chunked body. It consumes no byte of the inner reader after the trailer section. If it is
-/// dropped or taken apart before the end, the rest of the body stays unread.
+/// A reader of the data of a chunked body. It consumes no byte of the inner reader after the trailer section. If the
+/// decoder is dropped or taken apart before the end, the rest of the body stays unread.
 #[derive(Drop)]
 pub struct Decoder<R> {
     inner: R,
@@ -317,11 +320,11 @@ impl<R: ReadDevice> Decoder<R> {
     /// Decodes a body whose first byte is the reader's next, by the lenient rules.
     pub fn new(inner: R) -> Decoder<R>
         ensures inner { decoder_inner result ≡ inner }
-        // A whole body gives its data and leaves the rest.
+        // A whole body decodes to its data and leaves the rest.
         ensures whole { (feed : Feed) (body rest : List ℕ) → R.feed inner ≡ Some feed → WholeChunks feed.bytes body rest
             → decoder_coming R.feed result
             ≡ Some (record { bytes = body; behind = Ok (record { bytes = rest; stop = feed.stop }) }) }
-        // Any other gives the data that are there, then the fault.
+        // Any other body decodes to the data that are there, then the fault.
         ensures front { (feed : Feed) (body : List ℕ) (kind : ErrorKind)
             → R.feed inner ≡ Some feed
             → CutChunks feed.bytes feed.stop body kind
@@ -334,13 +337,13 @@ impl<R: ReadDevice> Decoder<R> {
     /// Decodes a body whose first byte is the reader's next, by these rules.
     pub fn new_with(inner: R, rules: ChunkRules) -> Decoder<R>
         ensures inner { decoder_inner result ≡ inner }
-        // A whole body by the rules gives its data and leaves the rest.
+        // A body that is whole by these rules decodes to its data and leaves the rest.
         ensures whole { (feed : Feed) (body rest : List ℕ)
             → R.feed inner ≡ Some feed
             → WholeChunksBy rules feed.bytes body rest
             → decoder_coming R.feed result
             ≡ Some (record { bytes = body; behind = Ok (record { bytes = rest; stop = feed.stop }) }) }
-        // Any other gives the data that are there, then the fault.
+        // Any other body decodes to the data that are there, then the fault.
         ensures front { (feed : Feed) (body : List ℕ) (kind : ErrorKind)
             → R.feed inner ≡ Some feed
             → CutChunksBy rules feed.bytes feed.stop body kind
@@ -365,7 +368,7 @@ impl<R: ReadDevice> Decoder<R> {
         self.decoding.read(&mut self.inner, buf)
     }
 
-    /// Returns the inner reader. Once the end was reported it is just after the body.
+    /// Returns the inner reader. Once the end was reported, the reader is just after the body.
     pub fn into_inner(self) -> R
         ensures { result ≡ decoder_inner self }
     {
@@ -380,7 +383,7 @@ impl<R: ReadDevice> ReadDevice for Decoder<R> {
 
     ghost stop_count = { λ d. R.stop_count (decoder_inner d) };
 
-    /// Reads some data.
+    /// Reads some data, as `Decoder::read` does.
     fn read_in(&mut self, buf: &mut [u8]) -> Result<usize, io::Error>
         ensures device { Reads (decoder_feed R.feed self.old) (decoder_feed R.feed self.new) result buf.new }
         ensures reads { ReadsData R.feed self.old self.new result buf.new }
@@ -401,7 +404,7 @@ impl<R: ReadDevice> Read for Decoder<R> {
 
     ghost remaining = { λ d. bytes_of (decoder_feed R.feed d) };
 
-    /// Reads some data.
+    /// Reads some data, as `Decoder::read` does.
     fn read(&mut self, buf: &mut [u8]) -> io::Result<usize>
         ensures bound { ReadsAtMost result buf.new }
         ensures bytes { ReadConsumes (bytes_of (decoder_feed R.feed self.old))

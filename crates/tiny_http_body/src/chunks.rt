@@ -16,7 +16,7 @@ pub const CHUNK: usize = 8192;
 /// Writes some bytes as one chunk: their number in lower-case hexadecimal without leading zeros, CR LF, the bytes, CR
 /// LF (RFC 9112, section 7.1). Fails with the writer's first fault, after which nothing more is written.
 pub fn put_chunk<W: WriteDevice>(writer: &mut W, bytes: &[u8]) -> Result<(), io::Error>
-    // A chunk without bytes would be the last one.
+    // A chunk without bytes would be the last chunk.
     requires { 0 < length bytes.now }
     ensures { Puts (W.sink writer.old) (W.sink writer.new) result (printed_chunk bytes.now) }
 {
@@ -25,7 +25,7 @@ pub fn put_chunk<W: WriteDevice>(writer: &mut W, bytes: &[u8]) -> Result<(), io:
 }
 
 /// Writes the final bytes as a chunk, if there are any, then the last chunk with an empty trailer section (RFC 9112,
-/// section 7.1). Errors are those of `put_chunk`.
+/// section 7.1). Fails as `put_chunk` does.
 pub fn put_last<W: WriteDevice>(writer: &mut W, bytes: &[u8]) -> Result<(), io::Error>
     ensures { Puts (W.sink writer.old) (W.sink writer.new) result (short_chunk bytes.now ++ codes "0\r\n\r\n") }
 {
@@ -36,15 +36,15 @@ pub fn put_last<W: WriteDevice>(writer: &mut W, bytes: &[u8]) -> Result<(), io::
 }
 
 /// Writes all the data in chunks of 8192 bytes, the final one of 1 to 8192, and the end of the body (RFC 9112, section
-/// 7.1). Fails with the first fault of the data or the writer. After a fault of the data all full chunks before it are
-/// written, but no last chunk; after one of the writer nothing more is.
+/// 7.1). Fails with the first fault of the data or the writer. After a fault of the data, all full chunks before the
+/// fault have been written, but no last chunk; after a fault of the writer, nothing more is written.
 pub fn put_chunked<D: ReadDevice, W: WriteDevice>(
     source: &mut D,
     writer: &mut W,
 ) -> Result<(), io::Error>
     ensures text { IfSome (D.feed source.old) (λ feed. length feed.bytes < 2 ^ 63 →
         Prints (W.sink writer.old) (W.sink writer.new) result (chunked_body feed)) }
-    // Whatever the data and the writer state, a fault is the writer's only if its count rose.
+    // Whatever the data and the writer state, a fault is the writer's only if the writer's failure count rose.
     ensures uses { CountsFaults (W.sink writer.old) (W.sink writer.new) result }
     // The data are not read again after their end or fault.
     ensures stop_count { D.stop_count source.new ≤ D.stop_count source.old + 1 }

@@ -13,7 +13,7 @@ use std::io::{ErrorKind, Write};
 use std::marker::Model;
 use tiny_http_io::device::WriteDevice;
 
-/// A writer that sends its bytes in chunks of 8192 to another writer. It buffers the bytes of an unfinished chunk.
+/// A writer that sends its bytes to another writer in chunks of 8192. It buffers the bytes of an unfinished chunk.
 ///
 /// Only `finish` sends the buffered bytes and the end of the body; a dropped encoder sends nothing. After the inner
 /// writer's first fault nothing more is written: each later call fails with `BrokenPipe`.
@@ -48,8 +48,8 @@ pub(crate) fn copy_to(held: &mut [u8], at: usize, bytes: &[u8], count: usize)
     held[at..at + count].copy_from_slice(&bytes[..count]);
 }
 
-// Takes bytes from the front of a text, at least one if there is one, after the first `len` of the buffer. Writes a
-// chunk once it is full.
+// Appends bytes from the front of `bytes`, at least one unless it is empty, to the first `len` bytes of the buffer, and
+// returns how many. Writes a chunk once it is full.
 fn encode<W: WriteDevice>(
     writer: &mut W,
     held: &mut [u8; CHUNK],
@@ -80,7 +80,7 @@ impl<W: WriteDevice> Encoder<W> {
         }
     }
 
-    /// Borrows the writer. Buffered bytes aren't written yet.
+    /// Borrows the inner writer. Buffered bytes aren't written yet.
     pub fn get_ref(&self) -> &W
         ensures writer { result.now ≡ encoder_writer self.now }
         ensures sink { self.now.sink ≡ W.sink result.now }
@@ -88,9 +88,10 @@ impl<W: WriteDevice> Encoder<W> {
         &self.inner
     }
 
-    /// Sends the buffered bytes as a chunk, if there are any, and the end of the body, and returns the writer. It then
-    /// has all bytes that the encoder was given, in chunks of 8192, the final one of 1 to 8192. It doesn't flush. Fails
-    /// with the writer's fault, or, after an earlier one, with `BrokenPipe`, and then the writer is left as it was.
+    /// Sends the buffered bytes as a chunk, if there are any, and the end of the body, and returns the inner writer.
+    /// All bytes that the encoder was given are then written, in chunks of 8192, the final one of 1 to 8192. The writer
+    /// isn't flushed. Fails with the writer's fault; after an earlier fault it fails with `BrokenPipe`, and nothing is
+    /// written.
     pub fn finish(mut self) -> Result<W, io::Error>
     where
         W: Drop,
@@ -116,8 +117,8 @@ impl<W: WriteDevice> Write for Encoder<W> {
     ghost use Rattle.std.specs.Io.{WritesAtMost};
     ghost use Rattle.tiny_http_body.specs.Encoder.{HasEncoded, encoder_failed, IsBroken};
 
-    /// Takes some bytes, at least one if there is one, and returns how many. A full chunk is written; other bytes are
-    /// buffered. Fails with the writer's first fault, and with `BrokenPipe` after it.
+    /// Takes some bytes, at least one unless `buf` is empty, and returns how many. A full chunk is written; other bytes
+    /// are buffered. Fails with the inner writer's first fault, and with `BrokenPipe` after it.
     fn write(&mut self, buf: &[u8]) -> io::Result<usize>
         ensures bound { WritesAtMost result buf.now }
         ensures some { IfOk result (λ n. 0 < length buf.now → 0 < n) }
@@ -148,7 +149,7 @@ impl<W: WriteDevice> Write for Encoder<W> {
         }
     }
 
-    /// Flushes the writer. Buffered bytes stay: they don't become a chunk. Errors are those of `write`.
+    /// Flushes the inner writer. Buffered bytes stay buffered: they don't become a chunk. Fails as `write` does.
     fn flush(&mut self) -> io::Result<()>
         ensures body { OnOk result ((start : Sink) (given : List ℕ)
             → HasEncoded start given self.old

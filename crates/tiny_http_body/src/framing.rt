@@ -33,16 +33,18 @@ pub const STANDARD_HEAD: usize = 65_536;
 #[derive(Clone, Copy, Debug, PartialEq, Eq)]
 pub enum Profile {
     /// As the original, tiny_http 0.12: the first `Content-Length` counts, a `Transfer-Encoding` of any value means
-    /// chunked and overrides it, and a head may be of any size.
+    /// chunked and overrides the length, and a head may be of any size.
     Lenient,
-    /// Laxer than `Standard`, which also serves behind a proxy: as `Lenient`, but it refuses `Content-Length` values
-    /// that aren't one number, `Content-Length` beside `Transfer-Encoding`, a `Transfer-Encoding` that doesn't end in
-    /// `chunked` (RFC 9112, sections 6.1 to 6.3), and a head of more than `STRICT_HEAD` bytes (RFC 6585, section 5).
+    /// Laxer than `Standard`, which is the profile to use behind a proxy. As `Lenient`, but it refuses `Content-Length`
+    /// values that aren't one number, `Content-Length` beside `Transfer-Encoding`, a `Transfer-Encoding` that doesn't
+    /// end in `chunked` (RFC 9112, sections 6.1 to 6.3), and a head of more than `STRICT_HEAD` bytes (RFC 6585, section
+    /// 5).
     Strict,
     /// By the standard (RFC 9110 and RFC 9112): heads follow its grammar, and `tiny_http_standard_head` validates them.
     /// Lengths and sizes are refused as under `Strict`; `chunked` is the only transfer coding. The lines of a chunked
     /// body follow the grammar, a body that is cut is a fault, and a connection is upgraded only as its request asks. A
-    /// response has version 1.1 and says whether the connection persists; without a final status code it is refused.
+    /// response has version 1.1 and says whether the connection persists; a response without a final status code is
+    /// refused.
     Standard,
 }
 
@@ -59,7 +61,7 @@ impl HeadRules {
     ghost use Rattle.tiny_http_body.specs.Framing.{head_limit};
 
     /// Returns the maximum length of a head in bytes, the CR LF of its empty line included: `STRICT_HEAD` under
-    /// `Strict`, and none under `Lenient`.
+    /// `Strict`, and no maximum (`None`) under `Lenient`.
     pub fn head_limit(self) -> Option<usize>
         ensures { result ≡ head_limit self }
     {
@@ -73,8 +75,8 @@ impl HeadRules {
 /// The reason why the framing of a request is refused.
 #[derive(Clone, Copy, Debug, PartialEq, Eq)]
 pub enum FramingFault {
-    /// It is invalid: lengths that aren't one number, a length beside a transfer coding, or codings that don't end in
-    /// `chunked`. Of these rules only `Strict` refuses such a head, with 400 (RFC 9112, section 6.3).
+    /// The framing is invalid: lengths that aren't one number, a length beside a transfer coding, or codings that don't
+    /// end in `chunked`. Of the `HeadRules` only `Strict` refuses such a head, with 400 (RFC 9112, section 6.3).
     Invalid,
     /// An expectation can't be met: 417 (RFC 9110, section 10.1.1).
     Expectation,
@@ -89,13 +91,13 @@ pub enum Form {
     Nothing,
     /// 1 to 1024 bytes, read with the head.
     WithHead,
-    /// The number of bytes that the head gives, read from the stream.
+    /// The number of bytes that the head states, read from the stream.
     Counted,
     /// Chunks, read from the stream.
     Chunked,
 }
 
-/// The framing of a request, as its head gives it, and whether the connection ends after it.
+/// The framing of a request, as its head states it, and whether the connection ends after the request.
 #[derive(Clone, Copy, Debug, PartialEq, Eq)]
 pub struct Framing {
     /// How the body is delimited.
@@ -112,7 +114,7 @@ pub struct Framing {
     pub is_last: bool,
 }
 
-/// Returns the value of the first field of that name, compared case-insensitively.
+/// Returns the value of the first field of this name, compared case-insensitively.
 pub fn value_of<'a>(headers: &'a [Header], name: &str) -> Option<&'a AsciiString>
     ensures { option_copied result ≡ value_of name.now headers.now }
 {
@@ -124,7 +126,7 @@ pub fn value_of<'a>(headers: &'a [Header], name: &str) -> Option<&'a AsciiString
     None
 }
 
-// Returns the value found before or, if there is none, this field's if it has the name.
+// Returns the value found before. If there is none, returns this field's value if the field has the name.
 #[inline(always)]
 fn or_value_of<'a>(
     found: Option<&'a AsciiString>,
@@ -139,7 +141,7 @@ fn or_value_of<'a>(
     found
 }
 
-// Returns whether the text, in lower case, begins with the word.
+// Returns whether the text, converted to lower case, begins with the word.
 fn begins(text: &[u8], word: &[u8]) -> bool
     ensures { result ≡ starts_with ◌==◌ (lowercase text.now) word.now }
 {
@@ -154,7 +156,7 @@ fn begins(text: &[u8], word: &[u8]) -> bool
     true
 }
 
-// Returns whether the text, in lower case, contains the word.
+// Returns whether the text, converted to lower case, contains the word.
 fn contains_word(text: &[u8], word: &[u8]) -> bool
     ensures { result ≡ contains_word word.now (lowercase text.now) }
 {
@@ -166,7 +168,7 @@ fn contains_word(text: &[u8], word: &[u8]) -> bool
     word.is_empty()
 }
 
-// Returns whether the value, if there is one, contains the word.
+// Returns whether the value, if there is one, contains the word, case-insensitively.
 fn mentions(value: Option<&AsciiString>, word: &str) -> bool
     ensures { result ≡ mentions word.now (option_copied value.entry) }
 {
@@ -176,8 +178,8 @@ fn mentions(value: Option<&AsciiString>, word: &str) -> bool
     }
 }
 
-// Returns the length under `Lenient`, by the first `Transfer-Encoding` and `Content-Length`: the coding overrides the
-// length.
+// Returns the length under `Lenient`, given the first `Transfer-Encoding` and `Content-Length`: the coding overrides
+// the length.
 fn lenient_length(coding: Option<&AsciiString>, length: Option<&AsciiString>) -> Option<usize>
     ensures { result
         ≡ (if is_some (option_copied coding.entry) then None else length_in_value (option_copied length.entry)) }
@@ -212,14 +214,14 @@ fn is_chunked(headers: &[Header]) -> bool
     is_chunked
 }
 
-// Returns the length under `Strict`, without a `Transfer-Encoding`.
+// Returns the length under `Strict` if there is no `Transfer-Encoding`.
 fn uncoded_length(headers: &[Header]) -> Result<Option<usize>, FramingFault>
     ensures { result ≡ uncoded_length (one_length (elements_of (codes "Content-Length") headers.now)) }
 {
     one_length(headers, Blanks::WhiteSpace).map_err(|_| FramingFault::Invalid)
 }
 
-// Returns the length under `Strict`, by whether there are `Transfer-Encoding` and `Content-Length` fields.
+// Returns the length under `Strict`, given whether there are `Transfer-Encoding` and `Content-Length` fields.
 fn strict_length(
     is_coded: bool,
     is_sized: bool,
@@ -242,7 +244,7 @@ fn strict_length(
     Err(FramingFault::Invalid)
 }
 
-// Returns the content length, if any, by the first values of `Transfer-Encoding` and `Content-Length`.
+// Returns the content length, if any, given the first values of `Transfer-Encoding` and `Content-Length`.
 fn body_length(
     rules: HeadRules,
     coding: Option<&AsciiString>,
@@ -259,7 +261,7 @@ fn body_length(
     }
 }
 
-// Returns whether a 100 is due, by the value of `Expect`, or `None` if the expectation can't be met.
+// Returns whether a 100 is due, given the value of `Expect`, or `None` if the expectation can't be met.
 fn expectation(value: Option<&AsciiString>) -> Option<bool>
     ensures { result ≡ expectation (option_copied value.entry) }
 {
@@ -270,8 +272,8 @@ fn expectation(value: Option<&AsciiString>) -> Option<bool>
     }
 }
 
-/// Returns the form of a body of known length, or without one: a short one is read with its head unless a 100 is due
-/// (RFC 9112, section 6.3).
+/// Returns the form of a body of this length, or of no body: one of at most `LONGEST_WITH_HEAD` bytes is read with its
+/// head unless a 100 is due (RFC 9112, section 6.3).
 pub fn sized_form(owed: bool, length: Option<usize>) -> Form
     ensures { result ≡ sized_form owed length }
 {
@@ -303,8 +305,8 @@ fn is_last(version: HTTPVersion, connection: Option<&AsciiString>) -> bool
         || (version.0 == 1 && version.1 == 0 && !mentions(connection, "keep-alive"))
 }
 
-/// Returns the framing that the version and the fields give by these rules. Fails if it is invalid, which is checked
-/// first, or if an expectation can't be met.
+/// Returns the framing of a request with this version and these fields, by these rules. Fails with `Invalid` if the
+/// framing is invalid, which is checked first, or with `Expectation` if an expectation can't be met.
 #[tactic(auto, unfolding(crate::specs::FramingReading::framing))]
 pub fn framing_of(
     rules: HeadRules,

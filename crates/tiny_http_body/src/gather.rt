@@ -1,4 +1,4 @@
-//! Reading data a buffer at a time, or whole.
+//! Reading data into a buffer, or whole into memory.
 ghost use Rattle.std.specs.Prelude.{◌≡◌, ◌<◌, ◌≤◌, ◌+◌, ◌^◌, length, drop, take, IfOk, IfSome};
 ghost use Rattle.tiny_http_io.specs.Device.{Fills, ReadsFrom, Gathers, Tells};
 
@@ -10,7 +10,7 @@ use tiny_http_io::device::{ReadDevice, read_some};
 /// Maximum number of bytes that are read at a time.
 pub(crate) const PIECE: usize = 8192;
 
-// Reads into the buffer from `at` on.
+// Reads some bytes into the buffer from `at` on.
 fn read_behind<D: ReadDevice>(source: &mut D, buf: &mut [u8], at: usize) -> Result<usize, io::Error>
     requires { at ≤ length buf.old }
     ensures bound { IfOk result (λ n. at + n ≤ length buf.old) }
@@ -21,7 +21,7 @@ fn read_behind<D: ReadDevice>(source: &mut D, buf: &mut [u8], at: usize) -> Resu
     read_some(source, &mut buf[at..])
 }
 
-/// Reads until the buffer is full or the data end, and returns how many bytes there are.
+/// Reads until the buffer is full or the data end, and returns how many bytes were read.
 pub(crate) fn fill<D: ReadDevice>(source: &mut D, buf: &mut [u8]) -> Result<usize, io::Error>
     ensures bound { IfOk result (λ n. n ≤ length buf.old) }
     ensures bytes { Fills (D.feed source.old) (D.feed source.new) result buf.new }
@@ -40,7 +40,7 @@ pub(crate) fn fill<D: ReadDevice>(source: &mut D, buf: &mut [u8]) -> Result<usiz
     Ok(at)
 }
 
-/// Reads all the data into memory. Fails with their fault, or with `OutOfMemory`.
+/// Reads all the data into memory. Fails with the fault of the data, or with `OutOfMemory` if memory is refused.
 pub fn gather<D: ReadDevice>(alloc: Global, source: &mut D) -> Result<Vec<u8>, io::Error>
     ensures gathers { IfSome (D.feed source.old)
         (λ feed. length feed.bytes < 2 ^ 63 → Gathers (λ v. v.items) feed result) }

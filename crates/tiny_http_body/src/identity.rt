@@ -8,7 +8,7 @@ use std::io;
 use std::io::ErrorKind;
 use tiny_http_io::device::{ReadDevice, WriteDevice, put, read_some};
 
-// Reads some bytes into the first `n` of the buffer.
+// Reads at most `n` bytes into the front of the buffer.
 fn read_into_front<D: ReadDevice>(
     source: &mut D,
     buf: &mut [u8],
@@ -22,7 +22,8 @@ fn read_into_front<D: ReadDevice>(
     read_some(source, &mut buf[..n])
 }
 
-// Copies some of the next `left` bytes through the buffer and returns how many. An end of the data is `UnexpectedEof`.
+// Copies some of the next `left` bytes through the buffer and returns how many. Fails with `UnexpectedEof` if the data
+// end.
 fn put_piece<D: ReadDevice, W: WriteDevice>(
     source: &mut D,
     writer: &mut W,
@@ -69,13 +70,13 @@ fn put_through<D: ReadDevice, W: WriteDevice>(
     Ok(())
 }
 
-// Buffer sizes that are enough for short data, and for most. A buffer costs by its size, since it is zeroed.
+// Buffer sizes that suffice for short data, and for most data. A larger buffer costs more, since it is zeroed.
 const SHORT: usize = 256;
 
 const SMALL: usize = 1024;
 
 /// Writes the first `n` bytes of the data, as they come. Fails with `UnexpectedEof` if there are fewer, and otherwise
-/// with the first fault of the data or the writer, after which nothing is written.
+/// with the first fault of the data or the writer, after which nothing more is written.
 pub fn put_exactly<D: ReadDevice, W: WriteDevice>(
     source: &mut D,
     writer: &mut W,

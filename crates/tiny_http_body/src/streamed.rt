@@ -17,17 +17,17 @@ use tiny_http_io::device::{WriteDevice, put};
 pub enum StreamedForm {
     /// In chunks, ended by the last chunk (RFC 9112, section 7.1).
     Chunks,
-    /// As is: the end of the connection ends it (RFC 9112, section 6.3).
+    /// As is, ended by the end of the connection (RFC 9112, section 6.3).
     Plain,
     /// Not at all, as in the response to a `HEAD`: what is written is discarded.
     Absent,
 }
 
-/// A writer of a body that grows. It buffers at most 8191 bytes, and sends them on `flush` or once there are 8192, as
-/// one chunk if the body is chunked. `finish` sends the buffered bytes and the end of the body. If it is dropped
-/// instead, nothing more is sent, so a chunked body is visibly cut.
+/// A writer of a body that grows while it is sent. It buffers at most 8191 bytes, and sends them on `flush` or once
+/// there are 8192, as one chunk if the body is chunked. `finish` sends the buffered bytes and the end of the body. If
+/// the writer is dropped instead, nothing more is sent, so a chunked body is visibly cut.
 ///
-/// After the writer's first fault nothing more is written: each later call fails with `BrokenPipe`.
+/// After the inner writer's first fault nothing more is written: each later call fails with `BrokenPipe`.
 #[derive(Drop)]
 pub struct Streamed<W: WriteDevice> {
     inner: W,
@@ -51,7 +51,7 @@ impl<W: WriteDevice> Model for Streamed<W> {
     ghost invariant = { λ s. s.len < CHUNK };
 }
 
-// Sends a piece of a body.
+// Sends a piece of a body in this form. An empty piece isn't sent as a chunk, since that would end the body.
 fn put_piece<W: WriteDevice>(
     writer: &mut W,
     form: StreamedForm,
@@ -66,7 +66,7 @@ fn put_piece<W: WriteDevice>(
     }
 }
 
-// Sends the end of a body.
+// Sends the end of a body in this form.
 fn put_end<W: WriteDevice>(writer: &mut W, form: StreamedForm) -> Result<(), io::Error>
     ensures { Puts (W.sink writer.old) (W.sink writer.new) result (end_text form) }
 {
@@ -76,8 +76,8 @@ fn put_end<W: WriteDevice>(writer: &mut W, form: StreamedForm) -> Result<(), io:
     }
 }
 
-/// Takes bytes from the front of a text, at least one if there is one, after the first `len` of the buffer. Sends the
-/// buffer once it is full.
+/// Appends bytes from the front of `bytes`, at least one unless it is empty, to the first `len` bytes of the buffer,
+/// and returns how many. Sends the buffer once it is full.
 pub(crate) fn gather<W: WriteDevice>(
     writer: &mut W,
     form: StreamedForm,
@@ -123,7 +123,7 @@ impl<W: WriteDevice> Streamed<W> {
         }
     }
 
-    /// Borrows the writer. Buffered bytes aren't written yet.
+    /// Borrows the inner writer. Buffered bytes aren't written yet.
     pub fn get_ref(&self) -> &W
         ensures writer { result.now ≡ self.now.writer }
         ensures sink { self.now.sink ≡ W.sink result.now }
@@ -131,14 +131,14 @@ impl<W: WriteDevice> Streamed<W> {
         &self.inner
     }
 
-    /// Returns how the body is sent.
+    /// Returns how the body follows the head of its response.
     pub fn form(&self) -> StreamedForm
         ensures { result ≡ self.now.form }
     {
         self.form
     }
 
-    /// Returns the writer. Buffered bytes are discarded, and the body isn't ended.
+    /// Returns the inner writer. Buffered bytes are discarded, and the body isn't ended.
     pub fn into_inner(self) -> W
         ensures writer { result ≡ self.writer }
         ensures sink { W.sink result ≡ self.sink }
@@ -146,8 +146,8 @@ impl<W: WriteDevice> Streamed<W> {
         self.inner
     }
 
-    /// Sends the buffered bytes and the end of the body, and returns the writer. It doesn't flush. Fails with the
-    /// writer's fault, or, after an earlier one, with `BrokenPipe`, and then nothing is written.
+    /// Sends the buffered bytes and the end of the body, and returns the inner writer, which isn't flushed. Fails with
+    /// the writer's fault; after an earlier fault it fails with `BrokenPipe`, and nothing is written.
     pub fn finish(mut self) -> Result<W, io::Error>
     where
         W: Drop,
@@ -156,7 +156,7 @@ impl<W: WriteDevice> Streamed<W> {
         ensures body { IfOk result (λ w. (start : Sink) (given : List ℕ)
             → HasStreamed start given self
             → EndsStreamed self.form start (W.sink w) given) }
-        // The fault is the writer's, which failed within this rest.
+        // The fault is the writer's, which failed within the rest of the body.
         ensures fault { IfErr result (λ e. self.failed ≡ false → (w : W)
             × Failed self.sink (W.sink w) (piece_text self.form self.held ++ end_text self.form) (error_kind e)) }
         ensures open { OnOk result (self.failed ≡ false) }
@@ -170,7 +170,7 @@ impl<W: WriteDevice> Streamed<W> {
         Ok(self.inner)
     }
 
-    // Sends the buffered bytes and flushes the writer.
+    // Sends the buffered bytes as one piece and flushes the inner writer.
     fn send(&mut self) -> Result<(), io::Error>
         ensures puts { Puts self.old.sink self.new.sink result (piece_text self.old.form self.old.held) }
         ensures held { OnOk result (self.new.held ≡ []) }
@@ -189,8 +189,8 @@ impl<W: WriteDevice> Write for Streamed<W> {
     ghost use Rattle.tiny_http_body.specs.Encoder.{IsBroken};
     ghost use Rattle.tiny_http_body.specs.Streamed.{HasStreamed};
 
-    /// Takes some bytes, at least one if there is one, and returns how many. Full pieces of 8192 bytes are sent; other
-    /// bytes are buffered. Fails with the writer's first fault, and with `BrokenPipe` after it.
+    /// Takes some bytes, at least one unless `buf` is empty, and returns how many. Full pieces of 8192 bytes are sent;
+    /// other bytes are buffered. Fails with the inner writer's first fault, and with `BrokenPipe` after it.
     fn write(&mut self, buf: &[u8]) -> io::Result<usize>
         ensures bound { WritesAtMost result buf.now }
         ensures gathers { self.old.failed ≡ false
@@ -221,7 +221,7 @@ impl<W: WriteDevice> Write for Streamed<W> {
         }
     }
 
-    /// Sends the buffered bytes as one piece and flushes the writer. Errors are those of `write`.
+    /// Sends the buffered bytes as one piece and flushes the inner writer. Fails as `write` does.
     fn flush(&mut self) -> io::Result<()>
         ensures puts { self.old.failed ≡ false
             → Puts self.old.sink self.new.sink result (piece_text self.old.form self.old.held) }

@@ -1,4 +1,4 @@
--- Results of the calls that read the parts of a response.
+-- What the calls that read the parts of a response return.
 use Rattle.std.specs.Prelude.{◌≡◌, ℕ, ◌<◌, ◌≤◌, ◌⊎◌, List, [], length, Option, Some, None, Result, Ok, Err, false, ⊤}
 use Rattle.std.specs.declared.io.ErrorKind.{ErrorKind}
 use Rattle.std.specs.declared.io.ErrorKind.TheVariants.{InvalidData}
@@ -21,10 +21,11 @@ use Rattle.tiny_http_client.specs.ClientAnswer.{Invalid, LacksLine, IsFieldLineO
 use Rattle.tiny_http_client.specs.ClientAnswer.{Extent, NoBody, OfChunks, OfLength, OfUnknownLength, extent}
 use Rattle.tiny_http_client.specs.ClientAnswer.{BeginsWithStatusLine}
 
--- a head, and a response, as the grammar sees them
+-- the head in `HeadParts`, as the grammar sees it
 abbrev pub head_of : HeadParts → AnswerHead
 head_of h = record { version = h.version; status = h.status.0; headers = h.headers.items }
 
+-- a response that a call returns, as the grammar sees it
 abbrev pub answer_of : Answer → ClientAnswer
 answer_of a =
     record
@@ -34,50 +35,50 @@ answer_of a =
 abbrev pub status_line_of : HTTPVersion × StatusCode → HTTPVersion × ℕ
 status_line_of r = (r.0, r.1.0)
 
--- why a part isn't read; always true if memory is refused
+-- whether a part is lacking for the reason that this fault reports; always true if memory is refused
 abbrev pub LacksBy : (Lack → Type 0) → Fault → Type 0
 LacksBy lacks IsCut = lacks Unfinished
 LacksBy lacks IsBad = lacks Invalid
 LacksBy lacks IsMemory = ⊤
 
--- the chunked body that the bytes begin with has data, whole or up to where it breaks off
+-- whether the chunked body at the front of the bytes has data, whether it is complete or breaks off
 abbrev pub HasChunkData : List ℕ → Type 0
 HasChunkData bytes =
     (body : List ℕ) × (0 < length body)
     × (((rest : List ℕ) × WholeChunks bytes body rest) ⊎ ((kind : ErrorKind) × CutChunks bytes End body kind))
 
--- when memory for a body is requested: for the data of chunks, if there are any, and for as many bytes as the length
--- states, once they are there
+-- whether memory for a body of this extent is requested: for the data of chunks, if there are any, and for as many
+-- bytes as the length states, once these have arrived
 abbrev pub WantsMemory : Extent → List ℕ → Type 0
 WantsMemory NoBody bytes = ⊥
 WantsMemory OfChunks bytes = HasChunkData bytes
 WantsMemory (OfLength n) bytes = n ≤ length bytes
 WantsMemory OfUnknownLength bytes = ⊥
 
--- whether an error of this kind in a chunked body whose bytes end means malformed or unfinished
+-- the fault that an error of this kind reports about a chunked body whose bytes end: malformed or unfinished
 abbrev pub chunk_fault : ErrorKind → Fault
 chunk_fault InvalidData = IsBad
 chunk_fault _ = IsCut
 
--- the bytes begin with a field line, for which memory is requested
+-- whether the bytes begin with a field line, for which memory is requested
 abbrev pub HasFieldLine : List ℕ → Type 0
 HasFieldLine bytes =
     (text : List ℕ) × (rest : List ℕ) × Line bytes text rest × AreAscii text
     × ((header : Header) × FieldLine text header)
 
--- a call reads the next field line, or the empty line
+-- whether a call reads the next field line, or the empty line, with this result
 abbrev pub ReadsFieldLine : List ℕ → List ℕ → Result (Option Header) Fault → Type 0
 ReadsFieldLine old new (Ok None) = Line old [] new
 ReadsFieldLine old new (Ok (Some h)) = (text : List ℕ) × Line old text new × AreAscii text × FieldLine text h
 ReadsFieldLine old new (Err IsMemory) = HasFieldLine old
 ReadsFieldLine old new (Err fault) = LacksBy (LacksLine IsFieldLineOrEmpty old) fault
 
--- the bytes begin with field lines and an empty line, and the rest follows
+-- whether the bytes begin with the field lines of these headers and an empty line, and `rest` follows
 abbrev pub BeginsWithAllFieldLines : List ℕ → List Header → List ℕ → Type 0
 BeginsWithAllFieldLines bytes headers rest =
     (empty : List ℕ) × BeginsWithFieldLines bytes headers empty × Line empty [] rest
 
--- after some field lines the next line is bad
+-- whether, after some field lines, the next line is unfinished or invalid, as `lack` says
 abbrev pub LacksFieldLines : List ℕ → Lack → Type 0
 LacksFieldLines bytes lack =
     (headers : List Header)
@@ -85,7 +86,7 @@ LacksFieldLines bytes lack =
     × BeginsWithFieldLines bytes headers rest
     × LacksLine IsFieldLineOrEmpty rest lack
 
--- the bytes begin with interim heads and one that isn't interim, and the rest follows
+-- whether the bytes begin with any number of interim heads and then this head, which isn't interim, and `rest` follows
 abbrev pub BeginsWithFinalHead : List ℕ → AnswerHead → List ℕ → Type 0
 BeginsWithFinalHead bytes head rest =
     (interim : List AnswerHead)
@@ -94,24 +95,25 @@ BeginsWithFinalHead bytes head rest =
     × BeginsWithAnswerHead start head rest
     × (is_interim head.status ≡ false)
 
--- after interim heads no head follows
+-- whether, after any number of interim heads, the next head is unfinished or invalid, as `lack` says
 abbrev pub LacksFinalHead : List ℕ → Lack → Type 0
 LacksFinalHead bytes lack =
     (interim : List AnswerHead) × (start : List ℕ) × PassesOver bytes interim start × LacksHead start lack
 
--- the bytes begin with a status line and a field line
+-- whether the bytes begin with a status line and a field line
 abbrev pub HasStartAndField : List ℕ → Type 0
 HasStartAndField bytes =
     (version : HTTPVersion) × (status : ℕ) × (fields : List ℕ)
     × BeginsWithStatusLine bytes version status fields
     × HasFieldLine fields
 
--- after interim heads a head begins, and has a field line
+-- whether the bytes begin with any number of interim heads, and then a status line and a field line
 abbrev pub HasSomeField : List ℕ → Type 0
 HasSomeField bytes =
     (interim : List AnswerHead) × (start : List ℕ) × PassesOver bytes interim start × HasStartAndField start
 
--- MEMORY IS REQUESTED FOR A RESPONSE: for a field line, of an interim head too, or for the body.
+-- MEMORY IS REQUESTED FOR A RESPONSE: whether the bytes have a field line, if only of an interim head, or a body, for
+-- which a client requests memory
 abbrev pub HasSomeToKeep : Method → List ℕ → Type 0
 HasSomeToKeep method bytes =
     HasSomeField bytes

@@ -1,8 +1,8 @@
 -- What a client reads that knows only the method of its request (RFC 9112, sections 2.2, 4, 5, 6.3 and 7.1; RFC 9110,
--- section 15.2). These are choices, where the RFCs leave it open or the server never sends it: a 101 is skipped like
--- any other head below 200; there is no rule for CONNECT, for a body that ends with the connection, or for transfer
--- codings other than `chunked`; of two Content-Length the first is read; a status may have any number of digits, up to
--- 65535; and a field name may be empty.
+-- section 15.2). Where the RFCs leave a choice, or the server never sends such a response, it is read as follows: a 101
+-- is skipped like any other head below 200; there is no rule for CONNECT, for a body that ends with the connection, or
+-- for transfer codings other than `chunked`; of two Content-Length headers the first is read; a status may have any
+-- number of digits, up to 65535; and a field name may be empty.
 use Rattle.std.specs.Prelude.{◌≡◌, ℕ, ◌<◌, ◌≤◌, ◌⊎◌, Bool, true, false, ◌&&◌, ◌||◌, ◌==◌, nat_lt, nat_le, List, []}
 use Rattle.std.specs.Prelude.{◌∷◌, ◌++◌, length, Option, Some, None, option_and_then, if◌then◌else◌, codes, decimal}
 use Rattle.std.specs.Prelude.{IsTrue}
@@ -19,7 +19,8 @@ use Rattle.tiny_http_head.specs.Common.{same_name}
 use Rattle.tiny_http_head.specs.Heads.{length_of}
 use Rattle.tiny_http_body.specs.Chunks.{WholeChunks, CutChunks}
 
--- status line: HTTP/, the version, the status and any phrase; the numbers are decimal, without leading zeros
+-- Whether a text is a status line with this version and status: HTTP/, the version, the status and any phrase. The
+-- numbers are decimal, without leading zeros.
 pub record StatusLine (text : List ℕ) (version : HTTPVersion) (status : ℕ) : Type 0 where
   pub phrase : List ℕ
   pub joins : text ≡ codes "HTTP/" ++
@@ -31,25 +32,26 @@ pub record StatusLine (text : List ℕ) (version : HTTPVersion) (status : ℕ) :
 abbrev pub is_space : ℕ → Bool
 is_space b = b == space
 
--- field line: the name without white space or colon, a colon, exactly one space, and the value as it is
+-- Whether a text is the field line of this header: the name without white space or colon, a colon, exactly one space,
+-- and the value as it is.
 pub record FieldLine (text : List ℕ) (header : Header) : Type 0 where
   pub joins : text ≡ header.field ++ colon ∷ space ∷ header.value
   pub no_colon : HasNo colon header.field
   pub no_blank : HasNoBlank header.field
   pub one_space : IsTrue (has_bare_front is_space header.value)
 
--- the head of a response
+-- The head of a response, as a client reads it.
 pub record AnswerHead : Type 0 where
   pub version : HTTPVersion
   pub status : ℕ
   pub headers : List Header
 
--- the bytes begin with a status line, and the rest follows
+-- whether the bytes begin with a status line of this version and status, and `rest` follows
 abbrev pub BeginsWithStatusLine : List ℕ → HTTPVersion → ℕ → List ℕ → Type 0
 BeginsWithStatusLine bytes version status rest =
     (text : List ℕ) × Line bytes text rest × AreAscii text × StatusLine text version status
 
--- the bytes begin with these field lines, and the rest follows
+-- whether the bytes begin with the field lines of these headers, and `rest` follows
 abbrev pub BeginsWithFieldLines : List ℕ → List Header → List ℕ → Type 0
 BeginsWithFieldLines bytes [] rest = rest ≡ bytes
 BeginsWithFieldLines bytes (h ∷ hs) rest =
@@ -60,7 +62,7 @@ BeginsWithFieldLines bytes (h ∷ hs) rest =
     × FieldLine text h
     × BeginsWithFieldLines next hs rest
 
--- the bytes begin with a head: a status line, field lines and an empty line; `after` follows it
+-- Whether the bytes begin with this head, that is, a status line, field lines and an empty line, and `after` follows.
 pub record BeginsWithAnswerHead (bytes : List ℕ) (head : AnswerHead) (after : List ℕ) : Type 0 where
   pub fields : List ℕ
   pub empty : List ℕ
@@ -68,17 +70,18 @@ pub record BeginsWithAnswerHead (bytes : List ℕ) (head : AnswerHead) (after : 
   pub names : BeginsWithFieldLines fields head.headers empty
   pub ends : Line empty [] after
 
--- a response with a status from 100 to 199 is interim: only a head, which is skipped
+-- whether a response with this status is interim: from 100 to 199; it is only a head, which is skipped
 abbrev pub is_interim : ℕ → Bool
 is_interim status = nat_le 100 status && nat_lt status 200
 
--- the bytes begin with these interim heads, and the rest follows
+-- whether the bytes begin with these heads, all interim, and `rest` follows
 abbrev pub PassesOver : List ℕ → List AnswerHead → List ℕ → Type 0
 PassesOver bytes [] rest = rest ≡ bytes
 PassesOver bytes (h ∷ hs) rest =
     (next : List ℕ) × BeginsWithAnswerHead bytes h next × (is_interim h.status ≡ true) × PassesOver next hs rest
 
--- how the end of the body after a head is found
+-- How the body after a head ends. `NoBody`: no body follows. `OfChunks`: with the last chunk and its trailer section.
+-- `OfLength`: after this number of bytes. `OfUnknownLength`: the head doesn't say, which breaks a rule.
 pub data Extent : Type 0 where
   NoBody : Extent
   OfChunks : Extent
@@ -89,21 +92,21 @@ abbrev pub is_head : Method → Bool
 is_head Head = true
 is_head _ = false
 
--- no body follows in a response to a HEAD, in a 204 and in a 304
+-- whether no body follows the head: in a response to a HEAD, in a 204 and in a 304
 abbrev pub has_no_body : Method → ℕ → Bool
 has_no_body method status = is_head method || (status == 204 || status == 304)
 
--- some Transfer-Encoding header is chunked
+-- whether some Transfer-Encoding header is chunked
 unfoldable pub says_chunked : List Header → Bool
 says_chunked headers =
     list_any (λ h. same_name h.field (codes "Transfer-Encoding") && same_name h.value (codes "chunked")) headers
 
--- the value of the first header with this name
+-- the value of the first header with this name, if any
 abbrev pub first_value : List ℕ → List Header → Option (List ℕ)
 first_value name [] = None
 first_value name (h ∷ hs) = if same_name h.field name then Some h.value else first_value name hs
 
--- the length in the first Content-Length: one or more decimal digits, below 2^64
+-- the length in the first Content-Length, if its value is one or more decimal digits, below 2^64
 unfoldable pub content_length : List Header → Option ℕ
 content_length headers = option_and_then length_of (first_value (codes "Content-Length") headers)
 
@@ -116,19 +119,20 @@ extent method head =
     if has_no_body method head.status then NoBody else if says_chunked head.headers then OfChunks
     else extent_of_length (content_length head.headers)
 
--- the bytes begin with a body of this extent, and the rest follows
+-- whether the bytes begin with this body, of this extent, and `rest` follows
 abbrev pub BeginsWithBody : Extent → List ℕ → List ℕ → List ℕ → Type 0
 BeginsWithBody NoBody bytes body rest = (body ≡ []) × (rest ≡ bytes)
 BeginsWithBody OfChunks bytes body rest = WholeChunks bytes body rest
 BeginsWithBody (OfLength n) bytes body rest = (bytes ≡ body ++ rest) × (length body ≡ n)
 BeginsWithBody OfUnknownLength bytes body rest = ⊥
 
--- a response as a client receives it
+-- A response as a client receives it.
 pub record ClientAnswer : Type 0 where
   pub head : AnswerHead
   pub body : List ℕ
 
--- THE BYTES BEGIN WITH A RESPONSE to a request with this method, after interim heads, and the rest follows.
+-- THE BYTES BEGIN WITH A RESPONSE: whether they begin with this response to a request with this method, after any
+-- interim heads, and `rest` follows.
 pub record ReadsAnswer (method : Method) (bytes : List ℕ) (answer : ClientAnswer) (rest : List ℕ) : Type 0 where
   pub interim : List AnswerHead
   pub start : List ℕ
@@ -138,12 +142,13 @@ pub record ReadsAnswer (method : Method) (bytes : List ℕ) (answer : ClientAnsw
   pub is_final : is_interim answer.head.status ≡ false
   pub has_body : BeginsWithBody (extent method answer.head) after answer.body rest
 
--- why the bytes begin with no response: they end before it does, or they break a rule
+-- Why the bytes begin with no response. `Unfinished`: they end before it does. `Invalid`: they break a rule.
 pub data Lack : Type 0 where
   Unfinished : Lack
   Invalid : Lack
 
--- the next line isn't finished; or it is, and isn't what the grammar requires there
+-- whether the next line is lacking. `Unfinished`: it isn't finished. `Invalid`: it is finished, and isn't what the
+-- grammar requires there.
 abbrev pub LacksLine : (List ℕ → Type 0) → List ℕ → Lack → Type 0
 LacksLine IsGood bytes Unfinished = IsUnfinished bytes
 LacksLine IsGood bytes Invalid =
@@ -155,7 +160,7 @@ IsStatusLine text = (version : HTTPVersion) × (status : ℕ) × StatusLine text
 abbrev pub IsFieldLineOrEmpty : List ℕ → Type 0
 IsFieldLineOrEmpty text = (text ≡ []) ⊎ ((header : Header) × FieldLine text header)
 
--- the first bad line: the status line, or, after it and some field lines, the next line
+-- whether a head is lacking: the status line, or the next line after it and some field lines, is unfinished or invalid
 abbrev pub LacksHead : List ℕ → Lack → Type 0
 LacksHead bytes lack =
     LacksLine IsStatusLine bytes lack
@@ -164,7 +169,8 @@ LacksHead bytes lack =
     × BeginsWithFieldLines fields headers rest
     × LacksLine IsFieldLineOrEmpty rest lack)
 
--- the chunked body is cut or breaks a rule, there are fewer bytes than the length, or no length is stated
+-- whether a body of this extent is lacking: the chunked body is cut or breaks a rule, there are fewer bytes than the
+-- length, or no length is stated
 abbrev pub LacksBody : Extent → List ℕ → Lack → Type 0
 LacksBody OfChunks bytes Unfinished = (front : List ℕ) × CutChunks bytes End front UnexpectedEof
 LacksBody OfChunks bytes Invalid = (front : List ℕ) × CutChunks bytes End front InvalidData
@@ -172,7 +178,8 @@ LacksBody (OfLength n) bytes Unfinished = length bytes < n
 LacksBody OfUnknownLength bytes Invalid = Unit {0}
 LacksBody _ bytes _ = ⊥
 
--- after the interim heads no head follows, or no body after the head
+-- whether a response is lacking: after any interim heads, the next head, or the body after a final head, is unfinished
+-- or invalid
 abbrev pub LacksAnswer : Method → List ℕ → Lack → Type 0
 LacksAnswer method bytes lack =
     (interim : List AnswerHead) × (start : List ℕ) × PassesOver bytes interim start
@@ -183,16 +190,17 @@ LacksAnswer method bytes lack =
     × (is_interim head.status ≡ false)
     × LacksBody (extent method head) after lack))
 
--- THE BYTES END BEFORE A RESPONSE DOES. An unfinished line breaks no rule yet.
+-- THE BYTES END BEFORE A RESPONSE DOES: whether they are unfinished. An unfinished line breaks no rule yet.
 abbrev pub UnfinishedAnswer : Method → List ℕ → Type 0
 UnfinishedAnswer method bytes = LacksAnswer method bytes Unfinished
 
--- THE BYTES BREAK A RULE: in a finished line of a head, in a chunked body, or by a head that doesn't state the length
--- of the body.
+-- THE BYTES BREAK A RULE: whether they do in a finished line of a head, in a chunked body, or by a head that doesn't
+-- state the length of its body.
 abbrev pub MalformedAnswer : Method → List ℕ → Type 0
 MalformedAnswer method bytes = LacksAnswer method bytes Invalid
 
--- One response after another, in the order of the methods, until these are used up or the bytes begin with no response.
+-- Whether the bytes are these responses, one after another in the order of the methods, and then `rest`. They end when
+-- the methods are used up or the rest begins with no response.
 abbrev pub ReadsAnswers : List Method → List ℕ → List ClientAnswer → List ℕ → Type 0
 ReadsAnswers [] bytes [] rest = rest ≡ bytes
 ReadsAnswers [] bytes (a ∷ answers) rest = ⊥

@@ -1,4 +1,4 @@
--- The responses that a client reads, computed: one plain reading.
+-- What a client reads, as a computation: the functions that compute what the relation `ReadsAnswer` defines.
 use Rattle.std.specs.Prelude.{ℕ, zero, suc, ◌+◌, Bool, true, false, not, ◌&&◌, ◌==◌, nat_lt, nat_le, List, [], ◌∷◌}
 use Rattle.std.specs.Prelude.{length, take, drop, Option, Some, None, Result, Ok, Err, if◌then◌else◌, codes, decimal}
 use Rattle.std.specs.List.{list_all}
@@ -18,7 +18,7 @@ use Rattle.tiny_http_client.specs.ClientAnswer.{is_space, AnswerHead, ClientAnsw
 use Rattle.tiny_http_client.specs.ClientAnswer.{OfChunks, OfLength, OfUnknownLength, extent, Lack, Unfinished}
 use Rattle.tiny_http_client.specs.ClientAnswer.{Invalid}
 
--- a number up to the maximum, in decimal without leading zeros
+-- the number that the text writes in decimal without leading zeros, if it is at most `most`
 unfoldable pub decimal_read : ℕ → List ℕ → Option ℕ
 decimal_read most text =
     if bytes_eq text (decimal (digits_value 10 text))
@@ -32,7 +32,7 @@ abbrev pub decimal_of : ℕ → Option (List ℕ × List ℕ) → Option (ℕ ×
 decimal_of most None = None
 decimal_of most (Some l) = with_rest l.1 (decimal_read most l.0)
 
--- a number before the first c, and the text after that c
+-- the number before the first c, if it is at most `most`, and the text after that c
 abbrev pub decimal_until : ℕ → ℕ → List ℕ → Option (ℕ × List ℕ)
 decimal_until most c text = decimal_of most (cut c text)
 
@@ -52,7 +52,7 @@ abbrev pub protocol_read : Option (List ℕ × List ℕ) → Option (HTTPVersion
 protocol_read None = None
 protocol_read (Some w) = if bytes_eq w.0 (codes "HTTP") then major_read (decimal_until 255 point w.1) else None
 
--- the version and the status: HTTP comes before the slash (47)
+-- the version and the status of a status line, in which HTTP comes before the slash (47)
 abbrev pub status_line_read : List ℕ → Option (HTTPVersion × ℕ)
 status_line_read text = protocol_read (cut 47 text)
 
@@ -71,7 +71,7 @@ field_line_cut (Some l) = if list_all (λ b. not (is_blank b)) l.0 then with_fie
 abbrev pub field_line_read : List ℕ → Option Header
 field_line_read text = field_line_cut (cut colon text)
 
--- the headers and what follows the empty line
+-- The result of reading field lines: the headers and the bytes after the empty line, or why they are lacking.
 abbrev pub FieldLinesRead : Type 0
 FieldLinesRead = Result (List Header × List ℕ) Lack
 
@@ -96,6 +96,7 @@ abbrev pub field_lines_read : ℕ → List ℕ → FieldLinesRead
 field_lines_read zero bytes = Err Unfinished
 field_lines_read (suc fuel) bytes = field_line_in (field_lines_read fuel) (line bytes)
 
+-- The result of reading a head: the head and the bytes after it, or why it is lacking.
 abbrev pub AnswerHeadRead : Type 0
 AnswerHeadRead = Result (AnswerHead × List ℕ) Lack
 
@@ -115,7 +116,7 @@ status_line_in (Some l) = status_line_checked l.1 (list_all is_ascii l.0) (statu
 abbrev pub answer_head_read : List ℕ → AnswerHeadRead
 answer_head_read bytes = status_line_in (line bytes)
 
--- the body and what follows it
+-- The result of reading a body: its data and the bytes after it, or why it is lacking.
 abbrev pub AnswerBodyRead : Type 0
 AnswerBodyRead = Result (List ℕ × List ℕ) Lack
 
@@ -137,7 +138,7 @@ answer_body_read OfChunks bytes = let d = decoded (length bytes + 1) End bytes i
 answer_body_read (OfLength n) bytes = front_read n bytes (nat_lt (length bytes) n)
 answer_body_read OfUnknownLength bytes = Err Invalid
 
--- the response and what follows it
+-- The result of reading a response: the response and the bytes after it, or why it is lacking.
 abbrev pub AnswerRead : Type 0
 AnswerRead = Result (ClientAnswer × List ℕ) Lack
 

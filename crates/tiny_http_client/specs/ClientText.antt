@@ -1,4 +1,4 @@
--- What a client should read from a response's text: its printed headers and its sent body.
+-- What a client reads back from the text of a response: the headers that were printed and the body that was sent.
 use Rattle.std.specs.Prelude.{◌≡◌, ℕ, ◌<◌, ◌≤◌, ◌^◌, Bool, false, List, [], ◌∷◌, ◌++◌, length, take, Option, Some}
 use Rattle.std.specs.Prelude.{None, codes, decimal, if◌then◌else◌}
 use Rattle.std.specs.List.{AllByRecursion}
@@ -16,7 +16,7 @@ use Rattle.tiny_http_response.specs.ByStandard.{status_version, listed_headers, 
 use Rattle.tiny_http_response.specs.Readable.{IsReadable}
 use Rattle.tiny_http_client.specs.ClientAnswer.{ClientAnswer, is_head}
 
--- the headers of a response that isn't an upgrade, in their printed order: `listed` are those after the date
+-- the Server header that is printed, unless the response has its own
 abbrev pub server_header : List Header → List Header
 server_header headers =
     if has_header headers (codes "Server") then []
@@ -31,11 +31,12 @@ framing_header Neither = []
 framing_header TransferEncoding = record { field = codes "Transfer-Encoding"; value = codes "chunked" } ∷ []
 framing_header (ContentLength n) = record { field = codes "Content-Length"; value = decimal n } ∷ []
 
+-- the headers of a response that isn't an upgrade, in their printed order; `listed` are those after the date
 unfoldable pub printed_headers : List Header → List Header → HttpDate → FramingHeader → List Header
 printed_headers headers listed date framing =
     server_header headers ++ (date_header headers date ++ (listed ++ framing_header framing))
 
--- the length that the head of a response that isn't an upgrade states, if it states one
+-- the length in the Content-Length of a response that isn't an upgrade, if it has one
 abbrev pub stated_length : Option ℕ → Feed → ℕ
 stated_length None feed = length feed.bytes
 stated_length (Some n) feed = n
@@ -44,12 +45,12 @@ abbrev pub framing_of : Coding → Option ℕ → Feed → FramingHeader
 framing_of Chunked length feed = TransferEncoding
 framing_of Identity length feed = ContentLength (stated_length length feed)
 
--- the same for a response that may be only a head because of its code
+-- the framing of a response that isn't an upgrade, and may be only a head because of its code
 abbrev pub framing_said : Option FramingHeader → Coding → Option ℕ → Feed → FramingHeader
 framing_said (Some framing) coding length feed = framing
 framing_said None coding length feed = framing_of coding length feed
 
--- the data that are sent, if a body is sent
+-- the data that are sent in a body with this coding
 abbrev pub sent_data : Coding → Option ℕ → Feed → List ℕ
 sent_data Chunked length feed = feed.bytes
 sent_data Identity None feed = feed.bytes
@@ -58,7 +59,7 @@ sent_data Identity (Some n) feed = take n feed.bytes
 abbrev pub sent_body : Coding → Option ℕ → Feed → Bool → List ℕ
 sent_body coding length feed withheld = if withheld then [] else sent_data coding length feed
 
--- the same for a response that may be only a head because of its code
+-- the body that is sent of a response that may be only a head because of its code
 abbrev pub body_said : Option FramingHeader → Coding → Option ℕ → Feed → Bool → List ℕ
 body_said (Some framing) coding length feed withheld = []
 body_said None coding length feed withheld = sent_body coding length feed withheld
@@ -69,7 +70,7 @@ listed_of a p = listed_headers p.persistence p.version a.status a.offered a.head
 abbrev pub alone_by_code : Answer → Printing → Option FramingHeader
 alone_by_code a p = contentless_framing p.persistence a.contentless a.status a.data_length
 
--- version, status, printed headers and sent body of a response
+-- the response that a client reads: its version, status, printed headers and sent body
 abbrev pub received_answer : Answer → Feed → Printing → ClientAnswer
 received_answer a feed p =
     record {
@@ -82,7 +83,8 @@ received_answer a feed p =
       body = body_said (alone_by_code a p) (answer_coding a p) a.data_length feed (is_withheld p.no_body a.status);
     }
 
--- A response to a request with this method, not an upgrade, that a client reads back.
+-- Whether a client reads a response to a request with this method back as it was printed: it isn't an upgrade, its
+-- headers are readable, and its numbers fit their types.
 pub record IsReadableAnswer (method : Method) (a : Answer) (feed : Feed) (p : Printing) : Type 0 where
   pub no_upgrade : p.upgrade ≡ None
   pub same_method : p.no_body ≡ is_head method
@@ -92,6 +94,6 @@ pub record IsReadableAnswer (method : Method) (a : Answer) (feed : Feed) (p : Pr
   pub minor_fits : p.version.1 ≤ 255
   pub length_fits : stated_length a.data_length feed < 2 ^ 64
   pub readable : AllByRecursion IsReadable (listed_of a p)
-  -- what a response's list never holds
+  -- The list of a response never holds these two headers.
   pub no_coding : has_header a.headers (codes "Transfer-Encoding") ≡ false
   pub no_length : has_header a.headers (codes "Content-Length") ≡ false

@@ -4,21 +4,21 @@ use Rattle.tiny_http_head.specs.declared.common.Method.{Method}
 use Rattle.tiny_http_io.specs.Device.{IsFront}
 use Rattle.tiny_http_client.specs.ClientAnswer.{ClientAnswer, ReadsAnswer, UnfinishedAnswer}
 
--- the text under one number: the method of its request, and the response that it is, or None if it breaks off or there
--- is no response yet
+-- The text sent for one number: the method of its request, and the response that the text is, or `None` if it breaks
+-- off or there is no response yet.
 pub record SentText : Type 0 where
   pub method : Method
   pub text : List ℕ
   pub answer : Option ClientAnswer
 
--- a text that breaks off is a proper prefix of a response
+-- whether a text breaks off: it is a proper prefix of a response
 abbrev pub BreaksOff : Method → List ℕ → Type 0
 BreaksOff m text = (more : List ℕ) × (a : ClientAnswer) × (0 < length more) × ReadsAnswer m (text ++ more) a []
 
 abbrev pub IsSentText : SentText → Type 0
 IsSentText x = MatchOption x.answer (BreaksOff x.method x.text) (λ a. ReadsAnswer x.method x.text a [])
 
--- the texts in order, ending after the first that breaks off
+-- the bytes after a text: none after the first that breaks off
 abbrev pub joined_behind : Option ClientAnswer → List ℕ → List ℕ
 joined_behind None behind = []
 joined_behind (Some a) behind = behind
@@ -30,7 +30,7 @@ joined_texts (x ∷ xs) = x.text ++ joined_behind x.answer (joined_texts xs)
 abbrev pub methods : List SentText → List Method
 methods xs = map (λ x. x.method) xs
 
--- the responses before the first that breaks off, and what there is of that one
+-- the responses before the first text that breaks off
 abbrev pub whole_by : Option ClientAnswer → List ClientAnswer → List ClientAnswer
 whole_by None behind = []
 whole_by (Some a) behind = a ∷ behind
@@ -47,8 +47,8 @@ abbrev pub remains : List SentText → List ℕ
 remains [] = []
 remains (x ∷ xs) = remains_by x.answer x.text (remains xs)
 
--- Of a prefix of what was sent: the responses that are complete in it; what remains is nothing, or an unfinished prefix
--- of the next text.
+-- Whether these are the responses that are complete in `out`, a prefix of what was sent, and the rest after them:
+-- nothing, or an unfinished prefix of the next text.
 abbrev pub AreIn : List SentText → List ℕ → List ClientAnswer → List ℕ → Type 0
 AreIn [] out answers rest = (out ≡ []) × (answers ≡ []) × (rest ≡ [])
 AreIn (x ∷ xs) out answers rest =

@@ -43,7 +43,7 @@ fn is_interim(status: StatusCode) -> bool
     status.0 >= 100 && status.0 < 200
 }
 
-// Reads heads up to the first that isn't interim.
+// Reads heads, skipping interim ones, and returns the first final head.
 fn read_final_head(alloc: Global, rest: &mut Rest<'_>) -> Result<HeadParts, Fault>
     ensures read { IfOk result (λ head. BeginsWithFinalHead rest.old (head_of head) rest.new) }
     ensures lacks { IfErr result (LacksBy (LacksFinalHead rest.old)) }
@@ -57,7 +57,7 @@ fn read_final_head(alloc: Global, rest: &mut Rest<'_>) -> Result<HeadParts, Faul
     }
 }
 
-// Reads a response.
+// Reads the response to a request with this method, skipping interim responses before it.
 fn read_whole(alloc: Global, method: &Method, rest: &mut Rest<'_>) -> Result<Answer, Fault>
     ensures read { IfOk result (λ answer. ReadsAnswer method.now rest.old (answer_of answer) rest.new) }
     ensures lacks { IfErr result (LacksBy (LacksAnswer method.now rest.old)) }
@@ -80,21 +80,22 @@ fn read_whole(alloc: Global, method: &Method, rest: &mut Rest<'_>) -> Result<Ans
 
 /// Reads the response to a request with this method from the front of `bytes`, and returns it with the number of bytes
 /// read, which includes skipped interim responses (1xx). Returns `None` if the bytes end before the response does and
-/// break no rule so far; an unfinished line breaks none. (RFC 9112, sections 2.2, 4, 5, 6.3 and 7.1; not in the
-/// original crate.)
+/// break no rule so far; an unfinished line breaks none. See RFC 9112, sections 2.2, 4, 5, 6.3 and 7.1. The original
+/// crate has no such function.
 ///
 /// A line ends at the first CR LF, and is ASCII. The status line is `HTTP/`, a number up to 255, `.`, a number up to
 /// 255, a space, a number up to 65535, a space, and any text; numbers are decimal without leading zeros. Field lines
-/// follow, up to an empty line. Each has a name without white space (bytes 9 to 13 and 32), its first colon, exactly
-/// one space, and the value, which is kept as it is.
+/// follow, up to an empty line. Each has a name without white space (bytes 9 to 13 and 32) or colon, then a colon,
+/// exactly one space, and the value, which is kept as it is.
 ///
 /// No body follows a response to a `HEAD`, a 204 or a 304. Otherwise, if some `Transfer-Encoding` is `chunked`, the
-/// body is chunked, as `chunked::Decoding` reads it. Otherwise the first `Content-Length` is its length in bytes: one
-/// or more decimal digits, at most 18446744073709551615. Letter case is ignored in these two names and in `chunked`.
+/// body is sent in chunks, which `chunked::Decoding` reads. Otherwise the first `Content-Length` is its length in
+/// bytes: one or more decimal digits, at most 18446744073709551615. Letter case is ignored in these two names and in
+/// `chunked`.
 ///
 /// # Errors
-/// - `Malformed` if a finished line of a head breaks a rule, if a body must follow whose head has neither `chunked` nor
-///   a valid length, or if the chunked body is `InvalidData`.
+/// - `Malformed` if a finished line of a head breaks a rule, if a body must follow and the head has neither `chunked`
+///   nor a valid length, or if decoding the chunked body reports `InvalidData`.
 /// - `Memory` if memory for the headers of a head, interim ones included, or for the body is refused.
 pub fn read_answer(
     alloc: Global,

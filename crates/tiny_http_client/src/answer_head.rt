@@ -14,7 +14,7 @@ use tiny_http_head::common::{HTTPVersion, Header, StatusCode};
 /// The maximum number of headers in a head.
 pub const MOST_HEADERS: usize = 64;
 
-/// The head of a response.
+/// The head of a response, as `read_answer_head` returns it.
 #[derive(Debug, Drop)]
 pub struct AnswerHead {
     /// The version in its status line: 1.0 or 1.1.
@@ -25,7 +25,7 @@ pub struct AnswerHead {
     pub headers: Vec<Header>,
 }
 
-/// Why a head can't be read.
+/// Why `read_answer_head` can't read a head.
 #[derive(Clone, Copy, Debug, PartialEq, Eq, Error)]
 pub enum AnswerHeadFault {
     /// The bytes break a rule of the grammar, a value has a byte that isn't ASCII, or there are more than 64 headers.
@@ -47,7 +47,8 @@ impl From<AllocError> for AnswerHeadFault {
     }
 }
 
-// Copies the headers. Reports `Malformed` only if a byte isn't ASCII.
+// Copies the headers at these spans. Fails with `Malformed` if a byte of a name or a value isn't ASCII, and only then;
+// with `Memory` if memory is refused.
 fn headers_at(
     alloc: Global,
     bytes: &[u8],
@@ -76,11 +77,11 @@ fn headers_at(
 /// sections 2.2, 4 and 5): a status line in version 1.0 or 1.1 with a status of three digits, and field lines up to an
 /// empty line. White space around a value is optional, a line may end in LF alone, and empty lines may come first. The
 /// body follows the head, as its headers and the request's method determine (section 6.3). Returns `None` if the bytes
-/// end before the head does, and the grammar can still complete it.
+/// end before the head does and further bytes can still complete it.
 ///
 /// # Errors
-/// - `Malformed` if no further bytes can make it a head, or if there are more than 64 headers; once the head is whole,
-///   also if a value has a byte that isn't ASCII.
+/// - `Malformed` if no further bytes can complete the head, or if there are more than 64 headers; once the head is
+///   complete, also if a value has a byte that isn't ASCII.
 /// - `Memory` if memory for the headers is refused.
 pub fn read_answer_head(
     alloc: Global,
@@ -89,7 +90,7 @@ pub fn read_answer_head(
     ensures head { IfOk result (λ found. IfSome found (λ a. (a.1 ≤ length bytes.now)
         × ((h : ResponseHead) × ReadsResponse bytes.now h (drop a.1 bytes.now) × IsHeadOf h a.0))) }
     ensures unfinished { result ≡ Ok None → HasNoResponse bytes.now × MayBecomeResponse bytes.now }
-    // `Malformed`: no further bytes make it a valid head. `Memory`: only for a whole head with headers.
+    // `Malformed`: no further bytes complete a valid head. `Memory`: only for a complete head with headers.
     ensures malformed { result ≡ Err AnswerHeadFault.Malformed → NeverHasHead MOST_HEADERS bytes.now }
     ensures memory { result ≡ Err AnswerHeadFault.Memory → HasHeaders bytes.now }
 {

@@ -15,10 +15,10 @@ use tiny_http_head::common::{Header, Method, StatusCode};
 use tiny_http_head::content_length::number_in;
 use tiny_http_text::ascii::AsciiString;
 
-// The number of bytes of a chunked body that are decoded at a time, at most.
+// The maximum number of bytes of a chunked body that are decoded at a time.
 const PIECE: usize = 1024;
 
-// Returns whether no body follows the head: in a response to a HEAD, a 204 and a 304.
+// Returns whether no body follows the head: in a response to a `HEAD`, a 204 or a 304.
 fn has_no_body(method: &Method, status: StatusCode) -> bool
     ensures { result ≡ has_no_body method.now status.0 }
 {
@@ -28,7 +28,7 @@ fn has_no_body(method: &Method, status: StatusCode) -> bool
     }
 }
 
-// Returns whether the header states that the body is chunked.
+// Returns whether the header is `Transfer-Encoding: chunked`, ignoring letter case.
 fn is_chunked(header: &Header) -> bool
     ensures { result
         ≡ (same_name header.now.field (codes "Transfer-Encoding") && same_name header.now.value (codes "chunked")) }
@@ -36,7 +36,7 @@ fn is_chunked(header: &Header) -> bool
     header.field.equiv("Transfer-Encoding") && header.value.eq_ignore_ascii_case("chunked")
 }
 
-// Returns whether some header states that the body is chunked.
+// Returns whether some header is `Transfer-Encoding: chunked`.
 #[tactic(auto, unfolding(crate::specs::ClientAnswer::says_chunked))]
 fn says_chunked(headers: &[Header]) -> bool
     ensures { result ≡ says_chunked headers.now }
@@ -56,14 +56,14 @@ fn first_value<'a>(headers: &'a [Header], name: &str) -> Option<&'a AsciiString>
     None
 }
 
-// Returns the length in the first Content-Length, if it has digits alone.
+// Returns the length in the first `Content-Length`, if there is one and its value has only digits and is below 2^64.
 fn content_length(headers: &[Header]) -> Option<usize>
     ensures { result ≡ content_length headers.now }
 {
     number_in(first_value(headers, "Content-Length")?.as_str().as_bytes())
 }
 
-// Converts the kind of a decoding error: `InvalidData` is malformed, any other means that the bytes end too early.
+// Converts the kind of a decoding error: `InvalidData` means malformed, and any other that the bytes end too early.
 fn chunk_fault(kind: ErrorKind) -> Fault
     ensures { result ≡ chunk_fault kind }
 {
@@ -103,7 +103,8 @@ fn read_counted(alloc: Global, length: usize, rest: &mut Rest<'_>) -> Result<Vec
     }
 }
 
-/// Reads the body that follows a head.
+/// Reads the body that follows a head, as the method of the request and the head determine its extent. Fails with
+/// `Malformed` also if a body must follow and the head states neither chunks nor a valid length.
 pub(crate) fn read_body(
     alloc: Global,
     method: &Method,
@@ -113,7 +114,7 @@ pub(crate) fn read_body(
     ensures read { IfOk result
         (λ body. BeginsWithBody (extent method.now (head_of head.now)) rest.old body.items rest.new) }
     ensures lacks { IfErr result (LacksBy (LacksBody (extent method.now (head_of head.now)) rest.old)) }
-    // Reports `Memory` only once all bytes of the length, or the first data of a chunk, are there.
+    // Fails with `Memory` only once all bytes of the length, or the first data of a chunk, have arrived.
     ensures memory { result ≡ Err Fault.Memory → WantsMemory (extent method.now (head_of head.now)) rest.old }
 {
     if has_no_body(method, head.status) {

@@ -76,7 +76,7 @@ fn parse_status_line(text: &[u8]) -> Option<(HTTPVersion, StatusCode)>
     Some((version, StatusCode(status as u16)))
 }
 
-// Returns the text after exactly one space.
+// Returns the text after its leading space, or `None` unless it begins with exactly one space.
 fn after_one_space(text: &[u8]) -> Option<&[u8]>
     ensures some { IfSome result (λ value. value_read text.now ≡ Some value.now) }
     ensures none { IfNone result (value_read text.now ≡ None) }
@@ -91,8 +91,8 @@ fn after_one_space(text: &[u8]) -> Option<&[u8]>
     Some(value)
 }
 
-// Parses a field line, with exactly one space after the first colon (RFC 9112, section 5). Fails only if the text is a
-// field line and memory for its header is refused.
+// Parses a field line, with exactly one space after the first colon (RFC 9112, section 5). Returns `None` if the text
+// isn't one. Fails only if the text is a field line and memory for its header is refused.
 fn parse_field_line(alloc: Global, text: &[u8]) -> Result<Option<Header>, AllocError>
     requires { AreAscii text.now }
     ensures value { IfOk result (λ found. found ≡ field_line_read text.now) }
@@ -112,7 +112,8 @@ fn parse_field_line(alloc: Global, text: &[u8]) -> Result<Option<Header>, AllocE
     Ok(Some(Header { field, value }))
 }
 
-// Reads the status line.
+// Reads the status line. Fails with `Unfinished` if the line isn't finished, and with `Malformed` if it isn't a status
+// line.
 fn read_status_line(rest: &mut Rest<'_>) -> Result<(HTTPVersion, StatusCode), Fault>
     ensures read { IfOk result (λ r. BeginsWithStatusLine rest.old r.0 r.1.0 rest.new) }
     ensures lacks { IfErr result (LacksBy (LacksLine IsStatusLine rest.old)) }
@@ -130,7 +131,7 @@ fn read_status_line(rest: &mut Rest<'_>) -> Result<(HTTPVersion, StatusCode), Fa
     }
 }
 
-// Reads the next field line, or the empty line.
+// Reads the next field line and returns its header, or reads the empty line and returns `None`.
 fn read_field_line(alloc: Global, rest: &mut Rest<'_>) -> Result<Option<Header>, Fault>
     ensures { ReadsFieldLine rest.old rest.new result }
 {
@@ -149,7 +150,7 @@ fn read_field_line(alloc: Global, rest: &mut Rest<'_>) -> Result<Option<Header>,
     }
 }
 
-// Reads the field lines and the empty line.
+// Reads the field lines and the empty line after them, and returns the headers.
 fn read_field_lines(alloc: Global, rest: &mut Rest<'_>) -> Result<Vec<Header>, Fault>
     ensures read { IfOk result (λ headers. BeginsWithAllFieldLines rest.old headers.items rest.new) }
     ensures lacks { IfErr result (LacksBy (LacksFieldLines rest.old)) }
@@ -172,7 +173,7 @@ fn read_field_lines(alloc: Global, rest: &mut Rest<'_>) -> Result<Vec<Header>, F
 pub(crate) fn read_head(alloc: Global, rest: &mut Rest<'_>) -> Result<HeadParts, Fault>
     ensures read { IfOk result (λ head. BeginsWithAnswerHead rest.old (head_of head) rest.new) }
     ensures lacks { IfErr result (LacksBy (LacksHead rest.old)) }
-    // Reports `Memory` only after a valid field line.
+    // Fails with `Memory` only if a valid field line follows the status line.
     ensures memory { result ≡ Err Fault.Memory → HasStartAndField rest.old }
 {
     let (version, status) = read_status_line(rest)?;

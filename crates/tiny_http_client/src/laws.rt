@@ -17,8 +17,8 @@ ghost use Rattle.std.specs.List.{AllByRecursion};
 ghost use Rattle.std.specs.declared.io.ErrorKind.{ErrorKind};
 
 /// For any bytes and method, exactly one of three holds: the bytes begin with a response to a request with the method,
-/// they end before it does, or they break a rule of the client's grammar. The response and the rest after it are
-/// unique. The plain reading computes which holds.
+/// they end before such a response does, or they break a rule of the client's grammar. The response and the rest after
+/// it are unique. `answer_read` computes which of the three holds.
 pub fn one_client_answer()
     ensures some { (method : Method) (bytes : List ℕ)
         → ((answer : ClientAnswer) × (rest : List ℕ) × ReadsAnswer method bytes answer rest)
@@ -43,7 +43,7 @@ pub fn one_client_answer()
         → MatchResult (answer_read method bytes) (λ a. ReadsAnswer method bytes a.0 a.1) (LacksAnswer method bytes) }
 {}
 
-/// Any bytes are a unique list of responses to requests with these methods, in order, and a unique rest.
+/// Any bytes consist of a unique list of responses to requests with these methods, in order, and a unique rest.
 pub fn one_list_of_client_answers()
     ensures some { (methods : List Method) (bytes : List ℕ)
         → (answers : List ClientAnswer) × (rest : List ℕ) × ReadsAnswers methods bytes answers rest }
@@ -54,10 +54,10 @@ pub fn one_list_of_client_answers()
         → (answers ≡ others) × (rest ≡ remainder) }
 {}
 
-/// The whole text of a response with a status from 200 on, not an upgrade, is read back as the response to the method
-/// that it was printed for, whatever follows it: its version, status, printed headers and sent body, and exactly the
-/// text is read. The names and values of its headers must be readable, and its numbers must fit their types
-/// (`IsReadableAnswer`).
+/// A client reads the complete text of a response back as it was printed, whatever follows the text: version, status,
+/// printed headers and sent body. It reads exactly the text. The status must be 200 or above, the response must not be
+/// an upgrade and must be printed for the client's method, the names and values of its headers must be readable, and
+/// its numbers must fit their types (`IsReadableAnswer`).
 pub fn text_is_read_back()
     ensures { (method : Method) (answer : Answer) (feed : Feed) (printing : Printing) (rest : List ℕ)
         → IsReadableAnswer method answer feed printing
@@ -66,8 +66,8 @@ pub fn text_is_read_back()
         rest }
 {}
 
-/// More bytes after a response don't change how it is read. A proper prefix of a response is unfinished. So is the text
-/// of a response that breaks off: it is a proper prefix of one.
+/// More bytes after a response don't change how it is read. A proper prefix of a response is unfinished. The text of a
+/// response that breaks off is such a prefix.
 pub fn fronts_are_unfinished()
     ensures stays { (method : Method) (bytes more : List ℕ) (answer : ClientAnswer) (rest : List ℕ)
         → ReadsAnswer method bytes answer rest
@@ -82,7 +82,8 @@ pub fn fronts_are_unfinished()
         → BreaksOff method (text_of answer feed printing).bytes }
 {}
 
-/// Responses that are sent one after another are read as such, whole or cut at any byte.
+/// Responses that are sent one after another are read back one after another, whether the bytes are complete or cut at
+/// any byte.
 pub fn sent_texts_are_read()
     ensures whole { (texts : List SentText)
         → AllByRecursion IsSentText texts
@@ -96,8 +97,8 @@ pub fn sent_texts_are_read()
         × AreIn texts out answers rest }
 {}
 
-/// A body that grew while it was sent in chunks is read as the concatenation of its pieces, however it was cut into
-/// them (RFC 9112, section 7.1).
+/// A body that is streamed in chunks is read as the concatenation of its pieces, however they divide it (RFC 9112,
+/// section 7.1).
 pub fn streamed_chunks_are_read()
     ensures { (pieces : List (List ℕ)) (rest : List ℕ) → AllByRecursion IsPiece pieces
         → WholeChunks ((pieces_text Chunks pieces ++ end_text Chunks) ++ rest) (joined pieces) rest }

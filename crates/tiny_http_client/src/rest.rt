@@ -1,4 +1,4 @@
-//! Bytes that are read from their front.
+//! A reader of bytes in memory, which takes lines and counted bytes from their front.
 ghost use Rattle.std.specs.Prelude.{◌≡◌, ◌+◌, ◌<◌, ◌≤◌, ◌++◌, length, take, drop, Some, IfSome, IfNone};
 ghost use Rattle.tiny_http_text.specs.Lines.{Line, IsUnfinished};
 ghost use Rattle.tiny_http_io.specs.Device.{whole_feed};
@@ -7,7 +7,7 @@ use std::io;
 use std::marker::Model;
 use tiny_http_io::device::ReadDevice;
 
-// Returns the position of the first CR LF.
+// Returns the position of the first CR LF, if there is one.
 fn line_end(bytes: &[u8]) -> Option<usize>
     ensures within { IfSome result (λ n. n + 2 ≤ length bytes.now) }
     ensures line { IfSome result (λ n. Line bytes.now (take n bytes.now) (drop (n + 2) bytes.now)) }
@@ -21,7 +21,7 @@ fn line_end(bytes: &[u8]) -> Option<usize>
     None
 }
 
-// Returns the first line, and the bytes after its CR LF.
+// Returns the first line and the bytes after its CR LF, if the line is finished.
 fn split_line(bytes: &[u8]) -> Option<(&[u8], &[u8])>
     ensures some { IfSome result (λ r. Line bytes.now r.0.now r.1.now) }
     ensures none { IfNone result (IsUnfinished bytes.now) }
@@ -30,7 +30,7 @@ fn split_line(bytes: &[u8]) -> Option<(&[u8], &[u8])>
     Some((&bytes[..n], &bytes[n + 2..]))
 }
 
-/// The bytes still to be read. A contract sees it as the list of them.
+/// The bytes still to be read. Contracts see it as the list of these bytes.
 #[derive(Drop)]
 pub(crate) struct Rest<'a> {
     bytes: &'a [u8],
@@ -45,7 +45,7 @@ impl<'a> Model for Rest<'a> {
 }
 
 impl<'a> Rest<'a> {
-    /// Wraps all of these bytes.
+    /// Creates a reader of these bytes.
     pub(crate) fn new(bytes: &'a [u8]) -> Rest<'a>
         ensures { result ≡ bytes.now }
     {
@@ -69,7 +69,7 @@ impl<'a> Rest<'a> {
         Some(text)
     }
 
-    /// Takes n bytes, or none if there are fewer.
+    /// Takes `n` bytes, or returns `None` and takes nothing if fewer are left.
     pub(crate) fn take(&mut self, n: usize) -> Option<&'a [u8]>
         ensures some { IfSome result (λ front. (self.old ≡ front.now ++ self.new) × (length front.now ≡ n)) }
         ensures none { IfNone result (length self.old < n) }
@@ -86,7 +86,7 @@ impl<'a> Rest<'a> {
 impl ReadDevice for Rest<'_> {
     ghost feed = { λ r. Some (whole_feed r) };
 
-    /// Copies the next bytes.
+    /// Copies the next bytes into `buf`, as many as are left and fit, and returns their number. Never fails.
     fn read_in(&mut self, buf: &mut [u8]) -> Result<usize, io::Error> {
         let n = self.bytes.len().min(buf.len());
         buf[..n].copy_from_slice(&self.bytes[..n]);

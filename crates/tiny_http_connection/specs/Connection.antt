@@ -1,5 +1,4 @@
--- How the driver's connection represents a state of the definitions. The laws of `InShort` can be understood without
--- this file.
+-- How a `Connection` represents a state of a conversation. The laws of `InShort` can be understood without this file.
 use Rattle.std.specs.Prelude.{◌≡◌, ℕ, ◌+◌, Bool, true, false, not, ◌&&◌, List, [], ◌∷◌, Option, Some, None, is_some}
 use Rattle.std.specs.Prelude.{MatchBool, ⊤}
 use Rattle.std.specs.Option.{option_map}
@@ -39,9 +38,9 @@ use Rattle.tiny_http_response.specs.ResponseValue.{ResponseValue}
 use Rattle.tiny_http_turns.specs.Turns.{Mark, Open, Left, Finished, AreInShape}
 use Rattle.tiny_http_connection.specs.Conversation.{State, Failure, PlaceAt, BeginsBehind}
 
--- What the program keeps of a connection: its profile, the turns of its numbers, and what is kept of those that aren't
--- finished; the input state, whether the requests have ended, what is still to come of the input, how it stopped and
--- whether it is over; what the writer states, with what is held, and whether the output has ended.
+-- The parts of a connection that represent a state: its profile, the turns of its numbers, and what is kept of those
+-- that aren't finished; the input state, whether the requests have ended, what is still to come of the input, how it
+-- stopped and whether it is over; what the writer states, with what is held, and whether the output has ended.
 pub record Kept : Type 0 where
   pub profile : Profile
   pub marks : List Mark
@@ -54,7 +53,7 @@ pub record Kept : Type 0 where
   pub sink : Sink
   pub output_ended : Bool
 
--- The view of a `Connection` in clauses: its profile, the turns of its numbers, what is kept of those that aren't
+-- What clauses see of a `Connection`: its profile, the turns of its numbers, what is kept of those that aren't
 -- finished, why the requests have ended, if they have, its input and its output.
 pub record ConnectionState (R W : Type 0) : Type 0 where
   pub profile : Profile
@@ -79,7 +78,7 @@ kept c =
       output_ended = c.outlet.ended;
     }
 
--- the response context of a request
+-- the response context of a request; `closes`: whether the response says that the connection closes
 abbrev pub response_context_of : Bool → Request → ResponseContext
 response_context_of closes r =
     record {
@@ -89,27 +88,27 @@ response_context_of closes r =
       persistence = persistence_of r.framing.by_standard closes;
     }
 
--- when a request was handed out, when its 100 was sent, if it was, whether a 100 is still owed, and whether a response
--- asked to close the connection
+-- What a request that awaits its response had so far, apart from its body: the date on which it was handed out, that of
+-- its 100, if one was sent, whether a 100 is still owed, and whether a response asked to close the connection.
 pub record HandedOut : Type 0 where
   pub date : HttpDate
   pub continued : Option HttpDate
   pub owed : Bool
   pub closes : Bool
 
--- a request that was handed out like this and awaits its response, with the count of its body's bytes that were given,
--- and whether its end was reported
+-- the slot of a request that awaits its response, with the number of its body's bytes that were given out, and whether
+-- the body's end or fault was reported
 abbrev pub open_slot : HandedOut → Request → ℕ → Bool → Slot
 open_slot h r given end_reported =
     record (new_slot h.date (Asks r))
     { continued = h.continued; owed = h.owed; closes = h.closes; given = given; end_reported = end_reported }
 
--- its slot if it is dropped
+-- the slot of a request that awaited its response, after it was dropped
 abbrev pub dropped : HandedOut → Request → ℕ → Bool → Slot
 dropped h r given end_reported =
     finished_as (closes_now r h.closes h.owed given end_reported) (open_slot h r given end_reported) ByServer
 
--- a request that was handed out and awaits its response
+-- Whether this is the slot of a request that awaits its response, and the connection keeps `w` of it.
 pub record IsWaiting (s : Slot) (w : OpenRequest UnreadBody) : Type 0 where
   pub request : Request
   pub handed : HandedOut
@@ -129,11 +128,12 @@ pub record IsWaiting (s : Slot) (w : OpenRequest UnreadBody) : Type 0 where
   pub dropped : w.dropped ≡ record { is_taken = false; date = handed.date }
   pub fits : Fits request.framing.by_standard w.body request.framing.form (body_length_or_0 request.framing) given
       end_reported
-  -- if the body isn't read from the input, this is left of it
+  -- a body that isn't read from the input holds what is left of it
   pub settled : is_streaming w.body ≡ false → (f : Feed)
       → remaining w.body (Some f) ≡ Some (taken_remaining (rest_of request given) f)
 
--- a number whose body was read up to here: it awaits its response, or was upgraded
+-- Whether this is the slot of a number whose body can be read, and the connection keeps `body` of it: the number awaits
+-- its response, or was upgraded.
 pub record IsOpen (s : Slot) (body : UnreadBody) : Type 0 where
   pub request : Request
   pub handed : HandedOut
@@ -147,7 +147,7 @@ pub record IsOpen (s : Slot) (body : UnreadBody) : Type 0 where
   pub settled : is_streaming body ≡ false → (f : Feed)
       → remaining body (Some f) ≡ Some (taken_remaining (rest_of request given) f)
 
--- a number whose raw writer is in use
+-- Whether this is the slot of a number whose raw writer is in use.
 pub record IsRaw (s : Slot) : Type 0 where
   pub request : Request
   pub item : s.item ≡ Asks request
@@ -155,7 +155,8 @@ pub record IsRaw (s : Slot) : Type 0 where
   pub stage : s.stage ≡ Raw written false
   pub given_up : s.given_up ≡ true
 
--- a number that was upgraded, and whose stream is in use
+-- Whether this is the slot of a number that was upgraded and whose stream is in use, and the connection keeps `body` of
+-- it.
 pub record IsUpgraded (s : Slot) (body : UnreadBody) : Type 0 where
   pub opened : IsOpen s body
   pub protocol : List ℕ
@@ -164,24 +165,24 @@ pub record IsUpgraded (s : Slot) (body : UnreadBody) : Type 0 where
   pub written : List ℕ
   pub stage : opened.stage ≡ Upgraded protocol response date written false
 
--- a number that isn't finished
+-- whether this is the slot of a number that isn't finished, and of which this is kept
 abbrev pub KeepsUnfinished : Slot → Unfinished → Type 0
 KeepsUnfinished s (still.Waiting w) = IsWaiting s w
 KeepsUnfinished s still.Raw = IsRaw s
 KeepsUnfinished s (still.Upgraded body) = IsUpgraded s body
 
--- a number that is finished
+-- Whether this is the slot of a number that is finished.
 pub record IsDone (s : Slot) : Type 0 where
   pub finished : is_finished s ≡ true
   pub given_up : s.given_up ≡ true
 
--- a number whose text waits for its turn
+-- Whether this is the slot of a number whose text waits for its turn.
 pub record IsLeft (s : Slot) (text : List ℕ) : Type 0 where
   pub done : IsDone s
   pub whole : is_slot_broken s ≡ false
   pub same : segment s ≡ text
 
--- the state of a number, by its turn and by what is kept of it
+-- whether a slot is that of a number with this mark, of which this is kept
 abbrev pub IsKept : Slot → Mark → Option Unfinished → Type 0
 IsKept s Open (Some u) = KeepsUnfinished s u
 IsKept s (Left text) None = IsLeft s text
@@ -193,31 +194,33 @@ AreKept [] [] [] = Unit {0}
 AreKept (s ∷ slots) (m ∷ marks) (w ∷ requests) = IsKept s m w × AreKept slots marks requests
 AreKept _ _ _ = ⊥
 
--- nothing was sent under this number, or all of it is left for its turn
+-- whether nothing was sent under a number, or all of it is left for its turn
 abbrev pub HasSentNothing : Slot → Type 0
 HasSentNothing s =
     (s.continued ≡ None) × (is_finished s ≡ false → (stage_text s.closes s.item s.date s.stage).bytes ≡ [])
 
--- texts are sent in their turn: nothing was sent for a number after the first that isn't finished
+-- whether texts were sent in their turn: nothing was sent under a number after the first that isn't finished
 abbrev pub AreSentInTurn : List Slot → Type 0
 AreSentInTurn [] = Unit {0}
 AreSentInTurn (s ∷ slots) = MatchBool (is_finished s) (AreSentInTurn slots) (AllByRecursion HasSentNothing slots)
 
--- only the last body is read from the input, and only the last request holds the next head
+-- whether a number may come before another: its body isn't read from the input, and the next head doesn't wait for its
+-- response
 abbrev pub IsSettled : Option Unfinished → Type 0
 IsSettled u = (is_streaming_body (kept_body u) ≡ false) × (holds_next_head_at (Some u) ≡ false)
 
+-- whether, of these numbers, only the last has a body that is read from the input or holds the next head
 abbrev pub AreSettled : List (Option Unfinished) → Type 0
 AreSettled [] = ⊤
 AreSettled (u ∷ []) = ⊤
 AreSettled (u ∷ v ∷ us) = IsSettled u × AreSettled (v ∷ us)
 
--- the input after this body
+-- the input after this body, or all of it without a body
 abbrev pub behind_body : Option UnreadBody → Option Feed → Option Feed
 behind_body None feed = feed
 behind_body (Some b) feed = option_map (λ (r : Remaining). r.behind) (remaining b feed)
 
--- what is left of a number's body
+-- what is left of the body of this item after its first `given` bytes
 abbrev pub rest_in : ℕ → Item → Feed
 rest_in given (Asks r) = rest_of r given
 rest_in given (Refuses refusal manner no_body last) = whole_feed []
@@ -225,28 +228,28 @@ rest_in given (Refuses refusal manner no_body last) = whole_feed []
 abbrev pub slot_rest : Slot → Feed
 slot_rest s = rest_in s.given s.item
 
--- the body that is read from the input gives what is left of it
+-- whether the input gives, for the body that is kept of a number, what is left of the body of its slot
 abbrev pub GivesRest : Option UnreadBody → Option Slot → Option Feed → Type 0
 GivesRest None s feed = ⊤
 GivesRest (Some b) None feed = ⊤
 GivesRest (Some b) (Some s) feed = option_map (λ (r : Remaining). r.body) (remaining b feed) ≡ Some (slot_rest s)
 
--- what follows a number's body
+-- what follows the body of this item
 abbrev pub behind_item : Item → Feed
 behind_item (Asks r) = r.behind
 behind_item (Refuses refusal manner no_body last) = whole_feed []
 
--- after the body that is kept of the last number the input gives what follows its request's body
+-- whether the input gives, after the body that is kept of the last number, what follows the body of its slot
 abbrev pub FollowsLast : Option UnreadBody → Option Slot → Option Feed → Type 0
 FollowsLast None s feed = ⊤
 FollowsLast (Some b) None feed = ⊤
 FollowsLast (Some b) (Some s) feed = behind_body (Some b) feed ≡ Some (behind_item s.item)
 
--- the input has ended
+-- whether the input is over, and stopped at its end
 abbrev pub InputEnded : Kept → Type 0
 InputEnded k = (k.is_over ≡ true) × (k.stop ≡ Some End)
 
--- the last request's head was read
+-- whether the last request's head was read
 abbrev pub is_past_last : InputState → Bool
 is_past_last at.Last = true
 is_past_last at.Head = false
@@ -254,7 +257,7 @@ is_past_last at.Body = false
 is_past_last at.Abandoned = false
 is_past_last (at.Broken kind) = false
 
--- bytes of a body come before the next head
+-- whether bytes of a body come before the next head
 abbrev pub is_in_body : InputState → Bool
 is_in_body at.Body = true
 is_in_body at.Head = false
@@ -262,27 +265,29 @@ is_in_body at.Last = false
 is_in_body at.Abandoned = false
 is_in_body (at.Broken kind) = false
 
--- after the client's whole pipeline a byte of a further head comes, or, except under Standard, the reader times out
+-- whether, after the client's whole pipeline, a byte of a further head comes, or, except under Standard, the reader
+-- times out there
 abbrev pub BeginsMore : Profile → Feed → Type 0
 BeginsMore p client =
     (items : List Item)
     × Pipeline p (Some client.bytes) client.stop items
     × BeginsBehind p (Some client.bytes) client.stop items
 
--- the same after these heads, the first of which is next
+-- whether, after these heads, of which the first comes next in the feed, a byte of a further one comes, or, except
+-- under Standard, the reader times out there
 abbrev pub BeginsBehindAt : Profile → Option Feed → List Item → Type 0
 BeginsBehindAt p None rest = ⊥
 BeginsBehindAt p (Some f) rest = BeginsBehind p (Some f.bytes) f.stop rest
 
--- The bytes to come hold this rest of the client's pipeline. While a head may follow, what begins after the rest begins
--- after the whole pipeline.
+-- Whether the bytes to come hold this rest of the client's pipeline, or, if `past` holds, the rest is empty since the
+-- last head was read. While a head may follow, what begins after the rest begins after the whole pipeline.
 abbrev pub PlaceIn : Feed → Profile → Bool → Option Feed → List Item → Type 0
 PlaceIn client p past feed rest =
     PlaceAt p past feed rest × (past ≡ false → BeginsBehindAt p feed rest → BeginsMore p client)
 
--- Where the next head is read, while the requests haven't ended: after the last body. None is read after the last head,
--- or after a chunked body that was given up before its end. The input state says whether the position is within that
--- body.
+-- Where the next head is read, while the requests haven't ended: after the last body. No head is read after the last
+-- one, or after a chunked body that was given up before its end. The input state says whether the position is within
+-- the last body.
 pub record NextHead (client : Feed) (k : Kept) (last : Option Slot) (rest : List Item) : Type 0 where
   pub is_last : is_past_last k.input_state ≡ is_last_slot last
   pub within : is_in_body k.input_state ≡ (not (is_last_slot last) && is_streaming_body (last_body k.requests))
@@ -290,7 +295,8 @@ pub record NextHead (client : Feed) (k : Kept) (last : Option Slot) (rest : List
   pub place : last_was_abandoned last ≡ false
       → PlaceIn client k.profile (is_past_last k.input_state) (behind_body (last_body k.requests) k.feed) rest
 
--- how the input relates to the bodies and to the rest of the pipeline, after this much of the client's feed
+-- How the input relates to the bodies of these slots and to the rest of the pipeline, at some position in the client's
+-- feed.
 pub record InputMatches (client : Feed) (k : Kept) (slots : List Slot) (rest : List Item) : Type 0 where
   pub settled : AreSettled k.requests
   pub gives : GivesRest (last_body k.requests) (last_slot slots) k.feed
@@ -298,8 +304,8 @@ pub record InputMatches (client : Feed) (k : Kept) (slots : List Slot) (rest : L
   pub follows : last_holds_next_head k.requests ≡ true → FollowsLast (last_body k.requests) (last_slot slots) k.feed
   pub source : GoesOn (Some client) k.feed
 
--- the output so far: the joined segments, and no failure takes back what was flushed; or what the writer took when it
--- failed
+-- Whether this is the output so far. If the writer hasn't failed, it is the joined segments, and no failure takes back
+-- what was flushed. If the writer has failed, it is what the writer took until then.
 abbrev pub OutputAt : Sink → Sink → Bool → List Slot → List ℕ → Option Failure → Type 0
 OutputAt before sink ended slots flushed None =
     (sink.taken ≡ Some (joined slots))
@@ -313,7 +319,8 @@ OutputAt before sink ended slots flushed (Some f) =
     × StatesKind sink.last_kind f.kind
     × (ended ≡ true)
 
--- the connection represents this state, after this much of the client's feed and over a writer that stated this before
+-- Whether a connection represents this state, at some position in the client's feed, over a writer that stated `before`
+-- when the connection was new.
 pub record Represents (client : Feed) (before : Sink) (k : Kept) (s : State) : Type 0 where
   pub numbers : AreKept s.reached.slots k.marks k.requests
   pub shape : AreInShape k.marks

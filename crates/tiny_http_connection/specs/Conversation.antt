@@ -26,44 +26,45 @@ use Rattle.tiny_http_connection.specs.Steps.{StepValue, Ask, Read, Respond, Repl
 use Rattle.tiny_http_connection.specs.Outcomes.{WriterUse}
 use Rattle.tiny_http_connection.specs.Outcomes.{Unused, Unreported, Reported, use_in_turn, Outcome, Reached, outcome}
 
--- the writer's first fault: its kind, and all that the writer took
+-- The writer's first fault: its kind, and all that the writer took.
 pub record Failure : Type 0 where
   pub kind : ErrorKind
   pub output : List ℕ
 
--- The state of a conversation: what is reached; the output as of the last step that flushed it, while the writer has
+-- The state of a conversation: what was reached; the output as of the last step that flushed it, while the writer has
 -- not failed; and how the writer failed, if it did.
 pub record State : Type 0 where
   pub reached : Reached
   pub flushed : List ℕ
   pub failure : Option Failure
 
--- nothing is written any more
+-- whether the output has ended: the writer failed, or a segment broke off
 abbrev pub has_output_ended : State → Bool
 has_output_ended old = is_some old.failure || is_output_broken old.reached.slots
 
--- the count of finished numbers at the front
+-- the number of slots before the first that isn't finished
 abbrev pub finished_front : List Slot → ℕ
 finished_front [] = 0
 finished_front (s ∷ slots) = if is_finished s then finished_front slots + 1 else 0
 
--- HOW THE WRITER FARES in a step: it doesn't fail; or it fails in the step's own text; or it fails later, in a text
--- that was left or, if the data broke off, in what was held.
+-- HOW THE WRITER FARES in a step. `Well`: it doesn't fail. `FailsWithin`: it fails in the step's own text.
+-- `FailsAfter`: it fails later, in a text that was left or, if the step's data broke off, in what was held.
 pub data Fares : Type 0 where
   Well : Fares
   FailsWithin : (failure : Failure) → Fares
   FailsAfter : (failure : Failure) → Fares
 
--- the writer took all of one text, and a prefix of the other
+-- whether what the writer took until it failed begins with `from` and is a prefix of `to`
 abbrev pub FallsBetween : List ℕ → List ℕ → Failure → Type 0
 FallsBetween from to f = IsFront from f.output × IsFront f.output to
 
--- the writer's fault can be reported, unless the step's data broke off before the first byte of its text
+-- whether a step can report the writer's fault: it can unless its data broke off before the first byte of its text
 abbrev pub CanMeet : List ℕ → Option ErrorKind → Type 0
 CanMeet [] (Some kind) = ⊥
 CanMeet own broken = Unit {0}
 
--- how it may fare: a fault falls after what was flushed, and within what the step leaves to send
+-- whether the writer may fare like this in a step: a fault falls after what was flushed, and within what the step
+-- leaves to send
 abbrev pub MayFare : WriterUse → State → List Slot → Fares → Type 0
 MayFare writer old slots Well = Unit {0}
 MayFare Unused old slots (FailsWithin f) = ⊥
@@ -78,7 +79,8 @@ MayFare (Reported own None flushes report) old slots (FailsAfter f) =
 MayFare (Reported own (Some kind) flushes report) old slots (FailsAfter f) =
     FallsBetween old.flushed (joined old.reached.slots ++ own) f
 
--- the reply: the fault in the step's own text, or that of its data; else the planned reply
+-- the reply to a step in which the writer fares like this: its fault in the step's own text, or else the fault of the
+-- step's data, or else the planned reply
 abbrev pub reply_in : WriterUse → ReplyValue → Fares → ReplyValue
 reply_in (Reported own broken flushes report) planned (FailsWithin f) = report f.kind
 reply_in (Reported own broken flushes report) planned _ = unwrap_or (option_map report broken) planned
@@ -89,12 +91,12 @@ failure_in Well = None
 failure_in (FailsWithin f) = Some f
 failure_in (FailsAfter f) = Some f
 
--- the step writes nothing
+-- whether a step writes nothing: it doesn't use the writer, or the output has ended
 abbrev pub writes_nothing : WriterUse → State → Bool
 writes_nothing Unused old = true
 writes_nothing writer old = has_output_ended old
 
--- THE WRITER'S PART in a step: the reply, and the writer's failure afterwards
+-- THE WRITER'S PART in a step: whether the step may have this reply, and the writer this failure after it, if any
 abbrev pub WriterPart : WriterUse → State → ReplyValue → List Slot → ReplyValue → Option Failure → Type 0
 WriterPart writer old planned slots reply failure =
     MatchBool (writes_nothing writer old)
@@ -109,7 +111,7 @@ flushes Unused = false
 flushes Unreported = true
 flushes (Reported own broken flushed report) = flushed
 
--- what has been flushed after a step
+-- the output as of the last step that flushed it, after a step that uses the writer like this
 abbrev pub flushed_after : WriterUse → State → List Slot → List ℕ
 flushed_after writer old slots =
     if (flushes writer && not (writes_nothing writer old)) then joined slots else old.flushed
@@ -117,14 +119,14 @@ flushed_after writer old slots =
 abbrev pub reached_by : Outcome → Reached
 reached_by o = record { slots = o.slots; rest = o.rest; asking_ended = o.asking_ended }
 
--- the step has this outcome
+-- whether a step with this outcome may have this reply and lead to the state `new`
 abbrev pub HasOutcome : Outcome → State → ReplyValue → State → Type 0
 HasOutcome o old reply new =
     (new.reached ≡ reached_by o)
     × (new.flushed ≡ flushed_after o.writer old o.slots)
     × WriterPart o.writer old o.reply o.slots reply new.failure
 
--- the response's data are read whole before its head is sent
+-- whether the response's data are read whole before its head, if it is the response to this item
 abbrev pub GathersFor : HttpDate → ResponseValue → Slot → Item → Type 0
 GathersFor date response s (Asks r) = IsGathered response.answer (to_request r.framing.is_last r date)
 GathersFor date response s (Refuses refusal manner no_body last) = ⊥
@@ -133,23 +135,26 @@ abbrev pub GathersAt : HttpDate → ResponseValue → Option Slot → Type 0
 GathersAt date response None = ⊥
 GathersAt date response (Some s) = GathersFor date response s s.item
 
--- if memory was refused, the step had to read the data whole
+-- whether `found` may hold in a step: memory for response data isn't found only in a Respond that has to read its data
+-- whole
 abbrev pub MayLack : Bool → HttpDate → Reached → StepValue → Type 0
 MayLack true date old step = Unit {0}
 MayLack false date old (Respond k response) = GathersAt date response (slice_get old.slots k)
 MayLack false date old _ = ⊥
 
--- the item is a head that is refused, and requests go on after it
+-- whether the item is a refused head, and requests go on after it
 abbrev pub IsPassedOver : Item → Type 0
 IsPassedOver (Asks r) = ⊥
 IsPassedOver (Refuses refusal manner no_body last) = last ≡ false
 
--- the error responses to the heads refused by this step are sent, if the turn of the first has come
+-- how an Ask uses the writer for the heads that it refuses: it sends their error responses if the turn of the first has
+-- come
 abbrev pub answers_to : List Slot → List Item → WriterUse
 answers_to slots [] = Unused
 answers_to slots (item ∷ refused) = use_in_turn (turn_has_come (length slots) slots)
 
--- memory for a head is refused, after these refused heads: the requests have ended
+-- the outcome of an Ask that refuses these heads, and is then refused memory for a head: `Memory`, and the requests
+-- have ended
 abbrev pub lacks_head : HttpDate → Reached → List Item → List Item → Outcome
 lacks_head date old refused rest =
     record {
@@ -160,7 +165,8 @@ lacks_head date old refused rest =
       writer = answers_to old.slots refused;
     }
 
--- out of memory: before a read, which changes nothing; or at a head, after the refused ones before it
+-- whether a step may be out of memory and lead to the state `new`: a Read, which changes nothing, or an Ask, at a head
+-- after those that it refuses
 abbrev pub FindsNoMemory : HttpDate → State → StepValue → ReplyValue → State → Type 0
 FindsNoMemory date old (Read k n) reply new =
     0 < n × ((outcome true date old.reached (Read k n)).reply ≡ NoSuch → ⊥) × (reply ≡ Memory) × (new ≡ old)
@@ -176,7 +182,7 @@ FindsNoMemory date old Ask reply new =
     × HasOutcome (lacks_head date old.reached refused rest) old reply new
 FindsNoMemory date old _ reply new = ⊥
 
--- One step on a date may have this reply and lead to this state.
+-- Whether a step on this date may have this reply and lead to the state `new`.
 abbrev pub StepsTo : State → HttpDate → StepValue → ReplyValue → State → Type 0
 StepsTo old date step reply new =
     ((found : Bool)
@@ -184,21 +190,21 @@ StepsTo old date step reply new =
     × HasOutcome (outcome found date old.reached step) old reply new)
     ⊎ FindsNoMemory date old step reply new
 
--- the steps may have these replies, one after another
+-- whether these steps may have these replies, one after another, and lead to the state `new`
 abbrev pub Run : State → List TimedValue → List ReplyValue → State → Type 0
 Run old [] [] new = new ≡ old
 Run old (s ∷ steps) (r ∷ replies) new = (mid : State) × StepsTo old s.0 s.1 r mid × Run mid steps replies new
 Run old [] (r ∷ replies) new = ⊥
 Run old (s ∷ steps) [] new = ⊥
 
--- nothing is reached of a pipeline
+-- the state in which nothing of this pipeline was reached
 abbrev pub start_state : List Item → State
 start_state items =
     record { reached = record { slots = []; rest = items; asking_ended = false }; flushed = []; failure = None }
 
--- The output. Either what the writer took and what is held are the joined segments, it took all that was flushed, it
--- did not fail, and the output has ended exactly if one of the segments broke off. Or the writer failed once: it states
--- that kind and those bytes, nothing is held, and the output has ended.
+-- Whether this is the output of these slots. If the writer didn't fail, what it took and what is held are the joined
+-- segments, it took all that was flushed, and the output has ended exactly if a segment broke off. If it failed, it
+-- failed once: it states that kind and those bytes, nothing is held, and the output has ended.
 abbrev pub IsOutput : List Slot → List ℕ → Option Failure → Sink → Sink → List ℕ → Bool → Type 0
 IsOutput slots flushed None before after held ended =
     (after.failures ≡ before.failures)
@@ -214,14 +220,14 @@ IsOutput slots flushed (Some f) before after held ended =
     × (held ≡ [])
     × (ended ≡ true)
 
--- the items still to be read: none after the last head, else the pipeline from the input's position
+-- whether these are the items still to be read: none after the last head, else the pipeline from the input's position
 abbrev pub PlaceAt : Profile → Bool → Option Feed → List Item → Type 0
 PlaceAt p true feed rest = rest ≡ []
 PlaceAt p false None rest = ⊥
 PlaceAt p false (Some f) rest = Pipeline p (Some f.bytes) f.stop rest
 
--- The position is within this number's body: what is left of the body comes next, and after it, unless the requests
--- have ended, the rest of the pipeline.
+-- Whether the input's position is within this number's body: what is left of the body comes next, and after it, unless
+-- the requests have ended, the rest of the pipeline.
 abbrev pub WithinBody : Profile → Bool → Slot → Item → Feed → List Item → Type 0
 WithinBody p ended s (Asks r) feed rest =
     (next : Place)
@@ -234,9 +240,9 @@ abbrev pub WithinLast : Profile → Bool → Option Slot → Option Feed → Lis
 WithinLast p ended (Some s) (Some feed) rest = WithinBody p ended s s.item feed rest
 WithinLast p ended _ _ rest = ⊥
 
--- THE INPUT. While the last body is open, the position is within it, even once the requests have ended. Else, until the
--- requests end: the input has ended after a chunked body that was given up before its end, or the bytes to come hold
--- the rest of the pipeline.
+-- WHERE THE INPUT IS. While the last body is open, the position is within it, even once the requests have ended.
+-- Otherwise, until the requests end: the input has ended if a chunked body was given up before its end, and else the
+-- bytes to come hold the rest of the pipeline.
 abbrev pub InputAt : Profile → Reached → Option Feed → Type 0
 InputAt p old feed =
     MatchBool (last_is_open (last_slot old.slots))
@@ -245,27 +251,27 @@ InputAt p old feed =
     (MatchBool (last_was_abandoned (last_slot old.slots)) (feed ≡ Some (stopped End))
     (PlaceAt p (is_last_slot (last_slot old.slots)) feed old.rest)))
 
--- after all these heads a byte of a further one comes, or, except under Standard, the reader times out there
+-- whether, after all these heads, a byte of a further one comes, or, except under Standard, the reader times out there
 abbrev pub BeginsBehind : Profile → Place → Stop → List Item → Type 0
 BeginsBehind p None stop items = ⊥
 BeginsBehind p (Some bytes) stop [] = HasByteOrTimedOut p (Some (record { bytes = bytes; stop = stop }))
 BeginsBehind p (Some bytes) stop (item ∷ items) =
     (next : Place) × OneHead p bytes stop (Some item) next × BeginsBehind p next stop items
 
--- an Ask for which memory was refused
+-- whether a step is an Ask for which memory was refused
 abbrev pub IsAskOutOfMemory : StepValue → ReplyValue → Type 0
 IsAskOutOfMemory Ask Memory = Unit {0}
 IsAskOutOfMemory _ _ = ⊥
 
--- one of the steps is such an Ask
+-- whether one of these steps is an Ask for which memory was refused
 abbrev pub HasAskOutOfMemory : List TimedValue → List ReplyValue → Type 0
 HasAskOutOfMemory (s ∷ steps) (r ∷ replies) = IsAskOutOfMemory s.1 r ⊎ HasAskOutOfMemory steps replies
 HasAskOutOfMemory _ _ = ⊥
 
--- THE CONNECTION THEOREM: replies and output are those of a run over the pipeline of the feed under this profile, and
--- this is left of the feed. No memory is requested if no head comes: if an Ask was out of memory, an item of the
--- pipeline is left, or a byte of a further head comes after them all, or, except under Standard, the reader times out
--- there.
+-- THE CONNECTION THEOREM: the replies and the output are those of a run over the pipeline of the feed under this
+-- profile, and `unread` is left of the feed. No memory is requested if no head comes: if an Ask was out of memory, an
+-- item of the pipeline is left, or a byte of a further head comes after them all, or, except under Standard, the reader
+-- times out there.
 pub record IsConversation (p : Profile) (feed : Feed) (before : Sink) (steps : List TimedValue)
     (replies : List ReplyValue) (after : Sink) (held : List ℕ) (ended : Bool) (unread : Option Feed) : Type 0 where
   pub items : List Item
@@ -277,7 +283,7 @@ pub record IsConversation (p : Profile) (feed : Feed) (before : Sink) (steps : L
   pub memory : HasAskOutOfMemory steps replies → end.reached.rest ≡ []
       → BeginsBehind p (Some feed.bytes) feed.stop items
 
--- the writer at the start of a run: it states that it took no bytes, it has not ended, and it can count a failure
+-- The writer at the start of a run: it states that it took no bytes, has not ended and can count a failure.
 pub record IsFresh (sink : Sink) : Type 0 where
   pub no_bytes : sink.taken ≡ Some []
   pub unended : sink.has_ended ≡ false

@@ -10,11 +10,11 @@ use Rattle.tiny_http_connection.specs.Steps.{ReplyValue, TimedValue}
 use Rattle.tiny_http_connection.specs.Outcomes.{WriterUse, Reached, outcome}
 use Rattle.tiny_http_connection.specs.Conversation.{Well, reply_in, reached_by}
 
--- the reply if the writer takes everything or the output has ended
+-- the reply to a step if the writer takes everything; if `over` holds, the output had ended before the step
 abbrev pub reply_of : WriterUse → Bool → ReplyValue → ReplyValue
 reply_of writer over planned = if over then planned else reply_in writer planned Well
 
--- the replies, and what was reached at the end
+-- The replies to the steps of a run, and what the run reached.
 pub record Reading : Type 0 where
   pub replies : List ReplyValue
   pub end : Reached
@@ -26,7 +26,7 @@ run_from old (s ∷ steps) =
     let more = run_from (reached_by o) steps in
     record { replies = reply_of o.writer (is_output_broken old.slots) o.reply ∷ more.replies; end = more.end }
 
--- the replies to steps over a feed, and the output
+-- The replies to steps over a feed, and the output.
 pub record Conversed : Type 0 where
   pub replies : List ReplyValue
   pub output : List ℕ

@@ -51,8 +51,8 @@ use Rattle.tiny_http_connection.specs.Giving.{TakesNext}
 use Rattle.tiny_http_connection.specs.Replies.{StepReplies, can_take, is_in_turn}
 use Rattle.tiny_http_connection.specs.Connection.{ConnectionState, kept, Represents}
 
--- A connection of this profile, over this client's feed and a fresh writer, took these steps with these replies: they
--- are a run over the pipeline of the feed, and the connection represents the state that the run reaches.
+-- Whether a connection of this profile, over this client's feed and a fresh writer, took these steps with these
+-- replies: they are a run over the pipeline of the feed, and the connection represents the state that the run reaches.
 pub record HasDone {R W : Type 0} (p : Profile) (client : Feed) (before : Sink) (c : ConnectionState R W)
     (steps : List TimedValue) (replies : List ReplyValue) : Type 0 where
   pub profile : c.profile ≡ p
@@ -66,7 +66,7 @@ pub record HasDone {R W : Type 0} (p : Profile) (client : Feed) (before : Sink) 
       → (at.reached.asking_ended ≡ true)
       × (at.reached.rest ≡ [] → BeginsBehind p (Some client.bytes) client.stop items)
 
--- a response with its data replaced by what they state
+-- a response with what its data state in place of its data
 abbrev pub stated_response : {D : Type 0} → (D → Option Feed) → ResponseState D → ResponseState (Option Feed)
 stated_response feed r = record { answer = r.answer; data_reader = feed r.data_reader }
 
@@ -82,7 +82,7 @@ stated_step feed (step.Upgrade k p r) = step.Upgrade k p (stated_response feed r
 stated_step feed (step.Finish k) = step.Finish k
 stated_step feed (step.Drop k) = step.Drop k
 
--- the head at this position is refused, with this status
+-- whether the head at this position is refused and ends the requests, and `why` names its status
 abbrev pub IsRefusal : Profile → Feed → EndOfRequests → Type 0
 IsRefusal p f why =
     (status : StatusCode)
@@ -92,12 +92,14 @@ IsRefusal p f why =
     × OneHead p f.bytes f.stop (Some (Refuses refusal manner no_body true)) None
     × (status.0 ≡ refusal_status refusal) × (why ≡ because.Refused status)
 
--- no request follows in these bytes: a head is refused and ends the requests, or none follows, for this reason
+-- whether no request follows in these bytes for this reason: a head is refused and ends the requests, or no head
+-- follows
 abbrev pub EndsThere : Profile → InputState → Feed → EndOfRequests → Type 0
 EndsThere p input_state f why =
     IsRefusal p f why ⊎ (OneHead p f.bytes f.stop None None × EndsAt p input_state f.bytes f.stop why)
 
--- These heads are refused one after another, and requests go on after each; then this feed follows.
+-- Whether the heads of this feed are refused one after another, as these items, requests go on after each, and the feed
+-- `behind` follows them.
 abbrev pub ArePassedOver : Profile → Feed → List Item → Feed → Type 0
 ArePassedOver p f [] behind = behind ≡ f
 ArePassedOver p f (item ∷ items) behind =
@@ -106,19 +108,20 @@ ArePassedOver p f (item ∷ items) behind =
     × OneHead p f.bytes f.stop (Some item) next
     × ArePassedOver p (place_feed f.stop next) items behind
 
--- after such heads a byte of a further one comes, or, except under Standard, the reader times out there
+-- whether, after some refused heads after which requests go on, a byte of a further head comes, or, except under
+-- Standard, the reader times out there
 abbrev pub HasByteBehind : Profile → Option Feed → Type 0
 HasByteBehind p None = ⊤
 HasByteBehind p (Some f) =
     (passed : List Item) × (behind : Feed) × ArePassedOver p f passed behind × HasByteOrTimedOut p (Some behind)
 
--- the source's input state after such heads
+-- the source's input state after these refused heads
 abbrev pub input_state_past : InputState → List Item → InputState
 input_state_past input_state [] = input_state
 input_state_past input_state (item ∷ items) = at.Head
 
--- WHY THE REQUESTS END at the source's position: the last one was read, or no request follows in the bytes to come,
--- after the heads that are passed over.
+-- WHY THE REQUESTS END at the source's position: the last request was read, or no request follows in the bytes to come,
+-- after refused heads that are passed over.
 abbrev pub EndsRequestsAt : Profile → InputState → Option Feed → EndOfRequests → Type 0
 EndsRequestsAt p at.Last feed why = why ≡ because.LastRequest
 EndsRequestsAt p input_state feed why =
@@ -129,13 +132,13 @@ EndsRequestsAt p input_state feed why =
     × ArePassedOver p f passed behind
     × EndsThere p (input_state_past input_state passed) behind why
 
--- the next head needn't wait for the response to the last request, and no body holds the reader
+-- whether the next head can be read: it needn't wait for the response to the last request, and no body holds the reader
 abbrev pub IsFree : {R W : Type 0} → ConnectionState R W → Type 0
 IsFree c = (c.source.input_state ≡ at.Body → ⊥) × (last_holds_next_head c.requests ≡ false)
 
--- How an Ask ends the requests, by its reply: for a reason in the client's bytes, or if memory for a head was refused.
--- After the end it changes nothing, and after the last request it leaves the source unchanged. It reads no head if the
--- source has ended, nor while the last request holds the reader, and only the latter makes it wait.
+-- How an Ask ends the requests, by its reply: for a reason in the client's bytes, or because memory for a head was
+-- refused. After the end an Ask changes nothing, and after the last request it leaves the source unchanged. It reads no
+-- head if the source has ended, nor while the last request holds the reader, and only the latter makes it wait.
 abbrev pub AskEnds : {R W : Type 0} → ConnectionState R W → ConnectionState R W → ReplyValue → Type 0
 AskEnds old new (Handed k message framing) =
     (old.end ≡ None)
@@ -161,24 +164,27 @@ AskEnds old new Memory =
     × (IsAtEnd old.source → ⊥)
 AskEnds old new _ = ⊥
 
--- why the requests end if no head is read after a request that is finished or gets the connection's stream
+-- why the requests end once a request is finished or takes over the connection's stream; `true`: no head is read after
+-- that request
 abbrev pub ends_behind : Bool → Option EndOfRequests → Option EndOfRequests
 ends_behind false end = end
 ends_behind true None = Some because.LastRequest
 ends_behind true (Some why) = Some why
 
--- If the step was done or refused and this holds, the requests end after its number; else they go on as before.
+-- Whether the requests end after the step's number, if the step was done or refused and `ends` holds; else whether they
+-- go on or have ended as before.
 abbrev pub EndsBehind : {R W : Type 0} → Bool → ConnectionState R W → ConnectionState R W → ReplyValue → Type 0
 EndsBehind ends old new NotYet = new.end ≡ old.end
 EndsBehind ends old new NoSuch = new.end ≡ old.end
 EndsBehind ends old new _ = new.end ≡ ends_behind ends old.end
 
--- the same for an Upgrade: it gives the number the connection's stream, or drops it
+-- how an Upgrade ends the requests: its number takes over the connection's stream, or its request is dropped
 abbrev pub UpgradeEnds : {R W : Type 0} → ℕ → ConnectionState R W → ConnectionState R W → ReplyValue → Type 0
 UpgradeEnds k old new Refused = new.end ≡ ends_behind (is_last_once_finished_at (slice_get old.requests k)) old.end
 UpgradeEnds k old new reply = EndsBehind (is_last_with_stream_at (slice_get old.requests k)) old new reply
 
--- the same for a Respond, whose response may ask to close the connection; a refused response asks for nothing
+-- how a Respond ends the requests, by its request or since its response asks to close the connection; a refused
+-- response asks for nothing
 abbrev pub RespondEnds : {R W : Type 0} → ℕ → Bool → ConnectionState R W → ConnectionState R W → ReplyValue → Type 0
 RespondEnds k closes old new Refused =
     new.end ≡ ends_behind (is_last_once_finished_at (slice_get old.requests k)) old.end
@@ -200,48 +206,51 @@ StepEnds (step.Upgrade k p r) old new reply = UpgradeEnds k old new reply
 StepEnds (step.Finish k) old new reply = new.end ≡ old.end
 StepEnds (step.Drop k) old new reply = EndsBehind (is_last_once_finished_at (slice_get old.requests k)) old new reply
 
--- the body that is kept of this number was given up
+-- whether the body that is kept of this number was given up
 abbrev pub GivesUpKept : {R W : Type 0} → ℕ → ConnectionState R W → ConnectionState R W → Type 0
 GivesUpKept k old new =
     (u : Unfinished)
     → slice_get old.requests k ≡ Some (Some u)
     → GivesUpIfKept (kept_body (Some u)) old.source new.source
 
--- The final text of a number is sent in its turn: then nothing is held, and all was sent on. Before its turn the output
--- is unchanged.
+-- Whether the final text of this number was sent if its turn had come: then nothing is held, and all was sent on.
+-- Before its turn the output is unchanged.
 abbrev pub SendsInTurn : {R W : Type 0} → ℕ → ConnectionState R W → ConnectionState R W → Type 0
 SendsInTurn k old new =
     (can_take old k ≡ true → (new.outlet.held ≡ []) × SentOn new.outlet)
     × (is_in_turn old k ≡ false → new.outlet ≡ old.outlet)
 
--- nothing is kept of this number any more, and its body was given up; its final text was sent, if its turn has come
+-- whether nothing is kept of this number any more, its body was given up, and its final text was sent if its turn had
+-- come
 abbrev pub LetsGo : {R W : Type 0} → ℕ → ConnectionState R W → ConnectionState R W → Type 0
 LetsGo k old new =
     (new.requests ≡ slice_set old.requests k None) × GivesUpKept k old new × SendsInTurn k old new
 
--- this open number is finished, and so are those directly after it that were left
+-- whether this number, if it was open, is finished, and so are those directly after it that were marked `Left`
 abbrev pub FinishesNumber : ℕ → List Mark → List Mark → Type 0
 FinishesNumber k old new =
     (front rest : List Mark) → old ≡ front ++ (Open ∷ rest) → length front ≡ k → FinishesFront front rest new
 
--- Nothing is kept of this number any more; it is finished if it was open, and its body was given up. The last number's
--- response says that the connection closes, if it isn't made yet and this response asks for that.
+-- Whether nothing is kept of this number any more after a Respond: the number is finished if it was open, and its body
+-- was given up. If `closes` holds, the last number's response says that the connection closes, unless it was already
+-- made.
 abbrev pub LetsGoAnswered : {R W : Type 0} → ℕ → Bool → ConnectionState R W → ConnectionState R W → Type 0
 LetsGoAnswered k closes old new =
     (new.requests ≡ slice_set (closing_if_asked closes old.requests) k None)
     × GivesUpKept k old new
     × FinishesNumber k old.marks new.marks
 
--- the input state after the head of a request with this framing, with its body read so far
+-- the input state after the head of a request with this framing, of whose body this is kept
 abbrev pub after_head : Framing → UnreadBody → InputState
 after_head f body = if f.is_last then at.Last else if is_streaming body then at.Body else at.Head
 
--- n heads were refused, and have their numbers. If n is 0 the output is unchanged.
+-- Whether n heads were refused and took their numbers. If n is 0 the output is unchanged.
 abbrev pub RefusesHeads : {R W : Type 0} → ℕ → ConnectionState R W → ConnectionState R W → Type 0
 RefusesHeads n old new =
     (new.requests ≡ old.requests ++ replicate n None) × (n ≡ 0 → (new.marks ≡ old.marks) × (new.outlet ≡ old.outlet))
 
--- n heads are refused, and this request's head follows them: this remains of its body and of what comes after it.
+-- Whether n heads are refused, and the head of this request follows them; `left` is what remains of its body and of
+-- what comes after it.
 abbrev pub HandsOutHead : ℕ → Profile → Option Feed → Message → Framing → Option Remaining → Type 0
 HandsOutHead n p None message framing left = ⊤
 HandsOutHead n p (Some f) message framing left =
@@ -257,15 +266,15 @@ HandsOutHead n p (Some f) message framing left =
     (place_after framing.is_last next)
     × ComesWith left behind.stop body next)
 
--- this is kept of a request with this head that was handed out on this date
+-- whether `w` is kept of a request with this head that was handed out on this date
 abbrev pub KeepsRequestOf : OpenRequest UnreadBody → Message → Framing → HttpDate → Type 0
 KeepsRequestOf w message framing date =
     (h : Head) × (head_message h ≡ message) × (head_framing h ≡ framing) × KeepsHead w h date
 
--- What an Ask leaves of requests, source and output, by its reply. Handed: a request was added after the refused heads,
--- as its head in the client's bytes frames it, and the source is after its head. If no head was refused, nothing is
--- sent, and the reader reported no end or fault. Other replies: no request was added. After the last request or the end
--- of the source no head is refused.
+-- What an Ask leaves of the requests, the source and the output, by its reply. `Handed`: a request was added after the
+-- refused heads, as its head in the client's bytes frames it, and the source is after that head. If no head was
+-- refused, nothing is sent, and the reader reported no end or fault. Other replies: no request was added. After the
+-- last request or the end of the source no head is refused.
 abbrev pub AskLeaves : {R W : Type 0} → HttpDate → ConnectionState R W → ConnectionState R W → ReplyValue → Type 0
 AskLeaves now old new (Handed k message framing) =
     (n : ℕ)
@@ -285,13 +294,13 @@ AskLeaves now old new Ended =
 AskLeaves now old new NotYet = Unit {0}
 AskLeaves now old new _ = ⊥
 
--- A read from the body of a request that leaves this of it. If the body is read from the source, the source's input
--- state follows what is left of it; else the source is unchanged.
+-- What a read leaves of the source, if the request's body was `was` before it and is `body` after it. If the body is
+-- read from the source, the input state follows what is left of the body; else the source is unchanged.
 abbrev pub InputStateAfter : {R : Type 0} → UnreadBody → UnreadBody → SourceState R → SourceState R → Type 0
 InputStateAfter was body old new =
     MatchBool (is_streaming was) (new.input_state ≡ body_input_state body old.input_state) (new ≡ old)
 
--- the 100 of this number's request was sent and flushed, and none is owed any more
+-- whether the 100 of this number's request was sent and flushed, and none is owed any more
 abbrev pub ContinueIsSent : {R W : Type 0} → ℕ → HttpDate → OpenRequest UnreadBody → ConnectionState R W
     → ConnectionState R W → Type 0
 ContinueIsSent k now w old new =
@@ -299,8 +308,8 @@ ContinueIsSent k now w old new =
     × SendsQuietlyOn old.outlet new.outlet (own_text_by 100 (printing_in w.response_context now))
     × HasSentAll new.outlet
 
--- What happens to the 100 of a number, by the reply: it was sent, or none was owed and nothing changed; or it is owed
--- and waits for its turn; or no request of this number awaits its response.
+-- What happens to the 100 of this number, by the reply. `Done`: it was sent, or none was owed and nothing changed.
+-- `NotYet`: it is owed and waits for its turn. `NoSuch`: no request of this number awaits its response.
 abbrev pub SendsContinue : {R W : Type 0} → ℕ → HttpDate → ConnectionState R W → ConnectionState R W → ReplyValue
     → Type 0
 SendsContinue k now old new Done =
@@ -310,18 +319,20 @@ SendsContinue k now old new NotYet = owes_continue (slice_get old.requests k) �
 SendsContinue k now old new NoSuch = waiting_response_context (slice_get old.requests k) ≡ None
 SendsContinue k now old new _ = ⊥
 
--- nothing but the output has changed
+-- whether the requests, the turns and the source are unchanged
 abbrev pub LeavesAllButOutlet : {R W : Type 0} → ConnectionState R W → ConnectionState R W → Type 0
 LeavesAllButOutlet old new = (new.requests ≡ old.requests) × (new.marks ≡ old.marks) × (new.source ≡ old.source)
 
--- what a Respond leaves, by the reply: the request was answered, or the response was refused and the request dropped
+-- What a Respond leaves, by the reply. `Refused`: the response was refused, and the request dropped. `Done` or `Fault`:
+-- the request was answered.
 abbrev pub AnswerLeaves : {R W : Type 0} → ℕ → Answer → ConnectionState R W → ConnectionState R W → ReplyValue → Type 0
 AnswerLeaves k a old new Refused = LetsGo k old new × (refuses_at a.status (slice_get old.requests k) ≡ true)
 AnswerLeaves k a old new reply =
     IsAnswered reply → LetsGoAnswered k a.closes old new × (refuses_at a.status (slice_get old.requests k) ≡ false)
 
--- What an Upgrade to this protocol with this status code leaves, by the reply: the request was upgraded, and its stream
--- reads its body or, under Standard, all that follows; or the upgrade was refused and the request dropped.
+-- What an Upgrade to this protocol with this status code leaves, by the reply. `Done`: the request was upgraded, and
+-- its stream reads its body or, under Standard, all that follows. `Refused`: the upgrade was refused, and the request
+-- dropped.
 abbrev pub UpgradeLeaves : {R W : Type 0} → ℕ → List ℕ → ℕ → ConnectionState R W → ConnectionState R W → ReplyValue
     → Type 0
 UpgradeLeaves k protocol code old new Done =
@@ -336,19 +347,20 @@ UpgradeLeaves k protocol code old new NotYet = Unit {0}
 UpgradeLeaves k protocol code old new NoSuch = Unit {0}
 UpgradeLeaves k protocol code old new _ = ⊥
 
--- the number of bytes that a reply gives
+-- the number of body bytes in a reply
 abbrev pub given_count : ReplyValue → ℕ
 given_count (Given bytes) = length bytes
 given_count _ = 0
 
--- a read of at least one byte that gave none met the body's end, and a fault is final
+-- whether, by its reply, a Read of n bytes leaves a body that ends as it has to: if at least one byte was asked for and
+-- none was given, the body's end was met; and a fault is final
 abbrev pub ClosesBody : ℕ → ReplyValue → UnreadBody → Type 0
 ClosesBody n (Given []) body = 0 < n → is_whole body ≡ true
 ClosesBody n (Fault kind) body = body ≡ Over (Faults kind)
 ClosesBody n _ body = ⊤
 
--- A read of n bytes gave the next bytes of the body that is kept of this number, as far as the reader states them. The
--- source's input state follows what is left of the body.
+-- Whether a Read of n bytes gave the next bytes of the body that is kept of this number, as far as the reader states
+-- them. The source's input state follows what is left of the body.
 abbrev pub ReadsKept : {R W : Type 0} → ℕ → ℕ → ConnectionState R W → ConnectionState R W → ReplyValue → Type 0
 ReadsKept k n old new reply =
     (u : Unfinished)
@@ -362,8 +374,8 @@ ReadsKept k n old new reply =
     × (0 < n → ReadsOn was (given_count reply) (nat_lt (given_count reply) n) body)
     × ClosesBody n reply body
 
--- What a read leaves of requests and source, by its reply. A fault or a refusal of memory comes only if n is at least
--- 1.
+-- What a Read of n bytes leaves of the requests and the source, by its reply. `Fault` and `Memory` come only if n is at
+-- least 1.
 abbrev pub ReadLeaves : {R W : Type 0} → ℕ → ℕ → ConnectionState R W → ConnectionState R W → ReplyValue → Type 0
 ReadLeaves k n old new (Given bytes) =
     (is_readable (slice_get old.requests k) ≡ true) × (length bytes ≤ n) × ReadsKept k n old new (Given bytes)
@@ -373,9 +385,9 @@ ReadLeaves k n old new NoSuch = is_readable (slice_get old.requests k) ≡ false
 ReadLeaves k n old new Memory = (is_readable (slice_get old.requests k) ≡ true) × (0 < n)
 ReadLeaves k n old new _ = ⊥
 
--- What a step leaves of requests, source and output. An AsReader sends the 100 that its request is owed. A read changes
--- at most the body of its request, and the source if the body is read from it. A Respond, a Drop and a Finish remove
--- their request. An IntoWriter gives up the body.
+-- What a step leaves of the requests, the source and the output. An AsReader sends the 100 that its request is owed. A
+-- Read changes at most the body of its request, and the source if the body is read from it. A Respond, a Drop and a
+-- Finish remove their request. An IntoWriter gives up the body.
 abbrev pub StepLeaves : {R W : Type 0} → Step (Option Feed) → HttpDate → ConnectionState R W → ConnectionState R W
     → ReplyValue → Type 0
 StepLeaves step.Ask now old new reply = AskLeaves now old new reply
@@ -394,17 +406,18 @@ StepLeaves (step.Upgrade k p r) now old new reply = UpgradeLeaves k (string_byte
 StepLeaves (step.Finish k) now old new reply = IsAnswered reply → LetsGo k old new
 StepLeaves (step.Drop k) now old new reply = IsAnswered reply → LetsGo k old new
 
--- the step was not done: it came too early, no request takes it, or memory for a read was refused
+-- whether the reply says that the step was not done: it came too early, no request accepts it, or memory for a Read was
+-- refused
 abbrev pub IsDeclined : Step (Option Feed) → ReplyValue → Type 0
 IsDeclined _ NotYet = Unit {0}
 IsDeclined _ NoSuch = Unit {0}
 IsDeclined (step.Read k n) Memory = Unit {0}
 IsDeclined _ _ = ⊥
 
--- A fault that a step reports, for whatever reader, writer and data state. The fault of a Write or a Flush is the
--- writer's, whose failure count rose. The fault of a Respond is the writer's or that of its own data, printed for its
--- request. In both cases the output has ended. The fault of a read is the body's, by `ReadLeaves`. The other steps
--- report none.
+-- Whether a fault that a step reports occurred, whatever the reader, the writer and the data state. The fault of a
+-- Write or a Flush is the writer's, whose failure count rose. The fault of a Respond is the writer's or that of the
+-- response's data, printed for its request. In both cases the output has ended. The fault of a Read is the body's, by
+-- `ReadLeaves`. The other steps report none.
 abbrev pub ReportsFault : {R W : Type 0} → ConnectionState R W → ConnectionState R W → HttpDate → Step (Option Feed)
     → ErrorKind → Type 0
 ReportsFault old new now step.Ask kind = ⊥
@@ -424,8 +437,8 @@ ReportsFault old new now (step.Respond k r) kind =
     × (new.outlet.ended ≡ true)
     × IsHonest (output_of old.outlet) (output_of new.outlet) r.answer r.data_reader (printing_in context now) kind
 
--- The response's own text was sent on whole, after all that the writer had taken. This holds if the data state fewer
--- than 2^63 bytes, the writer can still send, and it states what it took.
+-- Whether the response's own text was sent on whole, after all that the writer had taken. It need have been only if the
+-- data state fewer than 2^63 bytes, the writer could still send, and it states what it took.
 abbrev pub AnswerIsSentOn : {R W : Type 0} → ConnectionState R W → ConnectionState R W → HttpDate → ℕ
     → ResponseState (Option Feed) → Type 0
 AnswerIsSentOn old new now k r =
@@ -438,9 +451,9 @@ AnswerIsSentOn old new now k r =
     → (output_of old.outlet).taken ≡ Some taken
     → IsFront (taken ++ (text_of r.answer content (printing_in context now)).bytes) (output_of new.outlet).sent)
 
--- A Respond reports a failure of the writer by its kind, except that a kind that means that the client has disconnected
--- is reported as `Done`. It doesn't report a failure after the response, in the text of the next number that was left,
--- if the response's own text had been sent on. Nor does a refused response report one: its request is dropped.
+-- Whether a Respond reports a failure of the writer by its kind; a kind that means that the client has disconnected is
+-- reported as `Done`. It needn't report a failure after the response, in the text of the next number that was left, if
+-- the response's own text had been sent on. Nor need a refused response report one: its request is dropped.
 abbrev pub RespondReports : {R W : Type 0} → ConnectionState R W → ConnectionState R W → HttpDate → ℕ
     → ResponseState (Option Feed) → ReplyValue → Type 0
 RespondReports old new now k r Refused = Unit {0}
@@ -462,14 +475,14 @@ ReadMeets stop_count old new k reply =
     × (new.requests ≡ slice_set old.requests k (Some (number_with_body body u)))
     × (stop_count new.source.reader ≤ stop_count old.source.reader + ends_met was (given_count reply) body))
 
--- the same for a step; steps other than a Read are unrestricted
+-- how many ends and faults of the client a step meets: a Read as `ReadMeets` says; the other steps are unrestricted
 abbrev pub StepMeets : {R W : Type 0} → (R → ℕ) → Step (Option Feed) → ConnectionState R W → ConnectionState R W
     → ReplyValue → Type 0
 StepMeets stop_count (step.Read k n) old new reply = ReadMeets stop_count old new k reply
 StepMeets stop_count _ old new reply = ⊤
 
--- IF THE WRITER FAILED in a step, its failure count rose. A Write and a Flush report that, and so does a Respond, by
--- `RespondReports`. The other steps don't report it.
+-- WHETHER A STEP REPORTS A FAILURE OF THE WRITER, whose failure count rose. A Write and a Flush report it, and so does
+-- a Respond, by `RespondReports`. The other steps don't.
 abbrev pub StepReports : {R W : Type 0} → ConnectionState R W → ConnectionState R W → HttpDate → Step (Option Feed)
     → ReplyValue → Type 0
 StepReports old new now (step.Write k bytes) reply = ReportsOfWriter (output_of old.outlet) (output_of new.outlet) reply
@@ -477,19 +490,19 @@ StepReports old new now (step.Flush k) reply = ReportsOfWriter (output_of old.ou
 StepReports old new now (step.Respond k r) reply = RespondReports old new now k r reply
 StepReports old new now _ reply = Unit {0}
 
--- WHAT ONE STEP DOES on a date, with its reply, for whatever reader, writer and data state.
+-- WHAT ONE STEP DOES on a date, with its reply, whatever the reader, the writer and the data state.
 pub record MakesStep {R W : Type 0} (old new : ConnectionState R W) (now : HttpDate) (step : Step (Option Feed))
     (reply : ReplyValue) : Type 0 where
   -- the profile is unchanged, and a step that was not done changes nothing
   pub profile : new.profile ≡ old.profile
   pub declined : IsDeclined step reply → new ≡ old
-  -- whether it is done
+  -- the reply fits what is kept of the step's number
   pub replies : StepReplies old step reply
-  -- why the requests end, and what becomes of requests, source and output
+  -- why the requests end, and what becomes of the requests, the source and the output
   pub ends : StepEnds step old new reply
   pub leaves : StepLeaves step now old new reply
   pub goes_on : GoesOn old.source.feed new.source.feed
-  -- the writer fails at most once; and what is held and what was sent on, by step and reply
+  -- the writer fails at most once; and what is held and what was sent on, by the step and its reply
   pub fails_once : FailsOnce old.outlet new.outlet
   pub flushed : (sent : Bool) → (sent ≡ true → old.outlet.held ≡ []) → all_sent_after step reply sent ≡ true
       → new.outlet.held ≡ []
@@ -499,7 +512,8 @@ pub record MakesStep {R W : Type 0} (old new : ConnectionState R W) (now : HttpD
   pub honest : (kind : ErrorKind) → reply ≡ Fault kind → ReportsFault old new now step kind
   pub reports : StepReports old new now step reply
 
--- ONE STEP: it has these effects, and extends each run that the connection represents by this step and its reply.
+-- ONE STEP: whether it has the effects of `MakesStep`, and extends each run that the connection represents by this step
+-- and its reply.
 pub record TakesStep {R W : Type 0} (old new : ConnectionState R W) (now : HttpDate) (step : Step (Option Feed))
     (reply : ReplyValue) : Type 0 where
   pub makes : MakesStep old new now step reply
@@ -508,7 +522,7 @@ pub record TakesStep {R W : Type 0} (old new : ConnectionState R W) (now : HttpD
       → HasDone p client before old steps replies
       → HasDone p client before new (steps ++ (now, asked) ∷ []) (replies ++ reply ∷ [])
 
--- a step that drops the request of this number, with its reply: a Drop, or a Respond or an Upgrade that is refused
+-- whether a step with this reply drops the request of this number: a Drop, or a Respond or an Upgrade that is refused
 abbrev pub IsDropping : List (Option Unfinished) → ℕ → Step (Option Feed) → ReplyValue → Type 0
 IsDropping requests n (step.Drop k) Done = k ≡ n
 IsDropping requests n (step.Respond k r) Refused = (k ≡ n) × (refuses_at r.answer.status (slice_get requests n) ≡ true)
@@ -516,7 +530,7 @@ IsDropping requests n (step.Upgrade k p r) Refused =
     (k ≡ n) × (refuses_upgrade_at (string_bytes p) r.answer.status (slice_get requests n) ≡ true)
 IsDropping _ _ _ _ = ⊥
 
--- the request of this number was dropped
+-- whether the request of this number was dropped: each step that drops it may have led from `old` to `new`
 abbrev pub Drops : {R W : Type 0} → ℕ → ConnectionState R W → ConnectionState R W → Type 0
 Drops n old new =
     (now : HttpDate) (x : Step (Option Feed)) (reply : ReplyValue)

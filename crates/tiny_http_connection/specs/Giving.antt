@@ -1,13 +1,13 @@
--- What a read gives of the bytes to come.
+-- What a Read returns of the bytes to come.
 use Rattle.std.specs.Prelude.{◌≡◌, ◌⊎◌, ⊤, ℕ, [], take, drop, Option, Some, None}
 use Rattle.tiny_http_io.specs.declared.device.Stop.TheVariants.{Fault as Faults}
 use Rattle.tiny_http_io.specs.Device.{Feed, whole_feed}
 use Rattle.tiny_http_body.specs.Body.{Remaining}
 use Rattle.tiny_http_connection.specs.Steps.{ReplyValue, Given, Fault}
 
--- A read of n bytes, with what is left before and after. It gives the next n bytes, or all if fewer are left; it gives
--- none only if n is 0 or only the end is left. Or it reports the fault, if only that is left. Any other reply took
--- nothing.
+-- Whether a Read of n bytes may have this reply, with what is left of the body before it and after it. `Given`: the
+-- next n bytes, or all if fewer are left, and none only if n is 0 or only the end is left. `Fault`: only the fault is
+-- left. Any other reply takes nothing.
 abbrev pub ReadsNext : ℕ → Feed → ReplyValue → Feed → Type 0
 ReadsNext n left (Given bytes) next =
     (bytes ≡ take n left.bytes)
@@ -16,7 +16,8 @@ ReadsNext n left (Given bytes) next =
 ReadsNext n left (Fault kind) next = (left ≡ record { bytes = []; stop = Faults kind }) × (next ≡ left)
 ReadsNext n left _ next = next ≡ left
 
--- The same with what follows the body, which is unchanged. It says nothing if the reader doesn't state its bytes.
+-- Whether a Read of n bytes takes the next bytes of the body, as `ReadsNext` defines, and leaves what follows the body
+-- unchanged. It always holds if the reader doesn't state its bytes.
 abbrev pub TakesNext : ℕ → Option Remaining → ReplyValue → Option Remaining → Type 0
 TakesNext n None reply left = ⊤
 TakesNext n (Some was) reply left =

@@ -20,7 +20,8 @@ use Rattle.tiny_http_connection.specs.Steps.{AsReader, Ask, Done, Drop, Ended, F
 use Rattle.tiny_http_connection.specs.Steps.{IntoWriter, NoSuch, NotYet, Read, Refused, ReplyValue, Respond}
 use Rattle.tiny_http_connection.specs.Steps.{StepValue, Upgrade, Write, number_of}
 
--- the reply for a fault while a response is sent: a client that has closed the connection is not a fault
+-- the reply to a step whose response meets a fault: `Done` if the kind means that the client has disconnected, else
+-- `Fault`
 abbrev pub fault_reply : ErrorKind → ReplyValue
 fault_reply kind = if is_closed_client kind then Done else Fault kind
 
@@ -40,7 +41,8 @@ pub record Outcome : Type 0 where
   pub asking_ended : Bool
   pub writer : WriterUse
 
--- How far a pipeline was reached: the slots so far, the items after them, and whether asking has ended.
+-- How far a connection has come in its pipeline: the slots of the numbers so far, the items after them, and whether
+-- asking has ended.
 pub record Reached : Type 0 where
   pub slots : List Slot
   pub rest : List Item
@@ -50,7 +52,7 @@ abbrev pub unchanged : Reached → ReplyValue → Outcome
 unchanged old reply =
     record { reply = reply; slots = old.slots; rest = old.rest; asking_ended = old.asking_ended; writer = Unused }
 
--- the step changes one slot
+-- the outcome of a step that changes only the slot of number k, to `s`
 abbrev pub changes : Reached → ℕ → Slot → ReplyValue → WriterUse → Outcome
 changes old k s reply writer =
     record {
@@ -61,7 +63,7 @@ changes old k s reply writer =
       writer = writer;
     }
 
--- an Ask goes to the next request, past the refused heads before it
+-- the outcome of an Ask from these items on: it hands out the next request, after it has refused the heads before it
 abbrev pub asks_from : HttpDate → WriterUse → List Slot → List Item → Outcome
 asks_from date writer slots [] =
     record { reply = Ended; slots = slots; rest = []; asking_ended = true; writer = writer }
@@ -77,9 +79,9 @@ asks_from date writer slots (Refuses refusal manner no_body last ∷ items) =
     asks_from date (if turn_has_come (length slots) slots then Unreported else writer)
     (slots ++ new_slot date (Refuses refusal manner no_body last) ∷ []) items
 
--- The reply to an Ask: Ended once asking has ended; NotYet while the last request that was handed out holds the reader;
--- Ended after a chunked body that was given up before its end; else the next request of the pipeline, or Ended if there
--- is none.
+-- The outcome of an Ask: `Ended` once asking has ended; `NotYet` while the last request that was handed out holds the
+-- reader; `Ended` after a chunked body that was given up before its end; else the next request of the pipeline, or
+-- `Ended` if there is none.
 abbrev pub ask : HttpDate → Reached → Outcome
 ask date old =
     if old.asking_ended then unchanged old Ended else
@@ -88,7 +90,7 @@ ask date old =
     then record { reply = Ended; slots = old.slots; rest = old.rest; asking_ended = true; writer = Unused } else
     asks_from date Unused old.slots old.rest
 
--- the reply of a read at the stop of the body
+-- the reply to a read of a body of which no byte is left: an empty `Given` at its end, or its fault
 abbrev pub close_reply : Stop → ReplyValue
 close_reply End = Given []
 close_reply (Faults kind) = Fault kind
@@ -101,7 +103,7 @@ read_reply n (b ∷ left) close = Given (take n (b ∷ left))
 abbrev pub finished_as : Bool → Slot → Stage → Slot
 finished_as closes s stage = record s { stage = stage; given_up = true; owed = false; closes = closes }
 
--- more bytes were written
+-- the stage of a raw writer or an upgrade after these further bytes were written; any other stage is unchanged
 abbrev pub written_to : List ℕ → Stage → Stage
 written_to bytes (Raw written ends) = Raw (written ++ bytes) ends
 written_to bytes (Upgraded protocol response date written ends) =
@@ -138,7 +140,7 @@ accepts_step (Upgraded protocol response date written ends) owed _ = false
 accepts_step (Answered response date found) owed _ = false
 accepts_step ByServer owed _ = false
 
--- whether a step waits for its number's turn
+-- whether a step on this request can be done only in its number's turn
 abbrev pub needs_turn : Request → Slot → StepValue → Bool
 needs_turn r s (AsReader k) = s.owed
 needs_turn r s (Respond k response) = not (refuses_response r response)
@@ -147,27 +149,29 @@ needs_turn r s (Flush k) = true
 needs_turn r s (Upgrade k protocol response) = not (refuses_upgrade r s protocol response)
 needs_turn r s _ = false
 
--- a text of the server's own is written only in its turn
+-- how a step uses the writer if its text may be left: `Unreported` if its number's turn has come, else `Unused`
 abbrev pub use_in_turn : Bool → WriterUse
 use_in_turn true = Unreported
 use_in_turn false = Unused
 
--- the same outcome, but if `ends` holds, no further head is read
+-- the outcome, with asking ended too if `ends` holds: no further head is read
 abbrev pub ends_asking : Bool → Outcome → Outcome
 ends_asking ends o = record o { asking_ended = o.asking_ended || ends }
 
 -- Whether no head is read after a request that takes over the connection's stream now: it holds the next head, or would
--- be the last if it were answered.
+-- be the last if it were answered now.
 abbrev pub ends_with_stream : Request → Bool → ℕ → Bool → Bool
 ends_with_stream r owed given end_reported = holds_next_head r || ends_when_finished r owed given end_reported
 
--- If a response asks to close the connection, no further head is read, and the response to the last number that was
--- reached says that the connection closes, unless it was already made.
+-- What was reached, after a response that asks to close the connection if `closes` holds: no further head is read, and
+-- the response to the last number that was reached says that the connection closes, unless it was already made.
 abbrev pub asked_to_close : Bool → Reached → Reached
 asked_to_close closes old =
     if closes then record old { slots = with_last closing_slot old.slots; asking_ended = true } else old
 
--- the request of this slot is answered with the response
+-- The outcome of a Respond to the request of this slot, or `NoSuch` without a slot. `found`, here and in the
+-- definitions below: whether memory was found for response data that have to be read whole before the head is sent.
+-- Without that memory the response sends no byte, and its fault is `OutOfMemory`.
 abbrev pub answers_slot : Bool → HttpDate → Reached → Request → ℕ → ResponseValue → Option Slot → Outcome
 answers_slot found date old r k response None = unchanged old NoSuch
 answers_slot found date old r k response (Some s) =
@@ -177,18 +181,19 @@ answers_slot found date old r k response (Some s) =
     (changes old k (finished_as closes s (Answered response date found)) Done
     (Reported text.bytes (fault_in text.ending) true fault_reply))
 
--- the request of this number is answered with the response
+-- the outcome of a Respond to the request of this number, or `NoSuch` if the number wasn't reached
 abbrev pub answers : Bool → HttpDate → Reached → Request → ℕ → ResponseValue → Outcome
 answers found date old r k response = answers_slot found date old r k response (slice_get old.slots k)
 
--- the request is dropped: the server answers it, in its turn
+-- the outcome of a step that drops this request, with this reply: the server answers it, at once if `turn` holds, else
+-- in its number's turn
 abbrev pub drops : Reached → Request → Slot → Bool → ℕ → ReplyValue → Outcome
 drops old r s turn k reply =
     ends_asking (ends_when_finished r s.owed s.given s.end_reported)
     (changes old k (finished_as (closes_now r s.closes s.owed s.given s.end_reported) s ByServer) reply
     (use_in_turn turn))
 
--- a read of n bytes of its body
+-- the outcome of a Read of n bytes of this request's body
 abbrev pub reads : Reached → Request → Slot → ℕ → ℕ → Outcome
 reads old r s k n =
     if n == 0 then unchanged old (Given [])
@@ -199,12 +204,14 @@ reads old r s k n =
     })
     (read_reply n (rest_of r s.given).bytes r.body.stop) Unused
 
--- the request takes over the connection's stream, by its raw writer or an upgrade
+-- the outcome of a step by which this request takes over the connection's stream, as a raw writer or by an upgrade, and
+-- its slot becomes `new`
 abbrev pub streams : Reached → Request → Slot → ℕ → Slot → WriterUse → Outcome
 streams old r s k new writer =
     ends_asking (ends_with_stream r s.owed s.given s.end_reported) (changes old k new Done writer)
 
--- the effect of a step that a request's number accepts and that needn't wait
+-- the outcome of a step on this request that its number accepts and that needn't wait; `turn`: whether the number's
+-- turn has come
 abbrev pub effect : Bool → HttpDate → Reached → Request → Slot → Bool → StepValue → Outcome
 effect found date old r s turn (AsReader k) =
     if s.owed then changes old k (record s { owed = false; continued = Some date }) Done Unreported
@@ -237,11 +244,12 @@ abbrev pub at_slot : Bool → HttpDate → Reached → ℕ → StepValue → Opt
 at_slot found date old k step None = unchanged old NoSuch
 at_slot found date old k step (Some s) = at_item found date old k step s s.item
 
--- a step on a number
+-- the outcome of a step on this number: `NoSuch` if the number has no request that accepts the step, `NotYet` if the
+-- step has to wait for the number's turn, else its effect
 abbrev pub at_number : Bool → HttpDate → Reached → ℕ → StepValue → Outcome
 at_number found date old k step = at_slot found date old k step (slice_get old.slots k)
 
--- the reply and the effects of a step
+-- the outcome of a step on this date
 abbrev pub outcome : Bool → HttpDate → Reached → StepValue → Outcome
 outcome found date old Ask = ask date old
 outcome found date old step = at_number found date old (number_of step) step

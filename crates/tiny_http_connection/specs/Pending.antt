@@ -1,4 +1,5 @@
--- Numbers whose turn comes, and what is sent then. The laws of `InShort` can be understood without this file.
+-- What is kept of the numbers that aren't finished, and what is sent when their turn comes. The laws of `InShort` can
+-- be understood without this file.
 use Rattle.std.specs.Prelude.{◌≡◌, ◌==◌, ◌<◌, ◌^◌, ◌+◌, ℕ, Bool, true, false, not, ◌||◌, List, [], ◌∷◌, ◌++◌, length}
 use Rattle.std.specs.Prelude.{Option, Some, None, MatchBool, is_err, slice_get, if◌then◌else◌}
 use Rattle.tiny_http_io.specs.Device.{Sink}
@@ -23,7 +24,7 @@ use Rattle.tiny_http_turns.specs.TurnsCalls.{Finishes}
 use Rattle.tiny_http_turns.specs.declared.turns.Finishing.{Finishing}
 use Rattle.tiny_http_turns.specs.declared.turns.Finishing.TheVariants.{Go}
 
--- the texts of the numbers at the front that were left
+-- the joined texts of the numbers at the front that are marked `Left`
 abbrev pub left_text : List Mark → List ℕ
 left_text [] = []
 left_text (Open ∷ marks) = []
@@ -31,7 +32,7 @@ left_text (Held ∷ marks) = []
 left_text (Left text ∷ marks) = text ++ left_text marks
 left_text (Finished ∷ marks) = []
 
--- the numbers at the front that were left are finished
+-- the marks, once the numbers at the front that are marked `Left` are finished
 abbrev pub with_left_finished : List Mark → List Mark
 with_left_finished [] = []
 with_left_finished (Open ∷ marks) = Open ∷ marks
@@ -39,7 +40,7 @@ with_left_finished (Held ∷ marks) = Held ∷ marks
 with_left_finished (Left text ∷ marks) = Finished ∷ with_left_finished marks
 with_left_finished (Finished ∷ marks) = Finished ∷ marks
 
--- the first of these numbers was left
+-- whether the first of these numbers is marked `Left`
 abbrev pub begins_left : List Mark → Bool
 begins_left [] = false
 begins_left (Open ∷ marks) = false
@@ -47,26 +48,28 @@ begins_left (Held ∷ marks) = false
 begins_left (Left text ∷ marks) = true
 begins_left (Finished ∷ marks) = false
 
--- when the turn passes to these numbers, the texts of those at their front that were left are sent; if there is none,
--- nothing is done
+-- whether the texts of the numbers at the front that are marked `Left` were sent and flushed, or, if there is none,
+-- nothing was done
 abbrev pub SendsLeft : List Mark → Bool → Sink → Sink → Bool → Type 0
 SendsLeft rest was old new ended =
     MatchBool (begins_left rest) (SendsUnlessEnded was old new ended (left_text rest)
     × IsFlushed new) ((new ≡ old)
     × (ended ≡ was))
 
--- the held number is finished, and so are those directly after it that were left
+-- whether the held number between `front` and `rest` was finished, and so were those directly after it that were marked
+-- `Left`
 abbrev pub FinishesFront : List Mark → List Mark → List Mark → Type 0
 FinishesFront front rest new = new ≡ front ++ (Finished ∷ with_left_finished rest)
 
--- An open number is left with a text. In its turn the text is sent, with those after it that were left; else it waits.
+-- Whether the open number between `front` and `rest` was left with this text. In its turn the text was sent, with the
+-- texts of those directly after it that were marked `Left`; else it waits.
 abbrev pub LeavesText : Bool → List Mark → List Mark → List Mark → List ℕ → Bool → Sink → Sink → Bool → Type 0
 LeavesText in_turn front rest marks text was old new ended =
     MatchBool in_turn
     (FinishesFront front rest marks × SendsUnlessEnded was old new ended (text ++ left_text rest) × IsFlushed new)
     ((marks ≡ front ++ (Left text ∷ rest)) × AreInShape marks × (new ≡ old) × (ended ≡ was))
 
--- the context of the response to this number if it is sent now, if the number awaits one
+-- the context of the response to a number if it is sent now, or `None` if the number doesn't await its response
 abbrev pub waiting_response_context : Option (Option Unfinished) → Option ResponseContext
 waiting_response_context (Some (Some (still.Waiting w))) = Some (final_context w (remainder w.body))
 waiting_response_context (Some (Some still.Raw)) = None
@@ -74,11 +77,11 @@ waiting_response_context (Some (Some (still.Upgraded b))) = None
 waiting_response_context (Some None) = None
 waiting_response_context None = None
 
--- this number awaits its response, and this is kept of it
+-- whether number `number` awaits its response, and `w` is kept of it
 abbrev pub WaitsAt : List (Option Unfinished) → ℕ → OpenRequest UnreadBody → Type 0
 WaitsAt requests number w = slice_get requests number ≡ Some (Some (still.Waiting w))
 
--- its body can be read: it awaits its response and no 100 is owed, or it was upgraded
+-- whether the body of a number can be read: the number awaits its response and no 100 is owed, or it was upgraded
 abbrev pub is_readable : Option (Option Unfinished) → Bool
 is_readable (Some (Some (still.Waiting w))) = not w.owes_continue
 is_readable (Some (Some still.Raw)) = false
@@ -86,7 +89,7 @@ is_readable (Some (Some (still.Upgraded b))) = true
 is_readable (Some None) = false
 is_readable None = false
 
--- bytes can be written under it: its raw writer is in use, or it was upgraded
+-- whether bytes can be written under a number: its raw writer is in use, or it was upgraded
 abbrev pub is_writable : Option (Option Unfinished) → Bool
 is_writable (Some (Some (still.Waiting w))) = false
 is_writable (Some (Some still.Raw)) = true
@@ -94,7 +97,7 @@ is_writable (Some (Some (still.Upgraded b))) = true
 is_writable (Some None) = false
 is_writable None = false
 
--- it awaits its response, and a 100 is owed
+-- whether a number awaits its response and a 100 is owed
 abbrev pub owes_continue : Option (Option Unfinished) → Bool
 owes_continue (Some (Some (still.Waiting w))) = w.owes_continue
 owes_continue (Some (Some still.Raw)) = false
@@ -102,7 +105,7 @@ owes_continue (Some (Some (still.Upgraded b))) = false
 owes_continue (Some None) = false
 owes_continue None = false
 
--- the next head isn't read before it is answered
+-- whether a number awaits its response, and the next head isn't read before it is answered
 abbrev pub holds_next_head_at : Option (Option Unfinished) → Bool
 holds_next_head_at (Some (Some (still.Waiting w))) = w.holds_next_head
 holds_next_head_at (Some (Some still.Raw)) = false
@@ -110,7 +113,7 @@ holds_next_head_at (Some (Some (still.Upgraded b))) = false
 holds_next_head_at (Some None) = false
 holds_next_head_at None = false
 
--- it awaits its response, and no head is read after it if it is finished now
+-- whether a number awaits its response, and no head is read after it if it is finished now
 abbrev pub is_last_once_finished_at : Option (Option Unfinished) → Bool
 is_last_once_finished_at (Some (Some (still.Waiting w))) = is_last_once_finished w (remainder w.body)
 is_last_once_finished_at (Some (Some still.Raw)) = false
@@ -118,7 +121,7 @@ is_last_once_finished_at (Some (Some (still.Upgraded b))) = false
 is_last_once_finished_at (Some None) = false
 is_last_once_finished_at None = false
 
--- it awaits its response, and one with this status code is refused
+-- whether a number awaits its response, and a response with this status code is refused
 abbrev pub refuses_at : ℕ → Option (Option Unfinished) → Bool
 refuses_at code (Some (Some (still.Waiting w))) = refuses_code w.by_standard w.is_connect code
 refuses_at code (Some (Some still.Raw)) = false
@@ -126,7 +129,7 @@ refuses_at code (Some (Some (still.Upgraded b))) = false
 refuses_at code (Some None) = false
 refuses_at code None = false
 
--- it awaits its response, and an upgrade to this protocol with this status code is refused
+-- whether a number awaits its response, and an upgrade to this protocol with this status code is refused
 abbrev pub refuses_upgrade_at : List ℕ → ℕ → Option (Option Unfinished) → Bool
 refuses_upgrade_at protocol code (Some (Some (still.Waiting w))) =
     is_err (request_check w protocol code (is_whole w.body))
@@ -135,22 +138,23 @@ refuses_upgrade_at protocol code (Some (Some (still.Upgraded b))) = false
 refuses_upgrade_at protocol code (Some None) = false
 refuses_upgrade_at protocol code None = false
 
--- no head is read after it once it gets the connection's stream
+-- whether a number awaits its response, and no head is read after it once it takes over the connection's stream
 abbrev pub is_last_with_stream_at : Option (Option Unfinished) → Bool
 is_last_with_stream_at o = holds_next_head_at o || is_last_once_finished_at o
 
--- the number, whose response says that the connection closes, if it awaits one
+-- what is kept of a number once its response has to say that the connection closes; unchanged if the number doesn't
+-- await its response
 abbrev pub closing_number : Option Unfinished → Option Unfinished
 closing_number (Some (still.Waiting w)) = Some (still.Waiting (closing w))
 closing_number (Some still.Raw) = Some still.Raw
 closing_number (Some (still.Upgraded b)) = Some (still.Upgraded b)
 closing_number None = None
 
--- the same for the last of these, if a response asks for it
+-- what is kept of these numbers, with the response to the last to say that the connection closes, if `closes` holds
 abbrev pub closing_if_asked : Bool → List (Option Unfinished) → List (Option Unfinished)
 closing_if_asked closes requests = if closes then with_last closing_number requests else requests
 
--- the next head isn't read before the last of these is answered
+-- whether the last of these numbers awaits its response, and the next head isn't read before it is answered
 abbrev pub last_holds_next_head : List (Option Unfinished) → Bool
 last_holds_next_head [] = false
 last_holds_next_head (u ∷ []) = holds_next_head_at (Some u)
@@ -163,29 +167,29 @@ kept_body (Some (still.Waiting w)) = Some w.body
 kept_body (Some still.Raw) = None
 kept_body (Some (still.Upgraded b)) = Some b
 
--- this body was given up; without one the source is unchanged
+-- whether this body was given up; without a body, whether the source is unchanged
 abbrev pub GivesUpIfKept : {R : Type 0} → Option UnreadBody → SourceState R → SourceState R → Type 0
 GivesUpIfKept None old new = new ≡ old
 GivesUpIfKept (Some b) old new = GivesUp b old new
 
--- the number with this body in place of its own
+-- what is kept of a number, with this body in place of its own, if a body is kept
 abbrev pub number_with_body : UnreadBody → Unfinished → Unfinished
 number_with_body b (still.Waiting w) = still.Waiting (record w { body = b })
 number_with_body b still.Raw = still.Raw
 number_with_body b (still.Upgraded c) = still.Upgraded b
 
--- the body of the last of these, if one is kept
+-- the body that is kept of the last of these numbers, if any
 abbrev pub last_body : List (Option Unfinished) → Option UnreadBody
 last_body [] = None
 last_body (u ∷ []) = kept_body u
 last_body (u ∷ v ∷ us) = last_body (v ∷ us)
 
--- the body is read from the input
+-- whether a body is kept, and is read from the input
 abbrev pub is_streaming_body : Option UnreadBody → Bool
 is_streaming_body None = false
 is_streaming_body (Some b) = is_streaming b
 
--- A REFUSED HEAD takes the next number, and its error response is left there; or memory for that is refused, and
+-- A REFUSED HEAD takes the next number, and its error response is left under it; or memory for that is refused, and
 -- nothing changes. The response isn't held back while the connection waits for the next head.
 pub record RefusesHead {W : Type 0} (p : Pending) (o : OutletState W) (text : List ℕ) (kept : Bool) (q : Pending)
     (u : OutletState W) : Type 0 where
@@ -200,16 +204,17 @@ pub record RefusesHead {W : Type 0} (p : Pending) (o : OutletState W) (text : Li
   pub flushed : outlet_held o ≡ [] → outlet_held u ≡ []
   pub sent_on : SentOn o → SentOn u
 
--- a text is written in the turn of a number that is held
+-- whether this text was written in the turn of a held number
 abbrev pub WritesHeld : {W : Type 0} → HeldNumber → OutletState W → List ℕ → HeldNumber → OutletState W → Type 0
 WritesHeld k o text l u = (l ≡ k) × SendsQuietlyOn o u text × FailsOnce o u × KeepsSent o u
 
--- the next number after finishing a held one: it had been left with this text, and is held; or it hadn't
+-- whether a held number was followed, once it was finished, by a number that had been left with this text and is now
+-- held; for `None`, by no such number
 abbrev pub NextHeld : HeldNumber → Finishing (Unit {0}) → Option (Vec ℕ) → HeldNumber → Type 0
 NextHeld k r None l = ((u : Unit {0}) (next : Vec ℕ) → r ≡ Go u next → ⊥)
 NextHeld k r (Some text) l = ((u : Unit {0}) × (r ≡ Go u text)) × (l.0 ≡ k.0 + 1) × (l.0 < 2 ^ 64)
 
--- a number that is held is finished, by a step of the turns
+-- whether a held number was finished, by a step of the turns
 abbrev pub FinishesHeld : HeldNumber → TurnsState (Unit {0}) → Option (Vec ℕ) → HeldNumber → TurnsState (Unit {0})
     → Type 0
 FinishesHeld k p left l q =

@@ -11,8 +11,8 @@ use Rattle.tiny_http_connection.specs.Pending.{waiting_response_context, owes_co
 use Rattle.tiny_http_connection.specs.Pending.{refuses_upgrade_at}
 use Rattle.tiny_http_connection.specs.Connection.{ConnectionState}
 
--- THE REPLY of a step on a number: `NoSuch` if no request takes it; `Refused` if it is refused, in its turn or before
--- it; `NotYet` if it has to wait; else it was done, or its fault is reported.
+-- THE REPLY TO A STEP on a number: `NoSuch` if no request accepts the step; `Refused` if the step is refused, in its
+-- turn or before it; `NotYet` if it has to wait; else the step was done, or its fault is reported.
 abbrev pub IsReplied : Bool → Bool → Bool → ReplyValue → Type 0
 IsReplied false refused waits reply = reply ≡ NoSuch
 IsReplied true true waits reply = reply ≡ Refused
@@ -31,11 +31,12 @@ is_waiting c k = is_some (waiting_response_context (slice_get c.requests k))
 abbrev pub is_in_turn : {R W : Type 0} → ConnectionState R W → ℕ → Bool
 is_in_turn c k = k == first_unfinished c.marks
 
--- and the number is open
+-- whether this number is open and its turn has come
 abbrev pub can_take : {R W : Type 0} → ConnectionState R W → ℕ → Bool
 can_take c k = is_open_mark (slice_get c.marks k) && is_in_turn c k
 
--- The reply of each step. `AskEnds` and `ReadLeaves` define those of an Ask and a Read.
+-- Whether the reply to a step fits what is kept of its number. `AskEnds` and `ReadLeaves` define the replies to an Ask
+-- and a Read, which are unrestricted here.
 abbrev pub StepReplies : {R W : Type 0} → ConnectionState R W → Step (Option Feed) → ReplyValue → Type 0
 StepReplies c step.Ask reply = ⊤
 StepReplies c (step.Read k n) reply = ⊤

@@ -18,7 +18,7 @@ use Rattle.tiny_http_connection.specs.Steps.{TimedValue}
 
 -- THE CONNECTION THEOREM of a run. Let the reader state its feed, let the writer state that it took nothing, has not
 -- ended and can count a failure, and let the data of the responses state feeds of fewer than 2^63 bytes. Then the steps
--- and their replies are a conversation over that feed, with the output that the writer took and what is held of it.
+-- and their replies are a conversation over that feed, and its output is what the writer took, then what is held.
 abbrev pub IsConversationOf : {R W D : Type 0} → (R → Option Feed) → (W → Sink) → (D → Option Feed)
     → Profile → R → W → List (Timed D) → Record R W → Type 0
 IsConversationOf client sink stated p reader writer steps done =
@@ -29,8 +29,8 @@ IsConversationOf client sink stated p reader writer steps done =
     → IsConversation p feed (sink writer) dated (map seen done.replies.items)
     (sink done.outlet.writer) done.outlet.held done.outlet.ended done.source.feed
 
--- a connection under this profile before its first step, over a reader that states this feed and a writer that states
--- this
+-- whether a connection is one before its first step, under this profile, over a reader that states the feed `client`
+-- and a writer that states `before`
 pub record IsNew {R W : Type 0} (p : Profile) (reader : R) (client : Option Feed) (writer : W) (before : Sink)
     (c : ConnectionState R W) : Type 0 where
   pub profile : c.profile ≡ p
@@ -39,8 +39,8 @@ pub record IsNew {R W : Type 0} (p : Profile) (reader : R) (client : Option Feed
   pub unread : (c.source.stop ≡ None) × (c.source.held ≡ []) × (c.source.skip ≡ 0)
   pub outlet : c.outlet ≡ record { held = []; ended = false; writer = writer; sink = before }
 
--- The steps were taken one after another, each with its reply, from one state of a connection to another. The reader
--- states how many ends and faults it has reported.
+-- Whether these steps were taken one after another, each with its reply, from the state `old` of a connection to the
+-- state `new`. The reader states how many ends and faults it has reported.
 abbrev pub TakesSteps : {R W D : Type 0} → (R → ℕ) → (D → Option Feed) → ConnectionState R W → List (Timed D)
     → List Reply → ConnectionState R W → Type 0
 TakesSteps stop_count stated old [] [] new = new ≡ old
@@ -52,7 +52,7 @@ TakesSteps {R = R} {W = W} stop_count stated old (t ∷ steps) (r ∷ replies) n
 TakesSteps stop_count stated old [] (r ∷ replies) new = ⊥
 TakesSteps stop_count stated old (t ∷ steps) [] new = ⊥
 
--- WHAT A RUN LEAVES, for whatever reader, writer and data state.
+-- WHAT A RUN LEAVES, whatever the reader, the writer and the data state.
 pub record RunsSteps {R W D : Type 0} (client : R → Option Feed) (stop_count : R → ℕ) (sink : W → Sink)
     (stated : D → Option Feed) (p : Profile) (reader : R) (writer : W) (steps : List (Timed D))
     (done : Record R W) : Type 0 where
@@ -61,7 +61,7 @@ pub record RunsSteps {R W D : Type 0} (client : R → Option Feed) (stop_count :
   -- the source still gives the client's bytes from some position on, if the reader states them
   pub source : GoesOn (client reader) done.source.feed
   -- A new connection took the steps one after another, so `MakesStep` and `StepMeets` hold for each step and its reply.
-  -- Source and outlet are as the last step left them, and the outlet states what its writer states.
+  -- The source and the outlet are as the last step left them, and the outlet states what its writer states.
   pub first : ConnectionState R W
   pub last : ConnectionState R W
   pub begins : IsNew p reader (client reader) writer (sink writer) first

@@ -20,12 +20,12 @@ use Rattle.tiny_http_connection.specs.Steps.{Done, Refused, NoSuch, Memory, Time
 use Rattle.tiny_http_connection.specs.Outcomes.{fault_reply}
 use Rattle.tiny_http_response.specs.Sending.{Sends, IsFlushed}
 
--- the value of a response whose data are stated, and fewer than 2^63 bytes
+-- whether this is the value of a response: its data state their bytes, which are fewer than 2^63
 abbrev pub IsResponse : {D : Type 0} → (D → Option Feed) → ResponseState D → ResponseValue → Type 0
 IsResponse feed r value =
     (value.answer ≡ r.answer) × (feed r.data_reader ≡ Some value.content) × (length value.content.bytes < 2 ^ 63)
 
--- the value of a step
+-- whether this is the value of a step
 abbrev pub IsStep : {D : Type 0} → (D → Option Feed) → Step D → StepValue → Type 0
 IsStep feed step.Ask Ask = Unit {0}
 IsStep feed (step.AsReader k) (AsReader n) = n ≡ k
@@ -40,7 +40,7 @@ IsStep feed (step.Finish k) (Finish n) = n ≡ k
 IsStep feed (step.Drop k) (Drop n) = n ≡ k
 IsStep feed _ _ = ⊥
 
--- the value of a step on its date
+-- whether this is the value of a step with its date
 abbrev pub IsTimedStep : {D : Type 0} → (D → Option Feed) → Timed D → TimedValue → Type 0
 IsTimedStep feed t d = (d.0 ≡ t.now) × IsStep feed t.step d.1
 
@@ -56,11 +56,12 @@ seen reply.Refused = Refused
 seen reply.NoSuch = NoSuch
 seen reply.Memory = Memory
 
--- the fault is the writer's: its failure count rose, and it states this kind
+-- whether a fault of this kind is the writer's: its failure count rose, and it states this kind
 abbrev pub IsOfWriter : Sink → Sink → ErrorKind → Type 0
 IsOfWriter old new kind = (new.failures ≡ next_count old.failures) × StatesKind new.last_kind kind
 
--- the writer's failure count is unchanged, or the reply reports a fault of the writer
+-- whether a reply reports the writer's fault, if there was one: the writer's failure count is unchanged, or the reply
+-- is a `Fault` of the writer
 abbrev pub ReportsOfWriter : Sink → Sink → ReplyValue → Type 0
 ReportsOfWriter old new reply =
     (new.failures ≡ old.failures) ⊎ ((kind : ErrorKind) × (reply ≡ Fault kind) × IsOfWriter old new kind)
@@ -85,23 +86,23 @@ all_sent [] [] sent = sent
 all_sent (t ∷ steps) (r ∷ replies) sent = all_sent steps replies (all_sent_after t.step (seen r) sent)
 all_sent _ _ sent = false
 
--- the reply of a call that sends a response
+-- the reply to a call that sent a response with this result
 abbrev pub reply_to : {T : Type 0} → Result T Error → ReplyValue
 reply_to (Ok x) = Done
 reply_to (Err e) = fault_reply (error_kind e)
 
--- the reply of a call of a raw writer
+-- the reply to a write or a flush by a raw writer with this result
 abbrev pub write_reply : {T : Type 0} → Result T Error → ReplyValue
 write_reply (Ok x) = Done
 write_reply (Err e) = Fault (error_kind e)
 
--- the reply is one to a call that sent a response, with or without a fault
+-- whether the reply says that the step was done, without a fault or up to one that is reported
 abbrev pub IsAnswered : ReplyValue → Type 0
 IsAnswered Done = Unit {0}
 IsAnswered (Fault kind) = Unit {0}
 IsAnswered _ = ⊥
 
--- a response with this data was sent and flushed, and the reply reports the result
+-- whether a response with these data was sent and flushed, and the reply reports the result
 abbrev pub Answers : Sink → Sink → Bool → ReplyValue → Answer → Feed → Printing → Type 0
 Answers old new ended reply answer content p =
     (r : Result (Unit {0}) Error) × (reply ≡ reply_to r) × Sends old new ended r answer content p × IsFlushed new

@@ -31,13 +31,13 @@ pub data ReplyValue : Type 0 where
   NoSuch : ReplyValue
   Memory : ReplyValue
 
--- the step was done: whole, or up to a fault that is reported
+-- whether the reply says that the step was done: whole, or up to a fault that is reported
 abbrev pub is_done : ReplyValue → Bool
 is_done Done = true
 is_done (Fault kind) = true
 is_done _ = false
 
--- the step was refused, and its request dropped
+-- whether the reply says that the step was refused, and its request dropped
 abbrev pub is_refused : ReplyValue → Bool
 is_refused Refused = true
 is_refused _ = false
@@ -55,6 +55,6 @@ number_of (Upgrade k protocol response) = k
 number_of (Finish k) = k
 number_of (Drop k) = k
 
--- a step on its date
+-- a step with its date
 abbrev pub TimedValue : Type 0
 TimedValue = HttpDate × StepValue

@@ -40,53 +40,54 @@ use tiny_http_response::sending::reported;
 /// One call on a connection, as a value.
 #[derive(Drop)]
 pub enum Step<D> {
-    /// Reads the next request head and hands it out. It is `NotYet` while the body of the last request holds the
-    /// reader: one with a content length or in chunks that was neither read to its end nor given up, of a request that
-    /// isn't the connection's last. Under `Standard` it is also `NotYet` while a request that asks for an upgrade
+    /// Reads the next request head and hands out its request. The reply is `NotYet` while the last request's body holds
+    /// the reader: a body with a content length or in chunks that was neither read to its end nor given up, unless that
+    /// request is the connection's last. Under `Standard` it is also `NotYet` while a request that asks for an upgrade
     /// awaits its response. No head follows a chunked body that was given up before its end was reported.
     Ask,
-    /// Sends the 100 that is owed to the request of this number. It is `NotYet` before its turn.
+    /// Sends the 100 that is owed to the request of this number. The reply is `NotYet` before the number's turn.
     AsReader(u64),
-    /// Reads the body of the request of this number, until it has this many bytes, 0 to 65535, or no more follow.
+    /// Reads the body of the request of this number, until it has read this many bytes, 0 to 65535, or no more follow.
     Read(u64, u16),
     /// Responds to the request of this number in its turn, and gives up its body.
     Respond(u64, Response<D>),
     /// Takes the raw writer of the request of this number in place of a response, and gives up its body.
     IntoWriter(u64),
     /// Writes these bytes by the raw writer of this number, or to the stream of its upgrade, in its turn. They may be
-    /// held until its `Flush` or `Finish`.
+    /// held until the number's `Flush` or `Finish`.
     Write(u64, Vec<u8>),
     /// Sends what was written under this number, in its turn.
     Flush(u64),
     /// Responds to the request of this number in its turn, and upgrades the connection to this protocol. `Read` then
-    /// reads the stream, and `Write` writes it, until `Finish`. The stream reads what is left of the request's body, or
-    /// under `Standard` all bytes after the body.
+    /// reads from the stream, and `Write` writes to it, until `Finish`. The stream reads what is left of the request's
+    /// body, or under `Standard` all bytes after the body.
     Upgrade(u64, String, Response<D>),
-    /// Ends the raw writer of this number, or the stream of an upgrade. What was written is sent in its turn.
+    /// Ends the raw writer of this number, or the stream of its upgrade. What was written is sent in its turn.
     Finish(u64),
     /// Drops the request of this number, and gives up its body. The response is an empty 500, dated when the request
     /// was handed out.
     Drop(u64),
 }
 
-/// A step and its date.
+/// A step with its date.
 #[derive(Drop)]
 pub struct Timed<D> {
-    /// The `Date` of the response that the step sends. The 500 for a dropped request has the date of its `Ask`.
+    /// The `Date` of the response that the step sends. The 500 for a dropped request has the date of the `Ask` that
+    /// handed it out.
     pub now: HttpDate,
     /// The step.
     pub step: Step<D>,
 }
 
-/// The result of a step.
+/// The reply to a step.
 #[derive(Drop)]
 pub enum Reply {
-    /// The request of this number. Refused heads take numbers too.
+    /// The request of this number was handed out. Refused heads take numbers too.
     Handed(u64, Head),
     /// The connection has no further request.
     Ended,
     /// These bytes of the body. If they are fewer than were asked for, no byte follows: the next read reports the end
-    /// by an empty `Given`, or the fault.
+    /// by an empty `Given`, or the fault by `Fault`.
     Given(Vec<u8>),
     /// The body ends with this fault, or the writer or the response's data failed with it.
     Fault(ErrorKind),
@@ -96,20 +97,20 @@ pub enum Reply {
     NotYet,
     /// The step was done, and met no fault that is reported.
     Done,
-    /// An upgrade was refused, or under `Standard` a response, by its status code. The request was dropped.
+    /// An upgrade was refused, or, under `Standard`, a response for its status code. The request was dropped.
     Refused,
-    /// No request of this number takes the step. Nothing has changed.
+    /// No request of this number accepts the step. Nothing has changed.
     NoSuch,
-    /// Out of memory. A `Read` has changed nothing. After an `Ask`, every later one is `Ended`.
+    /// Out of memory. A `Read` has then changed nothing. After such an `Ask`, every later one is `Ended`.
     Memory,
 }
 
 /// A connection over a reader and a writer, without threads.
 ///
 /// It hands out the client's requests one after another, reads their bodies on demand, and sends the responses in the
-/// order of the requests (RFC 9112, section 9.3.2). A response that is made before its turn is refused by `NotYet`; a
-/// drop waits for its turn. A program drives the connection call by call, and each call is a step of the connection
-/// theorem.
+/// order of the requests (RFC 9112, section 9.3.2). A response that is made before its turn is refused with `NotYet`;
+/// the response to a dropped request waits for its turn. A program drives the connection call by call, and each call is
+/// a step of the connection theorem.
 #[derive(Drop)]
 pub struct Connection<R: ReadDevice, W: WriteDevice> {
     profile: Profile,
@@ -146,8 +147,8 @@ impl Reply {
     }
 }
 
-// Responds to a request whose turn has come and of whose body `left` remains, and returns the reply. After the output
-// has ended nothing is sent, and the data are left unread.
+// Responds to a request whose turn has come, and returns the reply. `left` is what remains of the request's body. After
+// the output has ended nothing is sent, and the data are left unread.
 fn answer<W: WriteDevice, D: ReadDevice + Drop>(
     alloc: Global,
     request: &mut OpenRequest<UnreadBody>,
@@ -177,7 +178,7 @@ fn answer<W: WriteDevice, D: ReadDevice + Drop>(
     Reply::write_reply(reported(request.respond(alloc, outlet, response, left, now)))
 }
 
-// Returns why the requests end: `end` if it is set, else `LastRequest` if `ends` holds.
+// Returns why the requests end: `end` if it is set, or else `LastRequest` if `ends` holds.
 fn ends_behind(ends: bool, end: Option<EndOfRequests>) -> Option<EndOfRequests>
     ensures { result ≡ ends_behind ends end }
 {
@@ -214,7 +215,7 @@ impl<R: ReadDevice, W: WriteDevice> Connection<R, W> {
         Connection::new_with(alloc, Profile::Lenient, reader, writer)
     }
 
-    /// Returns a connection whose heads are read by this profile. The connection theorem has the premises of `new`.
+    /// Returns a connection under this profile. The connection theorem requires what it does for `new`.
     pub fn new_with(alloc: Global, profile: Profile, reader: R, writer: W) -> Connection<R, W>
         ensures profile { result.profile ≡ profile }
         ensures begins { (client : Feed)
@@ -236,8 +237,9 @@ impl<R: ReadDevice, W: WriteDevice> Connection<R, W> {
         }
     }
 
-    /// Returns why no further request is handed out. It is set once an `ask` was `Ended` or `Memory`, and once a
-    /// request was finished, was upgraded or gave its raw writer and no head is read after it.
+    /// Returns why no further request is handed out, or `None` while one may be. The reason is set once an `ask`
+    /// returned `Ended` or `Memory`, and once no head is read after a request that was finished, was upgraded or gave
+    /// its raw writer.
     pub fn end_of_requests(&self) -> Option<EndOfRequests>
         ensures { result ≡ self.now.end }
     {
@@ -258,26 +260,26 @@ impl<R: ReadDevice, W: WriteDevice> Connection<R, W> {
         self.pending.is_waiting(number)
     }
 
-    /// Reads the next request head, and hands out the request with its number: `Handed`. `now` dates the responses to
-    /// refused heads, and the 500 of this request if it is dropped.
+    /// Reads the next request head, hands out its request, and returns `Handed` with the request's number. `now` dates
+    /// the responses to refused heads, and the 500 of this request if it is dropped.
     ///
-    /// It is `NotYet` until the body of the last request is read to its end or given up. It is also `NotYet` while the
-    /// last request awaits its response and its head says `asks_upgrade`, unless that request is the connection's last:
-    /// what follows may be bytes of the other protocol (RFC 9110, section 7.8).
+    /// Returns `NotYet` until the body of the last request is read to its end or given up. Also returns `NotYet` while
+    /// the last request awaits its response and its head says `asks_upgrade`, unless that request is the connection's
+    /// last: what follows may be bytes of the other protocol (RFC 9110, section 7.8).
     ///
-    /// It is `Ended`, and stays so, once the connection has no further request; `end_of_requests` returns why. A
-    /// refused head gets an error response under its own number, in its turn, and ends the requests. A 505 does so only
-    /// if its head names an upgrade, its body is chunked or the profile is `Standard`; after any other 505 the same
-    /// call reads the next head.
+    /// Returns `Ended`, then and from then on, if the connection has no further request; `end_of_requests` returns why.
+    /// A refused head gets an error response under its own number, in its turn, and ends the requests. A 505 ends them
+    /// only if its head names an upgrade, its body is chunked or the profile is `Standard`; after any other 505 the
+    /// same call reads the next head.
     ///
-    /// `Memory` ends the requests too, as does a chunked body that was given up before its end. Under `Standard` they
-    /// also end after a request that asked for an upgrade, once it is upgraded or gives its raw writer, and after one
-    /// that is answered, dropped or gives its raw writer while its 100 is owed or more than 65,536 bytes of its body
-    /// are unread.
+    /// Returns `Memory` if memory is refused, which ends the requests too, as does a chunked body that was given up
+    /// before its end. Under `Standard` the requests also end after one that asked for an upgrade, once it is upgraded
+    /// or gives its raw writer, and after one that is answered, dropped or gives its raw writer while its 100 is owed
+    /// or more than 65,536 bytes of its body are unread.
     ///
-    /// The call waits for the client only until the head and a body of up to 1024 bytes have come, or the head alone if
-    /// it expects a 100. Before that it waits for the rest of a body with a content length that was given up or
-    /// skipped. After the last request it doesn't call the reader.
+    /// The call waits for the client only until the head and a body of up to 1024 bytes have come, or only the head if
+    /// the request expects a 100. Before that it waits for the rest of a body with a content length that was given up
+    /// or skipped. After the last request it doesn't call the reader.
     #[inline(never)]
     pub fn ask(&mut self, alloc: Global, now: HttpDate) -> Reply
         ensures step { TakesStep self.old self.new now Step.Ask (seen result) }
@@ -313,12 +315,12 @@ impl<R: ReadDevice, W: WriteDevice> Connection<R, W> {
         }
     }
 
-    /// Sends the 100 that is owed to the request of this number, and flushes (RFC 9110, section 10.1.1): `Done`. `now`
-    /// is its `Date`. The body can be read afterwards.
+    /// Sends the 100 that is owed to the request of this number, flushes (RFC 9110, section 10.1.1), and returns
+    /// `Done`. `now` is the `Date` of the 100. The body can be read afterwards.
     ///
-    /// It is `Done` and changes nothing if no 100 is owed. After the output has ended nothing is sent, and the 100 is
-    /// owed no longer. It is `NotYet` if a 100 is owed and a number before this one isn't finished, and `NoSuch` for a
-    /// number that doesn't await its response; then nothing has changed. No reply reports a fault of the writer. The
+    /// Returns `Done` and changes nothing if no 100 is owed. After the output has ended nothing is sent, and the 100 is
+    /// no longer owed. Returns `NotYet` if a 100 is owed and a number before this one isn't finished, and `NoSuch` if
+    /// this number doesn't await its response; then nothing has changed. No reply reports a fault of the writer. The
     /// call takes no memory.
     #[inline(never)]
     pub fn send_continue(&mut self, alloc: Global, now: HttpDate, number: u64) -> Reply
@@ -338,12 +340,12 @@ impl<R: ReadDevice, W: WriteDevice> Connection<R, W> {
         Reply::Done
     }
 
-    /// Reads the body of the request of this number, until it has `count` bytes or no more follow: `Given`, which is
-    /// empty once the body has ended. It sends nothing, and so takes no date.
+    /// Reads the body of the request of this number, until it has read `count` bytes or no more follow, and returns
+    /// them with `Given`. They are none once the body has ended. The call sends nothing, and so takes no date.
     ///
-    /// It is `Fault` if the body is cut or broken, and so is each later read. It is `NoSuch` for a number that neither
-    /// awaits its response nor was upgraded, and while its 100 is owed. It is `Memory` if memory for `count` bytes is
-    /// refused, which changes nothing.
+    /// Returns `Fault` if the body is cut or broken, as does each later read. Returns `NoSuch` if this number neither
+    /// awaits its response nor was upgraded, and while its 100 is owed. Returns `Memory` if memory for `count` bytes is
+    /// refused; then nothing has changed.
     #[inline(never)]
     pub fn read(&mut self, alloc: Global, number: u64, count: u16) -> Reply
         ensures step { (date : Date) → TakesStep self.old self.new date (Step.Read number count) (seen result) }
@@ -351,7 +353,7 @@ impl<R: ReadDevice, W: WriteDevice> Connection<R, W> {
         ensures stop_count { R.stop_count self.new.source.reader ≤ R.stop_count self.old.source.reader + 1 }
         ensures lazy { (bytes : List ℕ) → seen result ≡ Given bytes → length bytes ≡ count
             → R.stop_count self.new.source.reader ≤ R.stop_count self.old.source.reader }
-        // It reports none if the body's own framing ends it.
+        // The reader reports none if the body's own framing ends the body.
         ensures whole { ReadMeets R.stop_count self.old self.new number (seen result) }
     {
         if !self.pending.is_readable(number) {
@@ -375,13 +377,13 @@ impl<R: ReadDevice, W: WriteDevice> Connection<R, W> {
         }
     }
 
-    /// Drops the request of this number, and gives up its body: `Done`, or `NoSuch` for a number that doesn't await its
-    /// response. The response is an empty 500, dated when the request was handed out. It says `close` as a response by
-    /// `respond` does.
+    /// Drops the request of this number, gives up its body, and returns `Done`. Returns `NoSuch` if the number doesn't
+    /// await its response. The response is an empty 500, dated when the request was handed out. It says `close` as a
+    /// response by `respond` does.
     ///
-    /// The 500 is sent now, or by the call that finishes the last number before it; the reply is never `NotYet`, and
-    /// never reports a fault of the writer. The call takes no memory. Under `Standard` no request follows one that is
-    /// dropped or answered while its 100 is owed, or while more than 65,536 bytes of its body are unread.
+    /// The 500 is sent now, or by the call that finishes the last number before this one. The reply is never `NotYet`,
+    /// and never reports a fault of the writer. The call takes no memory. Under `Standard` no request follows one that
+    /// is dropped or answered while its 100 is owed, or while more than 65,536 bytes of its body are unread.
     #[inline(never)]
     pub fn drop_request(&mut self, number: u64) -> Reply
         ensures step { (date : Date) → TakesStep self.old self.new date (Step.Drop number) (seen result) }
@@ -410,23 +412,24 @@ impl<R: ReadDevice, W: WriteDevice> Connection<R, W> {
         true
     }
 
-    /// Responds to the request of this number, and gives up its body. `now` is the response's `Date`. It is `Done`, or
-    /// `Fault` if the writer failed within the response or the response's data broke off; then nothing more is sent on
-    /// the connection, and later responses are `Done` and unsent. A fault that means that the client has disconnected
-    /// is `Done` too. Out of memory for data of unknown length is a fault of kind `OutOfMemory`.
+    /// Responds to the request of this number, gives up its body, and returns `Done`. `now` is the response's `Date`.
+    /// Returns `Fault` if the writer failed within the response or the response's data broke off; then nothing more is
+    /// sent on the connection, and later responses are `Done` and unsent. A fault that means that the client has
+    /// disconnected is `Done` too. If memory for data of unknown length is refused, the fault is `OutOfMemory`.
     ///
-    /// It is `NotYet` while a number before it isn't finished, and `NoSuch` for a number that doesn't await its
-    /// response; then the response is dropped, and nothing has changed. Under `Standard` it is `Refused`, in its turn
-    /// or before it, if the status code is below 200 or above 999, or 2xx to `CONNECT`; then the request is dropped.
+    /// Returns `NotYet` while a number before this one isn't finished, and `NoSuch` if this number doesn't await its
+    /// response; then the response is dropped, and nothing has changed. Under `Standard` it returns `Refused`, in the
+    /// number's turn or before it, if the status code is below 200 or above 999, or 2xx to `CONNECT`; then the request
+    /// is dropped.
     ///
     /// Under `Standard` the response says `Connection: close` if the request is the last by its head, its 100 is owed,
     /// more than 65,536 bytes of its body's content length weren't given out, or the end of its body isn't known. What
     /// a later `ask` meets doesn't change it.
     ///
     /// After a response that was made by `with_close` no further head is read: a later `ask` is `Ended`. Under
-    /// `Standard` the response to the last number says `Connection: close`: this response, or that of a later request
-    /// or refused head. A later request doesn't say it if it was already dropped, is upgraded, or its raw writer is
-    /// taken.
+    /// `Standard` the response to the last number says `Connection: close`: this response, or that to a later request
+    /// or refused head. The response to a later request doesn't say it if that request was already dropped, is
+    /// upgraded, or gives its raw writer.
     #[inline(never)]
     pub fn respond<D: ReadDevice + Drop>(
         &mut self,
@@ -462,12 +465,12 @@ impl<R: ReadDevice, W: WriteDevice> Connection<R, W> {
         reply
     }
 
-    /// Takes the raw writer of the request of this number in place of a response, and gives up its body: `Done`, in its
-    /// turn or before it, or `NoSuch` for a number that doesn't await its response.
+    /// Takes the raw writer of the request of this number in place of a response, gives up the request's body, and
+    /// returns `Done`, in the number's turn or before it. Returns `NoSuch` if the number doesn't await its response.
     ///
-    /// It sends nothing: after a 100 that was sent before, the client gets only the bytes that `write` writes. A 100
-    /// that is owed isn't sent any more. Under `Standard` no request follows one whose head says `asks_upgrade`, whose
-    /// 100 is owed, or of whose body more than 65,536 bytes are unread.
+    /// The call sends nothing: after a 100 that was already sent, the client gets only the bytes that `write` writes. A
+    /// 100 that is owed isn't sent any more. Under `Standard` no request follows one whose head says `asks_upgrade`,
+    /// whose 100 is owed, or of whose body more than 65,536 bytes are unread.
     #[inline(never)]
     pub fn into_writer(&mut self, number: u64) -> Reply
         ensures step { (date : Date) → TakesStep self.old self.new date (Step.IntoWriter number) (seen result) }
@@ -481,12 +484,13 @@ impl<R: ReadDevice, W: WriteDevice> Connection<R, W> {
         Reply::Done
     }
 
-    /// Writes bytes by the raw writer of this number, or to the stream of its upgrade: `Done`, or `Fault` if the writer
-    /// failed in them or in what was held before them. Up to 1024 bytes may be held until `flush` or `finish`.
+    /// Writes bytes by the raw writer of this number, or to the stream of its upgrade, and returns `Done`. Returns
+    /// `Fault` if the writer failed in these bytes or in what was held before them. Up to 1024 bytes may be held until
+    /// `flush` or `finish`.
     ///
     /// A fault of any kind is reported. After it nothing more is sent on the connection, and later writes are `Done`
-    /// and unsent. It is `NotYet` while a number before it isn't finished, and `NoSuch` for a number without a raw
-    /// writer or stream; then nothing has changed.
+    /// and unsent. Returns `NotYet` while a number before this one isn't finished, and `NoSuch` if this number has no
+    /// raw writer or stream; then nothing has changed.
     #[inline(never)]
     pub fn write(&mut self, number: u64, bytes: &[u8]) -> Reply
         ensures step { (date : Date) (written : Vec ℕ)
@@ -502,8 +506,8 @@ impl<R: ReadDevice, W: WriteDevice> Connection<R, W> {
         Reply::write_reply(self.outlet.write(bytes))
     }
 
-    /// Sends what was written under this number, and flushes the writer: `Done`, or `Fault` if the writer failed.
-    /// `NotYet` and `NoSuch` are as for `write`.
+    /// Sends what was written under this number, flushes the writer, and returns `Done`. Returns `Fault` if the writer
+    /// failed, and `NotYet` or `NoSuch` as `write` does.
     #[inline(never)]
     pub fn flush(&mut self, number: u64) -> Reply
         ensures step { (date : Date) → TakesStep self.old self.new date (Step.Flush number) (seen result) }
@@ -517,19 +521,20 @@ impl<R: ReadDevice, W: WriteDevice> Connection<R, W> {
         Reply::write_reply(self.outlet.flush())
     }
 
-    /// Upgrades the connection of this number's request to this protocol, by this response (RFC 9110, section 7.8):
-    /// `Done`. It sends and flushes the response's head with `Connection: upgrade` and `Upgrade: PROTOCOL`, and drops
-    /// its data unread. `now` is the response's `Date`. It takes no memory, and no reply reports a fault of the writer.
+    /// Upgrades the connection of this number's request to this protocol, with this response (RFC 9110, section 7.8),
+    /// and returns `Done`. It sends and flushes the response's head with `Connection: upgrade` and `Upgrade: PROTOCOL`,
+    /// and drops its data unread. `now` is the response's `Date`. The call takes no memory, and no reply reports a
+    /// fault of the writer.
     ///
-    /// From then on `read` gives what is left of the request's body, which is all that follows if its head names an
-    /// upgrade; under `Standard` it gives all that follows the body. `write`, `flush` and `finish` write bytes as for a
-    /// raw writer.
+    /// From then on `read` returns what is left of the request's body, which is all that follows if the request's head
+    /// names an upgrade; under `Standard` it returns all that follows the body. `write`, `flush` and `finish` write
+    /// bytes as for a raw writer.
     ///
-    /// It is `Refused` if the protocol isn't ASCII, in its turn or before it; then the request is dropped. Under
-    /// `Standard` it is also `Refused` if the request doesn't ask for this protocol or is its connection's last, if the
-    /// status code isn't 101, and if the body wasn't read until its end was reported, or was cut or is broken. An empty
-    /// body, or one of up to 1024 bytes that came with its head, needn't be read, and one with a content length only to
-    /// its last byte. `NotYet` and `NoSuch` are as for `respond`.
+    /// Returns `Refused` if the protocol isn't ASCII, in the number's turn or before it; then the request is dropped.
+    /// Under `Standard` it is also `Refused` if the request doesn't ask for this protocol or is its connection's last,
+    /// if the status code isn't 101, and if the body wasn't read until its end was reported, or was cut or is broken.
+    /// An empty body, or one of up to 1024 bytes that came with its head, needn't be read, and one with a content
+    /// length only to its last byte. Returns `NotYet` and `NoSuch` as `respond` does.
     #[inline(never)]
     pub fn upgrade<D: ReadDevice + Drop>(
         &mut self,
@@ -561,9 +566,10 @@ impl<R: ReadDevice, W: WriteDevice> Connection<R, W> {
         Reply::Done
     }
 
-    /// Ends the raw writer of this number, or the stream of its upgrade, and gives up the body: `Done`, in its turn or
-    /// before it, or `NoSuch` for a number without a raw writer or stream. In its turn it sends what was written, and
-    /// the texts that wait directly after it. It takes no memory, and no reply reports a fault of the writer.
+    /// Ends the raw writer of this number, or the stream of its upgrade, gives up the body, and returns `Done`, in the
+    /// number's turn or before it. Returns `NoSuch` if the number has no raw writer or stream. In its turn it sends
+    /// what was written, and the texts that wait directly after it. The call takes no memory, and no reply reports a
+    /// fault of the writer.
     #[inline(never)]
     pub fn finish(&mut self, alloc: Global, number: u64) -> Reply
         ensures step { (date : Date) → TakesStep self.old self.new date (Step.Finish number) (seen result) }
@@ -577,11 +583,12 @@ impl<R: ReadDevice, W: WriteDevice> Connection<R, W> {
         Reply::Done
     }
 
-    /// Makes the call that a step names, on its date.
+    /// Makes the call that a step names, on the step's date.
     // The calls aren't inlined here: each step would zero the stack space of all of them.
     pub fn step<D: ReadDevice + Drop>(&mut self, alloc: Global, timed: Timed<D>) -> Reply
         ensures step { TakesStep self.old self.new timed.now (stated_step D.feed timed.step) (seen result) }
-        // The number of ends and faults of the client's reader that a Read meets. The other steps are unrestricted.
+        // Bounds the number of ends and faults of the client's reader that a Read meets. The other steps are
+        // unrestricted.
         ensures meets { StepMeets R.stop_count (stated_step D.feed timed.step) self.old self.new (seen result) }
     {
         let Timed { now, step } = timed;
@@ -601,7 +608,7 @@ impl<R: ReadDevice, W: WriteDevice> Connection<R, W> {
         }
     }
 
-    /// Returns the reader and the writer with their buffers, and ends the connection. Requests that await their
+    /// Ends the connection, and returns the reader and the writer with their buffers. Requests that await their
     /// responses are dropped without one.
     pub fn into_parts(self) -> (Source<R>, Outlet<W>)
         ensures conversation { (p : Profile) (client : Feed) (before : Sink) (steps : List TimedValue)

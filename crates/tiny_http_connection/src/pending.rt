@@ -1,4 +1,4 @@
-//! Requests that aren't finished, and texts that wait for their turn.
+//! What is kept of the requests that aren't finished, and the texts that wait for their turn.
 ghost use Rattle.std.specs.Prelude.{◌≡◌, ◌↔◌, ◌≤◌, ◌<◌, ◌^◌, ◌+◌, ◌++◌, ◌∷◌, true, false, List, [], length, Some};
 ghost use Rattle.std.specs.Prelude.{None, IfOk, IfSome, IfNone, is_some, OnOk, OnErr, IsTrue, ◌==◌, slice_get};
 ghost use Rattle.std.specs.Prelude.{slice_set};
@@ -45,11 +45,11 @@ pub enum Unfinished {
     Waiting(OpenRequest<UnreadBody>),
     /// Its raw writer is in use. Its body was given up.
     Raw,
-    /// It was upgraded. Its stream reads this body.
+    /// It was upgraded. Its stream reads from this body.
     Upgraded(UnreadBody),
 }
 
-/// The numbers of a connection: their turns, and what is kept of each that isn't finished.
+/// The numbers of a connection: their turns, and what is kept of those that aren't finished.
 #[derive(Drop)]
 pub(crate) struct Pending {
     pub turns: Turns<()>,
@@ -68,7 +68,7 @@ impl Pending {
         }
     }
 
-    /// Issues the next number, and keeps `request` under it. An error changes nothing.
+    /// Issues the next number, and keeps `request` under it. On an error nothing has changed.
     #[inline(always)]
     pub fn issue(&mut self, request: Option<Unfinished>) -> Result<u64, TurnsError>
         ensures number { IfOk result (λ n. n ≡ length self.old.turns.marks) }
@@ -138,7 +138,7 @@ impl Pending {
         }
     }
 
-    /// Returns whether this number awaits its response, and one with this status code is refused.
+    /// Returns whether this number awaits its response, and a response with this status code is refused.
     pub fn refuses(&self, number: u64, status: StatusCode) -> bool
         ensures { result ≡ refuses_at status.0 (slice_get self.now.requests number) }
     {
@@ -161,8 +161,8 @@ impl Pending {
         }
     }
 
-    /// Returns whether this number awaits its response, and no head is read after it once it gets the connection's
-    /// stream: it holds the next head, or would be the last if it were answered now.
+    /// Returns whether this number awaits its response, and no head is read after it once it takes over the
+    /// connection's stream: it holds the next head, or would be the last if it were answered now.
     pub fn is_last_with_stream(&self, number: u64) -> bool
         ensures { result ≡ is_last_with_stream_at (slice_get self.now.requests number) }
     {
@@ -184,8 +184,8 @@ impl Pending {
         }
     }
 
-    /// Has the response to the last number say, under `Standard`, that the connection closes after it. Does nothing
-    /// unless `closes` holds and the number awaits its response.
+    /// If `closes` holds, makes the response to the last number say, under `Standard`, that the connection closes after
+    /// it. Does nothing if that number doesn't await its response.
     pub fn close_last(&mut self, closes: bool)
         ensures turns { self.new.turns ≡ self.old.turns }
         ensures requests { self.new.requests ≡ closing_if_asked closes self.old.requests }
@@ -212,7 +212,8 @@ impl Pending {
         number == self.turns.first_unfinished()
     }
 
-    /// Sends the 100 that is owed to this number, if it awaits its response. Then none is owed.
+    /// Sends the 100 that is owed to the request of this number, if the number awaits its response. After that none is
+    /// owed.
     pub fn send_continue<W: WriteDevice>(
         &mut self,
         alloc: Global,
@@ -238,8 +239,8 @@ impl Pending {
         }
     }
 
-    /// Upgrades the connection to this protocol, if this number awaits its response. Its stream reads its body, or
-    /// under `Standard` all bytes that follow.
+    /// Upgrades the connection to this protocol, if this number awaits its response. The stream of the upgrade reads
+    /// the request's body, or under `Standard` all bytes that follow.
     pub fn upgrade<W: WriteDevice, D: Drop>(
         &mut self,
         alloc: Global,
@@ -253,7 +254,7 @@ impl Pending {
         ensures requests { (w : OpenRequest UnreadBody) → WaitsAt self.old.requests number w
             → self.new.requests ≡ slice_set self.old.requests number
             (Some (Unfinished.Upgraded (stream_body w.by_standard w.body))) }
-        // For whatever the data are.
+        // Holds whatever the data are.
         ensures sends { (w : OpenRequest UnreadBody) → WaitsAt self.old.requests number w
             → ((content : Feed) → SendsQuietlyOn outlet.old outlet.new
             (upgrade_text (record { answer = response.answer; content = content }) protocol.now
@@ -273,7 +274,7 @@ impl Pending {
         }
     }
 
-    /// Fills a buffer from the body of this number, if one is kept.
+    /// Fills a buffer from the body of this number, and returns the number of bytes. It is 0 if no body is kept.
     pub fn fill<R: ReadDevice>(
         &mut self,
         source: &mut Source<R>,
@@ -306,7 +307,7 @@ impl Pending {
         filled
     }
 
-    /// Takes the request of this number, if it awaits its response, and keeps `then` in its place.
+    /// Removes and returns the request of this number, if it awaits its response, and keeps `then` in its place.
     #[inline(always)]
     pub fn take(&mut self, number: u64, then: Option<Unfinished>) -> Option<OpenRequest<UnreadBody>>
         ensures some { IfSome result (λ w. (WaitsAt self.old.requests number w)
@@ -324,7 +325,7 @@ impl Pending {
         }
     }
 
-    /// Takes what is kept of this number, if bytes can be written under it.
+    /// Removes and returns what is kept of this number, if bytes can be written under it.
     pub fn close(&mut self, number: u64) -> Option<Unfinished>
         ensures some { IfSome result (λ u. (slice_get self.old.requests number ≡ Some (Some u))
             × (is_writable (Some (Some u)) ≡ true)
@@ -340,7 +341,7 @@ impl Pending {
         }
     }
 
-    /// Holds this number, if its turn has come.
+    /// Holds this number if it is open and its turn has come, and returns whether it did.
     pub fn hold(&mut self, number: u64) -> bool
         ensures held { IsTrue result ↔ ((slice_get self.old.turns.marks number ≡ Some Open)
             × (number ≡ first_unfinished self.old.turns.marks)) }
@@ -351,8 +352,8 @@ impl Pending {
         self.turns.take(number).is_some()
     }
 
-    /// Finishes a number that is held, and those directly after it that were left, whose texts it sends. No reply
-    /// reports a fault that is met there.
+    /// Finishes a held number, and those directly after it that were left, and sends their texts. No reply reports a
+    /// fault of the writer in these texts.
     pub fn pass<W: WriteDevice>(&mut self, outlet: &mut Outlet<W>, number: u64)
         ensures passes { (front rest : List Mark)
             → self.old.turns.marks ≡ front ++ (Held ∷ rest)
@@ -376,7 +377,7 @@ impl Pending {
         }
     }
 
-    /// Leaves an open number with a text. In its turn the text is sent and the number finished, as by `pass`.
+    /// Leaves an open number with a text. In its turn the text is sent and the number finished, as `pass` does.
     pub fn leave<W: WriteDevice>(&mut self, outlet: &mut Outlet<W>, number: u64, text: Vec<u8>)
         ensures leaves { (front rest : List Mark)
             → self.old.turns.marks ≡ front ++ (Open ∷ rest)
@@ -386,7 +387,7 @@ impl Pending {
             (outlet_ended outlet.old) (output_of outlet.old) (output_of outlet.new) (outlet_ended outlet.new) }
         ensures counts { length self.new.turns.marks ≡ length self.old.turns.marks }
         ensures requests { self.new.requests ≡ self.old.requests }
-        // For whatever the writer states.
+        // Holds whatever the writer states.
         ensures sends { slice_get self.old.turns.marks number ≡ Some Open
             → (number == first_unfinished self.old.turns.marks) ≡ true
             → (outlet_held outlet.new ≡ []) × SentOn outlet.new }
@@ -416,7 +417,7 @@ impl<W: WriteDevice> RefusalPlace<Outlet<W>> for Pending {
     }
 }
 
-// Fills a buffer from the body of a request, if one is kept.
+// Fills a buffer from the body of a request, and returns the number of bytes. It is 0 if no body is kept.
 fn fill_from<R: ReadDevice>(
     unfinished: &mut Unfinished,
     source: &mut Source<R>,
@@ -478,7 +479,7 @@ impl<W: WriteDevice> HeldTurn<Turns<()>, Outlet<W>> for HeldNumber {
     }
 }
 
-// Writes the text of a number that is held and finishes it, and likewise those directly after it that were left.
+// Writes the text of a held number and finishes it, and does the same for those directly after it that were left.
 fn write_texts<W: WriteDevice>(
     turns: &mut Turns<()>,
     outlet: &mut Outlet<W>,
@@ -495,7 +496,7 @@ fn write_texts<W: WriteDevice>(
     pass_on(&mut HeldNumber(number), turns, outlet, text);
 }
 
-// Writes these texts as `write_texts` does, and flushes.
+// Writes texts as `write_texts` does, and flushes.
 fn write_left<W: WriteDevice>(
     turns: &mut Turns<()>,
     outlet: &mut Outlet<W>,

@@ -1,4 +1,4 @@
-//! Drives a connection by a list of steps.
+//! Takes a connection through a list of steps.
 ghost use Rattle.std.specs.Prelude.{◌≡◌, ◌<◌, ◌≤◌, [], length, IfOk, IfErr, OnErr, vec_len, vec_capacity};
 ghost use Rattle.tiny_http_connection.specs.Runs.{IsConversationOf, RunsSteps};
 
@@ -12,16 +12,16 @@ use tiny_http_io::source::Source;
 /// The result of a run: one reply per step, and the reader and writer with their buffers.
 #[derive(Drop)]
 pub struct Record<R: ReadDevice, W: WriteDevice> {
-    /// The reply of each step.
+    /// The reply to each step.
     pub replies: Vec<Reply>,
     /// The reader, with the bytes that are held. While requests may follow, its position is after the last head that
     /// was read, and after what was read of that request's body.
     pub source: Source<R>,
-    /// The writer, with what is held. The output is what it took, then what is held.
+    /// The writer, with the bytes that are held. The output is what the writer took, then what is held.
     pub outlet: Outlet<W>,
 }
 
-/// Memory for the replies was refused: nothing was read or written. Without a step this error doesn't occur.
+/// Memory for the replies was refused: nothing was read or written. A run of no steps doesn't fail.
 #[derive(Drop)]
 pub struct RunError<R, W> {
     /// The reader, unchanged.
@@ -43,10 +43,12 @@ fn room_for(alloc: Global, count: usize) -> Result<Vec<Reply>, AllocError>
     Vec::with_capacity(alloc, count)
 }
 
-/// Runs the steps over a connection under `Lenient`, with one reply per step. If reader, writer and data state their
-/// bytes, it hands out exactly the requests that the grammar finds in the client's bytes. Each body gives its own
-/// bytes, and reports its end only after them. The output is one segment for each request or refused head, in order,
-/// whole up to the first fault.
+/// Takes a connection under `Lenient` through the steps, with one reply per step. If the reader, the writer and the
+/// data state their bytes, it hands out exactly the requests that the grammar finds in the client's bytes. The reads of
+/// each body give that body's bytes, and report its end only after them. The output is one segment for each request or
+/// refused head, in order, whole up to the first fault.
+///
+/// Fails if memory for the replies is refused.
 pub fn run<R: ReadDevice + Drop, W: WriteDevice + Drop, D: ReadDevice + Drop>(
     alloc: Global,
     reader: R,
@@ -56,7 +58,7 @@ pub fn run<R: ReadDevice + Drop, W: WriteDevice + Drop, D: ReadDevice + Drop>(
     // The connection theorem.
     ensures conversation { IfOk result
         (IsConversationOf R.feed W.sink D.feed Profile.Lenient reader writer steps.items) }
-    // For whatever reader, writer and data state.
+    // Holds whatever the reader, the writer and the data state.
     ensures run { IfOk result (RunsSteps R.feed R.stop_count W.sink D.feed Profile.Lenient reader writer steps.items) }
     ensures err { IfErr result (λ e. (e.reader ≡ reader) × (e.writer ≡ writer)) }
     ensures asked { OnErr result (0 < length steps.items) }
@@ -64,10 +66,12 @@ pub fn run<R: ReadDevice + Drop, W: WriteDevice + Drop, D: ReadDevice + Drop>(
     run_with(alloc, Profile::Lenient, reader, writer, steps)
 }
 
-/// Runs the steps over a connection under this profile, with one reply per step. If reader, writer and data state their
-/// bytes, it hands out exactly the requests that the grammar finds in the client's bytes. Each body gives its own
-/// bytes, and reports its end only after them. The output is one segment for each request or refused head, in order,
-/// whole up to the first fault.
+/// Takes a connection under this profile through the steps, with one reply per step. If the reader, the writer and the
+/// data state their bytes, it hands out exactly the requests that the grammar finds in the client's bytes. The reads of
+/// each body give that body's bytes, and report its end only after them. The output is one segment for each request or
+/// refused head, in order, whole up to the first fault.
+///
+/// Fails if memory for the replies is refused.
 pub fn run_with<R: ReadDevice + Drop, W: WriteDevice + Drop, D: ReadDevice + Drop>(
     alloc: Global,
     profile: Profile,
@@ -77,7 +81,7 @@ pub fn run_with<R: ReadDevice + Drop, W: WriteDevice + Drop, D: ReadDevice + Dro
 ) -> Result<Record<R, W>, RunError<R, W>>
     // The connection theorem.
     ensures conversation { IfOk result (IsConversationOf R.feed W.sink D.feed profile reader writer steps.items) }
-    // For whatever reader, writer and data state.
+    // Holds whatever the reader, the writer and the data state.
     ensures run { IfOk result (RunsSteps R.feed R.stop_count W.sink D.feed profile reader writer steps.items) }
     ensures err { IfErr result (λ e. (e.reader ≡ reader) × (e.writer ≡ writer)) }
     ensures asked { OnErr result (0 < length steps.items) }

@@ -15,29 +15,30 @@ use Rattle.tiny_http_connection_laws.specs.InShort.{maker}
 
 -- ---- what was done for a number
 
--- it awaits its response; or bytes are written under it, by its raw writer or to its stream; or it is finished
+-- The condition of a number. `Waits`: it awaits its response. `Writes`: bytes are written under it, by its raw writer
+-- or to its stream. `Finished`: it is finished.
 pub data Condition : Type 0 where
   Waits : Condition
   Writes : Condition
   Finished : Condition
 
--- the condition of a number; the step that answered it by a response, if one did; the bytes that were written under it;
--- and when its 100 was first asked for
+-- What was done for a number: its condition; the step that answered it with a response, if one did; the bytes that were
+-- written under it; and the date on which its 100 was first asked for, if it was.
 pub record Account : Type 0 where
   pub condition : Condition
   pub by : Option TimedValue
   pub written : List ℕ
   pub asked : Option HttpDate
 
--- nothing was done for the number
+-- the account of a number for which nothing was done
 abbrev pub untouched : Account
 untouched = record { condition = Waits; by = None; written = []; asked = None }
 
--- the account with this condition, if that holds
+-- the account, with this condition if `holds` is true
 abbrev pub becomes : Condition → Bool → Account → Account
 becomes condition holds a = if holds then record a { condition = condition } else a
 
--- the account answered by this step, if that holds
+-- the account, answered by this step if `holds` is true
 abbrev pub answered_by : TimedValue → Bool → Account → Account
 answered_by step holds a = if holds then record a { by = Some step } else a
 
@@ -61,7 +62,7 @@ account_after date (Upgrade k protocol response) reply a =
 account_after date (Finish k) reply a = becomes Finished (is_done reply) a
 account_after date (Drop k) reply a = becomes Finished (is_done reply) a
 
--- the account of number k after a step, which may be for another
+-- the account of number k after a step, which may be for another number
 abbrev pub account_now : ℕ → HttpDate → StepValue → ReplyValue → Account → Account
 account_now k date step reply a = if number_of step == k then account_after date step reply a else a
 
@@ -87,9 +88,9 @@ written_in (Raw written closed) = written
 written_in (Upgraded protocol response date written closed) = written
 written_in _ = []
 
--- NUMBER k IS AS ITS ACCOUNT SAYS. Its response is that of the step which answered it, else the server's or none. Its
--- 100 has the date on which it was first asked for, if its head expects one. Nothing is done for a refused head, which
--- the server answers.
+-- NUMBER k IS AS ITS ACCOUNT SAYS. Its response is that of the step which answered it, or else the server's or none.
+-- Its 100 has the date on which it was first asked for, if its head expects one. Nothing is done for a refused head,
+-- which the server answers.
 abbrev pub MatchesAccount : ℕ → Slot → Item → Account → Type 0
 MatchesAccount k s (Asks r) a =
     (condition_of s.stage ≡ a.condition)
@@ -100,17 +101,17 @@ MatchesAccount k s (Refuses refusal manner no_body last) a = (s.stage ≡ ByServ
 
 -- ---- turns
 
--- it is finished, or a refused head
+-- whether a number with this item and this account is finished, or is that of a refused head
 abbrev pub IsThrough : Option Item → Account → Type 0
 IsThrough (Some (Refuses refusal manner no_body last)) a = ⊤
 IsThrough item a = a.condition ≡ Finished
 
--- a request was handed out under this number
+-- whether a request was handed out under this number
 abbrev pub IsHanded : ℕ → List (ℕ × Message × Framing) → Type 0
 IsHanded k [] = ⊥
 IsHanded k (h ∷ handed) = (h.0 ≡ k) ⊎ IsHanded k handed
 
--- a number in this condition takes the step
+-- whether a number in this condition accepts the step
 abbrev pub takes : Condition → StepValue → Bool
 takes Waits (AsReader k) = true
 takes Waits (Read k n) = true
@@ -124,14 +125,14 @@ takes Writes (Flush k) = true
 takes Writes (Finish k) = true
 takes _ _ = false
 
--- the step may be done before the turn of its number
+-- whether the step may be done before the turn of its number
 abbrev pub is_done_early : StepValue → Bool
 is_done_early (IntoWriter k) = true
 is_done_early (Drop k) = true
 is_done_early (Finish k) = true
 is_done_early _ = false
 
--- the step is done only in the turn of its number
+-- whether the step is done only in the turn of its number
 abbrev pub waits_its_turn : StepValue → Bool
 waits_its_turn (Respond k response) = true
 waits_its_turn (Write k bytes) = true
@@ -139,7 +140,8 @@ waits_its_turn (Flush k) = true
 waits_its_turn (Upgrade k protocol response) = true
 waits_its_turn _ = false
 
--- a step that was taken is done or refused; a read is unrestricted, since it waits for its 100 and may be out of memory
+-- whether a step that its number accepts was done or refused; a read is unrestricted, since it waits for its 100 and
+-- may be out of memory
 abbrev pub IsTaken : StepValue → ReplyValue → Type 0
 IsTaken (Read k n) reply = ⊤
 IsTaken step reply = (is_done reply || is_refused reply) ≡ true
@@ -154,7 +156,7 @@ is_read _ = false
 
 -- ---- why the requests end
 
--- an Ask reports that no further request comes
+-- whether the step is an Ask that reports that no further request comes
 abbrev pub IsEnd : StepValue → ReplyValue → Type 0
 IsEnd Ask Ended = ⊤
 IsEnd _ _ = ⊥
@@ -163,7 +165,8 @@ abbrev pub HasEnd : List TimedValue → List ReplyValue → Type 0
 HasEnd (s ∷ steps) (reply ∷ replies) = IsEnd s.1 reply ⊎ HasEnd steps replies
 HasEnd _ _ = ⊥
 
--- the step ends the requests: an Ask that is out of memory, or a Respond that is done and asks to close the connection
+-- whether the step ends the requests: an Ask that is out of memory, or a Respond that is done and asks to close the
+-- connection
 abbrev pub EndsRequests : StepValue → ReplyValue → Type 0
 EndsRequests Ask reply = reply ≡ Memory
 EndsRequests (Respond k response) reply = (is_done reply ≡ true) × (response.answer.closes ≡ true)
@@ -173,16 +176,16 @@ abbrev pub OneEndsRequests : List TimedValue → List ReplyValue → Type 0
 OneEndsRequests (s ∷ steps) (reply ∷ replies) = EndsRequests s.1 reply ⊎ OneEndsRequests steps replies
 OneEndsRequests _ _ = ⊥
 
--- Under Standard the request was finished, or gave its raw writer, while its 100 wasn't sent, or more of its body was
--- left than is skipped. Or its chunked body was given up before its end was reported.
+-- Whether a request was cut short: under Standard, its 100 was not sent, or more of its body was left than is skipped,
+-- when it was finished or gave its raw writer; or its chunked body was given up before its end was reported.
 abbrev pub was_cut_short : Slot → Request → Bool
 was_cut_short s r =
     body_was_abandoned s (Asks r)
     || (r.framing.by_standard
     && ((r.framing.owes_continue && not (is_some s.continued)) || is_long (remainder_of r s.given s.end_reported)))
 
--- no head is read after this number, whatever its own head says: it was cut short; or it asks for an upgrade, and got
--- the connection's stream
+-- whether no head is read after a number in this stage, whatever its own head says: its request was cut short, or asked
+-- for an upgrade and took over the connection's stream
 abbrev pub stops_by : Slot → Request → Stage → Bool
 stops_by s r Unanswered = false
 stops_by s r (Answered response date found) = was_cut_short s r
@@ -195,6 +198,6 @@ abbrev pub stops : Slot → Item → Bool
 stops s (Asks r) = stops_by s r s.stage
 stops s (Refuses refusal manner no_body last) = false
 
--- a number stops the requests
+-- whether one of these numbers stops the requests
 abbrev pub OneStops : List Slot → Type 0
 OneStops slots = (k : ℕ) × (s : Slot) × (slice_get slots k ≡ Some s) × (stops s s.item ≡ true)

@@ -23,8 +23,8 @@ use Rattle.tiny_http_client.specs.ClientAnswer.{ClientAnswer, ReadsAnswers}
 use Rattle.tiny_http_client.specs.ClientText.{stated_length, received_answer}
 use Rattle.tiny_http_client.specs.SentTexts.{SentText, methods, AreIn}
 
--- The method by which a client reads a number's text: that of the request. A refused head counts as a GET, the 505 to a
--- HEAD as a HEAD.
+-- The method by which a client reads a number's text: that of the request; for a refused head GET, and for the 505 to a
+-- HEAD, HEAD.
 abbrev pub counts_as : Item → Method
 counts_as (Asks r) = r.message.method
 counts_as (Refuses refusal manner no_body last) = if no_body then Head else Get
@@ -38,15 +38,15 @@ abbrev pub offer_headers : Option (List ℕ) → List Header
 offer_headers None = []
 offer_headers (Some protocols) = upgrade_header protocols ∷ []
 
--- The headers of a response that are printed: its own; or, under Standard, the protocols that it offers, and its own as
--- safe ones.
+-- The headers of a response that are printed: its own headers; or, under Standard, a header with the protocols that it
+-- offers, and its own headers made safe.
 abbrev pub headers_printed : Bool → Answer → List Header
 headers_printed false a = a.headers
 headers_printed true a = offer_headers (option_map safe_value a.offered) ++ safe_headers a.headers
 
 -- A response that a client can read, under Standard or not: its status is 200 or more, and its headers are readable as
--- they are printed. The other facts hold for each response of the program whose data are fewer than 2^63 bytes: status
--- and length fit their types, and its list has no Transfer-Encoding and no Content-Length.
+-- they are printed. The other facts hold for each response of the program whose data are fewer than 2^63 bytes: its
+-- status and its length fit their types, and its header list has no Transfer-Encoding and no Content-Length.
 pub record CanBeRead (by_standard : Bool) (r : ResponseValue) : Type 0 where
   pub final : 200 ≤ r.answer.status
   pub readable : AllByRecursion IsReadable (headers_printed by_standard r.answer)
@@ -55,8 +55,8 @@ pub record CanBeRead (by_standard : Bool) (r : ResponseValue) : Type 0 where
   pub no_coding : has_header r.answer.headers (codes "Transfer-Encoding") ≡ false
   pub no_length : has_header r.answer.headers (codes "Content-Length") ≡ false
 
--- A step that leaves an output that can be read: it takes no raw writer, and an upgrade is refused, since its protocol
--- isn't ASCII. The response of a Respond can be read, even if the reply is NotYet or NoSuch.
+-- Whether a step leaves an output that can be read: it takes no raw writer, an upgrade is refused, since its protocol
+-- isn't ASCII, and the response of a Respond can be read, even if the reply is NotYet or NoSuch.
 abbrev pub IsReadableStep : Bool → StepValue → Type 0
 IsReadableStep by_standard (Respond k response) = CanBeRead by_standard response
 IsReadableStep by_standard (IntoWriter k) = ⊥
@@ -66,8 +66,8 @@ IsReadableStep by_standard _ = ⊤
 abbrev pub AreReadable : Profile → List TimedValue → Type 0
 AreReadable p steps = AllByRecursion (λ t. IsReadableStep (goes_by_standard p) t.1) steps
 
--- The number was finished by a response that can be read, or by the server: a refused head, a drop, a refused upgrade.
--- Or it isn't answered yet.
+-- Whether a number in this stage leaves an output that can be read: it was answered with a response that can be read,
+-- or by the server (a refused head, a drop, a refused upgrade), or isn't answered yet.
 abbrev pub IsReadableStage : Bool → Stage → Type 0
 IsReadableStage by_standard Unanswered = ⊤
 IsReadableStage by_standard (Answered response date found) = CanBeRead by_standard response
@@ -78,12 +78,12 @@ IsReadableStage by_standard (Upgraded protocol response date written closed) = �
 abbrev pub CanBeReadAt : Profile → Slot → Type 0
 CanBeReadAt p s = IsReadableStage (goes_by_standard p) s.stage
 
--- what a client reads of a response, if its text is whole
+-- what a client reads of a response, or `None` if its text breaks off
 abbrev pub answer_if_whole : Ending → ResponseValue → Printing → Option ClientAnswer
 answer_if_whole Whole r p = Some (received_answer r.answer r.content p)
 answer_if_whole (Broken kind) r p = None
 
--- what a client reads of the response that answers a number
+-- what a client reads of the response that answers this slot's number, in this stage; `None` without a whole response
 abbrev pub stage_answer : Slot → Stage → Option ClientAnswer
 stage_answer s Unanswered = None
 stage_answer s (Answered response date found) =
@@ -94,14 +94,14 @@ stage_answer s ByServer =
 stage_answer s (Raw written closed) = None
 stage_answer s (Upgraded protocol response date written closed) = None
 
--- a number's text, with what a client is to read of it
+-- the text of a number, with what a client is to read of it
 abbrev pub sent_text : Slot → SentText
 sent_text s = record { method = counts_as s.item; text = segment s; answer = stage_answer s s.stage }
 
 abbrev pub sent_texts : List Slot → List SentText
 sent_texts slots = map sent_text slots
 
--- what a writer took, then what is held
+-- whether `out` is what a writer took, then what is held
 abbrev pub IsOutputOf : Sink → List ℕ → List ℕ → Type 0
 IsOutputOf sink held out = (taken : List ℕ) × (sink.taken ≡ Some taken) × (out ≡ taken ++ held)
 
@@ -113,6 +113,6 @@ pub record ReadsNumbers (slots : List Slot) (out : List ℕ) : Type 0 where
   pub reads : ReadsAnswers (methods (sent_texts slots)) out answers rest
   pub stand : AreIn (sent_texts slots) out answers rest
 
--- each of these numbers has this response
+-- whether these are the responses of these numbers, one for each
 abbrev pub HaveAnswers : List Slot → List ClientAnswer → Type 0
 HaveAnswers slots answers = map (λ s. stage_answer s s.stage) slots ≡ map (λ a. Some a) answers

@@ -1,4 +1,4 @@
--- What a response says of its connection, and that it is true.
+-- What a response says of its connection, and that this is true.
 use Rattle.std.specs.Prelude.{◌≡◌, Bool, false, ◌&&◌, List, [], ◌∷◌, ⊤, Some, codes}
 use Rattle.tiny_http_open_request.specs.Pipeline.{Item, Asks, Refuses}
 use Rattle.tiny_http_response.specs.Answer.{has_header}
@@ -8,8 +8,8 @@ use Rattle.tiny_http_body.specs.declared.framing.Profile.TheVariants.{Standard}
 use Rattle.tiny_http_connection_laws.specs.ClientReads.{CanBeReadAt, stage_answer}
 use Rattle.tiny_http_connection.specs.Segments.{Slot, Stage, Unanswered, Answered, ByServer, Raw, Upgraded}
 
--- `printing_for` prints a close: under Standard in an error response to a refused head, and in another response if that
--- was decided
+-- whether `printing_for` prints a close: under Standard in an error response to a refused head, and in another response
+-- if that was decided
 abbrev pub is_close_printed : Bool → Item → Bool
 is_close_printed closes (Asks r) = r.framing.by_standard && closes
 is_close_printed closes (Refuses refusal manner no_body last) = manner.by_standard
@@ -21,7 +21,7 @@ says_close_by closes item ByServer = is_close_printed closes item
 says_close_by closes item (Raw written ends) = false
 says_close_by closes item (Upgraded protocol response date written ends) = false
 
--- the number's response is made, and says that the connection closes
+-- whether the response of this slot's number is made, and says that the connection closes
 abbrev pub says_close : Slot → Bool
 says_close s = says_close_by s.closes s.item s.stage
 
@@ -31,17 +31,17 @@ NoneFollowsClose [] = ⊤
 NoneFollowsClose (s ∷ []) = ⊤
 NoneFollowsClose (s ∷ t ∷ slots) = (says_close s ≡ false) × NoneFollowsClose (t ∷ slots)
 
--- what a client reads of the connection in a response: the element close in its Connection headers
+-- whether a client reads in a response that the connection closes: its Connection headers have the element close
 abbrev pub reads_close : ClientAnswer → Bool
 reads_close a = has_element (codes "Connection") (codes "close") a.head.headers
 
--- the response that answers a number has no Connection header of its own, which holds for each response of the program
+-- whether the response that answers a number has no Connection header of its own, as holds for each response of the
+-- program
 abbrev pub OwnsNoConnection : Stage → Type 0
 OwnsNoConnection (Answered response date found) = has_header response.answer.headers (codes "Connection") ≡ false
 OwnsNoConnection _ = ⊤
 
--- A CLIENT READS in the number's response that the connection closes exactly if it says so, if the response can be
--- read.
+-- A CLIENT READS in a number's response that the connection closes exactly if the response says so, if it can be read.
 abbrev pub IsReadAsSaid : Slot → Type 0
 IsReadAsSaid s =
     CanBeReadAt Standard s

@@ -22,7 +22,7 @@ handed [] = []
 handed (Handed k message framing ∷ replies) = (k, message, framing) ∷ handed replies
 handed (_ ∷ replies) = handed replies
 
--- the requests of a pipeline, each with its place, counted from k; a refused head has a place, too
+-- the requests of a pipeline, each with its position, counted from k; a refused head has a position, too
 abbrev pub requests_from : ℕ → List Item → List (ℕ × Message × Framing)
 requests_from k [] = []
 requests_from k (Asks r ∷ items) = (k, r.message, r.framing) ∷ requests_from (k + 1) items
@@ -30,15 +30,15 @@ requests_from k (Refuses refusal manner no_body last ∷ items) = requests_from 
 
 -- ---- what a body gives
 
--- What is left of the body of request k, after a step with this reply. An upgrade under Standard continues with the
--- bytes after the request.
+-- What is left of the body of request k, after a step with this reply. After an upgrade under Standard, it is the bytes
+-- after the request.
 abbrev pub LeavesBody : ℕ → Request → Feed → StepValue → ReplyValue → Feed → Type 0
 LeavesBody k r left (Read j n) reply next = MatchBool (j == k) (ReadsNext n left reply next) (next ≡ left)
 LeavesBody k r left (Upgrade j protocol response) Done next =
     next ≡ (if (j == k && r.framing.by_standard) then r.behind else left)
 LeavesBody k r left _ reply next = next ≡ left
 
--- THE READS OF A BODY: each step leaves what the next one begins with.
+-- THE READS OF A BODY: each step leaves of the body of request k what the next step begins with.
 abbrev pub ReadsInOrder : ℕ → Request → Feed → List TimedValue → List ReplyValue → Type 0
 ReadsInOrder k r left (s ∷ steps) (reply ∷ replies) =
     (next : Feed) × LeavesBody k r left s.1 reply next × ReadsInOrder k r next steps replies
@@ -46,7 +46,8 @@ ReadsInOrder k r left _ _ = ⊤
 
 -- ---- what is sent
 
--- the bytes that were made for one number, and whether they are all, so that those of the next number follow
+-- The bytes that were made for one number, and whether they are all of its bytes, so that those of the next number
+-- follow.
 pub record Segment : Type 0 where
   pub bytes : List ℕ
   pub is_whole : Bool
@@ -60,7 +61,8 @@ sent (s ∷ segments) = s.bytes ++ (if s.is_whole then sent segments else [])
 abbrev pub segment_of : Slot → Segment
 segment_of s = record { bytes = segment s; is_whole = is_finished s && not (is_slot_broken s) }
 
--- items with one head, read by the same rules: an upgrade changes only how the bytes after the head are read
+-- whether two items have the same head, read by the same rules: an upgrade changes only how the bytes after the head
+-- are read
 abbrev pub AreOfOneHead : Item → Item → Type 0
 AreOfOneHead (Asks q) (Asks r) =
     (q.message ≡ r.message)
@@ -69,13 +71,13 @@ AreOfOneHead (Asks q) (Asks r) =
     × (q.framing.asks_upgrade ≡ r.framing.asks_upgrade)
 AreOfOneHead item other = item ≡ other
 
--- the step that made the response of number k, with its date, if a step of the program made it
+-- the step that made the response of number k, with its date, or `None` if no step of the program made it
 abbrev pub maker : ℕ → Stage → Option TimedValue
 maker k (Answered response date found) = Some (date, Respond k response)
 maker k (Upgraded protocol response date written closed) = Some (date, Upgrade k protocol response)
 maker k _ = None
 
--- it is one of these steps
+-- whether this step is one of these
 abbrev pub IsAmong : TimedValue → List TimedValue → Type 0
 IsAmong t [] = ⊥
 IsAmong t (s ∷ steps) = (s ≡ t) ⊎ IsAmong t steps

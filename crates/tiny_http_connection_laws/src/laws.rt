@@ -30,8 +30,8 @@ use tiny_http_body::body::MOST_SKIPPED;
 use tiny_http_response::response::Response;
 
 /// THE REQUESTS ARE THE PIPELINE'S: those that were handed out are the first of the pipeline in the client's bytes
-/// (which is unique: `one_pipeline`), in its order, each numbered by its place there. None is skipped, added or
-/// changed.
+/// (which is unique: `one_pipeline`), in its order, each with its position there as its number. None is skipped, added
+/// or changed.
 pub fn requests_begin_the_pipeline()
     ensures first { (p : Profile) (feed : Feed) (before after : Sink) (steps : List TimedValue)
         (replies : List ReplyValue) (held : List ℕ) (ended : Bool) (unread : Option Feed)
@@ -40,10 +40,10 @@ pub fn requests_begin_the_pipeline()
         × (requests_from 0 c.items ≡ handed replies ++ later) }
 {}
 
-/// THE READS ARE THE BODY'S: the reads of each request give the next bytes of its own body, one after another. They
-/// report an end or a fault only after the last byte, and it is the one that the body has. (A body with a content
-/// length that the client's end cuts has an end under `Lenient` and `Strict`, a fault under `Standard`.) After an
-/// upgrade under `Standard` they give what follows the request.
+/// THE READS ARE THE BODY'S: the reads of each request give the next bytes of that request's body, one after another.
+/// They report an end or a fault only after the last byte, and it is the one that the body has. (If the client's end
+/// cuts a body with a content length, that body has an end under `Lenient` and `Strict`, and a fault under `Standard`.)
+/// After an upgrade under `Standard` the reads give what follows the request.
 pub fn reads_give_the_body()
     ensures next { (p : Profile) (feed : Feed) (before after : Sink) (steps : List TimedValue)
         (replies : List ReplyValue) (held : List ℕ) (ended : Bool) (unread : Option Feed)
@@ -54,8 +54,8 @@ pub fn reads_give_the_body()
 {}
 
 /// THE OUTPUT IS THE SEGMENTS: what was taken and is held is a prefix of the segments in the order of their numbers,
-/// each whole up to the first that isn't, after which nothing follows. It is all of that if the writer did not fail.
-/// Each number that was reached has one segment.
+/// each whole up to the first that isn't, after which nothing follows. It is all of these bytes if the writer did not
+/// fail. Each number that was reached has one segment.
 pub fn output_joins_the_segments()
     ensures front { (p : Profile) (feed : Feed) (before after : Sink) (steps : List TimedValue)
         (replies : List ReplyValue) (held out : List ℕ) (ended : Bool) (unread : Option Feed)
@@ -77,7 +77,7 @@ pub fn output_joins_the_segments()
         → (item : Item)
         × (slice_get c.items k ≡ Some item)
         × AreOfOneHead s.item item }
-    // A response that answers a number is that of a step for this number, on its date.
+    // A response that answers a number is that of a step for this number, on the date of the step.
     ensures made { (p : Profile) (feed : Feed) (before after : Sink) (steps : List TimedValue)
         (replies : List ReplyValue) (held : List ℕ) (ended : Bool) (unread : Option Feed)
         → (c : IsConversation p feed before steps replies after held ended unread)
@@ -87,9 +87,9 @@ pub fn output_joins_the_segments()
         → IsAmong t steps }
 {}
 
-/// EACH NUMBER IS AS ITS STEPS SAY, by their replies. Each request that was handed out has a number. It is finished if
-/// a step finished it, and has the response of the step that was done, or else the server's. Its raw writer or stream
-/// has the bytes of its writes, joined, and its 100 the date on which it was first asked for.
+/// EACH NUMBER IS AS ITS STEPS SAY, by their replies. Each request that was handed out has a number. The number is
+/// finished if a step finished it, and has the response of the step that was done, or else the server's. Its raw writer
+/// or stream has the bytes of its writes, joined, and its 100 has the date on which it was first asked for.
 pub fn numbers_match_their_accounts()
     ensures reached { (p : Profile) (feed : Feed) (before after : Sink) (steps : List TimedValue)
         (replies : List ReplyValue) (held : List ℕ) (ended : Bool) (unread : Option Feed)
@@ -105,10 +105,10 @@ pub fn numbers_match_their_accounts()
         → MatchesAccount k s s.item (account k steps replies) }
 {}
 
-/// STEPS ARE TAKEN IN TURN. A step other than a read, for a request that was handed out and takes it, is done or
-/// refused once the numbers before it are finished; it is not put off. A response, a write, a flush and an upgrade are
-/// done only then. The reply is `NoSuch` if no request that was handed out takes the step, and otherwise only to a
-/// read. An `Ask` is put off only while the last request that was handed out isn't finished.
+/// STEPS ARE TAKEN IN TURN. A step other than a read, for a request that was handed out and accepts the step, is done
+/// or refused once the numbers before it are finished; it is not put off. A response, a write, a flush and an upgrade
+/// are done only then. The reply is `NoSuch` if no request that was handed out accepts the step, and otherwise only to
+/// a read. An `Ask` is put off only while the last request that was handed out isn't finished.
 pub fn steps_are_taken_in_turn()
     ensures done { (p : Profile) (feed : Feed) (before after : Sink) (steps later : List TimedValue)
         (replies more : List ReplyValue) (held : List ℕ) (ended : Bool) (unread : Option Feed) (date : HttpDate)
@@ -186,16 +186,17 @@ pub fn the_end_has_a_reason()
 ///
 /// A header is readable if its name and its value are ASCII, its name has no white space and no colon, and its value is
 /// trimmed and has no CR LF. Under `Standard` this applies to headers as they are printed, and to the protocols that
-/// are offered: those whose name isn't a token are left out, and a space replaces each byte that is invalid in a value.
-/// So a value whose first or last byte is replaced isn't trimmed.
+/// are offered: headers whose name isn't a token are left out, and a space replaces each byte that is invalid in a
+/// value. So a value whose first or last byte is replaced isn't trimmed.
 ///
-/// The client reads the response to a refused head as one to a GET, but the 505 to a HEAD as one to a HEAD. It reads
-/// the version, which under `Standard` is 1.1, the status, the headers as they are printed (with `Server`, `Date`,
-/// under `Standard` `Connection` and `Upgrade`, and the one that frames the body), and the body that is sent. It skips
-/// a 100 before the response. After the last response nothing remains, or an unfinished prefix of the next number's
-/// text.
+/// The client reads the response to a refused head as one to a GET, except that it reads the 505 to a HEAD as one to a
+/// HEAD. It reads the version, which under `Standard` is 1.1, the status, the headers as they are printed (with
+/// `Server`, `Date`, under `Standard` `Connection` and `Upgrade`, and the header that frames the body), and the body
+/// that is sent. It skips a 100 before the response. After the last response nothing remains, or an unfinished prefix
+/// of the next number's text.
 pub fn conversation_is_read()
-    // All that was sent and is held, however the writer failed: the responses of the first numbers, and what remains.
+    // All that was sent and is held, however the writer failed, is the responses of the first numbers, and what
+    // remains.
     ensures output { (p : Profile) (feed : Feed) (before after : Sink) (steps : List TimedValue)
         (replies : List ReplyValue) (held out : List ℕ) (ended : Bool) (unread : Option Feed)
         → (c : IsConversation p feed before steps replies after held ended unread)
@@ -212,7 +213,7 @@ pub fn conversation_is_read()
         → after.failures ≡ before.failures
         → (let texts = sent_texts c.end.reached.slots in
         ReadsAnswers (methods texts) out (whole_answers texts) (remains texts)) }
-    // If the output has not ended and each number is finished, each has its response, and nothing remains.
+    // If the output has not ended and each number is finished, each number has its response, and nothing remains.
     ensures complete { (p : Profile) (feed : Feed) (before after : Sink) (steps : List TimedValue)
         (replies : List ReplyValue) (held out : List ℕ) (unread : Option Feed)
         → (c : IsConversation p feed before steps replies after held false unread)
@@ -224,8 +225,8 @@ pub fn conversation_is_read()
         × ReadsAnswers (methods (sent_texts c.end.reached.slots)) out answers [] }
 {}
 
-/// The constant that the definitions of a request's end take from the code: how many bytes of a body with a content
-/// length are skipped.
+/// The constant that the definitions of a request's end take from the code: the maximum number of bytes that are
+/// skipped of a body with a content length.
 pub fn size_of_what_is_skipped()
     ensures { MOST_SKIPPED ≡ 65536 }
 {}
@@ -233,10 +234,10 @@ pub fn size_of_what_is_skipped()
 /// CLOSE IS THE LAST: under `Standard`, no number follows one whose response says `Connection: close`, in each
 /// conversation, whatever its steps (RFC 9112, section 9.6).
 ///
-/// A response says it if it is an error response to a refused head, or if that was decided when it was made: by the
-/// request's head, by a response that asked for it, by a 100 that is owed, or by what is left of the body. If the
-/// response can be read, a client reads it exactly if it is said: as an element of `Connection`, which no response has
-/// of its own. So the client knows from the response that none follows, and sends nothing more.
+/// A response says `close` if it is an error response to a refused head, or if that was decided when it was made: by
+/// the request's head, by a response that asked for it, by a 100 that is owed, or by what is left of the body. A client
+/// that can read the response reads `close` exactly if the response says it: as an element of `Connection`, which no
+/// response has of its own. So the client knows from the response that none follows, and sends nothing more.
 pub fn close_is_the_last()
     ensures none { (feed : Feed) (before after : Sink) (steps : List TimedValue) (replies : List ReplyValue)
         (held : List ℕ) (ended : Bool) (unread : Option Feed)
@@ -264,10 +265,11 @@ pub fn steps_can_be_read()
         → c.end.failure ≡ None }
 {}
 
-/// The client theorem with its premise on the numbers that were reached. It is stronger than `conversation_is_read`: a
-/// step with the reply `NotYet` or `NoSuch` is unrestricted.
+/// The client theorem with its premise on the numbers that were reached. It is stronger than `conversation_is_read`:
+/// steps with the reply `NotYet` or `NoSuch` are unrestricted.
 pub fn slots_are_read()
-    // All that was sent and is held, however the writer failed: the responses of the first numbers, and what remains.
+    // All that was sent and is held, however the writer failed, is the responses of the first numbers, and what
+    // remains.
     ensures output { (p : Profile) (feed : Feed) (before after : Sink) (steps : List TimedValue)
         (replies : List ReplyValue) (held out : List ℕ) (ended : Bool) (unread : Option Feed)
         → (c : IsConversation p feed before steps replies after held ended unread)
@@ -284,7 +286,7 @@ pub fn slots_are_read()
         → c.end.failure ≡ None
         → (let texts = sent_texts c.end.reached.slots in
         ReadsAnswers (methods texts) out (whole_answers texts) (remains texts)) }
-    // If the output has not ended and each number is finished, each has its response, and nothing remains.
+    // If the output has not ended and each number is finished, each number has its response, and nothing remains.
     ensures complete { (p : Profile) (feed : Feed) (before after : Sink) (steps : List TimedValue)
         (replies : List ReplyValue) (held out : List ℕ) (unread : Option Feed)
         → (c : IsConversation p feed before steps replies after held false unread)
@@ -297,8 +299,8 @@ pub fn slots_are_read()
 {}
 
 /// The client theorem's requirements on responses hold, under `Standard` or not, for each `Response` with a status of
-/// 200 or more, headers that are readable as they are printed, and data of fewer than 2^63 bytes. Its status and its
-/// length fit their types, and its list has no `Transfer-Encoding` and no `Content-Length`.
+/// 200 or more, headers that are readable as they are printed, and data of fewer than 2^63 bytes: its status and its
+/// length fit their types, and its header list has no `Transfer-Encoding` and no `Content-Length`.
 pub fn response_can_be_read<D>(response: &Response<D>)
     ensures { (by_standard : Bool) (content : Feed)
         → length content.bytes < 2 ^ 63

@@ -5,15 +5,15 @@ use Rattle.std.specs.List.{list_any}
 use Rattle.std.specs.Str.{bytes_eq}
 use Rattle.tiny_http_text.specs.Bytes.{parts}
 
--- the byte between the parts of a path
+-- the byte that separates the parts of a path
 abbrev pub slash : ℕ
 slash = 47
 
--- a byte that isn't allowed in a file name: a NUL ends it, and a backslash (92) separates parts on some systems
+-- whether a byte isn't allowed in a file name: a NUL ends it, and a backslash (92) separates parts on some systems
 abbrev pub is_unsafe_byte : ℕ → Bool
 is_unsafe_byte b = b == 0 || b == 92
 
--- the folder itself, its parent, or no file name
+-- a part that is the folder itself, its parent, or not a file name
 abbrev pub is_unsafe_part : List ℕ → Bool
 is_unsafe_part part = bytes_eq part (codes ".") || (bytes_eq part (codes "..") || list_any is_unsafe_byte part)
 
@@ -21,7 +21,7 @@ abbrev pub begins_with_slash : List ℕ → Bool
 begins_with_slash [] = false
 begins_with_slash (b ∷ bs) = b == slash
 
--- the folder and the path joined, unless the path may lead out
+-- the folder and the path joined, if the path begins with a slash and can't lead out of the folder
 abbrev pub below_folder : List ℕ → List ℕ → Option (List ℕ)
 below_folder folder path =
     if not (begins_with_slash path) || list_any is_unsafe_part (parts slash path) then None else Some (folder ++ path)

@@ -1,11 +1,12 @@
-//! Modification dates of files, and those that clients have (RFC 9110, sections 8.8.2 and 13.1.3).
+//! Modification dates of files, and the dates of clients' copies (RFC 9110, sections 8.8.2 and 13.1.3).
 ghost use Rattle.std.specs.Prelude.{◌≡◌};
 ghost use Rattle.std.specs.Option.{option_copied};
 ghost use Rattle.tiny_http_files.specs.Dates.{is_not_modified};
 
 use httpdate::HttpDate;
 
-/// Returns whether a client's copy is current: its `If-Modified-Since` (`since`) is a date, and the file is no later.
+/// Returns whether a client's copy is current: `since`, the value of `If-Modified-Since`, is a date, and the file was
+/// modified no later.
 ///
 /// The response is then a 304 without content (`Response::contentless`). A value that isn't a date is ignored (RFC
 /// 9110, section 13.1.3). The caller ignores the field if the request has `If-None-Match`, or a method other than `GET`

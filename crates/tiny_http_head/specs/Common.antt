@@ -16,44 +16,46 @@ use Rattle.tiny_http_head.specs.declared.common.Method.TheVariants.{Trace, Patch
 abbrev pub lowercase : List ℕ → List ℕ
 lowercase text = map to_ascii_lowercase text
 
--- the texts differ at most in the case of ASCII letters
+-- whether the texts differ at most in the case of ASCII letters
 abbrev pub same_name : List ℕ → List ℕ → Bool
 same_name a b = bytes_eq (lowercase a) (lowercase b)
 
--- the bytes are equal, or one ASCII letter in both cases
+-- whether the bytes are equal, or are one ASCII letter in both cases
 abbrev pub IsSameLetter : ℕ → ℕ → Type 0
 IsSameLetter a b = (a ≡ b) ⊎ ((65 ≤ a) × (a ≤ 90) × (b ≡ a + 32)) ⊎ ((65 ≤ b) × (b ≤ 90) × (a ≡ b + 32))
 
--- the texts are equally long, and each pair of bytes is equal except for case
+-- whether the texts are equally long, and each pair of bytes differs at most in case
 abbrev pub IsSameButForCase : List ℕ → List ℕ → Type 0
 IsSameButForCase [] [] = ⊤
 IsSameButForCase [] (b ∷ more) = ⊥
 IsSameButForCase (a ∷ rest) [] = ⊥
 IsSameButForCase (a ∷ rest) (b ∷ more) = IsSameLetter a b × IsSameButForCase rest more
 
--- whether a code is this number, and how the two compare
+-- whether a code is this number
 abbrev pub is_code : StatusCode → ℕ → Bool
 is_code code number = code.0 == number
 
+-- how a code compares with this number
 abbrev pub code_order : StatusCode → ℕ → Ordering
 code_order code number = nat_cmp code.0 number
 
--- whether a version has these numbers, and how it compares with them
+-- whether a version has these numbers
 abbrev pub is_version : HTTPVersion → ℕ × ℕ → Bool
 is_version v numbers = (v.0 == numbers.0) && (v.1 == numbers.1)
 
+-- how a version compares with the one that has these numbers
 abbrev pub version_order : HTTPVersion → ℕ × ℕ → Ordering
 version_order v numbers = ordering_then (nat_cmp v.0 numbers.0) (nat_cmp v.1 numbers.1)
 
--- a version is before another: its major number is less, or that is equal and the minor one is less
+-- whether a version is before another: its major number is less, or that is equal and the minor one is less
 abbrev pub IsBefore : HTTPVersion → HTTPVersion → Type 0
 IsBefore a b = (a.0 < b.0) ⊎ ((a.0 ≡ b.0) × (a.1 < b.1))
 
--- major.minor
+-- the text of a version, `major.minor`
 abbrev pub version_text : HTTPVersion → List ℕ
 version_text v = decimal v.0 ++ codes "." ++ decimal v.1
 
--- field: value
+-- the text of a header, `field: value`
 abbrev pub header_text : Header → List ℕ
 header_text h = h.field ++ codes ": " ++ h.value
 
@@ -70,13 +72,13 @@ method_text Trace = codes "TRACE"
 method_text Patch = codes "PATCH"
 method_text (NonStandard name) = name
 
--- the nine names
+-- the names of the nine methods that have a variant
 abbrev pub nine_names : List (List ℕ)
 nine_names =
     codes "GET" ∷ codes "HEAD" ∷ codes "POST" ∷ codes "PUT" ∷ codes "DELETE" ∷ codes "CONNECT" ∷ codes "OPTIONS" ∷
     codes "TRACE" ∷ codes "PATCH" ∷ []
 
--- the method isn't one of the nine names kept as `NonStandard`
+-- whether the method isn't one of the nine names stored as `NonStandard`
 abbrev pub HasItsOwnName : Method → Type 0
 HasItsOwnName Get = ⊤
 HasItsOwnName Head = ⊤
@@ -89,7 +91,7 @@ HasItsOwnName Trace = ⊤
 HasItsOwnName Patch = ⊤
 HasItsOwnName (NonStandard name) = list_any (bytes_eq name) nine_names ≡ false
 
--- the reason phrases, as in the original (most by RFC 9110, section 15)
+-- the reason phrases by code, as in the original (most from RFC 9110, section 15)
 abbrev pub reason_phrases : List (ℕ × List ℕ)
 reason_phrases =
     (100, codes "Continue") ∷ (101, codes "Switching Protocols") ∷ (102, codes "Processing") ∷
@@ -117,7 +119,7 @@ reason_phrases =
     (507, codes "Insufficient Storage") ∷ (508, codes "Loop Detected") ∷ (510, codes "Not Extended") ∷
     (511, codes "Network Authentication Required") ∷ []
 
--- the phrase of a code in a table, or Unknown
+-- the phrase of a code in a table, or `Unknown` if the table doesn't list the code
 abbrev pub phrase_in : List (ℕ × List ℕ) → ℕ → List ℕ
 phrase_in [] code = codes "Unknown"
 phrase_in (row ∷ rows) code = if code == row.0 then row.1 else phrase_in rows code

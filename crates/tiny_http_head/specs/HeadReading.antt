@@ -1,4 +1,4 @@
--- Request heads as functions that compute them.
+-- Request heads, as functions that compute them.
 use Rattle.std.specs.Prelude.{◌≡◌, ℕ, zero, suc, ◌+◌, Bool, true, false, not, ◌&&◌, ◌==◌, List, [], ◌∷◌, length, drop}
 use Rattle.std.specs.Prelude.{Option, Some, None, Result, Ok, Err, option_map, if◌then◌else◌}
 use Rattle.std.specs.List.{list_all, list_any}
@@ -8,7 +8,7 @@ use Rattle.tiny_http_head.specs.declared.common.Header.{Header}
 use Rattle.tiny_http_text.specs.Bytes.{is_blank, is_ascii, AreAscii, trimmed, parts, space, colon}
 use Rattle.tiny_http_head.specs.Heads.{Message, GrammarFault, Cut, NotAscii, Malformed, method_of, version_of}
 
--- the first line, and the bytes after its CR LF
+-- the first line, and the bytes after its CR LF, if there is a CR LF
 abbrev pub line : List ℕ → Option (List ℕ × List ℕ)
 line [] = None
 line (a ∷ []) = None
@@ -27,7 +27,7 @@ three_parts [] = None
 abbrev pub request_line : List ℕ → Option (Method × List ℕ × HTTPVersion)
 request_line text = three_parts (parts space (trimmed is_blank text))
 
--- the text, trimmed, begins with these three parts; the third ends at a further space or at the end of the text
+-- whether the text, trimmed, begins with these three parts; the third ends at the next space or at the end of the text
 pub record HasParts (text method path version : List ℕ) : Type 0 where
   pub more : List (List ℕ)
   pub parts_are : parts space (trimmed is_blank text) ≡ method ∷ path ∷ version ∷ more
@@ -43,7 +43,7 @@ header_line text =
     then Some (record { field = field; value = trimmed is_blank (drop (length field + 1) text) })
     else None
 
--- the header fields, and the bytes after the empty line
+-- the header fields and the bytes after the empty line, or the fault of the first faulty line
 abbrev pub FieldsRead : Type 0
 FieldsRead = Result (List Header × List ℕ) GrammarFault
 

@@ -15,7 +15,7 @@ use Rattle.tiny_http_text.specs.Lines.{Line, IsUnfinished}
 abbrev pub line_feed : ℕ
 line_feed = 10
 
--- the method that a text names: exactly one of the nine names, or a name of its own
+-- the method that a text names: one of the nine names in this exact case, or any other text as `NonStandard`
 abbrev pub method_of : List ℕ → Method
 method_of text =
     if bytes_eq text (codes "GET") then Get else
@@ -32,7 +32,7 @@ method_of text =
 abbrev pub version : ℕ → ℕ → HTTPVersion
 version major minor = record { 0 = major; 1 = minor }
 
--- HTTP-version: the five that are accepted
+-- the HTTP-version that a text names, if it is one of the five that are accepted
 abbrev pub version_of : List ℕ → Option HTTPVersion
 version_of text =
     if bytes_eq text (codes "HTTP/0.9") then Some (version 0 9) else
@@ -42,11 +42,12 @@ version_of text =
     if bytes_eq text (codes "HTTP/3.0") then Some (version 3 0) else
     None
 
--- the version is above 1.1
+-- whether the version is above 1.1
 abbrev pub is_too_new : HTTPVersion → Bool
 is_too_new v = nat_lt 1 v.0 || (v.0 == 1 && nat_lt 1 v.1)
 
--- request-line: trimmed, it is method SP path SP version, and further parts after another SP
+-- whether the text is a request-line: trimmed, it is method SP path SP version, and optionally further parts after
+-- another SP
 pub record RequestLine (text : List ℕ) (method : Method) (path : List ℕ) (version : HTTPVersion) : Type 0 where
   pub core : List ℕ
   pub method_text : List ℕ
@@ -61,7 +62,8 @@ pub record RequestLine (text : List ℕ) (method : Method) (path : List ℕ) (ve
   pub names_method : method ≡ method_of method_text
   pub names_version : version_of version_text ≡ Some version
 
--- field-line: the name without white space or colon, a colon, and the value between white space
+-- whether the text is a field-line: the name without white space or colon, a colon, and the value between optional
+-- white space
 pub record HeaderLine (text field value : List ℕ) : Type 0 where
   pub padded : List ℕ
   pub joins : text ≡ field ++ colon ∷ padded
@@ -69,11 +71,11 @@ pub record HeaderLine (text field value : List ℕ) : Type 0 where
   pub no_colon : HasNo colon field
   pub trims : Trims is_blank padded value
 
--- the text is this header field, on its own
+-- whether the text is ASCII and is this header field
 abbrev pub IsHeader : List ℕ → Header → Type 0
 IsHeader text h = AreAscii text × HeaderLine text h.field h.value
 
--- the bytes begin with these field lines, and the rest follows
+-- whether the bytes begin with these field lines, and `rest` follows
 abbrev pub BeginsWithHeaderLines : List ℕ → List Header → List ℕ → Type 0
 BeginsWithHeaderLines bytes [] rest = rest ≡ bytes
 BeginsWithHeaderLines bytes (h ∷ hs) rest =
@@ -91,12 +93,12 @@ pub record Message : Type 0 where
   pub version : HTTPVersion
   pub headers : List Header
 
--- the bytes begin with the request line, and the rest follows
+-- whether the bytes begin with this request line, and `rest` follows
 abbrev pub BeginsWithRequestLine : List ℕ → Method → List ℕ → HTTPVersion → List ℕ → Type 0
 BeginsWithRequestLine bytes method path version rest =
     (text : List ℕ) × Line bytes text rest × AreAscii text × RequestLine text method path version
 
--- the bytes begin with a head: a request line, field lines and an empty line; `after` follows it
+-- whether the bytes begin with a head: a request line, field lines and an empty line; `after` follows the head
 abbrev pub BeginsWithRequestHead : List ℕ → Message → List ℕ → Type 0
 BeginsWithRequestHead bytes m after =
     (fields : List ℕ)
@@ -105,12 +107,14 @@ BeginsWithRequestHead bytes m after =
     × BeginsWithHeaderLines fields m.headers empty
     × Line empty [] after
 
--- why the next line is refused: it isn't finished, isn't ASCII, or doesn't match the grammar there
+-- the reason why the next line is refused. `Cut`: it isn't complete. `NotAscii`: it has a byte above 127. `Malformed`:
+-- it doesn't match the grammar for its place.
 pub data GrammarFault : Type 0 where
   Cut : GrammarFault
   NotAscii : GrammarFault
   Malformed : GrammarFault
 
+-- whether the next line has this fault, if `IsGood` says which lines match the grammar for its place
 abbrev pub FaultyLine : (List ℕ → Type 0) → List ℕ → GrammarFault → Type 0
 FaultyLine IsGood bytes Cut = IsUnfinished bytes
 FaultyLine IsGood bytes NotAscii = (text : List ℕ) × (rest : List ℕ) × Line bytes text rest × (AreAscii text → ⊥)
@@ -124,7 +128,8 @@ IsRequestLine text =
 abbrev pub IsFieldOrEnd : List ℕ → Type 0
 IsFieldOrEnd text = (text ≡ []) ⊎ ((field : List ℕ) × (value : List ℕ) × HeaderLine text field value)
 
--- the first faulty line of a head: the request line, or, if a version is given, a later line
+-- whether the first faulty line of a head has this fault: the request line if no version is given, and otherwise a
+-- later line
 abbrev pub FaultyHead : List ℕ → Option HTTPVersion → GrammarFault → Type 0
 FaultyHead bytes None fault = FaultyLine IsRequestLine bytes fault
 FaultyHead bytes (Some v) fault =
@@ -134,11 +139,12 @@ FaultyHead bytes (Some v) fault =
     × BeginsWithHeaderLines fields headers rest
     × FaultyLine IsFieldOrEnd rest fault
 
--- a content length (RFC 9110, section 8.6): one or more digits, below 2^64; `length_in` accepts a plus before them
+-- the content length that a text gives (RFC 9110, section 8.6): one or more digits, below 2^64
 abbrev pub length_of : List ℕ → Option ℕ
 length_of ds =
     if nat_lt 0 (length ds) && (all_ascii_digits ds && nat_lt (digits_value 10 ds) (2 ^ 64)) then Some
     (digits_value 10 ds) else None
 
+-- the content length that a text gives, with an optional plus sign before the digits
 unfoldable pub length_in : List ℕ → Option ℕ
 length_in value = length_of (without_leading_plus value)

@@ -7,7 +7,7 @@ use Rattle.tiny_http_head.specs.declared.blanks.Blanks.{Blanks}
 use Rattle.tiny_http_head.specs.declared.blanks.Blanks.TheVariants.{SpaceAndTab, WhiteSpace}
 use Rattle.tiny_http_head.specs.Common.{same_name}
 
--- the bytes that are stripped from around an element
+-- whether a byte is stripped from around an element
 abbrev pub is_left_out : Blanks → ℕ → Bool
 is_left_out SpaceAndTab = is_ows
 is_left_out WhiteSpace = is_blank
@@ -16,7 +16,7 @@ is_left_out WhiteSpace = is_blank
 abbrev pub elements_in : (ℕ → Bool) → List ℕ → List (List ℕ)
 elements_in is_out value = map (trimmed is_out) (parts comma value)
 
--- the elements of all fields with that name, in order, including empty ones
+-- the elements of all fields with this name, in order, including empty elements
 abbrev pub elements_by_name : (ℕ → Bool) → List ℕ → List Header → List (List ℕ)
 elements_by_name is_out name [] = []
 elements_by_name is_out name (h ∷ hs) =

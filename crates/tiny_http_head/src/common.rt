@@ -68,7 +68,7 @@ impl StatusCode {
     ghost use Rattle.tiny_http_head.specs.Common.{reason_phrase, is_code, code_order};
 
     /// Returns the reason phrase of the code, or `Unknown` for a code without one. The table is the original crate's;
-    /// most of it is RFC 9110, section 15.
+    /// most of it is from RFC 9110, section 15.
     #[tactic(auto, unfolding(crate::specs::Common::reason_phrase))]
     pub fn default_reason_phrase(&self) -> &'static str
         ensures { result.now ≡ reason_phrase self.now.0 }
@@ -163,7 +163,7 @@ impl StatusCode {
 impl From<i8> for StatusCode {
     ghost from_gives = { λ number code. code.0 ≡ code_of number };
 
-    /// Makes a code of the number modulo 65536.
+    /// Makes a code from the number modulo 65536.
     fn from(number: i8) -> StatusCode {
         StatusCode((number as i16).cast_unsigned())
     }
@@ -172,7 +172,7 @@ impl From<i8> for StatusCode {
 impl From<u8> for StatusCode {
     ghost from_gives = { λ number code. code.0 ≡ number };
 
-    /// Makes a code of the number.
+    /// Makes a code from the number.
     fn from(number: u8) -> StatusCode {
         StatusCode(number as u16)
     }
@@ -181,7 +181,7 @@ impl From<u8> for StatusCode {
 impl From<i16> for StatusCode {
     ghost from_gives = { λ number code. code.0 ≡ code_of number };
 
-    /// Makes a code of the number modulo 65536.
+    /// Makes a code from the number modulo 65536.
     fn from(number: i16) -> StatusCode {
         StatusCode(number.cast_unsigned())
     }
@@ -190,7 +190,7 @@ impl From<i16> for StatusCode {
 impl From<u16> for StatusCode {
     ghost from_gives = { λ number code. code.0 ≡ number };
 
-    /// Makes a code of the number.
+    /// Makes a code from the number.
     fn from(number: u16) -> StatusCode {
         StatusCode(number)
     }
@@ -199,7 +199,7 @@ impl From<u16> for StatusCode {
 impl From<i32> for StatusCode {
     ghost from_gives = { λ number code. code.0 ≡ code_of number };
 
-    /// Makes a code of the number modulo 65536.
+    /// Makes a code from the number modulo 65536.
     fn from(number: i32) -> StatusCode {
         StatusCode((number.cast_unsigned() % 65536) as u16)
     }
@@ -208,7 +208,7 @@ impl From<i32> for StatusCode {
 impl From<u32> for StatusCode {
     ghost from_gives = { λ number code. code.0 ≡ number % 65536 };
 
-    /// Makes a code of the number modulo 65536.
+    /// Makes a code from the number modulo 65536.
     fn from(number: u32) -> StatusCode {
         StatusCode((number % 65536) as u16)
     }
@@ -239,7 +239,7 @@ impl HTTPVersion {
 impl From<(u8, u8)> for HTTPVersion {
     ghost from_gives = { λ numbers version. (version.0 ≡ numbers.0) × (version.1 ≡ numbers.1) };
 
-    /// Makes the version with these numbers, major first.
+    /// Makes a version from these numbers, major first.
     fn from(numbers: (u8, u8)) -> HTTPVersion {
         HTTPVersion(numbers.0, numbers.1)
     }
@@ -283,7 +283,7 @@ impl HeaderField {
     ghost use Rattle.tiny_http_text.specs.Ascii.{IsFirstNotAscii};
     ghost use Rattle.tiny_http_text.specs.FromAsciiError.{refused_bytes, bad_place};
 
-    /// Makes a name of any ASCII bytes. The error hands other bytes back.
+    /// Makes a name from any ASCII bytes. For other bytes it fails, and the error hands them back.
     pub fn from_bytes(bytes: Vec<u8>) -> Result<HeaderField, FromAsciiError>
         ensures ok { IfOk result (λ f. f ≡ bytes.items) }
         ensures succeeds { IsOk result ↔ IsAscii bytes.items }
@@ -295,8 +295,8 @@ impl HeaderField {
         })
     }
 
-    /// Parses a name: ASCII without white space (bytes 9 to 13 and 32). `Refused` for any other text, and only then;
-    /// `Memory` if memory for a copy is refused.
+    /// Parses a name: ASCII without white space (bytes 9 to 13 and 32). Fails with `Refused` for any other text, and
+    /// only then; with `Memory` if memory for a copy is refused.
     pub fn from_str(alloc: Global, text: &str) -> Result<HeaderField, ParseError>
         ensures ok { IfOk result (λ f. (f ≡ text.now) × IsWord text.now) }
         ensures refused { IsErrOf result ParseError.Refused ↔ ¬ (IsWord text.now) }
@@ -309,7 +309,7 @@ impl HeaderField {
         Ok(HeaderField { text })
     }
 
-    /// Makes a name of any ASCII text. It is for the crates above.
+    /// Makes a name from any ASCII text. It is for the crates that build on this one.
     pub fn from_text(text: AsciiString) -> HeaderField
         ensures { result ≡ text }
     {
@@ -396,8 +396,8 @@ pub enum Method {
 impl Method {
     ghost use Rattle.tiny_http_head.specs.Common.{method_text};
 
-    /// Parses a method: exactly one of the nine names, or any other ASCII text, even an empty one. `Refused` for a text
-    /// that isn't ASCII, and only then; `Memory` if memory for a copy is refused.
+    /// Parses a method: one of the nine names in this exact case, or any other ASCII text, even an empty one. Fails
+    /// with `Refused` for a text that isn't ASCII, and only then; with `Memory` if memory for a copy is refused.
     pub fn from_str(alloc: Global, text: &str) -> Result<Method, ParseError>
         ensures ok { IfOk result (λ m. (m ≡ method_of text.now) × AreAscii text.now) }
         ensures refused { IsErrOf result ParseError.Refused ↔ ¬ (AreAscii text.now) }
@@ -474,11 +474,11 @@ impl Header {
     ghost use Rattle.tiny_http_head.specs.Heads.{IsHeader};
     ghost use Rattle.tiny_http_head.specs.HeaderTexts.{AreHeaderTexts, header_of};
 
-    /// Makes a header of a name and a value, unchanged. A client reads it as it is meant, even if a client's text is in
-    /// it. The name is a token (RFC 9110, section 5.6.2): letters, digits and ``!#$%&'*+-.^_`|~``, at least one. The
-    /// value is of visible ASCII bytes, spaces and tabs, without a space or tab at its ends; it may be empty (RFC 9110,
-    /// section 5.5). `Refused` for any other text, such as one with CR, LF or NUL, and only then; `Memory` if memory is
-    /// refused.
+    /// Makes a header from a name and a value, unchanged. Its recipient parses that name and value and nothing else,
+    /// even if they contain text from a client. The name is a token (RFC 9110, section 5.6.2): one or more letters,
+    /// digits and ``!#$%&'*+-.^_`|~``. The value consists of visible ASCII bytes, spaces and tabs, without a space or
+    /// tab at its ends; it may be empty (RFC 9110, section 5.5). Fails with `Refused` for any other text, such as one
+    /// with CR, LF or NUL, and only then; with `Memory` if memory is refused.
     #[tactic(auto, using(crate::proofs::HeaderTextsLemmas::token_ascii))]
     pub fn new(alloc: Global, name: &str, value: &str) -> Result<Header, ParseError>
         ensures ok { IfOk result (λ h. (h ≡ header_of name.now value.now) × AreHeaderTexts name.now value.now) }
@@ -494,7 +494,7 @@ impl Header {
         Ok(Header { field, value })
     }
 
-    /// Makes a header of any ASCII bytes. Fails if either text isn't ASCII.
+    /// Makes a header from any ASCII bytes. Fails if the name or the value isn't ASCII.
     pub fn from_bytes(field: Vec<u8>, value: Vec<u8>) -> Result<Header, ()>
         ensures ok { IfOk result (λ h. (h.field ≡ field.items) × (h.value ≡ value.items)) }
         ensures succeeds { IsOk result ↔ (IsAscii field.items × IsAscii value.items) }
@@ -508,9 +508,9 @@ impl Header {
         Ok(Header { field, value })
     }
 
-    /// Parses a field line without its CR LF: the name before the first colon, the value, trimmed, after it (RFC 9112,
-    /// section 5). `Refused` if there is no colon, white space (bytes 9 to 13 and 32) in the name, or a byte that isn't
-    /// ASCII, and only then; `Memory` if memory is refused.
+    /// Parses a field line without its CR LF: the name is the text before the first colon, and the value is the text
+    /// after it, trimmed (RFC 9112, section 5). Fails with `Refused` if there is no colon, if the name contains white
+    /// space (bytes 9 to 13 and 32), or if a byte isn't ASCII, and only then; with `Memory` if memory is refused.
     pub fn from_str(alloc: Global, text: &str) -> Result<Header, ParseError>
         ensures ok { IfOk result (λ h. IsHeader text.now h) }
         ensures refused { IsErrOf result ParseError.Refused ↔ ((h : Header) → IsHeader text.now h → ⊥) }
@@ -542,8 +542,8 @@ impl From<Header> for io::Error {
 
     ghost from_gives = { λ _ fault. error_kind fault ≡ OutOfMemory };
 
-    /// Returns `OutOfMemory`, since a header is handed back only by a call that was refused memory to keep it. The
-    /// header is dropped.
+    /// Returns `OutOfMemory`, since only a call that was refused memory for a header hands the header back. The header
+    /// is dropped.
     fn from(_header: Header) -> io::Error {
         ErrorKind::OutOfMemory.into()
     }
@@ -564,15 +564,16 @@ impl fmt::Display for Header {
     }
 }
 
-// Returns whether the text is a field value to send: ASCII, no control byte except tab, and no white space at its ends.
+// Returns whether the text may be sent as a field value: ASCII, with no control byte except tab, and no white space at
+// either end.
 fn is_field_value(text: &[u8]) -> bool
     ensures { IsTrue result ↔ IsFieldValue text.now }
 {
     are_ascii(text) && is_header_value(text) && is_trimmed(text)
 }
 
-/// Returns the method that an ASCII text names: exactly one of the nine names, or any other text. Fails if memory for a
-/// copy is refused.
+/// Returns the method that an ASCII text names: one of the nine names in this exact case, or any other text. Fails if
+/// memory for a copy is refused.
 pub fn method_of(alloc: Global, text: &[u8]) -> Result<Method, AllocError>
     requires { AreAscii text.now }
     ensures { IfOk result (λ m. m ≡ method_of text.now) }
@@ -607,8 +608,9 @@ pub fn method_of(alloc: Global, text: &[u8]) -> Result<Method, AllocError>
     Ok(Method::NonStandard(owned(alloc, text)?))
 }
 
-/// Parses a field line: the name before the first colon, the value, trimmed, after it (RFC 9112, section 5). Returns
-/// `None` if there is no colon, or white space in the name. Fails if the text is a field line and memory is refused.
+/// Parses a field line: the name is the text before the first colon, and the value is the text after it, trimmed (RFC
+/// 9112, section 5). Returns `None` if there is no colon, or if the name contains white space. Fails if the text is a
+/// field line and memory is refused.
 pub fn parse_header_line(alloc: Global, text: &[u8]) -> Result<Option<Header>, AllocError>
     requires { AreAscii text.now }
     ensures value { IfOk result (λ found. found ≡ header_line text.now) }

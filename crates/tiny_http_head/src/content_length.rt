@@ -7,11 +7,11 @@ ghost use Rattle.tiny_http_head.specs.ContentLength.{one_length, lengths_after};
 use crate::blanks::Blanks;
 use crate::common::Header;
 
-/// The error of `one_length`: an element of `Content-Length` isn't a number below 2^64, or two of them differ.
+/// The error of `one_length`: an element of `Content-Length` isn't a number below 2^64, or two elements differ.
 #[derive(Clone, Copy, Debug, PartialEq, Eq)]
 pub struct InvalidLength;
 
-// Appends a digit to the number, unless the result is 2^64 or more.
+// Returns the number with a digit appended, or `None` if the result is 2^64 or more.
 fn with_digit(number: usize, digit: u8) -> Option<usize>
     requires { (48 ≤ digit) × (digit < 58) }
     ensures some { IfSome result (λ n. (n ≡ number * 10 + (digit - 48)) × (n < 2 ^ 64)) }
@@ -38,7 +38,8 @@ pub fn number_in(text: &[u8]) -> Option<usize>
     Some(number)
 }
 
-// Returns the length after one more element, which must be the same number as those before it.
+// Returns the length after one more element. Fails if the element isn't a number, or differs from the length found
+// before.
 #[inline(always)]
 fn length_after(found: Option<usize>, element: &[u8]) -> Result<Option<usize>, InvalidLength>
     ensures { result ≡ lengths_after found (element.now ∷ []) }
@@ -54,7 +55,7 @@ fn length_after(found: Option<usize>, element: &[u8]) -> Result<Option<usize>, I
     Ok(Some(length))
 }
 
-// Returns the length after the elements of one more value.
+// Returns the length after the elements of one more value. Fails as `length_after` does.
 #[inline(always)]
 fn lengths_in(
     blanks: Blanks,
@@ -73,11 +74,11 @@ fn lengths_in(
     Ok(found)
 }
 
-/// Returns the one length that all `Content-Length` fields give, or `None` if there are none (RFC 9110, section 8.6;
-/// RFC 9112, section 6.3).
+/// Returns the one length that all `Content-Length` fields give, or `None` if there is no such field (RFC 9110, section
+/// 8.6; RFC 9112, section 6.3).
 ///
-/// Each value is a list of numbers as in `number_in`, with `blanks` stripped around them. Fails if an element, for
-/// example an empty one, is no such number, or if two differ.
+/// Each value is a list of numbers as `number_in` parses them, with `blanks` stripped around each. Fails if an element
+/// isn't such a number, for example if it is empty, or if two elements differ.
 #[inline(always)]
 pub fn one_length(headers: &[Header], blanks: Blanks) -> Result<Option<usize>, InvalidLength>
     ensures { result ≡ one_length (elements_by_name (is_left_out blanks) (codes "Content-Length") headers.now) }

@@ -64,13 +64,13 @@ pub fn http_version_order()
         → version_order v numbers ≡ ⟦<HTTPVersion as Ord>⟧.cmp v (record { 0 = numbers.0; 1 = numbers.1 }) }
 {}
 
-/// Parsing a method's name gives the method back, unless it is one of the nine names kept as `NonStandard`.
+/// Parsing a method's name returns that method, unless the method is one of the nine names stored as `NonStandard`.
 pub fn method_from_its_name()
     ensures { (m : AnyMethod) → HasItsOwnName m → method_of (method_text m) ≡ m }
 {}
 
-/// Parsing a header's text gives the header back, if its name has no white space or colon and its value is trimmed. No
-/// text is two headers.
+/// Parsing a header's text returns that header, if its name has no white space or colon and its value is trimmed. No
+/// text is parsed as two different headers.
 pub fn header_from_its_text()
     ensures back { (h : Header)
         → IsWord h.field
@@ -81,8 +81,8 @@ pub fn header_from_its_text()
     ensures one { (text : List ℕ) (h k : Header) → IsHeader text h → IsHeader text k → h ≡ k }
 {}
 
-/// The functions that read a request line and a field line, which the parsers equal, match the grammar (RFC 9112,
-/// sections 3 and 5).
+/// The functions `request_line` and `header_line`, which the parsers compute, match the grammar (RFC 9112, sections 3
+/// and 5).
 pub fn lines_by_the_grammar()
     ensures request { (text path : List ℕ) (method : AnyMethod) (version : Version)
         → (request_line text ≡ Some (method, path, version)) ↔ RequestLine text method path version }

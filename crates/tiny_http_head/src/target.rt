@@ -7,7 +7,7 @@ ghost use Rattle.tiny_http_head.specs.Target.{AuthorityAndPath, TargetParts, IsP
 
 use tiny_http_text::text::cut;
 
-// Returns whether all bytes may be in a scheme after its first byte.
+// Returns whether every byte may follow the first byte of a scheme.
 fn are_scheme_bytes(text: &[u8]) -> bool
     ensures { result ≡ list_all is_scheme_byte text.now }
 {
@@ -37,7 +37,7 @@ fn behind_scheme(target: &str) -> Option<&str>
     rest.strip_prefix("//")
 }
 
-// Splits the text at the first question mark.
+// Splits the text at the first question mark into the text before it and the query after it, if there is one.
 fn front_and_query(text: &str) -> (&str, Option<&str>)
     ensures { FrontAndQuery text.now result.0.now (option_copied result.1) }
 {
@@ -47,7 +47,7 @@ fn front_and_query(text: &str) -> (&str, Option<&str>)
     }
 }
 
-// Returns the path of an authority with its path.
+// Returns the path that follows an authority: the text from the first slash on, or `/` if there is no slash.
 fn behind_authority(text: &str) -> &str
     ensures { AuthorityAndPath text.now result.now }
 {
@@ -68,11 +68,11 @@ fn parts_of(target: &str) -> (&str, Option<&str>)
     (behind_authority(front), query)
 }
 
-/// Returns the path of a request target, without its query (RFC 9112, section 3.2). It is a part of the target as sent:
-/// percent-encoded, with its fragment if there is one, and with `.` and `..` segments. The path of `/a?b` is `/a`. In
-/// absolute form it follows the scheme and the authority: the path of `http://host/a?b` is `/a`, and an empty one is
-/// `/` (RFC 9110, section 4.2.3). Of `*`, a host with a port, and any other text that begins neither with a slash nor
-/// with a scheme and `://`, it is everything before the first question mark.
+/// Returns the path of a request target, without its query (RFC 9112, section 3.2). The path is a part of the target as
+/// sent: percent-encoded, with its fragment if there is one, and with `.` and `..` segments. The path of `/a?b` is
+/// `/a`. In absolute form the path follows the scheme and the authority: the path of `http://host/a?b` is `/a`, and an
+/// empty one becomes `/` (RFC 9110, section 4.2.3). For `*`, a host with a port, and any other text that begins neither
+/// with a slash nor with a scheme and `://`, the path is everything before the first question mark.
 pub fn path_of(target: &str) -> &str
     ensures { IsPath target.now result.now }
 {
@@ -80,8 +80,8 @@ pub fn path_of(target: &str) -> &str
 }
 
 /// Returns the query of a request target: the text after its first question mark, which may be empty (RFC 9112, section
-/// 3.2; RFC 3986, section 3.4). It is as sent, with its fragment if there is one. Returns `None` if there is no
-/// question mark.
+/// 3.2; RFC 3986, section 3.4). The query is returned as sent, with its fragment if there is one. Returns `None` if
+/// there is no question mark.
 pub fn query_of(target: &str) -> Option<&str>
     ensures { IsQuery target.now (option_copied result) }
 {

@@ -4,19 +4,19 @@ use Rattle.std.specs.declared.io.ErrorKind.{ErrorKind}
 use Rattle.tiny_http_io.specs.Device.{Sink}
 use Rattle.tiny_http_io.specs.declared.device.Budget.{Budget}
 
--- the bytes that it took
+-- the bytes that a `Budget` took
 abbrev pub budget_bytes : Budget → List ℕ
 budget_bytes b = b.bytes.items
 
--- how many more bytes it takes
+-- the number of bytes that a `Budget` still takes
 abbrev pub budget_room : Budget → ℕ
 budget_room b = b.room
 
--- the kind of the faults after them
+-- the kind of the fault that a `Budget` reports once it has no room
 abbrev pub budget_kind : Budget → ErrorKind
 budget_kind b = b.kind
 
--- what it states as a writer
+-- what a `Budget` states as a writer
 abbrev pub budget_sink : Budget → Sink
 budget_sink b =
     record

@@ -1,10 +1,10 @@
 -- What clauses see of a `CustomStream`.
 use Rattle.tiny_http_io.specs.declared.custom_stream.CustomStream.{CustomStream}
 
--- the reader inside
+-- the inner reader of a `CustomStream`
 abbrev pub custom_reader : {R : Type 0} → {W : Type 0} → CustomStream R W → R
 custom_reader s = s.reader
 
--- the writer inside
+-- the inner writer of a `CustomStream`
 abbrev pub custom_writer : {R : Type 0} → {W : Type 0} → CustomStream R W → W
 custom_writer s = s.writer

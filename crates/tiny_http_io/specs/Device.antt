@@ -1,4 +1,4 @@
--- What a device gives when it is read, and what it states when it is written.
+-- What a device states of its bytes when it is read and when it is written.
 use Rattle.std.specs.Prelude.{◌≡◌, ℕ, ◌+◌, ◌-◌, ◌*◌, ◌^◌, ◌<◌, ◌≤◌, min, Bool, true, false, List, [], ◌++◌, length}
 use Rattle.std.specs.Prelude.{take, drop, Option, Some, None, Result, Ok, Err, IfOk, IfErr, OnErr, ⊤, ◌⊎◌}
 use Rattle.std.specs.Option.{option_map}
@@ -10,12 +10,12 @@ use Rattle.std.specs.Io.KnownBytes.{append_known}
 use Rattle.tiny_http_io.specs.declared.device.Stop.{Stop}
 use Rattle.tiny_http_io.specs.declared.device.Stop.TheVariants.{End, Fault}
 
--- the bytes that a reader still gives, and how they stop
+-- the bytes still to come from a reader, and how the input stops after them
 pub record Feed : Type 0 where
   pub bytes : List ℕ
   pub stop : Stop
 
--- the bytes of a feed
+-- the bytes of a feed, if the feed is stated
 abbrev pub bytes_of : Option Feed → Option (List ℕ)
 bytes_of None = None
 bytes_of (Some f) = Some f.bytes
@@ -24,31 +24,31 @@ bytes_of (Some f) = Some f.bytes
 abbrev pub whole_feed : List ℕ → Feed
 whole_feed bs = record { bytes = bs; stop = End }
 
--- these bytes, and then the feed
+-- the feed of these bytes followed by the feed `feed`
 abbrev pub prepend : List ℕ → Feed → Feed
 prepend bs feed = record { bytes = bs ++ feed.bytes; stop = feed.stop }
 
--- these bytes, and then the feed, if it is stated
+-- the feed of these bytes followed by the feed `feed`, if that is stated
 abbrev pub prepended : List ℕ → Option Feed → Option Feed
 prepended bs feed = option_map (prepend bs) feed
 
--- only bytes at the front of the feed were taken
+-- whether only bytes at the front of the feed were taken
 abbrev pub TakesFront : Option Feed → Option Feed → Type 0
 TakesFront old new = (gone : List ℕ) × (old ≡ prepended gone new)
 
--- no byte is left of the feed, if it is stated, and this is how it stops
+-- whether no byte is left of the feed and it stops in this way, if the feed is stated
 abbrev pub StopsBy : Stop → Option Feed → Type 0
 StopsBy stop None = ⊤
 StopsBy stop (Some feed) = (feed.bytes ≡ []) × (feed.stop ≡ stop)
 
--- the result of a read is this end or fault
+-- whether the result of a read is this end or fault
 abbrev pub AnswersStop : Stop → Result ℕ Error → Type 0
 AnswersStop End (Ok n) = n ≡ 0
 AnswersStop End (Err e) = ⊥
 AnswersStop (Fault kind) (Ok n) = ⊥
 AnswersStop (Fault kind) (Err e) = error_kind e ≡ kind
 
--- an end, or a fault of this kind
+-- how a reader stops: with a fault of this kind if one is given, and otherwise with an end
 abbrev pub stop_of : Option ErrorKind → Stop
 stop_of None = End
 stop_of (Some kind) = Fault kind
@@ -58,9 +58,9 @@ abbrev pub fault_of : Stop → ErrorKind
 fault_of End = UnexpectedEof
 fault_of (Fault kind) = kind
 
--- ONE READ into a buffer. The bytes that came are the next of the feed and are at the front of the buffer. A nonempty
--- read that gives none is at the feed's end, after the last byte. An error comes only after the last byte, is the
--- feed's fault, and takes nothing. If the feed isn't stated, nothing is claimed about the bytes.
+-- ONE READ into a buffer. The bytes that came are the next of the feed and are at the front of the buffer. A read into
+-- a nonempty buffer that returns 0 is at the feed's end, after the last byte. An error comes only after the last byte,
+-- is the feed's fault, and takes nothing. If the feed isn't stated, nothing is claimed about the bytes.
 pub record Reads (old new : Option Feed) (r : Result ℕ Error) (buf : List ℕ) : Type 0 where
   pub bound : IfOk r (λ n. n ≤ length buf)
   pub bytes : IfOk r (λ n. old ≡ prepended (take n buf) new)
@@ -68,19 +68,19 @@ pub record Reads (old new : Option Feed) (r : Result ℕ Error) (buf : List ℕ)
   pub fault : IfErr r (λ e. StopsBy (Fault (error_kind e)) old)
   pub again : OnErr r (new ≡ old)
 
--- how many faults a call reports
+-- the number of faults that a call reports
 abbrev pub fault_count : {T E : Type 0} → Result T E → ℕ
 fault_count (Ok x) = 0
 fault_count (Err e) = 1
 
--- THE ENDS AND FAULTS THAT A READ MEETS, by the reader's own count of those it reported: at most one, and none if bytes
--- came.
+-- THE ENDS AND FAULTS THAT A READ MEETS, by the reader's own count of those that it reported: at most one, and none if
+-- bytes came.
 pub record Tells (old new : ℕ) (r : Result ℕ Error) : Type 0 where
   pub once : new ≤ old + 1
   pub lazy : IfOk r (λ n. 0 < n → new ≤ old)
 
--- One read, by cases. It took the bytes that it gave from the front of the feed; it gave none only after the last byte,
--- at the end. A fault comes only after the last byte and changes nothing.
+-- The effect of one read, by cases. The bytes that it returned came from the front of the feed. It returned 0 for a
+-- nonempty buffer only at the end, after the last byte. A fault comes only after the last byte and changes nothing.
 abbrev pub ReadsFrom : Option Feed → Option Feed → Result ℕ Error → List ℕ → Type 0
 ReadsFrom None new r buf = ⊤
 ReadsFrom (Some f) None r buf = ⊥
@@ -88,13 +88,13 @@ ReadsFrom (Some f) (Some g) (Ok n) buf =
     (f.bytes ≡ take n buf ++ g.bytes) × (g.stop ≡ f.stop) × (n ≡ 0 → 0 < length buf → (f.bytes ≡ []) × (f.stop ≡ End))
 ReadsFrom (Some f) (Some g) (Err e) buf = (f.bytes ≡ []) × (f.stop ≡ Fault (error_kind e)) × (g ≡ f)
 
--- the first bytes are a prefix of the second
+-- whether the first bytes are a prefix of the second
 abbrev pub IsFront : List ℕ → List ℕ → Type 0
 IsFront front whole = (rest : List ℕ) × (whole ≡ front ++ rest)
 
--- What a writer states: the bytes that it took, if it states them; the prefix of them that it has sent on, which no
--- failure takes back; how often it failed, and the last kind, if it states that; and whether it has ended. An ended
--- writer returns Ok and takes no more.
+-- What a writer states: the bytes that it took, if it states them; the prefix of those bytes that it has sent on, which
+-- no failure takes back; how often it failed, and the kind of the last failure, if it states that; and whether it has
+-- ended. An ended writer returns Ok and takes no more.
 pub record Sink : Type 0 where
   pub taken : Option (List ℕ)
   pub sent : List ℕ
@@ -102,39 +102,39 @@ pub record Sink : Type 0 where
   pub last_kind : Option ErrorKind
   pub has_ended : Bool
 
--- what was sent on is a prefix of what was taken, if that is stated
+-- whether the bytes that were sent on are a prefix of those that were taken, if these are stated
 abbrev pub BeginsKnown : List ℕ → Option (List ℕ) → Type 0
 BeginsKnown sent None = ⊤
 BeginsKnown sent (Some taken) = IsFront sent taken
 
--- what was sent on is all that was taken, if that is stated
+-- whether the bytes that were sent on are all those that were taken, if these are stated
 abbrev pub IsAllKnown : List ℕ → Option (List ℕ) → Type 0
 IsAllKnown sent None = ⊤
 IsAllKnown sent (Some taken) = sent ≡ taken
 
--- a writer holds back none of its bytes
+-- whether a writer holds back none of its bytes
 abbrev pub HoldsNothing : Sink → Type 0
 HoldsNothing s = IsAllKnown s.sent s.taken
 
--- what is stated is a prefix of these bytes
+-- whether the stated bytes are a prefix of the bytes `whole`
 abbrev pub IsKnownFront : Option (List ℕ) → Option (List ℕ) → Type 0
 IsKnownFront known whole = (rest : List ℕ) × (whole ≡ append_known known rest)
 
--- the bytes that a writer has taken, once it was given these; a writer that has ended takes none
+-- the bytes that a writer has taken once it was given the bytes `bs`; a writer that has ended takes none
 abbrev pub grown : Bool → Option (List ℕ) → List ℕ → Option (List ℕ)
 grown true known bs = known
 grown false known bs = append_known known bs
 
--- the stated kind, if there is one, is this one
+-- whether the stated kind is this kind, if one is stated
 abbrev pub StatesKind : Option ErrorKind → ErrorKind → Type 0
 StatesKind None kind = ⊤
 StatesKind (Some stated) kind = stated ≡ kind
 
--- the count after one more failure, at most 2^64 - 1
+-- the count of failures after one more, at most 2^64 - 1
 abbrev pub next_count : ℕ → ℕ
 next_count n = min (n + 1) (2 ^ 64 - 1)
 
--- the writer took the text, or nothing if it has ended, and didn't fail
+-- whether the writer took the text, or nothing if it has ended, and didn't fail
 pub record Took (old new : Sink) (text : List ℕ) : Type 0 where
   pub bytes : new.taken ≡ grown old.has_ended old.taken text
   pub sent : IsFront old.sent new.sent
@@ -142,7 +142,7 @@ pub record Took (old new : Sink) (text : List ℕ) : Type 0 where
   pub last_kind : new.last_kind ≡ old.last_kind
   pub stays : new.has_ended ≡ old.has_ended
 
--- the writer failed; it states a prefix of its earlier bytes and the text, including all that it had sent on
+-- whether the writer failed, and states a prefix of its earlier bytes and the text, with all that it had sent on
 pub record Failed (old new : Sink) (text : List ℕ) (kind : ErrorKind) : Type 0 where
   pub bytes : IsKnownFront new.taken (append_known old.taken text)
   pub sent : IsFront old.sent new.sent
@@ -151,59 +151,60 @@ pub record Failed (old new : Sink) (text : List ℕ) (kind : ErrorKind) : Type 0
   pub last_kind : StatesKind new.last_kind kind
   pub was_open : old.has_ended ≡ false
 
--- a call that writes a text took all of it, or the writer failed
+-- whether a call that writes a text took all of it, or the writer failed
 abbrev pub Puts : {T : Type 0} → Sink → Sink → Result T Error → List ℕ → Type 0
 Puts old new (Ok x) text = Took old new text
 Puts old new (Err e) text = Failed old new text (error_kind e)
 
--- a call that writes the front of a text took n bytes, or the writer failed
+-- whether a call that writes the front of a text took n bytes, or the writer failed
 abbrev pub PutsFront : Sink → Sink → Result ℕ Error → List ℕ → Type 0
 PutsFront old new (Ok n) text = (n ≤ length text) × (0 < length text → 0 < n) × Took old new (take n text)
 PutsFront old new (Err e) text = Failed old new text (error_kind e)
 
--- what a writer states of its faults didn't change
+-- whether what a writer states of its faults didn't change
 pub record SameFaults (old new : Sink) : Type 0 where
   pub failures : new.failures ≡ old.failures
   pub last_kind : new.last_kind ≡ old.last_kind
   pub stays : new.has_ended ≡ old.has_ended
 
--- the writer failed with this kind, and had not ended
+-- whether a writer that had not ended failed with this kind
 pub record Faulted (old new : Sink) (kind : ErrorKind) : Type 0 where
   pub failures : new.failures ≡ next_count old.failures
   pub last_kind : StatesKind new.last_kind kind
   pub was_open : old.has_ended ≡ false
 
--- The effect of a writing call on the faults that a writer states, whatever it writes. Ok changes nothing. An error
--- either changes nothing, and wasn't the writer's, or raised the count, and was.
+-- The effect of a writing call on the faults that a writer states, whatever the call writes. Ok changes nothing. An
+-- error either changes nothing, and wasn't the writer's, or raised the count, and was the writer's.
 abbrev pub CountsFaults : {T : Type 0} → Sink → Sink → Result T Error → Type 0
 CountsFaults old new (Ok x) = SameFaults old new
 CountsFaults old new (Err e) = SameFaults old new ⊎ Faulted old new (error_kind e)
 
--- a reader gave the first n bytes of its feed, and a writer took them
+-- whether a reader returned the first n bytes of its feed, and a writer took them
 pub record Copied (old new : Feed) (from to : Sink) (n : ℕ) : Type 0 where
   pub within : n ≤ length old.bytes
   pub rest : new.bytes ≡ drop n old.bytes
   pub stop : new.stop ≡ old.stop
   pub taken : Took from to (take n old.bytes)
 
+-- whether a reader returned the first n bytes of its feed, and a writer took them, if the feed is stated
 abbrev pub CopiedKnown : Option Feed → Option Feed → Sink → Sink → ℕ → Type 0
 CopiedKnown None new from to n = ⊤
 CopiedKnown (Some f) None from to n = ⊥
 CopiedKnown (Some f) (Some g) from to n = Copied f g from to n
 
--- a reader stopped before it gave another byte, or the writer failed within the next `left` bytes
+-- whether the reader stopped before it returned another byte, or the writer failed within the next `left` bytes
 abbrev pub CopyBreaks : Option Feed → Sink → Sink → ℕ → ErrorKind → Type 0
 CopyBreaks None from to left kind = ⊤
 CopyBreaks (Some f) from to left kind =
     ((f.bytes ≡ []) × (fault_of f.stop ≡ kind) × Took from to []) ⊎ Failed from to (take left f.bytes) kind
 
--- a call copied at least one of the next `left` bytes from a reader to a writer, or broke off
+-- whether a call copied at least one of the next `left` bytes from a reader to a writer, or broke off
 abbrev pub CopiesPiece : Option Feed → Option Feed → Sink → Sink → ℕ → Result ℕ Error → Type 0
 CopiesPiece f g from to left (Ok n) = (0 < n) × (n ≤ left) × CopiedKnown f g from to n
 CopiesPiece f g from to left (Err e) = CopyBreaks f from to left (error_kind e)
 
--- A call filled a buffer from the feed: whole, or with all bytes before an end. A fault came before the buffer was
--- full.
+-- whether a call filled a buffer from the feed: the whole buffer, or all bytes before an end. A fault came before the
+-- buffer was full.
 abbrev pub Fills : Option Feed → Option Feed → Result ℕ Error → List ℕ → Type 0
 Fills None new r buf = ⊤
 Fills (Some f) None r buf = ⊥
@@ -215,19 +216,19 @@ Fills (Some f) (Some g) (Ok n) buf =
     × (n < length buf → (g.bytes ≡ []) × (f.stop ≡ End))
 Fills (Some f) (Some g) (Err e) buf = (length f.bytes < length buf) × (f.stop ≡ Fault (error_kind e))
 
--- the first n bytes of a buffer came from the feed
+-- whether the first n bytes of a buffer came from the feed
 abbrev pub FilledTo : Option Feed → Option Feed → ℕ → List ℕ → Type 0
 FilledTo None new n buf = ⊤
 FilledTo (Some f) None n buf = ⊥
 FilledTo (Some f) (Some g) n buf =
     (n ≤ length f.bytes) × (take n buf ≡ take n f.bytes) × (g.bytes ≡ drop n f.bytes) × (g.stop ≡ f.stop)
 
--- a call read all bytes of a feed that ends, or reported the feed's fault, or was out of memory
+-- whether a call read all bytes of a feed that ends, or reported the feed's fault, or was out of memory
 abbrev pub Gathers : {T : Type 0} → (T → List ℕ) → Feed → Result T Error → Type 0
 Gathers items f (Ok all) = (items all ≡ f.bytes) × (f.stop ≡ End)
 Gathers items f (Err e) = (f.stop ≡ Fault (error_kind e)) ⊎ (error_kind e ≡ OutOfMemory)
 
--- `count` pieces of 8192 bytes of a feed were read into a list
+-- whether `count` pieces of 8192 bytes of a feed were read into a list
 abbrev pub GatheredTo : Option Feed → Option Feed → List ℕ → ℕ → Type 0
 GatheredTo None new all count = ⊤
 GatheredTo (Some f) None all count = ⊥

@@ -6,21 +6,22 @@ use Rattle.tiny_http_io.specs.Device.{Feed, Reads}
 use Rattle.tiny_http_io.specs.declared.equal_reader.EqualReader.{EqualReader}
 use Rattle.tiny_http_io.specs.FeedParts.{feed_front, feed_behind}
 
--- the reader inside
+-- the inner reader of an `EqualReader`
 abbrev pub equal_inner : {R : Type 0} → EqualReader R → R
 equal_inner r = r.inner
 
--- how many of its bytes are still to be given
+-- the number of bytes that an `EqualReader` may still read
 abbrev pub equal_left : {R : Type 0} → EqualReader R → ℕ
 equal_left r = r.left
 
--- what it still gives: the next bytes of the inner reader, at most those that are left
+-- the bytes still to come from an `EqualReader`, and how they stop: the next bytes of the inner reader, at most those
+-- that are left
 abbrev pub equal_feed : {R : Type 0} → (R → Option Feed) → EqualReader R → Option Feed
 equal_feed feed r = option_map (feed_front r.left) (feed r.inner)
 
--- ONE READ. It is a read of what is still to be given; the bytes after the part don't change. Whatever the inner reader
--- states, a read into an empty buffer, or with no byte left, returns 0 and changes nothing. The bytes that came are
--- subtracted from those that are left; a fault subtracts none.
+-- ONE READ of an `EqualReader`. It is a read of the feed still to come; the inner reader's bytes after that feed don't
+-- change. Whatever the inner reader states, a read into an empty buffer, or with no byte left, returns 0 and changes
+-- nothing. The bytes that came are subtracted from those that are left; a fault subtracts none.
 pub record ReadsPart {R : Type 0} (feed : R → Option Feed) (old new : EqualReader R) (r : Result ℕ Error)
     (buf : List ℕ) : Type 0 where
   pub reads : Reads (equal_feed feed old) (equal_feed feed new) r buf

@@ -5,33 +5,33 @@ use Rattle.std.specs.declared.io.Error.{Error}
 use Rattle.std.specs.declared.io.ErrorKind.{ErrorKind}
 use Rattle.tiny_http_io.specs.declared.device.FailsAt.{FailsAt}
 
--- the stream inside
+-- the inner stream of a `FailsAt`
 abbrev pub fails_at_inner : {S : Type 0} → FailsAt S → S
 fails_at_inner f = f.inner
 
--- the number of calls up to and including the one that fails; 0 if none fails any more
+-- the number of calls left up to and including the one that fails; 0 if no further call fails
 abbrev pub calls_left : {S : Type 0} → FailsAt S → ℕ
 calls_left f = f.calls
 
--- the kind of its fault
+-- the kind of fault with which the failing call fails
 abbrev pub fault_kind : {S : Type 0} → FailsAt S → ErrorKind
 fault_kind f = f.kind
 
--- whether the failing call has come
+-- whether the failing call was made
 abbrev pub has_failed : {S : Type 0} → FailsAt S → Bool
 has_failed f = f.has_failed
 
--- a call was counted, and isn't the failing one
+-- whether a call was counted and isn't the failing one
 abbrev pub IsCounted : {S : Type 0} → FailsAt S → FailsAt S → Type 0
 IsCounted old new =
     (calls_left new ≡ calls_left old - 1) × (fault_kind new ≡ fault_kind old) × (has_failed new ≡ has_failed old)
 
--- the call failed with the chosen kind and didn't reach the inner stream
+-- whether the call failed with the chosen kind and didn't reach the inner stream
 abbrev pub FailsNow : {S T : Type 0} → FailsAt S → FailsAt S → Result T Error → Type 0
 FailsNow old new (Ok x) = ⊥
 FailsNow old new (Err e) = (error_kind e ≡ fault_kind old) × (new ≡ record old { calls = 0; has_failed = true })
 
--- what a counted call reports before it reaches the inner stream
+-- the result of counting a call: it fails if it is the failing one, and otherwise goes on to the inner stream
 abbrev pub Counts : {S T : Type 0} → FailsAt S → FailsAt S → Result T Error → Type 0
 Counts {T = T} old new (Ok x) = (old.calls ≢ 1) × (new ≡ record old { calls = old.calls - 1 })
 Counts {T = T} old new (Err e) = (old.calls ≡ 1) × FailsNow {T = T} old new (Err e)

@@ -1,19 +1,19 @@
--- The first bytes of a feed, and the feed after them.
+-- The first bytes of a feed, and the rest of the feed.
 use Rattle.std.specs.Prelude.{ℕ, Bool, true, false, nat_lt, length, take, drop}
 use Rattle.tiny_http_io.specs.declared.device.Stop.{Stop}
 use Rattle.tiny_http_io.specs.declared.device.Stop.TheVariants.{End}
 use Rattle.tiny_http_io.specs.Device.{Feed}
 
--- the stop of a part: the feed's if bytes are missing, and otherwise an end
+-- the stop of a feed's front: the feed's own if the feed has too few bytes for it, and otherwise an end
 abbrev pub stop_where : Bool → Stop → Stop
 stop_where true stop = stop
 stop_where false stop = End
 
--- the first `size` bytes of the feed, or all of them if there are fewer
+-- the first `size` bytes of the feed, or all of them if the feed has fewer
 unfoldable pub feed_front : ℕ → Feed → Feed
 feed_front size feed =
     record { bytes = take size feed.bytes; stop = stop_where (nat_lt (length feed.bytes) size) feed.stop }
 
--- the feed after them
+-- the rest of the feed, after its first `size` bytes
 unfoldable pub feed_behind : ℕ → Feed → Feed
 feed_behind size feed = record { bytes = drop size feed.bytes; stop = feed.stop }

@@ -10,7 +10,7 @@ abbrev pub inner_unless_over : {R : Type 0} → Bool → R → Option R
 inner_unless_over true inner = None
 inner_unless_over false inner = Some inner
 
--- the inner reader, until its end
+-- the inner reader of a `FusedReader`, or `None` once its end was reported
 abbrev pub fused_inner : {R : Type 0} → FusedReader R → Option R
 fused_inner r = inner_unless_over r.over r.inner
 
@@ -18,16 +18,17 @@ abbrev pub feed_unless : Bool → Option Feed → Option Feed
 feed_unless true feed = option_map (λ f. whole_feed []) feed
 feed_unless false feed = feed
 
--- after the end nothing comes
+-- the bytes still to come from a `FusedReader`, and how they stop: none, with an end, once its end was reported
 abbrev pub fused_feed : {R : Type 0} → (R → Option Feed) → FusedReader R → Option Feed
 fused_feed feed r = feed_unless r.over (feed r.inner)
 
--- how many ends and faults the inner reader has reported
+-- the number of ends and faults that the inner reader has reported
 abbrev pub fused_stop_count : {R : Type 0} → (R → ℕ) → FusedReader R → ℕ
 fused_stop_count stop_count r = stop_count r.inner
 
--- ONE READ. It is a read of what is still to be given. Whatever the inner reader states, a read into an empty buffer
--- changes nothing, a byte or a fault is not an end, and the reader isn't called again after its end.
+-- ONE READ of a `FusedReader`. It is a read of the feed still to come. Whatever the inner reader states, a read into an
+-- empty buffer changes nothing, neither bytes nor a fault count as the end, and the inner reader isn't called again
+-- after its end.
 pub record ReadsFused {R : Type 0} (feed : R → Option Feed) (old new : FusedReader R) (r : Result ℕ Error)
     (buf : List ℕ) : Type 0 where
   pub reads : Reads (fused_feed feed old) (fused_feed feed new) r buf

@@ -5,28 +5,28 @@ use Rattle.tiny_http_text.specs.Lines.{has_crlf}
 use Rattle.tiny_http_io.specs.declared.source.LineFault.{LineFault}
 use Rattle.tiny_http_io.specs.declared.source.LineFault.TheVariants.{TooLong}
 
--- a carriage return that may begin the end of the line, or nothing
+-- a CR that may begin the end of the line, if one is held back
 abbrev pub held_return : Bool → List ℕ
 held_return true = 13 ∷ []
 held_return false = []
 
--- however the bytes continue, no CR LF begins in this text
+-- whether no CR LF begins in this text, however the bytes after it continue
 pub record BeginsNoLineEnd (text pend : List ℕ) : Type 0 where
   pub none_begins : (more : List ℕ) → has_crlf (text ++ (pend ++ more)) ≡ has_crlf (pend ++ more)
 
--- the first CR LF of the bytes is after n of them
+-- whether the first CR LF of the bytes comes after n bytes
 pub record EndsLine (bytes : List ℕ) (n : ℕ) : Type 0 where
   pub within : n + 2 ≤ length bytes
   pub ends : take (n + 2) bytes ≡ take n bytes ++ (13 ∷ (10 ∷ []))
   pub first : BeginsNoLineEnd (take n bytes) (13 ∷ [])
 
--- what is left of a limit after `count` bytes
+-- whether `room` is what is left of a limit after `count` bytes
 abbrev pub IsRoom : Option ℕ → Option ℕ → ℕ → Type 0
 IsRoom None None count = ⊤
 IsRoom (Some left) (Some room) count = room + count ≡ left
 IsRoom _ _ count = ⊥
 
--- where reading a line stops: at the limit, or before it
+-- whether reading a line may stop with this fault after these bytes: `TooLong` at the limit, another fault before it
 abbrev pub StopsWithin : Option ℕ → LineFault → List ℕ → Type 0
 StopsWithin None TooLong gone = ⊥
 StopsWithin (Some left) TooLong gone = length gone ≡ left

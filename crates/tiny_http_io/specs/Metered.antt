@@ -3,10 +3,10 @@ use Rattle.std.specs.Prelude.{[], None, false}
 use Rattle.tiny_http_io.specs.Device.{Sink}
 use Rattle.tiny_http_io.specs.declared.device.Metered.{Metered}
 
--- the inner stream
+-- the inner stream of a `Metered`
 abbrev pub metered_inner : {S : Type 0} → Metered S → S
 metered_inner m = m.inner
 
--- what it states as a writer: its failures, but no bytes
+-- what a `Metered` states as a writer: its failures, but no bytes
 abbrev pub metered_sink : {S : Type 0} → Metered S → Sink
 metered_sink m = record { taken = None; sent = []; failures = m.failures; last_kind = m.last; has_ended = false }

@@ -4,7 +4,7 @@ use Rattle.std.specs.IoError.{error_kind}
 use Rattle.std.specs.declared.io.Error.{Error}
 use Rattle.tiny_http_io.specs.Device.{Sink, IsFront, grown, Failed, HoldsNothing}
 
--- the bytes that a writer took and those that are held back, as one sink
+-- the bytes that a writer took and the bytes that an outlet holds back, as one sink
 abbrev pub holding : Sink → List ℕ → Bool → Sink
 holding s held ended =
     record {
@@ -15,35 +15,35 @@ holding s held ended =
       has_ended = ended || s.has_ended;
     }
 
--- What clauses see of an `Outlet`: the bytes held back, whether it takes nothing more, the inner writer, and what that
--- states.
+-- What clauses see of an `Outlet`: the bytes held back, whether it takes nothing more, the inner writer, and what the
+-- writer states.
 pub record OutletState (W : Type 0) : Type 0 where
   pub held : List ℕ
   pub ended : Bool
   pub writer : W
   pub sink : Sink
 
--- the bytes that its writer took and those that are held back, as one sink
+-- the bytes that an outlet's writer took and those that the outlet holds back, as one sink
 abbrev pub output_of : {W : Type 0} → OutletState W → Sink
 output_of o = holding o.sink o.held o.ended
 
--- the bytes that are held back
+-- the bytes that an outlet holds back
 abbrev pub outlet_held : {W : Type 0} → OutletState W → List ℕ
 outlet_held o = o.held
 
--- the outlet takes nothing more
+-- whether the outlet takes nothing more
 abbrev pub outlet_ended : {W : Type 0} → OutletState W → Bool
 outlet_ended o = o.ended
 
--- the inner writer
+-- the inner writer of an outlet
 abbrev pub outlet_writer : {W : Type 0} → OutletState W → W
 outlet_writer o = o.writer
 
--- if the outlet still takes bytes, its writer holds none back
+-- whether the outlet's writer holds no bytes back, if the outlet still takes bytes
 abbrev pub SentOn : {W : Type 0} → OutletState W → Type 0
 SentOn o = (output_of o).has_ended ≡ false → HoldsNothing o.sink
 
--- the bytes held back were sent, or the writer failed while they were
+-- whether ending an outlet sent the bytes that it held back, or the writer failed meanwhile
 abbrev pub EndsOutlet : {T : Type 0} → Sink → Sink → Result T Error → Type 0
 EndsOutlet old new (Ok x) =
     (new.taken ≡ old.taken)

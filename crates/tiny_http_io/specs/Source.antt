@@ -1,4 +1,4 @@
--- What a `Source` still gives, and what its calls change.
+-- What clauses see of a `Source`, and what its calls change.
 use Rattle.std.specs.Prelude.{ℕ, ◌+◌, ◌^◌, ◌≡◌, ◌≢◌, ◌<◌, ◌≤◌, ◌⊎◌, ◌++◌, length, take, drop, Bool, true, false}
 use Rattle.std.specs.Prelude.{IsTrue, List, ⊤, Option, None, Some, Result, Ok, Err, IsSome, IfOk, IfErr, OnOk, OnErr}
 use Rattle.std.specs.Prelude.{IfSome}
@@ -22,9 +22,9 @@ use Rattle.tiny_http_io.specs.declared.source.LineFault.{LineFault}
 use Rattle.tiny_http_io.specs.declared.source.LineFault.TheVariants.{NotAscii, TooLong, Broken, Memory}
 use Rattle.tiny_http_io.specs.declared.source.LineFault.TheVariants.{End as EndOfLines, TimedOut as LineTimedOut}
 
--- What clauses see of a `Source`: the feed still to come, if the reader states it; how the reader stopped, if it has;
--- whether it has stopped and nothing that it gave is left; the reader; the buffered bytes, and how many bytes are to be
--- skipped first; and the input state.
+-- What clauses see of a `Source`: the feed still to come, if the reader states its own; how the input stopped, if it
+-- has; whether it has stopped and none of it is left; the inner reader; the buffered bytes, and how many bytes are to
+-- be skipped first; and the input state.
 pub record SourceState (R : Type 0) : Type 0 where
   pub feed : Option Feed
   pub stop : Option Stop
@@ -35,26 +35,26 @@ pub record SourceState (R : Type 0) : Type 0 where
   pub input_state : InputState
 
 -- THE ENDS AND FAULTS THAT A SOURCE MEETS, by the count of those that its reader reported. No call raises the sum of
--- that count and of the stops still to come: there is at most one in all calls of a source together.
+-- that count and the number still to come, so there is at most one in all calls of a source together.
 abbrev pub CallsReader : {R : Type 0} → (R → ℕ) → SourceState R → SourceState R → Type 0
 CallsReader stop_count old new = stop_count new.reader + stops_to_come new.stop
     ≤ stop_count old.reader + stops_to_come old.stop
 
--- a whole line is buffered
+-- whether a whole line is buffered
 abbrev pub HoldsLine : {R : Type 0} → SourceState R → Type 0
 HoldsLine s = has_crlf (drop s.skip s.held) ≡ true
 
--- the input has ended, or was made to end, and nothing of it is left: each further line is reported as the end
+-- whether the input has ended, or was made to end, and nothing of it is left: each further line is reported as the end
 abbrev pub IsAtEnd : {R : Type 0} → SourceState R → Type 0
 IsAtEnd s = (s.is_over ≡ true) × (s.stop ≡ Some End)
 
--- the fault of a line that the input stopped before
+-- the fault to report for a line if the input stopped in this way before the line was complete
 abbrev pub line_fault_of : Stop → LineFault
 line_fault_of End = EndOfLines
 line_fault_of (Fault TimedOut) = LineTimedOut
 line_fault_of (Fault kind) = Broken kind
 
--- The effect of reading a line on the feed: the first line is consumed, or there is none.
+-- The effect on the feed of reading a line: the first line is consumed, or there is none.
 abbrev pub ReadsLine : Option Feed → Option Feed → Result (List ℕ) LineFault → Type 0
 ReadsLine None new result = ⊤
 ReadsLine (Some old) new (Ok text) =
@@ -69,28 +69,28 @@ ReadsLine (Some old) new (Err Memory) = new ≡ Some (stopped End)
 ReadsLine (Some old) new (Err fault) =
     IsUnfinished old.bytes × (fault ≡ line_fault_of old.stop) × (new ≡ Some (stopped old.stop))
 
--- a line of n bytes, with its CR LF, is within the limit, if there is one
+-- whether a line of n bytes and its CR LF are within the limit, if there is one
 abbrev pub IsWithin : Option ℕ → ℕ → Type 0
 IsWithin None n = ⊤
 IsWithin (Some left) n = n + 2 ≤ left
 
--- the bytes within the limit
+-- the bytes within the limit, or all bytes if there is no limit
 abbrev pub seen_within : Option ℕ → List ℕ → List ℕ
 seen_within None bytes = bytes
 seen_within (Some left) bytes = take left bytes
 
--- the bytes end before the limit
+-- whether the bytes end before the limit, if there is one
 abbrev pub IsShort : Option ℕ → List ℕ → Type 0
 IsShort None bytes = ⊤
 IsShort (Some left) bytes = length bytes < left
 
--- the limit was reached, and no line ends before it
+-- whether the limit was reached, and no line ends before it
 abbrev pub IsTooLong : Option ℕ → List ℕ → Type 0
 IsTooLong None bytes = ⊥
 IsTooLong (Some left) bytes = (left ≤ length bytes) × IsUnfinished (take left bytes)
 
--- The effect of reading a line within a limit on the feed: the first line is consumed, if it is within the limit with
--- its CR LF; or the limit was reached; or the bytes ended before it.
+-- The effect on the feed of reading a line within a limit: the first line is consumed, if the line and its CR LF are
+-- within the limit; or the limit was reached; or the bytes ended before it.
 abbrev pub ReadsWithin : Option ℕ → Option Feed → Option Feed → Result (List ℕ) LineFault → Type 0
 ReadsWithin left None new result = ⊤
 ReadsWithin left (Some old) new (Ok text) = ReadsLine (Some old) new (Ok text) × IsWithin left (length text)
@@ -105,23 +105,23 @@ ReadsWithin left (Some old) new (Err TooLong) = IsTooLong left old.bytes × (new
 ReadsWithin left (Some old) new (Err Memory) = new ≡ Some (stopped End)
 ReadsWithin left (Some old) new (Err fault) = ReadsLine (Some old) new (Err fault) × IsShort left old.bytes
 
--- The effect of consuming a line on the feed, whatever its bytes are: it was at the front, with its CR LF.
+-- The effect on the feed of consuming a line, whatever its bytes are: the line and its CR LF were at the front.
 abbrev pub TakesLine : Option Feed → Option Feed → List ℕ → Type 0
 TakesLine None new text = ⊤
 TakesLine (Some old) new text =
     (rest : List ℕ) × Line old.bytes text rest × (new ≡ Some (record { bytes = rest; stop = old.stop }))
 
--- The effect of finding a line within a limit on the feed: the line was consumed; or it is buffered, and nothing was;
--- or there is none.
+-- The effect on the feed of finding a line within a limit: the line was consumed; or the line is buffered, and nothing
+-- was consumed; or there is none.
 abbrev pub FindsLine : Option ℕ → Option Feed → Option Feed → List ℕ → ℕ → Result FirstLine LineFault → Type 0
 FindsLine left old new held skip (Ok (Taken text)) = TakesLine old new text.items × IsWithin left (length text.items)
 FindsLine left old new held skip (Ok (Held n)) = (new ≡ old) × (skip ≡ 0) × EndsLine held n × IsWithin left n
 FindsLine left old new held skip (Err fault) = ReadsWithin left old new (Err fault) × (fault ≢ NotAscii)
 
--- ONE READ of a source. It is a read of its feed. Whatever the reader states, a read into an empty buffer changes
--- nothing, and the reader isn't called again after an end or a fault. A source that has reported its stop is over: it
--- stays so, and each later read reports the same. Nothing is read ahead: a read that gave bytes met no end or fault,
--- and the reader isn't called if a byte is buffered.
+-- ONE READ of a source. It is a read of the source's feed. Whatever the reader states, a read into an empty buffer
+-- changes nothing, and the reader isn't called again after an end or a fault. A source that has reported its stop is
+-- over: it stays so, and each later read reports the same stop. Nothing is read ahead: a read that returned bytes met
+-- no end or fault, and the reader isn't called if a byte is buffered.
 pub record ReadsSource {R : Type 0} (old new : SourceState R) (r : Result ℕ Error) (buf : List ℕ) : Type 0 where
   pub reads : Reads old.feed new.feed r buf
   pub empty : length buf ≡ 0 → (r ≡ Ok 0) × (new ≡ old)
@@ -133,37 +133,38 @@ pub record ReadsSource {R : Type 0} (old new : SourceState R) (r : Result ℕ Er
   pub held : old.skip < length old.held → new.reader ≡ old.reader
   pub input_state : new.input_state ≡ old.input_state
 
--- the feed continues with the rest
+-- the feed of the bytes `rest`, with the stop of the feed f
 abbrev pub feed_from : Feed → List ℕ → Option Feed
 feed_from f rest = Some (record { bytes = rest; stop = f.stop })
 
--- exactly n bytes were taken, or fewer were left
+-- whether exactly n bytes were taken, or fewer were left and all were taken
 abbrev pub TakesExactly : {T : Type 0} → (T → List ℕ) → ℕ → Option Feed → Option Feed → Option T → Type 0
 TakesExactly items n None new r = ⊤
 TakesExactly items n (Some f) new (Some body) =
     (rest : List ℕ) × (f.bytes ≡ items body ++ rest) × (length (items body) ≡ n) × (new ≡ feed_from f rest)
 TakesExactly items n (Some f) new None = (length f.bytes < n) × (new ≡ Some (stopped f.stop))
 
--- only bytes at the front were taken: what is still to come is a suffix of the feed
+-- whether only bytes at the front were taken: the bytes still to come are a suffix of the old feed
 pub record IsRestOf (old new : Feed) : Type 0 where
   pub gone : List ℕ
   pub joins : old.bytes ≡ gone ++ new.bytes
 
+-- whether the new feed's bytes are a suffix of the old feed's, if the old feed is stated
 abbrev pub GoesOn : Option Feed → Option Feed → Type 0
 GoesOn None new = ⊤
 GoesOn (Some old) None = ⊥
 GoesOn (Some old) (Some new) = IsRestOf old new
 
--- nothing is left of the input, and it stopped as its feed does
+-- whether nothing is left of the input, and it stopped as its feed does
 pub record IsCutOff {R : Type 0} (old new : SourceState R) : Type 0 where
   pub over : new.is_over ≡ true
   pub remains : (f : Feed) → old.feed ≡ Some f → new.feed ≡ Some (stopped f.stop)
 
 -- THE CALLS OF A SOURCE. None changes the input state. The reader isn't called again after an end or a fault (`once`).
 -- Nothing is read ahead: a call that returned what was asked for met no end or fault (`lazy`), and the reader isn't
--- called if that was buffered (`held`).
+-- called if what was asked for was buffered (`held`).
 
--- whether another byte is to come; a source that is over stays so
+-- The effect of looking for another byte: `found` says whether one is to come. A source that is over stays so.
 pub record LooksForByte {R : Type 0} (old new : SourceState R) (found : Bool) : Type 0 where
   pub some : IsTrue found → HasByte old.feed × (new.stop ≡ old.stop)
   pub none : found ≡ false → HasNoByte old.feed × (new.is_over ≡ true)
@@ -175,7 +176,7 @@ pub record LooksForByte {R : Type 0} (old new : SourceState R) (found : Bool) : 
   pub stays : old.is_over ≡ true → (found ≡ false) × (new ≡ old)
   pub input_state : new.input_state ≡ old.input_state
 
--- n more bytes are skipped; the reader isn't called unless the bytes to skip add up to 2^64 or more
+-- The effect of skipping n more bytes. The reader isn't called unless the bytes to skip add up to 2^64 or more.
 pub record SkipsBytes {R : Type 0} (n : ℕ) (old new : SourceState R) : Type 0 where
   pub feed : new.feed ≡ option_map (skipped n) old.feed
   pub alone : old.skip + n < 2 ^ 64 → (new.reader ≡ old.reader) × (new.stop ≡ old.stop)
@@ -183,17 +184,17 @@ pub record SkipsBytes {R : Type 0} (n : ℕ) (old new : SourceState R) : Type 0 
   pub once : IsSome old.stop → IsSome new.stop × (new.reader ≡ old.reader)
   pub input_state : new.input_state ≡ old.input_state
 
--- the rest of the input is discarded, and the reader isn't called
+-- The effect of ending a source: the rest of its input is discarded, and the reader isn't called.
 pub record EndsHere {R : Type 0} (old new : SourceState R) : Type 0 where
   pub feed : new.feed ≡ option_map (λ _. stopped End) old.feed
   pub at_end : IsAtEnd new
   pub reader : new.reader ≡ old.reader
   pub input_state : new.input_state ≡ old.input_state
 
--- A line was read, within the limit if there is one, or there is none. After any fault except a line that isn't ASCII
--- the source is over; after refused memory or a line that is too long it is as at its end. If the buffer holds as many
+-- The effect of reading a line, within the limit if there is one. After any fault except a line that isn't ASCII the
+-- source is over; after refused memory or a line that is too long it is as at its end. If the buffer holds as many
 -- bytes as the limit, the reader isn't called (`full`). A source that is over stays so, and each line is reported as
--- its stop, unless the limit is 0.
+-- how the input stopped, unless the limit is 0.
 pub record ReadsOneLine {R : Type 0} (left : Option ℕ) (old new : SourceState R)
     (r : Result (List ℕ) LineFault) : Type 0 where
   pub line : ReadsWithin left old.feed new.feed r
@@ -211,7 +212,8 @@ pub record ReadsOneLine {R : Type 0} (left : Option ℕ) (old new : SourceState 
   pub full : IfSome left (λ n. old.skip + n ≤ length old.held → new.reader ≡ old.reader)
   pub input_state : new.input_state ≡ old.input_state
 
--- The same for a line that is found, whatever its bytes are: it is buffered or was consumed.
+-- The effect of finding a line, whatever its bytes are, within the limit if there is one: the line is buffered or was
+-- consumed. After any fault the source is over. The rest is as for reading a line (`ReadsOneLine`).
 pub record FindsOneLine {R : Type 0} (left : Option ℕ) (old new : SourceState R)
     (r : Result FirstLine LineFault) : Type 0 where
   pub line : FindsLine left old.feed new.feed new.held new.skip r
@@ -228,7 +230,7 @@ pub record FindsOneLine {R : Type 0} (left : Option ℕ) (old new : SourceState 
   pub lazy : OnOk r (new.stop ≡ old.stop)
   pub input_state : new.input_state ≡ old.input_state
 
--- a buffered line of n bytes is consumed with its CR LF, and the reader isn't called
+-- The effect of consuming a buffered line of n bytes and its CR LF. The reader isn't called.
 pub record PassesLine {R : Type 0} (n : ℕ) (old new : SourceState R) : Type 0 where
   pub line : TakesLine old.feed new.feed (take n old.held)
   pub goes_on : GoesOn old.feed new.feed
@@ -237,7 +239,7 @@ pub record PassesLine {R : Type 0} (n : ℕ) (old new : SourceState R) : Type 0 
   pub stop : new.stop ≡ old.stop
   pub input_state : new.input_state ≡ old.input_state
 
--- n buffered bytes are consumed, and the reader isn't called
+-- The effect of consuming n buffered bytes. The reader isn't called.
 pub record TakesHeld {R : Type 0} (n : ℕ) (old new : SourceState R) : Type 0 where
   pub feed : old.feed ≡ prepended (take n old.held) new.feed
   pub goes_on : GoesOn old.feed new.feed
@@ -246,8 +248,8 @@ pub record TakesHeld {R : Type 0} (n : ℕ) (old new : SourceState R) : Type 0 w
   pub stop : new.stop ≡ old.stop
   pub input_state : new.input_state ≡ old.input_state
 
--- n bytes are taken; or fewer are left, which are all taken, and the source is over; or memory was refused, and nothing
--- has changed
+-- The effect of taking exactly n bytes: they are taken; or fewer are left, all of these are taken, and the source is
+-- over; or memory was refused, and nothing has changed.
 pub record TakesBytes {R : Type 0} (n : ℕ) (old new : SourceState R)
     (r : Result (Option (Vec ℕ)) AllocError) : Type 0 where
   pub takes : IfOk r (λ body. TakesExactly (λ v. v.items) n old.feed new.feed body)

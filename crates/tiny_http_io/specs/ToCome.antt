@@ -1,4 +1,4 @@
--- What is still to come of an input, part of which is buffered or to be skipped.
+-- The bytes still to come of an input that is partly buffered or to be skipped.
 use Rattle.std.specs.Prelude.{◌≡◌, ℕ, nat_le, if◌then◌else◌, List, [], length, drop, Option, None, Some, ⊤}
 use Rattle.std.specs.Option.{option_map}
 use Rattle.tiny_http_io.specs.Device.{Feed, prepended}
@@ -9,31 +9,31 @@ use Rattle.tiny_http_io.specs.declared.device.Stop.TheVariants.{End}
 abbrev pub stopped : Stop → Feed
 stopped stop = record { bytes = []; stop = stop }
 
--- what comes after the buffered bytes: the reader's feed, or nothing once the input has stopped
+-- the feed after the buffered bytes: the reader's, or an empty one once the input has stopped
 abbrev pub behind_held : Option Stop → Option Feed → Option Feed
 behind_held None feed = feed
 behind_held (Some stop) feed = option_map (λ _. stopped stop) feed
 
--- how many ends and faults the reader may still report: one until the input has stopped, then none
+-- the number of ends and faults that the reader may still report: one until the input has stopped, then none
 abbrev pub stops_to_come : Option Stop → ℕ
 stops_to_come None = 1
 stops_to_come (Some stop) = 0
 
--- the feed without its first n bytes; if it has fewer, it is empty and ends
+-- the feed without its first n bytes; if it has fewer than n, an empty feed that ends
 abbrev pub skipped : ℕ → Feed → Feed
 skipped n feed =
     if nat_le n (length feed.bytes) then record { bytes = drop n feed.bytes; stop = feed.stop } else stopped End
 
--- what is still to come once n bytes are skipped, buffered ones first
+-- the feed still to come once n bytes are skipped, buffered ones first
 abbrev pub to_come : ℕ → List ℕ → Option Feed → Option Feed
 to_come n held feed = option_map (skipped n) (prepended held feed)
 
--- a byte is still to come, if that is stated
+-- whether a byte is still to come, if the feed is stated
 abbrev pub HasByte : Option Feed → Type 0
 HasByte None = ⊤
 HasByte (Some feed) = feed.bytes ≡ [] → ⊥
 
--- no byte is still to come, if that is stated
+-- whether no byte is still to come, if the feed is stated
 abbrev pub HasNoByte : Option Feed → Type 0
 HasNoByte None = ⊤
 HasNoByte (Some feed) = feed.bytes ≡ []

@@ -9,7 +9,7 @@ use crate::device::ReadDevice;
 use std::io;
 use std::marker::Model;
 
-/// The capacity of a buffer in bytes, both of a source and of an outlet (as in the original).
+/// The capacity, in bytes, of the buffer of a source or an outlet (as in the original).
 pub const CAPACITY: usize = 1024;
 
 /// A queue of at most `CAPACITY` bytes: bytes enter at the back and leave at the front.
@@ -90,7 +90,7 @@ impl Buffer {
         Some(first)
     }
 
-    /// Moves bytes to the front of `to`, as many as are there and fit, and returns how many.
+    /// Moves as many bytes as fit to the front of `to`, and returns how many.
     pub fn give(&mut self, to: &mut [u8]) -> usize
         ensures count { result ≡ min (length self.old) (length to.old) }
         ensures bytes { self.old ≡ take result to.new ++ self.new }
@@ -111,7 +111,7 @@ impl Buffer {
         self.end = 0;
     }
 
-    /// Reads once into the empty buffer.
+    /// Discards the buffered bytes and reads once from the device. A call that fails leaves the buffer empty.
     pub fn read_from<R: ReadDevice>(&mut self, device: &mut R) -> Result<usize, io::Error>
         ensures count { IfOk result (λ n. n ≡ length self.new) }
         ensures bytes { OnOk result (R.feed device.old ≡ prepended self.new (R.feed device.new)) }

@@ -51,7 +51,7 @@ impl<R: ReadDevice, W> ReadDevice for CustomStream<R, W> {
 impl<R, W: WriteDevice> WriteDevice for CustomStream<R, W> {
     ghost sink = { λ s. W.sink (custom_writer s) };
 
-    /// Returns the writer's count.
+    /// Returns the writer's failure count.
     fn failures(&self) -> u64 {
         self.writer.failures()
     }
@@ -73,7 +73,7 @@ impl<R, W: WriteDevice> WriteDevice for CustomStream<R, W> {
         self.writer.flush_out()
     }
 
-    /// Has the writer signal that no byte follows. The reader isn't touched.
+    /// Makes the writer signal that no byte follows. The reader isn't touched.
     fn end_out(&mut self)
         ensures sink { W.sink (custom_writer self.new) ≡ W.sink (custom_writer self.old) }
         ensures reader { custom_reader self.new ≡ custom_reader self.old }
@@ -105,7 +105,7 @@ impl<R: ReadDevice, W> Read for CustomStream<R, W> {
 }
 
 // `contents` is left unstated: a writer may take some bytes and then fail, or return `Ok` after its end and take none,
-// and std's clauses on known bytes allow neither. Each clause says what the writer itself states.
+// and std's clauses on known bytes allow neither. The clauses say what the writer itself states.
 impl<R, W: WriteDevice> Write for CustomStream<R, W> {
     ghost use Rattle.std.specs.Io.{WritesAtMost};
 
@@ -128,7 +128,7 @@ impl<R, W: WriteDevice> Write for CustomStream<R, W> {
     }
 
     /// Writes all bytes. It stops at the first fault and reports it, even one of kind `Interrupted`: the writer may
-    /// have ended by it, and a retry would then return `Ok`.
+    /// have ended with that fault, and a retry would then return `Ok`.
     fn write_all(&mut self, buf: &[u8]) -> io::Result<()>
         ensures puts { Puts (W.sink (custom_writer self.old)) (W.sink (custom_writer self.new)) result buf.now }
         ensures reader { custom_reader self.new ≡ custom_reader self.old }

@@ -1,4 +1,4 @@
-//! The device traits: readers that may state what they give, and writers that count their failures.
+//! The device traits: readers that may state the bytes still to come, and writers that count their failures.
 ghost use Rattle.std.specs.Prelude.{◌≡◌, ◌<◌, ◌≤◌, ℕ, min, false, [], length, take, drop, Option, None, Some, Ok, IfOk};
 ghost use Rattle.std.specs.Prelude.{IfErr, OnOk, OnErr, vec_len, flat_map};
 ghost use Rattle.std.specs.IoError.{error_kind};
@@ -11,66 +11,66 @@ use std::io;
 use std::io::{Cursor, ErrorKind, Read, Write};
 use std::marker::Model;
 
-/// How a reader's bytes stop.
+/// How a reader's input stops.
 #[derive(Clone, Copy, Debug, PartialEq, Eq)]
 pub enum Stop {
     /// The end of input: no byte follows.
     End,
-    /// A fault: each further read fails with this kind.
+    /// A fault: each further read fails with an error of this kind.
     Fault(ErrorKind),
 }
 
-/// A reader whose contract may state its feed: the bytes that it still gives, and how they stop.
+/// A reader whose contract may state its feed: the bytes still to come, and how the input stops after them.
 pub trait ReadDevice {
-    /// The bytes that it still gives and how they stop, if it states them.
+    /// The feed, if the reader states it.
     ghost feed: { Self → Option Feed } = { λ _. None };
 
-    /// The number of ends and faults that it has reported, if it counts them. A wrapper states its inner reader's
-    /// count. With this count a contract can say that no second end or fault is asked for after the first.
+    /// The number of ends and faults that the reader has reported, if it counts them. A wrapper states the count of its
+    /// inner reader. With this count a contract can say that no second end or fault is asked for after the first.
     ghost stop_count: { Self → ℕ } = { λ _. 0 };
 
     /// Reads some bytes into the front of `buf` and returns how many: 0 at the end, or if `buf` is empty. After the
-    /// last byte each call reports the stop. A read that fails gives no byte.
+    /// last byte each call reports the end or the fault. A read that fails takes no byte.
     fn read_in(&mut self, buf: &mut [u8]) -> Result<usize, io::Error>
         ensures reads { Reads (feed self.old) (feed self.new) result buf.new }
         ensures empty { length buf.new ≡ 0 → (result ≡ Ok 0) × (self.new ≡ self.old) }
         ensures stop_count { Tells (stop_count self.old) (stop_count self.new) result };
 }
 
-/// A writer that counts its failures, and may state the bytes that it took and its last failure.
+/// A writer that counts its failures. Its contract may state the bytes that it took and its last failure.
 pub trait WriteDevice {
-    /// The bytes that it took, if it states them, and those that it has sent on; its failures; and whether it has
-    /// ended.
+    /// What the writer states: the bytes that it took, if it states them, and those of them that it has sent on; its
+    /// failures; and whether it has ended.
     ghost sink: { Self → Sink };
 
     /// Returns how often a write or a flush has failed, at most 2^64 - 1.
     fn failures(&self) -> u64
         ensures count { result ≡ (sink self.now).failures }
-        // A law of every writer, stated here for want of a better place: the first of its bytes were sent on, and the
-        // others are held back.
+        // A law of every writer, stated here for want of a better place: the bytes that a writer has sent on are a
+        // prefix of those that it took. It holds back the others.
         ensures sent { BeginsKnown (sink self.now).sent (sink self.now).taken };
 
-    /// Writes some bytes from the front of `buf` and returns how many: at least one if there is one. A writer that has
-    /// ended returns the same, but takes none of them.
+    /// Writes some bytes from the front of `buf` and returns how many: at least one unless `buf` is empty. A writer
+    /// that has ended returns such a number too, but takes none of the bytes.
     fn write_out(&mut self, buf: &[u8]) -> Result<usize, io::Error>
         ensures { PutsFront (sink self.old) (sink self.new) result buf.now };
 
-    /// Sends on the bytes that it holds back. The bytes that it took stay the same.
+    /// Sends on the bytes that the writer holds back. The bytes that it took don't change.
     fn flush_out(&mut self) -> Result<(), io::Error>
         ensures puts { Puts (sink self.old) (sink self.new) result [] }
         ensures sent { OnOk result ((sink self.new).has_ended ≡ false → HoldsNothing (sink self.new)) };
 
     /// Signals that no byte follows (RFC 9112, section 9.6). The caller writes nothing more.
     ///
-    /// What the writer states stays the same. A writer that can't signal it does nothing, as this default does. That
-    /// the others do is tested, not proved.
+    /// What the writer states doesn't change. A writer that can't signal the end does nothing, as this default does.
+    /// That other writers signal it is tested, not proved.
     fn end_out(&mut self)
         ensures { sink self.new ≡ sink self.old }
     {}
 }
 
-/// Copies bytes from the front of `from` to the front of `to` and returns how many: as many as both have. The rest of
-/// `to` stays the same.
+/// Copies bytes from the front of `from` to the front of `to` and returns how many: the length of the shorter slice.
+/// The rest of `to` doesn't change.
 pub fn copy_front(from: &[u8], to: &mut [u8]) -> usize
     ensures count { result ≡ min (length from.now) (length to.old) }
     ensures len { length to.new ≡ length to.old }
@@ -82,7 +82,7 @@ pub fn copy_front(from: &[u8], to: &mut [u8]) -> usize
     n
 }
 
-/// A reader over bytes in memory with a given end or fault. A contract sees it as its feed.
+/// A reader over bytes in memory that then stops with a given end or fault. A contract sees it as its feed.
 #[derive(Drop)]
 pub struct Canned {
     bytes: Vec<u8>,
@@ -99,7 +99,8 @@ impl Model for Canned {
 }
 
 impl Canned {
-    /// Makes a reader of these bytes, then an end, or a fault of this kind at each call.
+    /// Makes a reader that returns these bytes. After them each call reports the end, or a fault of this kind if one is
+    /// given.
     pub fn new(bytes: Vec<u8>, fault: Option<ErrorKind>) -> Canned
         ensures { result ≡ record { bytes = bytes.items; stop = stop_of fault } }
     {
@@ -114,7 +115,7 @@ impl Canned {
 impl ReadDevice for Canned {
     ghost feed = { λ c. Some c };
 
-    /// Copies the next bytes.
+    /// Copies the next bytes. After the last one it reports the end or the fault.
     fn read_in(&mut self, buf: &mut [u8]) -> Result<usize, io::Error> {
         if buf.is_empty() {
             return Ok(0);
@@ -148,8 +149,8 @@ impl ReadDevice for io::Empty {
     }
 }
 
-/// A device that counts its write failures and keeps the kind of the last one. As a reader it states no feed; as a
-/// writer it doesn't state its bytes.
+/// A wrapper that makes a device from any stream: it counts the writes and flushes that failed, and keeps the kind of
+/// the last failure. As a reader it states no feed; as a writer it states no bytes.
 #[derive(Drop)]
 pub struct Metered<S> {
     inner: S,
@@ -181,7 +182,7 @@ impl<S> Metered<S> {
         self.last = Some(kind);
     }
 
-    /// Returns the stream.
+    /// Returns the inner stream.
     pub fn into_inner(self) -> S
         ensures { result ≡ metered_inner self }
     {
@@ -193,11 +194,11 @@ impl<S: Read> ReadDevice for Metered<S> {
     ghost use Rattle.std.specs.Io.KnownBytes.{ReadConsumes};
     ghost use Rattle.tiny_http_io.specs.Metered.{metered_inner};
 
-    /// Reads once from the stream. A read into an empty buffer doesn't reach it.
+    /// Reads once from the inner stream. A read into an empty buffer doesn't reach the stream.
     fn read_in(&mut self, buf: &mut [u8]) -> Result<usize, io::Error>
         ensures reads { Reads None None result buf.new }
         ensures empty { length buf.new ≡ 0 → (result ≡ Ok 0) × (self.new ≡ self.old) }
-        // The bytes came from the stream, if it states what it still gives.
+        // The bytes came from the inner stream, if it states those still to come.
         ensures stream { ReadConsumes (S.remaining (metered_inner self.old)) (S.remaining (metered_inner self.new))
             result buf.new }
     {
@@ -214,15 +215,16 @@ impl<S: Write> WriteDevice for Metered<S> {
 
     ghost sink = { metered_sink };
 
-    /// Returns the count.
+    /// Returns how many writes and flushes have failed.
     fn failures(&self) -> u64 {
         self.failures
     }
 
-    /// Writes once to the stream. If the stream takes nothing from a nonempty buffer, it fails with `WriteZero`.
+    /// Writes once to the inner stream. If the stream takes nothing from a nonempty buffer, this fails with
+    /// `WriteZero`.
     fn write_out(&mut self, buf: &[u8]) -> Result<usize, io::Error>
         ensures puts { PutsFront (metered_sink self.old) (metered_sink self.new) result buf.now }
-        // The stream took these bytes, and none if it failed, if it states its bytes.
+        // If the inner stream states its bytes, it took these bytes, or none if the write failed.
         ensures stream { WriteAppends (S.contents (metered_inner self.old)) (S.contents (metered_inner self.new))
             result buf.now }
     {
@@ -236,11 +238,12 @@ impl<S: Write> WriteDevice for Metered<S> {
         outcome
     }
 
-    /// Flushes the stream. No contract says so, since std's clauses on a flush say only that the bytes stay.
+    /// Flushes the inner stream. No contract says so, since std's clauses on a flush say only that the bytes don't
+    /// change.
     fn flush_out(&mut self) -> Result<(), io::Error>
         ensures puts { Puts (metered_sink self.old) (metered_sink self.new) result [] }
         ensures sent { OnOk result ((metered_sink self.new).has_ended ≡ false → HoldsNothing (metered_sink self.new)) }
-        // The stream's bytes stay, if it states them.
+        // The inner stream's bytes don't change, if it states them.
         ensures stream { Keeps (S.contents (metered_inner self.old)) (S.contents (metered_inner self.new)) }
     {
         let outcome = self.inner.flush();
@@ -258,7 +261,8 @@ fn next(failures: u64) -> u64
     failures.saturating_add(1)
 }
 
-/// A writer in memory that takes a given number of bytes; after them every nonempty write fails. It keeps the bytes.
+/// A writer into memory that takes a given number of bytes, and fails each nonempty write after them. It keeps the
+/// bytes.
 #[derive(Drop)]
 pub struct Budget {
     bytes: Vec<u8>,
@@ -271,8 +275,8 @@ pub struct Budget {
 impl Budget {
     ghost use Rattle.tiny_http_io.specs.Budget.{budget_bytes, budget_room, budget_kind, budget_sink};
 
-    /// Makes a writer that takes `room` bytes and then fails with this kind. It fails with `OutOfMemory` if memory for
-    /// the bytes is refused.
+    /// Makes a writer that takes `room` bytes and then fails with this kind. A write fails with `OutOfMemory` if memory
+    /// for the bytes is refused.
     pub fn new(alloc: Global, room: usize, kind: ErrorKind) -> Budget
         ensures sink { budget_sink result
             ≡ record { taken = Some []; sent = []; failures = 0; last_kind = None; has_ended = false } }
@@ -282,7 +286,7 @@ impl Budget {
         Budget::from_vec(Vec::new(alloc), room, kind)
     }
 
-    /// As `new`, but with these bytes as the first that it took. They don't count towards `room`.
+    /// Makes a writer as `new` does, but one that has already taken these bytes. They don't count towards `room`.
     pub fn from_vec(bytes: Vec<u8>, room: usize, kind: ErrorKind) -> Budget
         ensures sink { budget_sink result ≡ record
             { taken = Some bytes.items; sent = bytes.items; failures = 0; last_kind = None; has_ended = false } }
@@ -298,7 +302,7 @@ impl Budget {
         }
     }
 
-    /// Returns the bytes that it took.
+    /// Returns the bytes that the writer took.
     pub fn into_bytes(self) -> Vec<u8>
         ensures { result.items ≡ budget_bytes self }
     {
@@ -306,7 +310,7 @@ impl Budget {
         bytes
     }
 
-    /// Borrows the bytes that it took.
+    /// Borrows the bytes that the writer took.
     pub fn bytes(&self) -> &[u8]
         ensures { result.now ≡ budget_bytes self.now }
     {
@@ -330,12 +334,13 @@ impl WriteDevice for Budget {
 
     ghost sink = { budget_sink };
 
-    /// Returns the count.
+    /// Returns how many writes have failed.
     fn failures(&self) -> u64 {
         self.failures
     }
 
-    /// Takes as many bytes as there is room for. It fails, and takes none, if there is no room or memory is refused.
+    /// Takes as many bytes as there is room for. A nonempty write fails, and takes none, if there is no room or memory
+    /// is refused.
     fn write_out(&mut self, buf: &[u8]) -> Result<usize, io::Error>
         ensures puts { PutsFront (budget_sink self.old) (budget_sink self.new) result buf.now }
         ensures count { IfOk result (λ n. n ≡ min (length buf.now) (budget_room self.old)) }
@@ -364,7 +369,7 @@ impl WriteDevice for Budget {
         }
     }
 
-    /// Does nothing: no bytes are held back.
+    /// Does nothing, since the writer holds no bytes back.
     fn flush_out(&mut self) -> Result<(), io::Error>
         ensures puts { Puts (budget_sink self.old) (budget_sink self.new) result [] }
         ensures sent { OnOk result ((budget_sink self.new).has_ended ≡ false → HoldsNothing (budget_sink self.new)) }
@@ -393,7 +398,7 @@ pub fn read_front<R: ReadDevice>(
 ) -> Result<usize, io::Error>
     ensures most { IfOk result (λ n. n ≤ most) }
     ensures bound { IfOk result (λ n. n ≤ length buf.new) }
-    // The bytes are the next of the feed.
+    // The bytes are the next ones of the feed.
     ensures bytes { IfOk result (λ n. R.feed reader.old ≡ prepended (take n buf.new) (R.feed reader.new)) }
     ensures end { IfOk result (λ n. n ≡ 0 → 0 < most → 0 < length buf.new → StopsBy Stop.End (R.feed reader.old)) }
     ensures fault { IfErr result (λ e. StopsBy (Stop.Fault (error_kind e)) (R.feed reader.old)) }
@@ -428,7 +433,7 @@ pub fn put_all<W: WriteDevice>(writer: &mut W, pieces: &[&[u8]]) -> Result<(), i
     Ok(())
 }
 
-/// A reader that gives another reader's bytes in small pieces. It is for tests of code that reads.
+/// A reader that returns another reader's bytes in small pieces. It is for testing code that reads.
 #[derive(Drop)]
 pub struct ByPieces<R> {
     inner: R,
@@ -439,7 +444,7 @@ impl<R> ByPieces<R> {
     ghost use Rattle.std.specs.Prelude.{max};
     ghost use Rattle.tiny_http_io.specs.Pieces.{pieces_inner, pieces_most};
 
-    /// Limits each read of `inner` to `most` bytes, or to one if `most` is 0.
+    /// Limits each read of `inner` to `most` bytes, or to one byte if `most` is 0.
     pub fn new(inner: R, most: usize) -> ByPieces<R>
         ensures inner { pieces_inner result ≡ inner }
         ensures most { pieces_most result ≡ max most 1 }
@@ -447,7 +452,7 @@ impl<R> ByPieces<R> {
         ByPieces { inner, most }
     }
 
-    /// Returns the reader.
+    /// Returns the inner reader.
     pub fn into_inner(self) -> R
         ensures { result ≡ pieces_inner self }
     {
@@ -462,7 +467,7 @@ impl<R: ReadDevice> ReadDevice for ByPieces<R> {
 
     ghost stop_count = { λ p. R.stop_count (pieces_inner p) };
 
-    /// Reads once from the reader, into the front of `buf`.
+    /// Reads once from the inner reader, into the front of `buf`.
     fn read_in(&mut self, buf: &mut [u8]) -> Result<usize, io::Error>
         ensures reads { Reads (R.feed (pieces_inner self.old)) (R.feed (pieces_inner self.new)) result buf.new }
         ensures empty { length buf.new ≡ 0 → (result ≡ Ok 0) × (self.new ≡ self.old) }
@@ -475,12 +480,13 @@ impl<R: ReadDevice> ReadDevice for ByPieces<R> {
     }
 }
 
-/// A reader or writer with one failing call. That call doesn't reach the inner stream; every other does. It is a
-/// `ReadDevice` over a `ReadDevice`, and a `Write` over a `Write`. It is for tests of code that reads and writes.
+/// A reader or writer of which one call fails. That call doesn't reach the inner stream; every other call does, except
+/// a read into an empty buffer. It is a `ReadDevice` over a `ReadDevice`, and a `Write` over a `Write`. It is for
+/// testing code that reads and writes.
 #[derive(Drop)]
 pub struct FailsAt<S> {
     inner: S,
-    // The number of calls up to and including the one that fails. 0: none fails any more.
+    // The number of calls left up to and including the one that fails; 0 if no further call fails.
     calls: u64,
     kind: ErrorKind,
     has_failed: bool,
@@ -489,8 +495,8 @@ pub struct FailsAt<S> {
 impl<S> FailsAt<S> {
     ghost use Rattle.tiny_http_io.specs.FailsAt.{fails_at_inner, calls_left, fault_kind, has_failed, Counts};
 
-    /// Makes the `nth` call, counted from 1, fail with this kind; with 0 none fails. Reads, writes and flushes all
-    /// count, but not a read into an empty buffer.
+    /// Wraps a stream so that the `nth` call, counted from 1, fails with this kind. If `nth` is 0, no call fails.
+    /// Reads, writes and flushes all count, except a read into an empty buffer.
     pub fn new(inner: S, nth: u64, kind: ErrorKind) -> FailsAt<S>
         ensures inner { fails_at_inner result ≡ inner }
         ensures calls { calls_left result ≡ nth }
@@ -505,14 +511,14 @@ impl<S> FailsAt<S> {
         }
     }
 
-    /// Returns whether the failing call has come.
+    /// Returns whether the failing call was made.
     pub fn has_failed(&self) -> bool
         ensures { result ≡ has_failed self.now }
     {
         self.has_failed
     }
 
-    /// Returns the stream.
+    /// Returns the inner stream.
     pub fn into_inner(self) -> S
         ensures { result ≡ fails_at_inner self }
     {
@@ -539,13 +545,13 @@ impl<S: ReadDevice> ReadDevice for FailsAt<S> {
 
     ghost stop_count = { λ f. S.stop_count (fails_at_inner f) };
 
-    /// Reads once from the reader, or fails. It states no feed, since bytes may follow the fault.
+    /// Reads once from the inner reader, or fails. It states no feed, since bytes may follow the fault.
     fn read_in(&mut self, buf: &mut [u8]) -> Result<usize, io::Error>
         ensures reads { Reads None None result buf.new }
         ensures empty { length buf.new ≡ 0 → (result ≡ Ok 0) × (self.new ≡ self.old) }
         ensures fails { 0 < length buf.new → calls_left self.old ≡ 1 → FailsNow self.old self.new result }
         ensures counts { 0 < length buf.new → calls_left self.old ≢ 1 → IsCounted self.old self.new }
-        // The bytes came from the reader, if it states what it still gives.
+        // The bytes came from the inner reader, if it states those still to come.
         ensures stream { calls_left self.old ≢ 1
             → ReadsFrom (S.feed (fails_at_inner self.old)) (S.feed (fails_at_inner self.new)) result buf.new }
         ensures stop_count { Tells (S.stop_count (fails_at_inner self.old))
@@ -567,7 +573,7 @@ impl<S: Write> Write for FailsAt<S> {
 
     ghost contents = { λ f. S.contents (fails_at_inner f) };
 
-    /// Writes once to the stream, or fails.
+    /// Writes once to the inner stream, or fails.
     fn write(&mut self, buf: &[u8]) -> io::Result<usize>
         ensures bound { WritesAtMost result buf.now }
         ensures bytes { WriteAppends (S.contents (fails_at_inner self.old)) (S.contents (fails_at_inner self.new))
@@ -579,8 +585,8 @@ impl<S: Write> Write for FailsAt<S> {
         self.inner.write(buf)
     }
 
-    /// Flushes the stream, or fails. No contract says that it is flushed, since std's clauses on a flush say only that
-    /// the bytes stay.
+    /// Flushes the inner stream, or fails. No contract says that it is flushed, since std's clauses on a flush say only
+    /// that the bytes don't change.
     fn flush(&mut self) -> io::Result<()>
         ensures bytes { Keeps (S.contents (fails_at_inner self.old)) (S.contents (fails_at_inner self.new)) }
         ensures fails { calls_left self.old ≡ 1 → FailsNow self.old self.new result }
@@ -605,7 +611,7 @@ impl<R: ReadDevice> ReadDevice for &mut R {
 impl<W: WriteDevice> WriteDevice for &mut W {
     ghost sink = { λ w. W.sink w.now };
 
-    /// Returns the borrowed writer's count.
+    /// Returns the borrowed writer's failure count.
     fn failures(&self) -> u64 {
         WriteDevice::failures(&**self)
     }
@@ -620,7 +626,7 @@ impl<W: WriteDevice> WriteDevice for &mut W {
         WriteDevice::flush_out(&mut **self)
     }
 
-    /// Ends the borrowed writer.
+    /// Makes the borrowed writer signal that no byte follows.
     fn end_out(&mut self) {
         WriteDevice::end_out(&mut **self)
     }

@@ -9,19 +9,20 @@ use crate::device::{ReadDevice, Stop, read_front};
 use std::io;
 use std::io::Read;
 
-// The size of the buffer, in bytes, into which the rest is discarded.
+// The size, in bytes, of the buffer through which the rest is read and discarded.
 const PIECE: usize = 512;
 
-/// A reader of the next n bytes of another. If that gives fewer, this one stops as it does.
+/// A reader of the next n bytes of another reader. If the inner reader stops within these bytes, this one stops in the
+/// same way.
 ///
-/// When dropped or finished it reads and discards the rest of its bytes, through a buffer of a fixed size, up to an end
-/// or a fault.
+/// When dropped or finished, it reads and discards the rest of its bytes, through a buffer of a fixed size, up to an
+/// end or a fault.
 pub struct EqualReader<R: ReadDevice + Drop> {
     inner: R,
     left: usize,
 }
 
-// Reads and discards `size` bytes. Stops at an end or a fault.
+// Reads and discards `size` bytes, or fewer if an end or a fault comes first.
 fn read_away<R: ReadDevice>(inner: &mut R, size: usize)
     ensures feed { R.feed inner.new ≡ option_map (feed_behind size) (R.feed inner.old) }
     ensures stop_count { R.stop_count inner.new ≤ R.stop_count inner.old + 1 }
@@ -40,7 +41,7 @@ fn read_away<R: ReadDevice>(inner: &mut R, size: usize)
 impl<R: ReadDevice + Drop> EqualReader<R> {
     ghost use Rattle.tiny_http_io.specs.EqualReader.{equal_feed, equal_left, equal_inner};
 
-    /// Limits `reader` to its first `size` bytes.
+    /// Limits `reader` to its next `size` bytes.
     pub fn new(reader: R, size: usize) -> EqualReader<R>
         ensures inner { equal_inner result ≡ reader }
         ensures size { equal_left result ≡ size }
@@ -51,11 +52,11 @@ impl<R: ReadDevice + Drop> EqualReader<R> {
         }
     }
 
-    /// Discards the rest of the bytes and returns the reader, which is after them or has stopped before. Faults met
-    /// here are not reported.
+    /// Reads and discards the rest of the bytes, and returns the inner reader. Its next byte is the one after them,
+    /// unless it stopped before. Faults met here are not reported.
     pub fn finish(self) -> R
         ensures feed { R.feed result ≡ option_map (feed_behind (equal_left self)) (R.feed (equal_inner self)) }
-        // The reader isn't asked for a second end or fault.
+        // The reader reports at most one end or fault.
         ensures stop_count { R.stop_count result ≤ R.stop_count (equal_inner self) + 1 }
     {
         let EqualReader { mut inner, left } = self;
@@ -75,7 +76,7 @@ impl<R: ReadDevice + Drop> EqualReader<R> {
         ensures past { equal_left self.old ≡ 0 → (result ≡ Ok 0) × (self.new ≡ self.old) }
         ensures count { IfOk result (λ n. equal_left self.old ≡ n + equal_left self.new) }
         ensures fault_takes_none { OnErr result (equal_left self.new ≡ equal_left self.old) }
-        // The bytes after the part don't change.
+        // The inner reader's bytes after those of this reader don't change.
         ensures behind { option_map (feed_behind (equal_left self.new)) (R.feed (equal_inner self.new))
             ≡ option_map (feed_behind (equal_left self.old)) (R.feed (equal_inner self.old)) }
         ensures stop_count { Tells (R.stop_count (equal_inner self.old)) (R.stop_count (equal_inner self.new)) result }

@@ -1,4 +1,4 @@
-//! The input of a source with its fields accessible: a reader and the bytes buffered from it.
+//! A reader and the bytes buffered from it: the input of a `Source`, as a type whose fields contracts may name.
 ghost use Rattle.std.specs.Prelude.{◌≡◌, ◌≢◌, true, false, ◌+◌, ◌-◌, ◌^◌, ◌<◌, ◌≤◌, ◌⊎◌, min, [], ◌∷◌, ◌++◌};
 ghost use Rattle.std.specs.Prelude.{length, take, drop, Option, None, Some, Ok, Err, IfOk, IfErr, OnOk, OnErr};
 ghost use Rattle.std.specs.Prelude.{IsSome, IfSome, IfNone, IsTrue};
@@ -19,8 +19,8 @@ use std::io;
 use std::io::ErrorKind;
 use tiny_http_text::ascii::AsciiString;
 
-/// A source without its input state: a reader with a buffer, a number of bytes to skip, and the reason why its input
-/// ended.
+/// A source without its input state: a reader with a buffer, a number of bytes to skip, and how the input stopped, if
+/// it has.
 #[derive(Drop)]
 pub(crate) struct Input<R> {
     inner: R,
@@ -64,7 +64,7 @@ impl<R: ReadDevice> Input<R> {
         self.stop
     }
 
-    /// Returns whether another byte is to come.
+    /// Returns whether another byte follows.
     pub fn has_byte(&mut self) -> bool
         ensures some { IsTrue result
             → HasByte (input_feed R.feed self.old) × (input_stop self.new ≡ input_stop self.old) }
@@ -95,7 +95,7 @@ impl<R: ReadDevice> Input<R> {
         self.skip -= n;
     }
 
-    // Reads once into the empty buffer.
+    // Reads once from the reader into the empty buffer, and records an end or a fault.
     fn refill(&mut self)
         requires empty { self.old.held ≡ [] }
         requires open { self.old.stop ≡ None }
@@ -112,7 +112,8 @@ impl<R: ReadDevice> Input<R> {
         }
     }
 
-    // Skips what is to be skipped, and buffers a byte if one is still to come.
+    // Discards the bytes to be skipped, and makes sure that a byte is buffered if one follows. If fewer bytes follow
+    // than are to be skipped, the input ends.
     fn fill(&mut self)
         ensures feed { input_feed R.feed self.new ≡ input_feed R.feed self.old }
         ensures skip { self.new.skip ≡ 0 }
@@ -139,7 +140,7 @@ impl<R: ReadDevice> Input<R> {
         }
     }
 
-    // Returns the length of the first buffered line, without its CR LF, if it is complete and within the limit.
+    // Returns the length of the first buffered line, without its CR LF, if the line is complete and within the limit.
     fn held_line(&self, left: Option<usize>) -> Option<usize>
         ensures some { IfSome result (λ n. EndsLine (input_held self.now) n × IsWithin left n) }
         ensures none { IfNone result (IsUnfinished (seen_within left (input_held self.now))) }
@@ -155,7 +156,7 @@ impl<R: ReadDevice> Input<R> {
         }
     }
 
-    /// Finds the first line within the limit. It stays buffered or is consumed.
+    /// Finds the next line, if it is within the limit. The line stays buffered or is consumed.
     pub fn find_line(&mut self, alloc: Global, left: Option<usize>) -> Result<FirstLine, LineFault>
         ensures line { FindsLine left (input_feed R.feed self.old) (input_feed R.feed self.new) (input_held self.new)
             (input_skip self.new) result }
@@ -233,7 +234,8 @@ impl<R: ReadDevice> Input<R> {
         self.held.consume(n);
     }
 
-    // Takes n buffered bytes, and consumes the CR LF after them. Fails if memory is refused; then nothing has changed.
+    // Takes a line of n buffered bytes, and consumes the CR LF after it. Fails if memory is refused; then nothing has
+    // changed.
     fn take_line(&mut self, alloc: Global, n: usize) -> Result<Vec<u8>, LineFault>
         requires { n + 2 ≤ length self.old.held }
         ensures text { IfOk result (λ text. text.items ≡ take n self.old.held) }
@@ -249,7 +251,7 @@ impl<R: ReadDevice> Input<R> {
         Ok(text)
     }
 
-    // Reads the first line within the limit, byte by byte. After any fault the input is over.
+    // Reads the next line byte by byte, if it is within the limit. After any fault the input is over.
     fn read_slowly(&mut self, alloc: Global, left: Option<usize>) -> Result<Vec<u8>, LineFault>
         ensures text { IfOk result
             (λ text. input_feed R.feed self.old
@@ -294,7 +296,7 @@ impl<R: ReadDevice> Input<R> {
         Err(LineFault::TooLong)
     }
 
-    /// Ends the input here.
+    /// Ends the input here: discards the rest without calling the reader.
     pub fn end(&mut self)
         ensures feed { input_feed R.feed self.new ≡ option_map (λ _. stopped Stop.End) (input_feed R.feed self.old) }
         ensures over { IsInputOver self.new }
@@ -307,7 +309,7 @@ impl<R: ReadDevice> Input<R> {
         self.stop = Some(Stop::End);
     }
 
-    /// Reads the first line within the limit, without its CR LF.
+    /// Reads the next line, if it is within the limit, and returns it without its CR LF.
     pub fn read_line(
         &mut self,
         alloc: Global,
@@ -317,7 +319,8 @@ impl<R: ReadDevice> Input<R> {
         // The reader isn't called again after an end or a fault.
         ensures once { IsSome (input_stop self.old)
             → IsSome (input_stop self.new) × (input_reader self.new ≡ input_reader self.old) }
-        // Whatever the reader states, an input that is over stays so, and each line is reported as its stop.
+        // Whatever the reader states, an input that is over stays so, and each further line is reported as how the
+        // input stopped.
         ensures limited { result ≡ Err LineFault.TooLong → IsSome left }
         ensures over { IfErr result (λ fault. fault ≢ LineFault.NotAscii → IsInputOver self.new) }
         ensures ended { IfErr result (λ fault. (fault ≡ LineFault.Memory) ⊎ (fault ≡ LineFault.TooLong)
@@ -353,8 +356,8 @@ impl<R: ReadDevice> Input<R> {
         }
     }
 
-    /// Takes exactly n bytes. If fewer are left it returns `None`, and the input is over. If memory is refused nothing
-    /// has changed.
+    /// Takes exactly n bytes. If fewer are left, it takes them all and returns `None`, and the input is over. If memory
+    /// is refused it fails, and nothing has changed.
     pub fn take_exactly(&mut self, alloc: Global, n: usize) -> Result<Option<Vec<u8>>, AllocError>
         ensures takes { IfOk result
             (λ body. TakesExactly (λ v. v.items) n (input_feed R.feed self.old) (input_feed R.feed self.new) body) }
@@ -379,7 +382,7 @@ impl<R: ReadDevice> Input<R> {
         Ok(Some(body))
     }
 
-    // Returns the fault of a line that the input stopped before.
+    // Returns the fault to report for a line if the input stopped before the line was complete.
     fn line_fault(&self) -> LineFault
         ensures fault { IfSome (input_stop self.now) (λ stop. result ≡ line_fault_of stop) }
         ensures in_time { (result ≢ LineFault.TooLong) × (result ≢ LineFault.NotAscii) × (result ≢ LineFault.Memory) }
@@ -433,7 +436,7 @@ impl<R: ReadDevice> Input<R> {
         self.held.pop()
     }
 
-    // Reads once, bypassing the empty buffer.
+    // Reads once from the reader straight into `buf`, bypassing the empty buffer, and records an end or a fault.
     fn read_past_buffer(&mut self, buf: &mut [u8]) -> Result<usize, io::Error>
         requires room { 0 < length buf.old }
         requires empty { (self.old.held ≡ []) × (self.old.skip ≡ 0) }
@@ -463,8 +466,8 @@ impl<R: ReadDevice> Input<R> {
         }
     }
 
-    /// Reads some bytes. After the last byte each call reports how the input stopped. If no byte is buffered or to be
-    /// skipped, a read into 1024 bytes or more goes straight to the reader.
+    /// Reads some bytes and returns how many. After the last byte each call reports how the input stopped. If no byte
+    /// is buffered or to be skipped, a read into 1024 bytes or more goes straight to the reader.
     pub fn read(&mut self, buf: &mut [u8]) -> Result<usize, io::Error>
         ensures bound { IfOk result (λ n. n ≤ length buf.new) }
         ensures bytes { IfOk result

@@ -3,7 +3,7 @@ ghost use Rattle.std.specs.Prelude.{◌≡◌};
 
 use crate::buffer::CAPACITY;
 
-/// The buffer size that the contracts of `Source` and `Outlet` rely on.
+/// The buffers of `Source` and `Outlet` hold 1024 bytes. Their contracts rely on it.
 pub fn size_of_buffers()
     ensures { CAPACITY ≡ 1024 }
 {}

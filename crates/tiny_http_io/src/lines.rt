@@ -1,4 +1,4 @@
-//! Line ends and line limits. A limit is a number of bytes, or none.
+//! Line ends and line limits. A limit is a number of bytes, or `None` for no limit.
 ghost use Rattle.std.specs.Prelude.{◌≡◌, ◌≢◌, ◌+◌, ◌-◌, ◌*◌, ◌^◌, ◌<◌, ◌≤◌, ◌++◌, ◌∷◌, [], false, true, length};
 ghost use Rattle.std.specs.Prelude.{vec_len, IsSome, IfSome, IfNone, IfErr, OnOk, IsTrue};
 ghost use Rattle.std.specs.Option.{option_map};
@@ -24,7 +24,7 @@ pub(crate) fn line_end(bytes: &[u8]) -> Option<usize>
     None
 }
 
-/// Returns whether a line of n bytes, with its CR LF, is within the limit.
+/// Returns whether a line of n bytes and its CR LF are within the limit.
 pub(crate) fn is_within(left: Option<usize>, n: usize) -> bool
     requires { n + 2 < 2 ^ 64 }
     ensures within { IsTrue result → IsWithin left n }
@@ -47,7 +47,7 @@ pub(crate) fn is_reached(left: Option<usize>, n: usize) -> bool
     }
 }
 
-/// Returns the limit after one more byte.
+/// Returns what is left of the limit after one more byte.
 pub(crate) fn one_less(room: Option<usize>) -> Option<usize>
     requires { IfSome room (λ n. 0 < n) }
     ensures { result ≡ option_map (λ n. n - 1) room }
@@ -58,7 +58,7 @@ pub(crate) fn one_less(room: Option<usize>) -> Option<usize>
     }
 }
 
-// Adds a byte that doesn't end the line. A CR is held back until the byte after it is known. Fails with `Memory` if
+// Appends a byte that doesn't end the line. A CR is held back until the byte after it is known. Fails with `Memory` if
 // memory is refused.
 pub(crate) fn go_on(text: &mut Vec<u8>, after_return: &mut bool, b: u8) -> Result<(), LineFault>
     requires not_end { after_return.old ≡ true → b ≢ 10 }

@@ -8,7 +8,7 @@ use std::io;
 use std::io::Write;
 use std::marker::Model;
 
-/// A buffered writer. After its first fault it takes and holds nothing.
+/// A buffered writer. After the first fault of the inner writer it takes no bytes and holds none.
 #[derive(Drop)]
 pub struct Outlet<W: WriteDevice> {
     inner: W,
@@ -29,7 +29,7 @@ impl<W: WriteDevice> Outlet<W> {
     ghost use Rattle.tiny_http_io.specs.Outlet.{output_of, outlet_held, outlet_ended, outlet_writer, SentOn};
     ghost use Rattle.tiny_http_io.specs.Outlet.{EndsOutlet};
 
-    /// Wraps a writer. The contracts are for a writer that has not ended by itself.
+    /// Wraps a writer. The contracts are meant for a writer that hasn't ended by itself.
     pub fn new(inner: W) -> Outlet<W>
         ensures held { outlet_held result ≡ [] }
         ensures writer { outlet_writer result ≡ inner }
@@ -43,7 +43,7 @@ impl<W: WriteDevice> Outlet<W> {
         }
     }
 
-    /// Returns the buffered bytes: none after the end.
+    /// Returns the buffered bytes. Once the outlet has ended there are none.
     pub fn held(&self) -> &[u8]
         ensures bytes { result.now ≡ outlet_held self.now }
         ensures bound { length (outlet_held self.now) ≤ CAPACITY }
@@ -52,7 +52,7 @@ impl<W: WriteDevice> Outlet<W> {
         self.held.as_slice()
     }
 
-    // Sends all buffered bytes.
+    // Sends all buffered bytes to the inner writer. If that fails, the bytes are discarded and the outlet ends.
     fn send(&mut self) -> Result<(), io::Error>
         requires open { self.old.ended ≡ false }
         ensures puts { Puts (output_of self.old) (output_of self.new) result [] }
@@ -73,7 +73,7 @@ impl<W: WriteDevice> Outlet<W> {
         }
     }
 
-    // Writes to the inner writer directly. No bytes may be buffered.
+    // Writes to the inner writer directly. No bytes may be buffered. A fault ends the outlet.
     fn pass(&mut self, buf: &[u8]) -> Result<usize, io::Error>
         requires open { self.old.ended ≡ false }
         requires none { self.old.held ≡ [] }
@@ -90,7 +90,7 @@ impl<W: WriteDevice> Outlet<W> {
         }
     }
 
-    // Takes some bytes into the empty buffer. `CAPACITY` bytes or more bypass it.
+    // Takes some bytes into the empty buffer. `CAPACITY` bytes or more go straight to the inner writer.
     fn take_first(&mut self, buf: &[u8]) -> Result<usize, io::Error>
         requires open { self.old.ended ≡ false }
         requires none { self.old.held ≡ [] }
@@ -106,10 +106,11 @@ impl<W: WriteDevice> Outlet<W> {
         Ok(self.held.append(buf))
     }
 
-    // Takes some bytes, at least one if there is one.
+    // Takes some bytes, at least one unless `buf` is empty, and returns how many. Once the outlet has ended, it takes
+    // none and returns the length of `buf`.
     fn take_some(&mut self, buf: &[u8]) -> Result<usize, io::Error>
         ensures puts { PutsFront (output_of self.old) (output_of self.new) result buf.now }
-        // Fewer bytes than the buffer's capacity stay in it if it is empty.
+        // If the buffer is empty, fewer bytes than its capacity stay in it.
         ensures small { outlet_held self.old ≡ []
             → length buf.now < CAPACITY
             → (outlet_writer self.new ≡ outlet_writer self.old) × (result ≡ Ok (length buf.now)) }
@@ -133,15 +134,15 @@ impl<W: WriteDevice> Outlet<W> {
         self.take_first(buf)
     }
 
-    /// Takes all bytes, and sends what doesn't fit into the buffer. After the outlet has ended it takes none and
-    /// returns `Ok`.
+    /// Takes all bytes into the buffer, which is sent if it is full and more bytes come; `CAPACITY` bytes or more
+    /// bypass an empty buffer. Once the outlet has ended, it takes none and returns `Ok`.
     pub fn write(&mut self, bytes: &[u8]) -> Result<(), io::Error>
         ensures puts { Puts (output_of self.old) (output_of self.new) result bytes.now }
-        // Fewer bytes than the buffer's capacity stay in it if it is empty.
+        // If the buffer is empty, fewer bytes than its capacity stay in it.
         ensures small { outlet_held self.old ≡ []
             → length bytes.now < CAPACITY
             → (outlet_writer self.new ≡ outlet_writer self.old) × (result ≡ Ok tt) }
-        // A fault ends the outlet; nothing else does.
+        // Only a fault ends the outlet here.
         ensures ended { OnErr result (outlet_ended self.new ≡ true) }
         ensures stays { OnOk result (outlet_ended self.new ≡ outlet_ended self.old) }
     {
@@ -152,12 +153,13 @@ impl<W: WriteDevice> Outlet<W> {
         Ok(())
     }
 
-    /// Sends all buffered bytes and flushes the writer.
+    /// Sends all buffered bytes and flushes the inner writer. Once the outlet has ended, it does nothing and returns
+    /// `Ok`.
     pub fn flush(&mut self) -> Result<(), io::Error>
         ensures puts { Puts (output_of self.old) (output_of self.new) result [] }
         ensures held { outlet_held self.new ≡ [] }
         ensures sent { SentOn self.new }
-        // A fault ends the outlet; nothing else does.
+        // Only a fault ends the outlet here.
         ensures ended { OnErr result (outlet_ended self.new ≡ true) }
         ensures stays { OnOk result (outlet_ended self.new ≡ outlet_ended self.old) }
     {
@@ -176,8 +178,8 @@ impl<W: WriteDevice> Outlet<W> {
         }
     }
 
-    /// Does nothing. Its contract states what always holds between an outlet and its writer. It is for the crates
-    /// above.
+    /// Does nothing. Its contract states what always holds of an outlet and its writer. It is for the crates that build
+    /// on this one.
     pub fn facts(&self)
         ensures sink { self.now.sink ≡ W.sink self.now.writer }
         ensures none { self.now.ended ≡ true → self.now.held ≡ [] }
@@ -186,18 +188,19 @@ impl<W: WriteDevice> Outlet<W> {
         let _ = self.inner.failures();
     }
 
-    /// Returns whether the outlet has ended: by `end` or `abandon`, or by the writer's first fault.
+    /// Returns whether the outlet has ended: by `end` or `abandon`, or by the inner writer's first fault.
     pub fn is_ended(&self) -> bool
         ensures { result ≡ outlet_ended self.now }
     {
         self.ended
     }
 
-    /// Sends the buffered bytes and flushes the writer. The outlet ends even if the writer fails.
+    /// Ends the outlet: sends the buffered bytes and flushes the inner writer. The outlet ends even if the writer
+    /// fails.
     pub fn end(&mut self) -> Result<(), io::Error>
         ensures ends { EndsOutlet (output_of self.old) (output_of self.new) result }
         ensures held { outlet_held self.new ≡ [] }
-        // The writer is flushed.
+        // Unless the outlet had ended before, the writer is flushed.
         ensures sent { outlet_ended self.old ≡ false
             → OnOk result (self.new.sink.has_ended ≡ false → HoldsNothing self.new.sink) }
         ensures ended { outlet_ended self.new ≡ true }
@@ -208,7 +211,7 @@ impl<W: WriteDevice> Outlet<W> {
         sent
     }
 
-    /// Returns the writer's failure count. Like `abandon`, it is for the crates above.
+    /// Returns how often the inner writer has failed. Like `abandon`, it is for the crates that build on this one.
     pub fn writer_failures(&self) -> u64
         ensures count { result ≡ (output_of self.now).failures }
         ensures sent { let s = self.now.sink in BeginsKnown s.sent s.taken }
@@ -227,7 +230,7 @@ impl<W: WriteDevice> Outlet<W> {
         self.ended = true;
     }
 
-    /// Returns the writer. Buffered bytes are discarded.
+    /// Returns the inner writer. Buffered bytes are discarded.
     pub fn into_inner(self) -> W
         ensures inner { result ≡ outlet_writer self }
         ensures sink { W.sink result ≡ self.sink }
@@ -253,10 +256,10 @@ impl<W: WriteDevice> WriteDevice for Outlet<W> {
         self.flush()
     }
 
-    /// Has the writer signal the end of its bytes, unless some are buffered: the caller flushes first.
+    /// Makes the inner writer signal that no byte follows, unless bytes are buffered: the caller flushes first.
     fn end_out(&mut self)
         ensures sink { output_of self.new ≡ output_of self.old }
-        // The buffered bytes stay, and so does whether the outlet has ended.
+        // Only the inner writer changes.
         ensures rest { self.new ≡ record self.old { writer = self.new.writer } }
     {
         if self.held.is_empty() {
@@ -265,18 +268,18 @@ impl<W: WriteDevice> WriteDevice for Outlet<W> {
     }
 }
 
-// Method calls find the inherent `write` and `flush` before these. `contents` is left unstated, since an outlet takes
-// and drops bytes after its end, and a fault may lose buffered ones. Each clause says what the outlet itself states.
+// Method calls find the inherent `write` and `flush` before these. `contents` is left unstated, since an outlet drops
+// the bytes written after its end, and a fault may lose buffered ones. The clauses say what the outlet itself states.
 impl<W: WriteDevice> Write for Outlet<W> {
     ghost use Rattle.std.specs.Io.{WritesAtMost};
     ghost use Rattle.tiny_http_io.specs.Outlet.{output_of, outlet_held, outlet_ended, SentOn};
 
-    /// Takes some bytes, at least one if there is one, and returns how many. After the outlet has ended it takes none
-    /// and returns their full count.
+    /// Takes some bytes, at least one unless `buf` is empty, and returns how many. Once the outlet has ended, it takes
+    /// none and returns the length of `buf`.
     fn write(&mut self, buf: &[u8]) -> io::Result<usize>
         ensures bound { WritesAtMost result buf.now }
         ensures puts { PutsFront (output_of self.old) (output_of self.new) result buf.now }
-        // A fault ends the outlet; nothing else does.
+        // Only a fault ends the outlet here.
         ensures ended { OnErr result (outlet_ended self.new ≡ true) }
         ensures stays { OnOk result (outlet_ended self.new ≡ outlet_ended self.old) }
         ensures past { outlet_ended self.old ≡ true → (result ≡ Ok (length buf.now)) × (self.new ≡ self.old) }
@@ -284,7 +287,7 @@ impl<W: WriteDevice> Write for Outlet<W> {
         Outlet::take_some(self, buf)
     }
 
-    /// Sends all buffered bytes and flushes the writer.
+    /// Sends all buffered bytes and flushes the inner writer.
     fn flush(&mut self) -> io::Result<()>
         ensures puts { Puts (output_of self.old) (output_of self.new) result [] }
         ensures held { outlet_held self.new ≡ [] }

@@ -1,4 +1,4 @@
-//! The buffered input of a connection: lines and bytes, read through a fixed buffer.
+//! The buffered input of a connection: lines and bytes, read through a buffer of fixed size.
 ghost use Rattle.std.specs.Prelude.{◌≡◌, true, ◌-◌, ◌^◌, ◌<◌, ◌≤◌, [], length, Option, None, Some, IsSome};
 ghost use Rattle.std.specs.Prelude.{IfSome};
 ghost use Rattle.tiny_http_io.specs.Device.{StopsBy, Tells};
@@ -13,51 +13,51 @@ use std::io::{ErrorKind, Read};
 use std::marker::Model;
 use tiny_http_text::ascii::AsciiString;
 
-/// The reason why there is no line.
+/// The reason why no line was read.
 #[derive(Clone, Copy, Debug, PartialEq, Eq)]
 pub enum LineFault {
     /// The input ended before a CR LF.
     End,
-    /// The line has a byte above 127. The source continues after it.
+    /// The line has a byte above 127. The source continues after the line.
     NotAscii,
-    /// The limit was reached without a CR LF. All bytes up to the limit came. The source reports `End` from then on.
+    /// No CR LF came within the limit, and all bytes up to the limit came. From then on the source reports `End`.
     TooLong,
     /// The reader timed out before a CR LF.
     TimedOut,
-    /// The reader failed with this kind before a CR LF.
+    /// The reader failed with an error of this kind before a CR LF.
     Broken(ErrorKind),
-    /// Memory for the line was refused. The source reports `End` from then on.
+    /// Memory for the line was refused. From then on the source reports `End`.
     Memory,
 }
 
-/// The place of the first line.
+/// A line that was found: still in the buffer, or consumed.
 #[derive(Drop)]
 pub enum FirstLine {
-    /// The line is whole in the buffer: n bytes, then CR LF. It isn't consumed yet.
+    /// The whole line is still in the buffer: this number of bytes, then CR LF.
     Held(usize),
-    /// The line was consumed. It comes without its CR LF.
+    /// The line was consumed. These are its bytes, without the CR LF.
     Taken(Vec<u8>),
 }
 
-/// The position of a source among the heads and bodies of its connection.
+/// What comes next in a connection's input: a head, the rest of a body, or no further head, and why.
 #[derive(Clone, Copy, Debug, PartialEq, Eq)]
 pub enum InputState {
     /// A head is next.
     Head,
-    /// The rest of a body is next. A head follows once the body was read or given up.
+    /// The rest of a body is next. A head follows once the body has been read or given up.
     Body,
-    /// The last request's head was read. Its body may be next; no head follows.
+    /// The head of the last request was read. The body of that request may be next; no head follows.
     Last,
     /// A chunked body was given up before its end, so the start of the next head isn't known.
     Abandoned,
-    /// A body broke off with this fault.
+    /// A body broke off with a fault of this kind.
     Broken(ErrorKind),
 }
 
 impl InputState {
     ghost use Rattle.tiny_http_io.specs.InputState.{after_body, after_fault, after_abandoned};
 
-    /// Returns the state after a body that was read or given up whole.
+    /// Returns the state after a whole body was read or given up.
     pub fn after_body(self) -> InputState
         ensures { result ≡ after_body self }
     {
@@ -67,7 +67,7 @@ impl InputState {
         }
     }
 
-    /// Returns the state after a body that broke off with this fault.
+    /// Returns the state after a body that broke off with a fault of this kind.
     pub fn after_fault(self, kind: ErrorKind) -> InputState
         ensures { result ≡ after_fault kind self }
     {
@@ -88,12 +88,12 @@ impl InputState {
     }
 }
 
-/// A buffered reader with a count of bytes to skip and a position among heads and bodies.
+/// The buffered input of a connection. It also stores the `InputState` that the crates that build on this one set.
 ///
 /// The buffer holds 1024 bytes. The reader is called only if the buffer is empty and a byte is wanted, and never again
-/// after its first end or fault: nothing is read ahead beyond one call. By the clauses `lazy`, a call that returned
-/// what was asked for met no end or fault; by the clauses `calls`, the reader reports at most one in all calls
-/// together.
+/// after its first end or fault: nothing is read ahead beyond one call. By the clauses `lazy` in `specs/Source.antt`, a
+/// call that returned what was asked for met no end or fault; by the clauses `calls`, the reader reports at most one
+/// end or fault in all calls together.
 #[derive(Drop)]
 pub struct Source<R: ReadDevice> {
     input: Input<R>,
@@ -138,21 +138,21 @@ impl<R: ReadDevice> Source<R> {
         }
     }
 
-    /// Returns the position among heads and bodies.
+    /// Returns what comes next in the input.
     pub fn input_state(&self) -> InputState
         ensures { result ≡ self.now.input_state }
     {
         self.input_state
     }
 
-    /// Sets the position among heads and bodies. It is for the crates above, which read heads and bodies.
+    /// Sets what comes next in the input. It is for the crates that build on this one, which read heads and bodies.
     pub fn set_input_state(&mut self, input_state: InputState)
         ensures { self.new ≡ record self.old { input_state = input_state } }
     {
         self.input_state = input_state;
     }
 
-    /// Returns how the input stopped or was made to end, if it has.
+    /// Returns how the input stopped or was made to end, or `None` if it hasn't stopped.
     pub fn stop(&self) -> Option<Stop>
         ensures stop { result ≡ self.now.stop }
         ensures over { self.now.is_over ≡ true → IsSome result × IfSome result (λ stop. StopsBy stop self.now.feed) }
@@ -160,7 +160,7 @@ impl<R: ReadDevice> Source<R> {
         self.input.stop()
     }
 
-    /// Returns whether another byte is to come. Blocks until a byte, the end or a fault is there.
+    /// Returns whether another byte follows. Blocks until a byte, the end or a fault arrives.
     pub fn has_byte(&mut self) -> bool
         ensures looks { LooksForByte self.old self.new result }
         ensures calls { CallsReader R.stop_count self.old self.new }
@@ -168,7 +168,7 @@ impl<R: ReadDevice> Source<R> {
         self.input.has_byte()
     }
 
-    /// Returns the reader. Buffered bytes are lost.
+    /// Returns the inner reader. Buffered bytes are lost.
     pub fn into_inner(self) -> R
         ensures { result ≡ self.reader }
     {
@@ -184,14 +184,15 @@ impl<R: ReadDevice> Source<R> {
         self.input.skip(n)
     }
 
-    /// Ends the source here: discards the rest of its input without calling the reader.
+    /// Ends the input here: discards the rest without calling the reader.
     pub fn end(&mut self)
         ensures { EndsHere self.old self.new }
     {
         self.input.end()
     }
 
-    /// Reads the next line, without its CR LF (RFC 9112, section 2.2). A lone CR or LF stays in the line.
+    /// Reads the next line and returns it without its CR LF (RFC 9112, section 2.2). A lone CR or LF is part of the
+    /// line.
     pub fn read_line(&mut self, alloc: Global) -> Result<AsciiString, LineFault>
         ensures line { ReadsLine self.old.feed self.new.feed result }
         ensures reads { ReadsOneLine None self.old self.new result }
@@ -200,10 +201,10 @@ impl<R: ReadDevice> Source<R> {
         self.input.read_line(alloc, None)
     }
 
-    /// Reads the next line if it ends within `left` bytes, its CR LF included.
+    /// Reads the next line, as `read_line` does, if the line and its CR LF have at most `left` bytes.
     ///
-    /// Otherwise it fails with `TooLong` as soon as `left` bytes came, and the source ends. No more than `left` bytes
-    /// of the line are gathered. The other faults are those of `read_line`.
+    /// Otherwise it fails with `TooLong` as soon as `left` bytes have come, and the source ends. At most `left` bytes
+    /// of the line are copied. The other faults are those of `read_line`.
     pub fn read_line_within(&mut self, alloc: Global, left: usize) -> Result<AsciiString, LineFault>
         ensures reads { ReadsOneLine (Some left) self.old self.new result }
         ensures calls { CallsReader R.stop_count self.old self.new }
@@ -211,9 +212,10 @@ impl<R: ReadDevice> Source<R> {
         self.input.read_line(alloc, Some(left))
     }
 
-    /// Finds the next line, whatever its bytes are, within `left` bytes if that is given. It is for the crates above.
+    /// Finds the next line, which may contain any bytes, within `left` bytes if that limit is given. It is for the
+    /// crates that build on this one.
     ///
-    /// A line that is whole in the buffer stays there, to be parsed in place, and takes no memory. Any other line is
+    /// A line that is whole in the buffer stays there, to be parsed in place without an allocation. Any other line is
     /// consumed. The faults are those of `read_line_within`, except `NotAscii`.
     pub fn find_line(&mut self, alloc: Global, left: Option<usize>) -> Result<FirstLine, LineFault>
         ensures finds { FindsOneLine left self.old self.new result }
@@ -222,7 +224,8 @@ impl<R: ReadDevice> Source<R> {
         self.input.find_line(alloc, left)
     }
 
-    /// Returns the buffered bytes; those still to be skipped come first. It is for the crates above.
+    /// Returns the buffered bytes, beginning with those still to be skipped. It is for the crates that build on this
+    /// one.
     pub fn held(&self) -> &[u8]
         ensures { result.now ≡ self.now.held }
     {
@@ -230,7 +233,7 @@ impl<R: ReadDevice> Source<R> {
     }
 
     /// Consumes a line that `find_line` found in the buffer: n bytes and the CR LF after them. The reader isn't called.
-    /// It is for the crates above.
+    /// It is for the crates that build on this one.
     pub fn pass_line(&mut self, n: usize)
         requires skip { self.old.skip ≡ 0 }
         requires line { EndsLine self.old.held n }
@@ -239,7 +242,7 @@ impl<R: ReadDevice> Source<R> {
         self.input.pass_line(n)
     }
 
-    /// Consumes n buffered bytes without calling the reader. It is for the crates above.
+    /// Consumes n buffered bytes without calling the reader. It is for the crates that build on this one.
     pub fn consume(&mut self, n: usize)
         requires skip { self.old.skip ≡ 0 }
         requires held { n ≤ length self.old.held }
@@ -248,8 +251,8 @@ impl<R: ReadDevice> Source<R> {
         self.input.consume(n)
     }
 
-    /// Reads some bytes. After the last byte each call reports how the reader stopped. If no byte is buffered or to be
-    /// skipped, a read into 1024 bytes or more goes straight to the reader.
+    /// Reads some bytes and returns how many. After the last byte each call reports how the input stopped. If no byte
+    /// is buffered or to be skipped, a read into 1024 bytes or more goes straight to the reader.
     pub fn read(&mut self, buf: &mut [u8]) -> Result<usize, io::Error>
         ensures reads { ReadsSource self.old self.new result buf.new }
         ensures stop_count { Tells (R.stop_count self.old.reader) (R.stop_count self.new.reader) result }
@@ -258,7 +261,7 @@ impl<R: ReadDevice> Source<R> {
         self.input.read(buf)
     }
 
-    /// Takes exactly n bytes. If fewer are left, it takes all of them and returns `None`, and the source is over. If
+    /// Takes exactly n bytes. If fewer are left, it takes them all and returns `None`, and the source is over. If
     /// memory is refused it fails, and nothing has changed.
     pub fn take_exactly(&mut self, alloc: Global, n: usize) -> Result<Option<Vec<u8>>, AllocError>
         ensures takes { TakesBytes n self.old self.new result }

@@ -1,5 +1,5 @@
--- THE CONNECTION TABLE is seen as its two limits, the number of the next connection, and the open connections in order
--- of arrival.
+-- What clauses see of THE CONNECTION TABLE: its two limits, the number of the next connection, and the open connections
+-- in order of arrival.
 use Rattle.std.specs.Prelude.{◌≡◌, ℕ, ◌+◌, ◌-◌, ◌^◌, ◌≤◌, Bool, false, not, ◌||◌, ◌==◌, nat_le, if◌then◌else◌, List}
 use Rattle.std.specs.Prelude.{[], ◌∷◌, ◌++◌, length, filter, count_by, Option, Some, None, option_map, Result, Ok}
 use Rattle.std.specs.Prelude.{Err}
@@ -11,7 +11,8 @@ use Rattle.tiny_http_limits.specs.declared.connection_table.Entry.{Entry}
 use Rattle.tiny_http_limits.specs.declared.connection_table.Refusal.{Refusal}
 use Rattle.tiny_http_limits.specs.declared.connection_table.Refusal.TheVariants.{Full, AddressFull, Memory}
 
--- the limits of connections, in all and of one address; the next number; and the open connections
+-- What clauses see of a `ConnectionTable`: the limits of connections, in all and from one address; the next number; and
+-- the open connections.
 pub record Connected (T : Type 0) : Type 0 where
   pub most : ℕ
   pub most_of_address : ℕ
@@ -19,33 +20,33 @@ pub record Connected (T : Type 0) : Type 0 where
   pub entries : List (Entry T)
 
 module _ {T : Type 0} where
-  -- no connection is open
+  -- the table with these limits and no open connection
   abbrev pub nobody : ℕ → ℕ → Connected T
   nobody most most_of_address = record { most = most; most_of_address = most_of_address; next = 0; entries = [] }
 
-  -- the connection has this address
+  -- whether the connection has this address
   abbrev pub has_address : IpAddr → Entry T → Bool
   has_address address entry = option_eq (ip.ghosts).eq entry.address (Some address)
 
-  -- how many connections have this address
+  -- the number of connections that have this address
   abbrev pub count_of : IpAddr → List (Entry T) → ℕ
   count_of address entries = count_by (has_address address) entries
 
-  -- the limit of connections is reached, or no number is left
+  -- whether the limit of connections is reached or no number is left
   abbrev pub is_closed : Connected T → Bool
   is_closed table = nat_le table.most (length table.entries) || (table.next == 2 ^ 64 - 1)
 
-  -- the limit of this address is reached, if there is an address
+  -- whether the limit of this address is reached, if there is an address
   abbrev pub is_address_full : Connected T → Option IpAddr → Bool
   is_address_full table None = false
   is_address_full table (Some address) = nat_le table.most_of_address (count_of address table.entries)
 
-  -- why a connection of this address may not be added
+  -- the reason why a connection from this address may not be added, or `None` if it may
   abbrev pub refusal_of : Connected T → Option IpAddr → Option Refusal
   refusal_of table address = if is_closed table then Some Full
       else if is_address_full table address then Some AddressFull else None
 
-  -- the table with this connection added last, under the next number
+  -- the table with this connection added at the end, under the next number
   abbrev pub with_entry : Connected T → Option IpAddr → T → Connected T
   with_entry table address item = record table {
     next = table.next + 1;
@@ -62,7 +63,7 @@ module _ {T : Type 0} where
   Enters old address item (Err Full) new = (refusal_of old address ≡ Some Full) × (new ≡ old)
   Enters old address item (Err AddressFull) new = (refusal_of old address ≡ Some AddressFull) × (new ≡ old)
 
-  -- the connection has this number
+  -- whether the connection has this number
   abbrev pub has_number : ℕ → Entry T → Bool
   has_number number entry = entry.number == number
 
@@ -74,7 +75,7 @@ module _ {T : Type 0} where
   abbrev pub without : ℕ → List (Entry T) → List (Entry T)
   without number entries = filter (λ entry. not (has_number number entry)) entries
 
-  -- the numbers increase, the first is at least `least`, and all are less than `next`
+  -- whether the numbers increase, the first is at least `least`, and all are less than `next`
   abbrev pub AreNumbered : ℕ → List (Entry T) → ℕ → Type 0
   AreNumbered least [] next = least ≤ next
   AreNumbered least (entry ∷ entries) next = (least ≤ entry.number) × AreNumbered (entry.number + 1) entries next

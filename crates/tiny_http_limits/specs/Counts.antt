@@ -6,7 +6,7 @@ use Rattle.tiny_http_limits.specs.declared.counts.Summary.{Summary}
 use Rattle.tiny_http_limits.specs.declared.counts.Refusals.{Refusals}
 use Rattle.tiny_http_limits.specs.declared.counts.Counts.{Counts}
 
--- each count is 0
+-- the refusals with every count at 0
 abbrev pub no_refusals : Refusals
 no_refusals =
     record {
@@ -20,7 +20,7 @@ no_refusals =
       other = 0;
     }
 
--- each count is 0
+-- the counters with every count at 0
 abbrev pub no_counts : Counts
 no_counts =
     record {
@@ -35,14 +35,14 @@ no_counts =
       slow_writes = 0;
     }
 
--- the count plus this many, at most 2^64 - 1
+-- the count plus `more`, at most 2^64 - 1
 abbrev pub add_count : ℕ → ℕ → ℕ
 add_count count more = min (count + more) (2 ^ 64 - 1)
 
 abbrev pub one_more : ℕ → ℕ
 one_more count = add_count count 1
 
--- counts a refused head, by the status code of its response
+-- the refusals after one more refused head, counted by the status code of its response
 abbrev pub with_refusal : ℕ → Refusals → Refusals
 with_refusal status r =
     if status == 400 then record r { bad_request = one_more r.bad_request }
@@ -54,24 +54,24 @@ with_refusal status r =
     else if status == 505 then record r { version_not_supported = one_more r.version_not_supported }
     else record r { other = one_more r.other }
 
--- counts a connection that this limit closed
+-- the counters after one more connection that this limit closed
 abbrev pub with_closing : Closing → Counts → Counts
 with_closing Idle c = record c { idle = one_more c.idle }
 with_closing Head c = record c { slow_heads = one_more c.slow_heads }
 with_closing Body c = record c { slow_bodies = one_more c.slow_bodies }
 with_closing Write c = record c { slow_writes = one_more c.slow_writes }
 
--- counts the refused head that ended a connection's requests, if there was one
+-- the counters after the refused head that ended a connection's requests, if there was one
 abbrev pub with_last_refusal : Option ℕ → Counts → Counts
 with_last_refusal None c = c
 with_last_refusal (Some status) c = record c { refusals = with_refusal status c.refusals }
 
--- counts the limit that closed a connection, if one did
+-- the counters after a connection that this limit closed, if one did
 abbrev pub with_any_closing : Option Closing → Counts → Counts
 with_any_closing None c = c
 with_any_closing (Some closing) c = with_closing closing c
 
--- A CONNECTION ENDED: its requests, its refusal and the limit that closed it are counted.
+-- A CONNECTION ENDED: the counters after its requests, its refusal and the limit that closed it are counted.
 abbrev pub with_end : Summary → Counts → Counts
 with_end s c =
     with_any_closing s.closing (with_last_refusal s.refusal (record c { requests = add_count c.requests s.requests }))

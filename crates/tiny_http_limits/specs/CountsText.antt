@@ -8,7 +8,7 @@ abbrev pub joined : List (List ℕ) → List ℕ
 joined [] = []
 joined (text ∷ texts) = text ++ joined texts
 
--- each status code, a colon and its count
+-- the text of the refusals: each status code, a colon and its count
 unfoldable pub refusals_text : Refusals → List ℕ
 refusals_text r =
     joined (codes "400:" ∷ decimal r.bad_request ∷ codes " 408:" ∷ decimal r.request_timeout
@@ -16,7 +16,7 @@ refusals_text r =
     ∷ codes " 431:" ∷ decimal r.header_fields_too_large ∷ codes " 501:" ∷ decimal r.not_implemented
     ∷ codes " 505:" ∷ decimal r.version_not_supported ∷ codes " other:" ∷ decimal r.other ∷ [])
 
--- each count after its name, in one line
+-- the text of the counters: each count after its name, in one line
 abbrev pub counts_text : Counts → List ℕ
 counts_text c =
     joined (codes "connections " ∷ decimal c.connections ∷ codes ", requests " ∷ decimal c.requests

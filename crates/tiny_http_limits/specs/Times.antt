@@ -4,25 +4,25 @@ use Rattle.std.specs.Duration.{as_nanos, max_nanos}
 use Rattle.std.specs.declared.time.Duration.{Duration}
 use Rattle.tiny_http_limits.specs.declared.times.Stall.{Stall}
 
--- WHAT IS LEFT OF A TIME after `gone`: the difference, if less is gone than the time; otherwise the time is over.
+-- WHAT IS LEFT OF A TIME after `gone`: `time - gone` if less than the time is gone, and otherwise nothing (`None`).
 abbrev pub LeavesTime : ℕ → ℕ → Option Duration → Type 0
 LeavesTime gone time (Some left) = (gone < time) × (as_nanos left ≡ time - gone)
 LeavesTime gone time None = time ≤ gone
 
--- no time was waited, and no byte has moved
+-- whether the stall has no time waited and no byte moved
 abbrev pub IsFresh : Stall → Type 0
 IsFresh stall = (as_nanos stall.waited ≡ 0) × (stall.moved ≡ 0)
 
--- A CALL COUNTS: its wait, up to the longest duration, and the bytes that it moved
+-- THE EFFECT OF A CALL on a stall at a rate of 0: its wait is added, up to the longest duration, and so are its bytes.
 abbrev pub AddsCall : Stall → ℕ → ℕ → Stall → Type 0
 AddsCall old waited moved new =
     (as_nanos new.waited ≡ min (as_nanos old.waited + waited) max_nanos) × (new.moved ≡ old.moved + moved)
 
--- the nanoseconds that these bytes take at this rate, in bytes a second
+-- the nanoseconds that these bytes take at this rate in bytes per second
 abbrev pub nanos_of_bytes : ℕ → ℕ → ℕ
 nanos_of_bytes bytes rate = min (bytes * 1_000_000_000) (2 ^ 64 - 1) / rate
 
--- A CALL COUNTS at a minimum rate: its wait, less the time that its bytes take
+-- THE EFFECT OF A CALL on a stall at a minimum rate: its wait is added, less the time that its bytes take.
 abbrev pub GivesBack : Stall → ℕ → ℕ → ℕ → Stall → Type 0
 GivesBack old waited moved rate new =
     as_nanos new.waited ≡ min (as_nanos old.waited + waited) max_nanos - nanos_of_bytes moved rate

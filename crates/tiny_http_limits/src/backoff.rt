@@ -1,4 +1,4 @@
-//! The backoff of accepting after a fault.
+//! The backoff between attempts to accept a connection after a fault.
 ghost use Rattle.std.specs.Prelude.{◌≡◌, ◌*◌, ◌≤◌, min};
 ghost use Rattle.std.specs.Duration.{as_nanos};
 
@@ -31,7 +31,7 @@ impl Model for Backoff {
 }
 
 impl Backoff {
-    /// Starts at the first wait.
+    /// Starts a backoff whose first wait is 10 ms.
     pub fn new() -> Backoff
         ensures { result ≡ 10 }
     {
@@ -40,7 +40,7 @@ impl Backoff {
         }
     }
 
-    /// Returns the next wait and doubles the one after it, up to 1,000 ms.
+    /// Returns the next wait. The wait after that is twice as long, up to 1,000 ms.
     pub fn take(&mut self) -> Duration
         ensures wait { as_nanos result ≡ self.old * 1_000_000 }
         ensures next { self.new ≡ min (self.old * 2) 1_000 }

@@ -31,7 +31,7 @@ impl<T> Entry<T> {
 pub enum Refusal {
     /// The limit of open connections is reached.
     Full,
-    /// The limit of open connections of its address is reached.
+    /// The limit of open connections from its address is reached.
     AddressFull,
     /// Memory was refused.
     Memory,
@@ -39,15 +39,15 @@ pub enum Refusal {
 
 /// The table of open connections, in order of arrival, each with an item.
 ///
-/// It limits their number, in all and for each IP address. A contract sees the two limits, the next number and the
-/// entries.
+/// It limits the number of connections in all and per IP address. A contract sees the two limits, the next number and
+/// the entries.
 #[derive(Drop)]
 pub struct ConnectionTable<T> {
     most: usize,
     most_of_address: usize,
     // The number of the next connection.
     next: u64,
-    // The number of entries.
+    // How many entries there are.
     present: Headcount,
     entries: Vec<Entry<T>>,
 }
@@ -67,7 +67,7 @@ impl<T> Model for ConnectionTable<T> {
 }
 
 impl<T: Drop> ConnectionTable<T> {
-    /// Makes an empty table with these limits: connections in all, and connections of one address.
+    /// Makes an empty table with these limits: on connections in all, and on connections from one address.
     pub fn new(alloc: Global, most: usize, most_of_address: usize) -> ConnectionTable<T>
         ensures { result ≡ nobody most most_of_address }
     {
@@ -94,11 +94,12 @@ impl<T: Drop> ConnectionTable<T> {
         self.count() >= self.most
     }
 
-    /// Adds a connection with its address, if it has one, and an item. Returns its number, which no earlier connection
-    /// had.
+    /// Adds a connection with its address, if it has one, and an item. Returns the connection's number, which no
+    /// earlier connection had.
     ///
-    /// An error drops the item and changes nothing else. The errors, in this order: `Full`, also if no number is left;
-    /// `AddressFull`; `Memory`.
+    /// Fails with `Full` if the limit is reached or no number is left; otherwise with `AddressFull` if the limit of the
+    /// address is reached; otherwise with `Memory` if memory is refused. A call that fails drops the item and changes
+    /// nothing else.
     pub fn enter(&mut self, address: Option<IpAddr>, item: T) -> Result<u64, Refusal>
         ensures { Enters self.old address item result self.new }
     {
@@ -124,7 +125,7 @@ impl<T: Drop> ConnectionTable<T> {
         }
     }
 
-    // Returns whether the address has as many connections as it may. A connection without an address isn't counted.
+    // Returns whether the limit of connections from this address is reached. Without an address there is no such limit.
     fn is_address_full(&self, address: Option<IpAddr>) -> bool
         ensures { result ≡ is_address_full self.now address }
     {
@@ -134,7 +135,7 @@ impl<T: Drop> ConnectionTable<T> {
         }
     }
 
-    // Returns the number of connections of this address.
+    // Returns the number of connections from this address.
     fn count_of(&self, address: IpAddr) -> usize
         ensures { result ≡ count_of address self.now.entries }
     {
@@ -144,8 +145,8 @@ impl<T: Drop> ConnectionTable<T> {
             .count()
     }
 
-    /// Removes the connection with this number and returns its item. Returns `None`, and changes nothing, if there is
-    /// no such connection.
+    /// Removes the connection with this number and returns its item. If there is no such connection, it returns `None`
+    /// and changes nothing.
     pub fn leave(&mut self, number: u64) -> Option<T>
         ensures item { result ≡ item_of number self.old.entries }
         ensures gone { self.new ≡ record self.old { entries = without number self.old.entries } }
@@ -163,7 +164,7 @@ impl<T: Drop> ConnectionTable<T> {
         self.entries.iter().position(|entry| entry.number == number)
     }
 
-    /// Returns the open connections.
+    /// Returns the open connections, in order of arrival.
     pub fn entries(&self) -> &[Entry<T>]
         ensures entries { result.now ≡ self.now.entries }
         ensures kept { IsKept self.now }

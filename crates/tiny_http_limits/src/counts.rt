@@ -14,18 +14,18 @@ pub enum Closing {
     Head,
     /// A body took too long.
     Body,
-    /// The client didn't take a response in time.
+    /// The client didn't read a response in time.
     Write,
 }
 
 /// The outcome of a connection.
 #[derive(Clone, Copy, Debug, PartialEq, Eq)]
 pub struct Summary {
-    /// The number of requests that were handed out.
+    /// The number of requests that were handed to the application.
     pub requests: u64,
-    /// The status code of the refused head that ended its requests, if there was one.
+    /// The status code of the refused head that ended the connection's requests, if there was one.
     pub refusal: Option<u16>,
-    /// The limit that closed it, if one did.
+    /// The limit that closed the connection, if one did.
     pub closing: Option<Closing>,
 }
 
@@ -55,7 +55,7 @@ pub struct Refusals {
 pub struct Counts {
     /// Connections that were admitted.
     pub connections: u64,
-    /// Requests that were handed out.
+    /// Requests that were handed to the application.
     pub requests: u64,
     /// Heads that were refused, each the last of its connection.
     pub refusals: Refusals,
@@ -69,12 +69,12 @@ pub struct Counts {
     pub slow_heads: u64,
     /// Connections whose body took too long.
     pub slow_bodies: u64,
-    /// Connections whose client didn't take the responses in time.
+    /// Connections whose client didn't read the responses in time.
     pub slow_writes: u64,
 }
 
 impl Refusals {
-    /// Starts with every count at 0.
+    /// Returns refusals with every count at 0.
     pub fn new() -> Refusals
         ensures { result ≡ no_refusals }
     {
@@ -90,7 +90,7 @@ impl Refusals {
         }
     }
 
-    /// Counts a refused head with this status code.
+    /// Counts a refused head that was answered with this status code.
     pub fn count(&mut self, status: u16)
         ensures { self.new ≡ with_refusal status self.old }
     {
@@ -108,7 +108,7 @@ impl Refusals {
 }
 
 impl Counts {
-    /// Starts with every count at 0.
+    /// Returns counters with every count at 0.
     pub fn new() -> Counts
         ensures { result ≡ no_counts }
     {
@@ -139,21 +139,21 @@ impl Counts {
         self.accept_faults = one_more(self.accept_faults);
     }
 
-    /// Counts a connection that was turned away.
+    /// Counts a connection that was closed at once because the limit of its address was reached.
     pub fn count_turned_away(&mut self)
         ensures { self.new ≡ record self.old { turned_away = one_more self.old.turned_away } }
     {
         self.turned_away = one_more(self.turned_away);
     }
 
-    /// Counts this many requests.
+    /// Counts this number of requests.
     pub fn count_requests(&mut self, requests: u64)
         ensures { self.new ≡ record self.old { requests = add_count self.old.requests requests } }
     {
         self.requests = self.requests.saturating_add(requests);
     }
 
-    /// Counts the end of a connection: its requests, its refusal and the limit that closed it.
+    /// Counts the end of a connection: its requests, and the refused head and the limit that ended it, if any.
     pub fn count_end(&mut self, summary: Summary)
         ensures { self.new ≡ with_end summary self.old }
     {

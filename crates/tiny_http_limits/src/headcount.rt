@@ -3,7 +3,7 @@ ghost use Rattle.tiny_http_limits.specs.Headcount.{CountsIn, CountsOut};
 
 use std::marker::Model;
 
-/// The number of those who entered and didn't leave, at most 2^64 - 1. A contract sees it as that number.
+/// How many have entered and not left, at most 2^64 - 1. A contract sees it as that number.
 #[derive(Debug, Drop)]
 pub struct Headcount {
     present: usize,
@@ -27,7 +27,7 @@ impl Headcount {
         Headcount { present: 0 }
     }
 
-    /// Adds one. Returns false, and changes nothing, only at 2^64 - 1.
+    /// Adds one and returns true. At 2^64 - 1 it returns false and changes nothing.
     pub fn enter(&mut self) -> bool
         ensures { CountsIn self.old result self.new }
     {
@@ -38,7 +38,7 @@ impl Headcount {
         true
     }
 
-    /// Subtracts one. Returns false, and changes nothing, only at 0.
+    /// Subtracts one and returns true. At 0 it returns false and changes nothing.
     pub fn leave(&mut self) -> bool
         ensures { CountsOut self.old result self.new }
     {

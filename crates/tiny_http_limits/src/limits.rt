@@ -5,48 +5,50 @@ ghost use Rattle.std.specs.Duration.{as_nanos};
 use crate::times::Patience;
 use std::time::Duration;
 
-/// The limits that a server on an open port sets its clients. The defaults of `Limits::new()` suit a process that may
-/// have 1,024 open descriptors.
+/// The limits that a server on an open port imposes on its clients. The defaults, as `Limits::new()` returns them, suit
+/// a process that may have 1,024 open file descriptors.
 #[derive(Clone, Copy, Debug, PartialEq, Eq)]
 pub struct Limits {
-    /// Maximum number of open connections: 1,000. At the limit accepting waits until one closes, and new clients wait
-    /// in the system's queue. With 0 no connection is accepted.
+    /// Maximum number of open connections: 1,000 by default. At the limit the server accepts no connection until one
+    /// closes, and new clients wait in the system's queue. If the limit is 0, no connection is accepted.
     pub connections: usize,
-    /// Maximum number of open connections of one IP address: 250. A further one is closed at once. Connections over a
-    /// Unix socket have no address and aren't counted. Behind a proxy all clients have the proxy's address.
+    /// Maximum number of open connections from one IP address: 250 by default. A further connection is closed at once.
+    /// Connections over a Unix socket have no address and aren't counted. Behind a proxy all clients have the proxy's
+    /// address.
     pub connections_of_address: usize,
-    /// Maximum time for a head, from its first byte on: 30 seconds. A slower head is answered with 408. The rest of a
-    /// body that is skipped before the head counts as part of it.
+    /// Maximum time for a head, from its first byte on: 30 seconds by default. A slower head is answered with 408. The
+    /// rest of a body that is skipped before the head counts as part of the head.
     pub head_time: Duration,
-    /// Maximum time without a byte of a head: 60 seconds. The connection is then closed without a response. If a
-    /// request is open when the time ends, or was open when it began, the time starts over.
+    /// Maximum time without a byte of a head: 60 seconds by default. The connection is then closed without a response.
+    /// If a request is open when the time ends, or was open when the time began, the time starts over.
     pub idle_time: Duration,
-    /// Maximum time that reads of a body may wait: 60 seconds. The bytes of the body give time back, as `least_rate`
-    /// describes. Once the time is over this and each later read report `TimedOut`, and the connection ends after the
-    /// response.
+    /// Maximum time that reads of a body may wait: 60 seconds by default. The bytes of the body give time back, as
+    /// `least_rate` describes. Once the time is over, the read and each later one report `TimedOut`, and the connection
+    /// ends after the response.
     pub body_time: Duration,
-    /// Maximum time that writes of responses may wait: 60 seconds. Their bytes give time back, as `least_rate`
-    /// describes. Once the time is over the output ends, and the connection is closed.
+    /// Maximum time that writes of responses may wait: 60 seconds by default. The bytes written give time back, as
+    /// `least_rate` describes. Once the time is over, the output ends and the connection is closed.
     pub write_time: Duration,
-    /// Minimum rate of a body, or of responses, in bytes a second: 500. Each byte gives back the time that it takes at
-    /// this rate, but no more than was waited. So the reads of a body of N bytes wait at most `body_time` plus N /
-    /// `least_rate` seconds, and writes likewise. With 0 there is no minimum rate: each 4,096 bytes give back the whole
-    /// time.
+    /// Minimum rate of a body, or of responses, in bytes per second: 500 by default. Each byte gives back the time that
+    /// it takes at this rate, but no more than was waited. So the reads of a body of N bytes wait at most `body_time`
+    /// plus N / `least_rate` seconds, and writes likewise. If the rate is 0, there is no minimum: every 4,096 bytes
+    /// give back the whole time.
     pub least_rate: usize,
-    /// Maximum time without a byte either way on an upgraded stream: 10 minutes; `None` means no limit. A read then
-    /// reports `TimedOut`, and the connection is closed. The time begins with each read. If it is over, and bytes were
-    /// written meanwhile, it starts over, so it lasts at most twice as long.
+    /// Maximum time without a byte in either direction on an upgraded stream: 10 minutes by default; `None` means no
+    /// limit. A read then reports `TimedOut`, and the connection is closed. The time begins with each read. If it is
+    /// over and bytes were written meanwhile, it starts over, so a silence may last up to twice as long.
     pub stream_time: Option<Duration>,
-    /// Maximum number of upgraded connections: 750. A further upgrade is refused with `UpgradeError::TooMany`. An
-    /// upgraded connection counts until it is closed.
+    /// Maximum number of upgraded connections: 750 by default. A further upgrade is refused with
+    /// `UpgradeError::TooMany`. An upgraded connection counts until it is closed.
     pub upgrades: usize,
-    /// Maximum number of open requests and refused heads of one connection: 64. At the limit the next head isn't read.
-    /// A request is open until it, and each request before it, is answered or dropped. Values below 2 count as 2.
+    /// Maximum number of open requests and refused heads of one connection: 64 by default. At the limit the next head
+    /// isn't read. A request is open until that request and each one before it are answered or dropped. Values below 2
+    /// count as 2.
     pub open_requests: usize,
 }
 
 impl Limits {
-    /// Returns the default limits, which the fields name.
+    /// Returns the default limits, which are stated at the fields.
     pub fn new() -> Limits
         ensures connections { result.connections ≡ 1_000 }
         ensures of_address { result.connections_of_address ≡ 250 }
@@ -74,7 +76,7 @@ impl Limits {
         }
     }
 
-    /// Returns the time and rate limit for reads of a body.
+    /// Returns the limits of time and rate for reads of a body.
     pub fn body_patience(&self) -> Patience
         ensures { result ≡ record { time = self.now.body_time; least_rate = self.now.least_rate } }
     {
@@ -84,7 +86,7 @@ impl Limits {
         }
     }
 
-    /// Returns the time and rate limit for writes of responses.
+    /// Returns the limits of time and rate for writes of responses.
     pub fn write_patience(&self) -> Patience
         ensures { result ≡ record { time = self.now.write_time; least_rate = self.now.least_rate } }
     {

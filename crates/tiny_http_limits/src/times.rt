@@ -11,8 +11,8 @@ pub const PIECE: usize = 4_096;
 // The number of nanoseconds in a second.
 const NANOS: u64 = 1_000_000_000;
 
-/// Returns what is left of `time` at `now`, or `None` once it is over. `begun` and `now` are times of one clock; if the
-/// clock went back, the whole time is left.
+/// Returns what is left at `now` of a time that began at `begun`, or `None` once the time is over. `begun` and `now`
+/// are readings of one clock; if the clock went back, the whole time is left.
 pub fn time_left(begun: Duration, now: Duration, time: Duration) -> Option<Duration>
     ensures { LeavesTime (as_nanos now - as_nanos begun) (as_nanos time) result }
 {
@@ -24,8 +24,8 @@ pub fn time_left(begun: Duration, now: Duration, time: Duration) -> Option<Durat
     Some(left)
 }
 
-// Returns the time that these bytes take at `rate` bytes a second. The time at one byte a second saturates at 2^64 - 1
-// nanoseconds.
+// Returns the time that these bytes take at `rate` bytes per second. Their time at one byte per second saturates at
+// 2^64 - 1 nanoseconds before it is divided by the rate.
 fn time_of_bytes(bytes: usize, rate: usize) -> Duration
     requires { 0 < rate }
     ensures { as_nanos result ≡ nanos_of_bytes bytes rate }
@@ -34,25 +34,26 @@ fn time_of_bytes(bytes: usize, rate: usize) -> Duration
     Duration::from_nanos(nanos / rate as u64)
 }
 
-/// The time and rate limit for waiting on a peer.
+/// The limits of time and rate for waiting on a client.
 #[derive(Clone, Copy, Debug, PartialEq, Eq)]
 pub struct Patience {
-    /// The maximum time, less what the peer's bytes give back.
+    /// The maximum time to wait, less the time that the client's bytes give back.
     pub time: Duration,
-    /// The rate, in bytes a second, at which bytes give time back; with 0 each 4,096 bytes give back the whole time.
+    /// The rate, in bytes per second, at which bytes give time back. If it is 0, every 4,096 bytes give back the whole
+    /// time.
     pub least_rate: usize,
 }
 
-/// The time spent waiting for a peer, less what its bytes gave back.
+/// The time spent waiting for a client, less the time that the client's bytes gave back.
 #[derive(Clone, Copy, Debug, PartialEq, Eq)]
 pub struct Stall {
     waited: Duration,
-    // The bytes moved since time was last given back. It is used only if there is no minimum rate.
+    // The bytes moved since time was last given back. The field is used only if there is no minimum rate.
     moved: usize,
 }
 
 impl Stall {
-    /// Starts without any wait.
+    /// Returns a stall with no time waited and no bytes moved.
     pub fn new() -> Stall
         ensures { IsFresh result }
     {
@@ -62,17 +63,17 @@ impl Stall {
         }
     }
 
-    /// Returns what is left of `time`.
+    /// Returns what is left of `time` after the time waited, or 0.
     pub fn left(&self, time: Duration) -> Duration
         ensures { as_nanos result ≡ as_nanos time - as_nanos self.now.waited }
     {
         time.saturating_sub(self.waited)
     }
 
-    /// Counts a call that waited for this time and moved this number of bytes, and returns whether the time is over.
+    /// Counts a call that waited for this time and moved this number of bytes. Returns whether the time is over.
     ///
-    /// The bytes give time back, but no more than was waited. The time is over once it was waited for as a whole and,
-    /// at a rate of 0, this call didn't complete a piece of 4,096 bytes.
+    /// The bytes give time back, but no more than was waited. The time is over once the whole of `patience.time` has
+    /// been waited, unless the rate is 0 and this call completed a piece of 4,096 bytes.
     pub fn count(&mut self, waited: Duration, moved: usize, patience: Patience) -> bool
         ensures rate { 0 < patience.least_rate
             → GivesBack self.old (as_nanos waited) moved patience.least_rate self.new }
@@ -94,7 +95,7 @@ impl Stall {
         self.waited.as_nanos() >= time.as_nanos()
     }
 
-    // As `count`, if each piece of 4,096 bytes gives back the whole time.
+    // Counts a call as `count` does at a rate of 0: each piece of 4,096 bytes gives back the whole time.
     fn count_piece(&mut self, waited: Duration, moved: usize, time: Duration) -> bool
         ensures whole { 4_096 ≤ self.old.moved + moved → (result ≡ false) × IsFresh self.new }
         ensures part { self.old.moved + moved < 4_096 → AddsCall self.old (as_nanos waited) moved self.new }

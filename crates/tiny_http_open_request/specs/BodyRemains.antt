@@ -1,4 +1,4 @@
--- What is left of a body from a position within it. The laws of `InShort` can be trusted without this file.
+-- What is left of a body from a position within it. Trusting the laws of `InShort` doesn't require this file.
 use Rattle.std.specs.Prelude.{◌≡◌, ℕ, Bool, ◌<◌, ◌⊎◌, List, [], ◌++◌, length, Some, None}
 use Rattle.std.specs.declared.io.ErrorKind.{ErrorKind}
 use Rattle.tiny_http_io.specs.declared.device.Stop.{Stop}
@@ -10,11 +10,13 @@ use Rattle.tiny_http_body.specs.declared.framing.Form.{Form}
 use Rattle.tiny_http_body.specs.declared.framing.Form.TheVariants.{Rest, Nothing, WithHead, Counted, Chunked}
 use Rattle.tiny_http_open_request.specs.Pipeline.{Place, BodyAt}
 
--- a body that breaks off after these bytes
+-- the feed of a body that breaks off after these bytes with a fault of this kind
 abbrev pub breaking : List ℕ → ErrorKind → Feed
 breaking bytes kind = record { bytes = bytes; stop = Faults kind }
 
--- Within a chunk, `left` bytes of its data are left: they, CR LF and a chunked body; or they, and no CR LF; or fewer.
+-- Whether `body` is what is left of a chunked body within a chunk of which `left` bytes of data are to come, and `next`
+-- where the next head begins. These bytes are followed by CR LF and a chunked body; or no CR LF follows them, and the
+-- body breaks off; or fewer bytes come.
 abbrev pub WithinChunk : Bool → ℕ → List ℕ → Stop → Feed → Place → Type 0
 WithinChunk standard left bytes stop body next =
     ((part : List ℕ)
@@ -34,13 +36,14 @@ WithinChunk standard left bytes stop body next =
     × (next ≡ None))
     ⊎ ((length bytes < left) × (body ≡ breaking bytes (fault_of stop)) × (next ≡ None)))
 
--- the body's end, or its fault, was met and not reported yet
+-- whether the end of a body, or its fault, was met and not reported yet; `next` is where the next head begins
 abbrev pub IsMet : List ℕ → Feed → Place → Type 0
 IsMet bytes body next =
     ((body ≡ whole_feed []) × (next ≡ Some bytes)) ⊎ ((kind : ErrorKind) × (body ≡ breaking [] kind) × (next ≡ None))
 
--- WHAT IS LEFT OF A BODY, of which n bytes are left if it is counted. Of a chunked one: the rest of a chunk, and a
--- chunked body; or a chunked body; or nothing. Of any other: a body of its form.
+-- WHAT IS LEFT OF A BODY: whether `body` is left of a body of this form, with n bytes left if it is counted, and `next`
+-- is where the next head begins. `Chunked`: the rest of a chunk and a chunked body, or a chunked body, or nothing. Any
+-- other form: a body of that form.
 abbrev pub RemainsAt : Bool → Form → ℕ → List ℕ → Stop → Feed → Place → Type 0
 RemainsAt standard Chunked n bytes stop body next =
     BodyAt standard Chunked n bytes stop body next

@@ -1,4 +1,4 @@
--- The effect of the calls that read a head on the input.
+-- The effect on the input of the calls that read a head.
 use Rattle.std.specs.Prelude.{◌≡◌, ◌≢◌, ℕ, ◌+◌, ◌-◌, ⊤, ◌⊎◌, List, [], length, nat_lt, Option, Some, None, Result, Ok}
 use Rattle.std.specs.Prelude.{Err, unwrap_or, Bool, true, false, MatchBool, IfSome, IfOk, IsErr, IsSome, if◌then◌else◌}
 use Rattle.std.specs.declared.alloc.AllocError.{AllocError}
@@ -54,14 +54,14 @@ use Rattle.tiny_http_open_request.specs.Exchange.{exchange_body, KeepsRequest}
 use Rattle.tiny_http_open_request.specs.declared.open_request.OpenRequest.{OpenRequest}
 use Rattle.tiny_http_open_request.specs.OpenRequest.{KeepsHead}
 
--- what is wrong with a head whose next line can't be read
+-- the fault of a head whose next line can't be read
 abbrev pub head_fault : LineFault → HeadFault
 head_fault linefault.NotAscii = fault.NotAscii
 head_fault linefault.TooLong = fault.TooLarge
 head_fault linefault.Memory = fault.Memory
 head_fault _ = fault.Cut
 
--- a line was read that is bad
+-- whether the fault of a head is a bad line, which was read
 abbrev pub IsBadLine : HeadFault → Type 0
 IsBadLine fault.NotAscii = ⊤
 IsBadLine fault.Malformed = ⊤
@@ -69,18 +69,18 @@ IsBadLine fault.Cut = ⊥
 IsBadLine fault.TooLarge = ⊥
 IsBadLine fault.Memory = ⊥
 
--- what is left of a limit before the rest of these bytes
+-- whether `left` is what is left of a limit after the bytes before `rest`
 abbrev pub IsSpent : Option ℕ → List ℕ → Option ℕ → List ℕ → Type 0
 IsSpent None bytes None rest = ⊤
 IsSpent (Some limit) bytes (Some left) rest = limit + length rest ≡ left + length bytes
 IsSpent _ bytes _ rest = ⊥
 
--- the limit after a line of n bytes and its CR LF
+-- what is left of a limit after a line of n bytes and its CR LF
 abbrev pub left_after : ℕ → Option ℕ → Option ℕ
 left_after n None = None
 left_after n (Some left) = Some (left - (n + 2))
 
--- how a text is read as a request line
+-- whether this is the result of reading a text as a request line
 abbrev pub StartIn : List ℕ → Result (Method × List ℕ × HTTPVersion) HeadFault → Type 0
 StartIn text (Ok r) = AreAscii text × (reading.request_line text ≡ Some r)
 StartIn text (Err fault.NotAscii) = AreAscii text → ⊥
@@ -89,7 +89,7 @@ StartIn text (Err fault.Cut) = ⊥
 StartIn text (Err fault.TooLarge) = ⊥
 StartIn text (Err fault.Memory) = AreAscii text × IsSome (reading.request_line text)
 
--- how a text is read as a header line, or as the empty line
+-- whether this is the result of reading a text as a header line, or as the empty line
 abbrev pub FieldIn : List ℕ → Result (Option Header) HeadFault → Type 0
 FieldIn text (Ok None) = text ≡ []
 FieldIn text (Ok (Some h)) = AreAscii text × (reading.header_line text ≡ Some h)
@@ -99,7 +99,7 @@ FieldIn text (Err fault.Cut) = ⊥
 FieldIn text (Err fault.TooLarge) = ⊥
 FieldIn text (Err fault.Memory) = AreAscii text × IsSome (reading.header_line text)
 
--- why there is no next line within this limit
+-- whether this is why there is no next line within this limit
 abbrev pub HasNoLine : Option ℕ → Option Feed → HeadFault → Type 0
 HasNoLine left None e = ⊤
 HasNoLine left (Some f) fault.Cut = IsUnfinished f.bytes × IsShort left f.bytes
@@ -108,12 +108,12 @@ HasNoLine left (Some f) fault.NotAscii = ⊥
 HasNoLine left (Some f) fault.Malformed = ⊥
 HasNoLine left (Some f) fault.Memory = ⊤
 
--- where the next line of a head is found, or why there is none
+-- whether this is where the next line of a head is found, or why there is none
 abbrev pub FindsText : Option ℕ → Option Feed → Option Feed → List ℕ → ℕ → Result FirstLine HeadFault → Type 0
 FindsText left old new held skip (Ok line) = FindsLine left old new held skip (Ok line)
 FindsText left old new held skip (Err e) = HasNoLine left old e × (IsBadLine e → ⊥)
 
--- the next line breaks this limit, or isn't good
+-- whether the next line exceeds this limit or isn't good, as this fault says
 abbrev pub IsFaulty : Option ℕ → (List ℕ → Type 0) → List ℕ → HeadFault → Type 0
 IsFaulty left IsGood bytes fault.Cut = IsUnfinished bytes × IsShort left bytes
 IsFaulty left IsGood bytes fault.TooLarge = IsTooLong left bytes
@@ -121,7 +121,7 @@ IsFaulty left IsGood bytes fault.NotAscii = FaultyLine IsGood (seen_within left 
 IsFaulty left IsGood bytes fault.Malformed = FaultyLine IsGood (seen_within left bytes) Malformed
 IsFaulty left IsGood bytes fault.Memory = ⊤
 
--- a request line is read within this limit, of which `left` is left
+-- whether a call reads a request line within this limit, of which `left` is left
 abbrev pub ReadsStart : Option ℕ → Option ℕ → Option Feed → Option Feed
     → Result (Method × List ℕ × HTTPVersion) HeadFault → Type 0
 ReadsStart limit left None new r = ⊤
@@ -132,7 +132,7 @@ ReadsStart limit left (Some f) new (Ok r) =
     × IsSpent limit f.bytes left rest
 ReadsStart limit left (Some f) new (Err e) = IsFaulty limit IsRequestLine f.bytes e
 
--- a header line, or the empty line, is read
+-- whether a call reads a header line, or the empty line, within this limit, of which `left` is left
 abbrev pub ReadsField : Option ℕ → Option ℕ → Option Feed → Option Feed → Result (Option Header) HeadFault → Type 0
 ReadsField limit left None new r = ⊤
 ReadsField limit left (Some f) new (Ok (Some h)) =
@@ -147,7 +147,7 @@ ReadsField limit left (Some f) new (Ok None) =
     (rest : List ℕ) × Line f.bytes [] rest × (new ≡ feed_from f rest) × IsSpent limit f.bytes left rest
 ReadsField limit left (Some f) new (Err e) = IsFaulty limit IsFieldOrEnd f.bytes e
 
--- these header lines were read
+-- whether these header lines were read within this limit, of which `left` is left
 abbrev pub HasReadFields : Option ℕ → Option ℕ → Option Feed → Option Feed → List Header → Type 0
 HasReadFields limit left None new hs = ⊤
 HasReadFields limit left (Some f) new hs =
@@ -156,7 +156,7 @@ HasReadFields limit left (Some f) new hs =
     × (new ≡ feed_from f rest)
     × IsSpent limit f.bytes left rest
 
--- all header lines and the empty line are read
+-- whether a call reads all header lines and the empty line within this limit, of which `left` is left
 abbrev pub ReadsFields : {T : Type 0} → (T → List Header) → Option ℕ → Option ℕ → Option Feed → Option Feed
     → Result T HeadFault → Type 0
 ReadsFields items limit left None new r = ⊤
@@ -178,18 +178,18 @@ ReadsFields items limit left (Some f) new (Err e) =
 abbrev pub message_of : MessageHead → Texted
 message_of m = record { method = m.method; path = m.path; version = m.version; headers = m.headers.items }
 
--- the message of a head, and how it is framed
+-- the message of a head: its method, target, version and headers
 abbrev pub head_message : Head → Texted
 head_message h = record { method = h.method; path = h.path; version = h.version; headers = h.headers.items }
 
 abbrev pub head_framing : Head → Framing
 head_framing h = h.framing
 
--- the request with this head, its body and what follows that
+-- the request with this head, this body, and the feed that follows the body
 abbrev pub request_of : Head → Feed → Feed → Request
 request_of h body behind = record { message = head_message h; framing = head_framing h; body = body; behind = behind }
 
--- a head has this fault within this limit, under its version if that was read
+-- whether a head has this fault within this limit, with its version if that was read
 abbrev pub IsFaultyHead : Option ℕ → List ℕ → Option HTTPVersion → HeadFault → Type 0
 IsFaultyHead limit bytes v fault.Cut = IsUnfinishedHead limit bytes v
 IsFaultyHead limit bytes v fault.TooLarge = IsTooLarge limit bytes v
@@ -197,7 +197,7 @@ IsFaultyHead limit bytes v fault.NotAscii = FaultyHead (seen_within limit bytes)
 IsFaultyHead limit bytes v fault.Malformed = FaultyHead (seen_within limit bytes) v Malformed
 IsFaultyHead limit bytes v fault.Memory = ⊤
 
--- a whole head that keeps this limit, or its fault
+-- whether a call reads a complete head within this limit, or reports the head's fault
 abbrev pub ReadsMessage : Option ℕ → Option Feed → Option Feed → Result MessageHead (Option HTTPVersion × HeadFault)
     → Type 0
 ReadsMessage limit None new r = ⊤
@@ -205,47 +205,50 @@ ReadsMessage limit (Some f) new (Ok m) =
     (rest : List ℕ) × BeginsWithin limit f.bytes (message_of m) rest × (new ≡ feed_from f rest)
 ReadsMessage limit (Some f) new (Err e) = IsFaultyHead limit f.bytes e.0 e.1
 
--- why no request comes if the input stopped in this way, before a head or after bytes of one
+-- why no request follows if the input stopped in this way, before a head or after bytes of one
 abbrev pub cut_end : Stop → Bool → EndOfRequests
 cut_end (Fault kind) has_begun = because.Fault kind
 cut_end End true = because.Cut
 cut_end End false = because.Closed
 
--- WHY NO REQUEST comes from these bytes, and there is no response: the head is cut, and not by a timeout; or a line of
--- it isn't ASCII.
+-- WHY NO REQUEST FOLLOWS by the rules of tiny_http: whether this is the reason that these bytes are no head, and get no
+-- response. The head is cut, and not by a timeout; or a line of it isn't ASCII.
 abbrev pub RulesEndBy : HeadRules → List ℕ → Stop → EndOfRequests → Type 0
 RulesEndBy p bytes stop why =
     (IsCutHead p bytes × (is_timed_out stop ≡ false) × (why ≡ cut_end stop (nat_lt 0 (length bytes))))
     ⊎ (IsNotAsciiHead p bytes × (why ≡ because.NotAscii))
 
--- Under `Standard` it is cut; a timeout before it has begun gets no response.
+-- Whether this is why no request follows, and there is no response. Under `Standard` the head is cut; a timeout before
+-- its first byte gets no response.
 abbrev pub EndsBy : Profile → List ℕ → Stop → EndOfRequests → Type 0
 EndsBy under.Lenient bytes stop why = RulesEndBy rules.Lenient bytes stop why
 EndsBy under.Strict bytes stop why = RulesEndBy rules.Strict bytes stop why
 EndsBy under.Standard bytes stop why = why ≡ cut_end stop (is_begun bytes)
 
--- the same in an input state: after a body that was discarded, or broke off, that is the reason
+-- whether this is why no request follows in this input state: the previous body was discarded or broke off, or
+-- otherwise what the input shows
 abbrev pub EndsAt : Profile → InputState → List ℕ → Stop → EndOfRequests → Type 0
 EndsAt p at.Abandoned bytes stop why = why ≡ because.AbandonedBody
 EndsAt p (at.Broken kind) bytes stop why = why ≡ because.BrokenBody kind
 EndsAt p _ bytes stop why = EndsBy p bytes stop why
 
--- the reason in an input state, if the input alone gives this one
+-- why no request follows in this input state: the previous body was discarded or broke off, or otherwise `why`, what
+-- the input shows
 abbrev pub end_at : InputState → EndOfRequests → EndOfRequests
 end_at at.Abandoned why = because.AbandonedBody
 end_at (at.Broken kind) why = because.BrokenBody kind
 end_at _ why = why
 
--- A head is refused with this status in this version: the text of its response, after which no head follows. Or memory
--- for that was refused.
+-- Whether a call refuses a head with this status in this manner, by the text of the response, so that no head follows;
+-- or memory for that text is refused.
 abbrev pub RefusesWith : ℕ → Manner → HttpDate → Result HeadRead AllocError → Type 0
 RefusesWith status v date (Ok (read.Refused code text last)) =
     (code.0 ≡ status) × (text.items ≡ own_text status v false date) × (last ≡ true)
 RefusesWith status v date (Ok _) = ⊥
 RefusesWith status v date (Err e) = ⊤
 
--- A head is refused for its version, in version 1.1: the text of its response, and whether no head follows it. Or
--- memory for that was refused.
+-- Whether a call refuses a head for its version, by the text of the response in version 1.1; `ends` says whether no
+-- head follows. Or memory for that text is refused.
 abbrev pub RefusesTooNew : Bool → Bool → HttpDate → Result HeadRead AllocError → Type 0
 RefusesTooNew ends no_body date (Ok (read.Refused code text last)) =
     (code.0 ≡ 505)
@@ -254,14 +257,15 @@ RefusesTooNew ends no_body date (Ok (read.Refused code text last)) =
 RefusesTooNew ends no_body date (Ok _) = ⊥
 RefusesTooNew ends no_body date (Err e) = ⊤
 
--- The result for a head that is cut by this stop: 408 for a timeout, otherwise no response, for this reason.
+-- Whether this is the result for a head that is cut by this stop: a 408 for a timeout, otherwise the end without a
+-- response.
 abbrev pub AnswersCut : Stop → Bool → Bool → HttpDate → Result HeadRead AllocError → Type 0
 AnswersCut stop standard has_begun date r =
     MatchBool (is_timed_out stop) (RefusesWith 408 (record { version = version 1 1; by_standard = standard }) date r)
     (r ≡ Ok (read.Ended (cut_end stop has_begun)))
 
--- The result for a faulty head, under its version if that was read, where `stop` is how the input stopped if the head
--- is cut: a refusal, or why the requests end; or memory for its line was refused.
+-- Whether this is the result for a head with this fault, with its version if that was read: a refusal, or why no
+-- request follows; or memory for its line was refused. `stop` is how the input stopped if the head is cut.
 abbrev pub AnswersFault : Option HTTPVersion → HeadFault → Option Stop → HttpDate → Result HeadRead AllocError → Type 0
 AnswersFault v fault.Malformed stop date r = RefusesWith 400 (plainly (unwrap_or v (version 1 1))) date r
 AnswersFault v fault.Cut stop date r = IfSome stop (λ s. AnswersCut s false true date r)
@@ -269,15 +273,15 @@ AnswersFault v fault.TooLarge stop date r = RefusesWith 431 (plainly (unwrap_or 
 AnswersFault v fault.NotAscii stop date r = r ≡ Ok (read.Ended because.NotAscii)
 AnswersFault v fault.Memory stop date r = IsErr r
 
--- this body and the position after it are still to come
+-- whether this body, and the feed at this place after it, are still to come
 abbrev pub ComesWith : Option Remaining → Stop → Feed → Place → Type 0
 ComesWith left stop body next = left ≡ Some (record { body = body; behind = place_feed stop next })
 
--- a body of which nothing was read fits the framing
+-- whether this is a body with this framing, of which nothing was read
 abbrev pub FitsFraming : Framing → UnreadBody → Type 0
 FitsFraming f b = Fits f.by_standard b f.form (body_length_or_0 f) 0 false
 
--- The body that begins at the input's position, or None: it is read with its head, and cut.
+-- Whether this is the body that begins at the input's position; or `None`, because it is read with its head and is cut.
 abbrev pub Begins : Framing → Option Feed → Option Feed → Option UnreadBody → Type 0
 Begins f None new b = ⊤
 Begins f (Some x) new None = IsCutWithHead f.form (body_length_or_0 f) x.bytes
@@ -288,22 +292,23 @@ Begins f (Some x) new (Some b) =
     × BodyAt f.by_standard f.form (body_length_or_0 f) x.bytes x.stop body next
     × ComesWith (remaining b new) x.stop body next × FitsFraming f b
 
--- the reader times out
+-- whether the reader times out
 abbrev pub TimesOut : Option Feed → Type 0
 TimesOut None = ⊥
 TimesOut (Some f) = is_timed_out f.stop ≡ true
 
--- a byte of a head comes; or, except under `Standard`, the reader times out
+-- whether a byte of a head comes; or, except under `Standard`, the reader times out
 abbrev pub HasByteOrTimedOut : Profile → Option Feed → Type 0
 HasByteOrTimedOut p o = HasByte o ⊎ ((p ≢ under.Standard) × TimesOut o)
 
--- After a refused head that is the last no head follows; after another the input is at the position of the next one.
+-- Whether the input is at this place after a refused head: at the next head, or, if the refused one was the last, no
+-- head follows.
 abbrev pub GoesOnAt : Bool → Stop → Place → Option Feed → Type 0
 GoesOnAt true stop next new = next ≡ None
 GoesOnAt false stop next new = new ≡ Some (place_feed stop next)
 
--- ONE HEAD, read at a position: the item found there, what is still to come of its body, and where the next head begins
--- after that, unless the request is the last; or why no request comes.
+-- ONE HEAD, read at a position: whether a call returns the item found there, what is still to come of its body, and
+-- where the next head begins after that, unless the request is the last; or why no request follows.
 abbrev pub ReadsHead : Profile → InputState → HttpDate → Option Feed → Option Feed → Result HeadRead AllocError → Type 0
 ReadsHead p from_here date None new r = ⊤
 ReadsHead p from_here date (Some f) new (Ok (read.Request x)) =
@@ -325,13 +330,13 @@ ReadsHead p from_here date (Some f) new (Ok (read.Ended why)) =
     OneHead p f.bytes f.stop None None × EndsAt p from_here f.bytes f.stop why
 ReadsHead p from_here date (Some f) new (Err e) = ⊤
 
--- after any result but a request, or a refused head that another follows, the source has ended
+-- whether the source has ended after any result but a request, or a refused head that another one follows
 abbrev pub EndsUnlessHanded : {R : Type 0} → Result HeadRead AllocError → SourceState R → Type 0
 EndsUnlessHanded (Ok (read.Request x)) s = ⊤
 EndsUnlessHanded (Ok (read.Refused status text false)) s = ⊤
 EndsUnlessHanded _ s = IsAtEnd s
 
--- the source is before a head, or where one would begin
+-- whether the source is at a position where a head begins, or would begin
 abbrev pub IsBeforeHead : InputState → Type 0
 IsBeforeHead at.Head = Unit {0}
 IsBeforeHead at.Abandoned = Unit {0}
@@ -339,23 +344,24 @@ IsBeforeHead (at.Broken kind) = Unit {0}
 IsBeforeHead at.Body = ⊥
 IsBeforeHead at.Last = ⊥
 
--- the result is the end
+-- whether the result is that no request follows
 abbrev pub IsOkEnd : Result HeadRead AllocError → Type 0
 IsOkEnd (Ok (read.Ended why)) = ⊤
 IsOkEnd _ = ⊥
 
--- a request was read
+-- whether a request was read
 abbrev pub IsRequest : HeadRead → Type 0
 IsRequest (read.Request x) = ⊤
 IsRequest _ = ⊥
 
--- a head was refused, was read to its end or its first bad line (so no 408 or 431), and no head follows
+-- whether a head was refused that was read to its end or its first bad line (so not with 408 or 431), and no head
+-- follows
 abbrev pub IsRefusedUncut : HeadRead → Type 0
 IsRefusedUncut (read.Refused status text last) = (status.0 ≢ 408) × (status.0 ≢ 431) × (last ≡ true)
 IsRefusedUncut _ = ⊥
 
--- a message is framed as its version and headers state; under `Standard` that is the framing of a validated head, whose
--- version is the one served
+-- whether this is the framing of a message by its version and headers; under `Standard` that of a validated head, in
+-- the version in which the request is served
 abbrev pub IsFramedAs : Profile → Texted → Framing → Type 0
 IsFramedAs under.Lenient m f = framing rules.Lenient m.version m.headers ≡ Ok f
 IsFramedAs under.Strict m f = framing rules.Strict m.version m.headers ≡ Ok f
@@ -369,17 +375,18 @@ IsFramedAs under.Standard m f =
 abbrev pub IsFramedHead : Profile → Head → Type 0
 IsFramedHead p h = IsFramedAs p (head_message h) (head_framing h)
 
--- the same, and this is what is kept of a request with this head, on this date
+-- whether a head is framed by its version and headers, and this is what is kept of the request with this head on this
+-- date
 abbrev pub IsFramedBy : {B : Type 0} → Profile → HttpDate → Head → OpenRequest B → Type 0
 IsFramedBy p date h kept = IsFramedHead p h × KeepsHead kept h date
 
--- the same for a request that was read
+-- whether a request that was read is framed by its version and headers, and is kept as of this date
 abbrev pub IsFramedRequest : Profile → HttpDate → HeadRead → Type 0
 IsFramedRequest p date (read.Request x) =
     IsFramedBy p date (exchange_head x) (exchange_open x)
 IsFramedRequest p date _ = ⊤
 
--- the body of a request that was read fits its framing
+-- whether the body of a request that was read fits its framing
 abbrev pub FitsHead : HeadRead → Type 0
 FitsHead (read.Request x) = FitsFraming (head_framing (exchange_head x)) (exchange_body x)
 FitsHead _ = ⊤
@@ -389,34 +396,35 @@ abbrev pub input_state_of : Exchange → InputState
 input_state_of x =
     if (exchange_head x).framing.is_last then at.Last else if exchange_streams x then at.Body else at.Head
 
--- the input state after a head was read, or none
+-- the input state after a call that reads a head
 abbrev pub input_state_read : Result HeadRead AllocError → InputState → InputState
 input_state_read (Ok (read.Request x)) old = input_state_of x
 input_state_read (Ok (read.Refused status text false)) old = at.Head
 input_state_read _ old = old
 
--- ONE CALL THAT READS A HEAD, in any input state.
+-- ONE CALL THAT READS A HEAD, in any input state: what it returns, and what becomes of the source.
 pub record TakesHead {R : Type 0} (p : Profile) (date : HttpDate) (old new : SourceState R)
     (r : Result HeadRead AllocError) : Type 0 where
   -- Where a head would begin: the item found there, or why none follows. After any result but a request, or a refused
   -- head that the next one follows, the source has ended.
   pub reads : IsBeforeHead old.input_state → ReadsHead p old.input_state date old.feed new.feed r
   pub ends : IsBeforeHead old.input_state → EndsUnlessHanded r new
-  -- after the last request nothing is read; within a body neither, and the source ends there
+  -- After the last request nothing is read. Before the end of a body nothing is read, either, and the source ends
+  -- there.
   pub last : old.input_state ≡ at.Last → (r ≡ Ok (read.Ended because.LastRequest)) × (new ≡ old)
   pub unread : old.input_state ≡ at.Body
       → (r ≡ Ok (read.Ended because.UnreadBody)) × IsAtEnd new × (new.reader ≡ old.reader)
-  -- the source goes on, or is unchanged
+  -- The source goes on, or is unchanged.
   pub goes_on : GoesOn old.feed new.feed
-  -- whatever the reader states: after the end no head follows, and the reader isn't called
+  -- Whatever the reader states: after the end of the source no head follows, and the reader isn't called.
   pub at_end : IsAtEnd old → IsOkEnd r × (new.reader ≡ old.reader)
-  -- Unless the result is the end, a byte of a head has come; or, except under `Standard`, the reader timed out. At the
-  -- end the result isn't refused memory.
+  -- Unless the result is that no request follows, a byte of a head has come; or, except under `Standard`, the reader
+  -- timed out. At the end of the source memory isn't refused.
   pub begun : (IsOkEnd r → ⊥) → HasByteOrTimedOut p old.feed
-  -- whatever the reader states: a request is framed as its version and headers state, its body fits that framing, and
-  -- the text of its drop is that of its head
+  -- Whatever the reader states: a request is framed by its version and headers, its body fits that framing, and the
+  -- text of its drop is that of its head.
   pub framed : IfOk r (IsFramedRequest p date)
   pub fits : IfOk r FitsHead
-  -- nothing is read ahead: if a request was read, no end or fault of the reader was met
+  -- Nothing is read ahead: if a request was read, no end or fault of the reader was met.
   pub lazy : IfOk r (λ x. IsRequest x → new.stop ≡ old.stop)
   pub input_state : new.input_state ≡ input_state_read r old.input_state

@@ -1,10 +1,10 @@
--- What a head asks of its connection.
+-- What a head asks for that concerns its connection.
 use Rattle.std.specs.Prelude.{Bool, true, false, not, ◌&&◌, if◌then◌else◌}
 use Rattle.tiny_http_open_request.specs.declared.exchange.Head.{Head}
 use Rattle.tiny_http_body.specs.declared.framing.Form.{Form}
 use Rattle.tiny_http_body.specs.declared.framing.Form.TheVariants.{Rest, Nothing, WithHead, Counted, Chunked}
 
--- the body is the whole rest of the stream
+-- whether a body of this form is the whole rest of the stream
 abbrev pub is_rest : Form → Bool
 is_rest Rest = true
 is_rest Nothing = false
@@ -12,8 +12,8 @@ is_rest WithHead = false
 is_rest Counted = false
 is_rest Chunked = false
 
--- The head asks for an upgrade that its profile accepts: under `Standard` as RFC 9110, section 7.8, requires, unless
--- the connection ends after the request; otherwise by a first `Connection` that names one.
+-- Whether a head asks for an upgrade that its profile accepts: under `Standard` as RFC 9110, section 7.8, requires,
+-- unless the connection ends after the request; otherwise by a first `Connection` that contains `upgrade`.
 abbrev pub is_upgrade : Head → Bool
 is_upgrade h =
     if h.framing.by_standard then h.framing.asks_upgrade && not h.framing.is_last else is_rest h.framing.form

@@ -1,4 +1,4 @@
--- One head after another: refused heads that are followed by another are passed.
+-- Reading one head after another. Refused heads that another one follows are passed over.
 use Rattle.std.specs.Prelude.{◌≡◌, ℕ, zero, suc, ◌^◌, ◌⊎◌, Bool, true, false, List, Option, Some, None, Result, Ok, Err}
 use Rattle.std.specs.declared.alloc.AllocError.{AllocError}
 use Rattle.httpdate.specs.declared.date.HttpDate.{HttpDate}
@@ -13,7 +13,7 @@ use Rattle.tiny_http_open_request.specs.declared.next_request.NextRequest.{NextR
 use Rattle.tiny_http_open_request.specs.declared.next_request.NextRequest.TheVariants as next
 use Rattle.tiny_http_open_request.specs.HeadReads.{TakesHead}
 
--- the state of the reading: the source, the place for refusals, and the output that is lent for that
+-- What the reading of heads changes: the source, the place for refusals, and the output that is lent for those.
 pub record At (R P O : Type 0) : Type 0 where
   pub source : SourceState R
   pub place : P
@@ -22,33 +22,36 @@ pub record At (R P O : Type 0) : Type 0 where
 abbrev pub at : {R P O : Type 0} → SourceState R → P → O → At R P O
 at source place output = record { source = source; place = place; output = output }
 
--- How a text is put into the place for refusals; the flag is true if it was. A trait's relation.
+-- How a text is put into the place for refusals; the flag is true if it was. The type of the relation of
+-- `RefusalPlace`.
 abbrev pub Refuses : Type 0 → Type 0 → Type 1
 Refuses P O = P → O → List ℕ → Bool → P → O → Type 0
 
--- what is found: a request or the end; or None, if another head follows
+-- What the reading of one head finds: a request, the end or refused memory; or `None` if another head follows.
 abbrev pub Found : Type 0
 Found = Option (Result NextRequest AllocError)
 
--- what follows a refused head whose response was put in its place: the end after the last one, or the next head
+-- what is found after a refused head whose response was put in its place: the end if the head was the last, otherwise
+-- the next head
 abbrev pub after_refused : StatusCode → Bool → Found
 after_refused status true = Some (Ok (next.Ended (because.Refused status)))
 after_refused status false = None
 
--- the response to a refused head was put in its place; or memory was refused for that
+-- whether this is found after a refused head: if the flag is true, its response was put in its place; otherwise memory
+-- for that was refused
 abbrev pub FollowsRefusal : StatusCode → Bool → Bool → Found → Type 0
 FollowsRefusal status last true found = found ≡ after_refused status last
 FollowsRefusal status last false found = (e : AllocError) × (found ≡ Some (Err e))
 
--- a request is handed out as its head and what is kept of it
+-- the next request, as its head and what is kept of it
 abbrev pub next_of : Exchange → NextRequest
 next_of x = next.Request x.head x.open_request
 
--- place and output are unchanged
+-- whether place and output are unchanged
 abbrev pub Stays : {R P O : Type 0} → At R P O → At R P O → Type 0
 Stays here there = (there.place ≡ here.place) × (there.output ≡ here.output)
 
--- What follows a read of a head. Place and output change only if the head is refused.
+-- Whether this is found after a head is read with this result. Place and output change only if the head is refused.
 abbrev pub Follows : {R P O : Type 0} → Refuses P O → Result HeadRead AllocError → At R P O → Found → At R P O → Type 0
 Follows refuses (Ok (read.Request x)) here found there = (found ≡ Some (Ok (next_of x))) × Stays here there
 Follows refuses (Ok (read.Ended why)) here found there = (found ≡ Some (Ok (next.Ended why))) × Stays here there
@@ -58,24 +61,24 @@ Follows refuses (Ok (read.Refused status text last)) here found there =
     × FollowsRefusal status last kept found
 Follows refuses (Err e) here found there = (found ≡ Some (Err e)) × Stays here there
 
--- ONE HEAD is read, and this is found
+-- ONE HEAD: whether a call reads one, and finds this
 abbrev pub FindsHead : {R P O : Type 0} → Refuses P O → Profile → HttpDate → At R P O → Found → At R P O → Type 0
 FindsHead refuses profile date here found there =
     (r : Result HeadRead AllocError)
     × TakesHead profile date here.source there.source r
     × Follows refuses r here found there
 
--- n heads were refused, and another follows each
+-- whether n heads were refused, each followed by another one
 abbrev pub PassesHeads : {R P O : Type 0} → Refuses P O → Profile → HttpDate → ℕ → At R P O → At R P O → Type 0
 PassesHeads refuses profile date zero here there = there ≡ here
 PassesHeads {R = R} {P = P} {O = O} refuses profile date (suc n) here there =
     (mid : At R P O) × PassesHeads refuses profile date n here mid × FindsHead refuses profile date mid None there
 
--- 2^64 heads were passed, and no further one was looked at
+-- whether 2^64 heads were passed over, and the call fails without reading a further one
 abbrev pub PassesTooMany : {R P O : Type 0} → ℕ → At R P O → Result NextRequest AllocError → At R P O → Type 0
 PassesTooMany passed here r there = (passed ≡ 2 ^ 64) × ((e : AllocError) × (r ≡ Err e)) × (there ≡ here)
 
--- THE NEXT REQUEST, after the heads that are passed before it
+-- THE NEXT REQUEST: whether a call finds it, or the end, after the heads that are passed over.
 pub record FindsNext {R P O : Type 0} (refuses : Refuses P O) (profile : Profile) (date : HttpDate) (here : At R P O)
     (r : Result NextRequest AllocError) (there : At R P O) : Type 0 where
   pub passed : ℕ

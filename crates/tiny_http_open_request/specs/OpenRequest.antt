@@ -1,4 +1,4 @@
--- What a contract sees of an `OpenRequest`.
+-- What clauses see of an `OpenRequest`.
 use Rattle.std.specs.Prelude.{◌≡◌, ◌&&◌, ◌||◌, ◌==◌, ℕ, Bool, true, false, not, nat_lt, List, [], Option, Some, None}
 use Rattle.std.specs.Prelude.{Result, Ok, Err, ⊤, if◌then◌else◌}
 use Rattle.std.specs.List.{list_all}
@@ -35,52 +35,54 @@ abbrev pub coding_for : Bool → List Header → Option Coding
 coding_for by_standard headers =
     if by_standard then (if asks_chunked headers then Some Chunked else None) else coding_asked headers
 
--- a final response has a code of three digits that isn't 1xx (RFC 9110, section 15)
+-- whether a code is that of a final response: of three digits and not 1xx (RFC 9110, section 15)
 abbrev pub is_final : ℕ → Bool
 is_final code = not (nat_lt code 200) && nat_lt code 1000
 
--- a response with this code is refused: under `Standard` it must be final, and to CONNECT it must not be 2xx, which
--- would open a tunnel
+-- whether a response with this code is refused: under `Standard` it must be final, and in response to CONNECT it must
+-- not be 2xx, which would open a tunnel
 abbrev pub refuses_code : Bool → Bool → ℕ → Bool
 refuses_code by_standard is_connect code = by_standard && (not (is_final code) || (is_connect && nat_lt code 300))
 
--- No head is read after a request that is finished now: under `Standard` its 100 is owed, so that the client may omit
--- the body, or send it; or more is left of its body than is skipped.
+-- Whether no head is read after a request that is finished now: under `Standard`, if its 100 is owed, so that the
+-- client may omit the body or send it, or if more of its body is left than is skipped.
 abbrev pub ends_once_finished : Bool → Bool → Remainder → Bool
 ends_once_finished by_standard owed left = by_standard && (owed || is_long left)
 
 abbrev pub is_last_once_finished : {B : Type 0} → OpenRequest B → Remainder → Bool
 is_last_once_finished w left = ends_once_finished w.by_standard w.owes_continue left
 
--- none is read after a request that takes over the connection's stream now
+-- whether no head is read after a request by which the raw writer or an upgrade takes over the connection's stream now
 abbrev pub is_last_with_stream : {B : Type 0} → OpenRequest B → Remainder → Bool
 is_last_with_stream w left = w.holds_next_head || is_last_once_finished w left
 
--- Under `Standard` the response to a request says that the connection closes if a response asked for that, its 100 is
--- owed, or the rest of its body isn't skipped: it is long, or its end isn't known.
+-- Whether, under `Standard`, the response to a request says that the connection closes though its head doesn't require
+-- it: if a response asked for that, the 100 is owed, or the rest of the body isn't skipped (it is long, or its end
+-- isn't known).
 abbrev pub closes_once_answered : Bool → Bool → Remainder → Bool
 closes_once_answered closes owed left = closes || (owed || not (is_skipped left))
 
--- how it is answered now; if the request is the last by its head, its context says so already
+-- how the response to an open request is printed now; if the request is the last by its head, its context says so
+-- already
 abbrev pub final_context : {B : Type 0} → OpenRequest B → Remainder → ResponseContext
 final_context w left =
     if w.by_standard && closes_once_answered w.closes w.owes_continue left then record w.response_context
     { persistence = Some Close } else w.response_context
 
--- a body that the end of the connection ends
+-- whether the end of the connection ends a body of this form
 abbrev pub is_plain : StreamedForm → Bool
 is_plain Plain = true
 is_plain _ = false
 
--- How the head of a response with a growing body is printed: under `Standard` it says that the connection closes if any
--- other response would, or if the end of the connection ends the body.
+-- How the head of a response with a streamed body is printed: under `Standard` it says that the connection closes if
+-- any other response would, or if the end of the connection ends the body.
 abbrev pub streaming_context : {B : Type 0} → OpenRequest B → ℕ → Remainder → ResponseContext
 streaming_context w status left =
     if w.by_standard && is_plain (streamed_form w.response_context status) then record (final_context w left)
     { persistence = Some Close } else final_context w left
 
 -- Whether a response with this code can upgrade a connection to this protocol, or why not. Under `Standard` the request
--- must ask for it, and its body must be whole (RFC 9110, section 7.8).
+-- must ask for the protocol, the code must be 101, and the body must be whole (RFC 9110, section 7.8).
 abbrev pub upgrade_check : Bool → Bool → List ℕ → ℕ → Bool → Result ⊤ UpgradeError
 upgrade_check by_standard is_asked protocol code is_whole =
     if not (list_all is_ascii protocol) then Err Protocol else
@@ -89,12 +91,12 @@ upgrade_check by_standard is_asked protocol code is_whole =
     if not (code == 101) then Err Status else
     if not is_whole then Err UnfinishedBody else Ok tt
 
--- the same for an open request, by how far its body was read
+-- whether a response with this code can upgrade the connection of an open request to this protocol, or why not
 abbrev pub request_check : {B : Type 0} → OpenRequest B → List ℕ → ℕ → Bool → Result ⊤ UpgradeError
 request_check w protocol code is_whole =
     upgrade_check w.by_standard (w.holds_next_head && names_protocol w.upgrades.items protocol) protocol code is_whole
 
--- the same request, with this body
+-- the open request with this body
 abbrev pub with_body : {A B : Type 0} → OpenRequest A → B → OpenRequest B
 with_body w body = record {
   response_context = w.response_context;
@@ -108,32 +110,33 @@ with_body w body = record {
   body = body;
 }
 
--- the same request, after which the connection closes
+-- the open request, after which the connection closes
 abbrev pub closing : {B : Type 0} → OpenRequest B → OpenRequest B
 closing w = record w { closes = true }
 
--- nothing has changed except that no 100 is owed
+-- whether an open request is unchanged except that no 100 is owed
 abbrev pub OwesNoContinue : {B : Type 0} → OpenRequest B → OpenRequest B → Type 0
 OwesNoContinue old new = new ≡ record old { owes_continue = false }
 
--- nothing has changed except that no 100 is owed, and that its body is what an upgraded connection reads
+-- whether an open request is unchanged except that no 100 is owed, and that its body is what an upgraded connection
+-- reads
 abbrev pub HasBecomeStream : OpenRequest UnreadBody → OpenRequest UnreadBody → Type 0
 HasBecomeStream old new = new ≡ record old { owes_continue = false; body = stream_body old.by_standard old.body }
 
--- nothing has changed except that the text of its drop was taken, and that no 100 is owed
+-- whether an open request is unchanged except that the text of its drop was taken, and that no 100 is owed
 abbrev pub HasNoDropText : {B : Type 0} → OpenRequest B → OpenRequest B → Type 0
 HasNoDropText old new = new ≡ record old { owes_continue = false; dropped = record old.dropped { is_taken = true } }
 
--- nothing has changed except that its body reports its end from now on, that no 100 is owed, and that no upgrade of it
--- is accepted
+-- whether an open request is unchanged except that its body is at its end, that no 100 is owed, and that no upgrade is
+-- accepted
 abbrev pub HasNoBodyLeft : OpenRequest UnreadBody → OpenRequest UnreadBody → Type 0
 HasNoBodyLeft old new = new ≡ record old { body = Over End; owes_continue = false; holds_next_head = false }
 
--- the outlet holds nothing back, and all that it took was sent on
+-- whether an outlet holds nothing back, and all that it took was sent on
 abbrev pub HasSentAll : {W : Type 0} → OutletState W → Type 0
 HasSentAll o = (outlet_held o ≡ []) × SentOn o × IsFlushed (output_of o)
 
--- this is kept of a request with this head that was handed out on this date
+-- Whether this is what is kept of a request with this head that was handed out on this date.
 pub record KeepsHead {B : Type 0} (w : OpenRequest B) (h : Head) (date : HttpDate) : Type 0 where
   pub version : w.response_context.version ≡ h.version
   pub asked_coding : w.response_context.asked_coding ≡ coding_for h.framing.by_standard h.headers.items
@@ -144,7 +147,7 @@ pub record KeepsHead {B : Type 0} (w : OpenRequest B) (h : Head) (date : HttpDat
   pub by_standard : w.by_standard ≡ h.framing.by_standard
   pub is_connect : w.is_connect ≡ is_connect_method h.method
   pub closes : w.closes ≡ false
-  -- the protocols that it asks for, unless it is its connection's last
+  -- The protocols that the request asks for are kept, unless the request is its connection's last.
   pub upgrades : (protocol : List ℕ)
       → (w.holds_next_head && names_protocol w.upgrades.items protocol)
       ≡ (w.holds_next_head && names_protocol h.headers.items protocol)

@@ -1,4 +1,4 @@
--- What the bytes of a connection ask: requests with their bodies, and heads that are refused.
+-- What the bytes of a connection ask for: requests with their bodies, and heads that are refused.
 use Rattle.std.specs.Prelude.{◌≡◌, ℕ, ◌<◌, ◌≤◌, ◌⊎◌, ⊤, Bool, true, false, ◌&&◌, nat_lt, List, [], ◌∷◌, ◌++◌, length}
 use Rattle.std.specs.Prelude.{take, drop, Option, Some, None, Result, Ok, Err, unwrap_or, if◌then◌else◌}
 use Rattle.std.specs.declared.io.ErrorKind.{ErrorKind}
@@ -32,35 +32,34 @@ use Rattle.tiny_http_body.specs.Body.{cut_stop, chunk_rules}
 use Rattle.tiny_http_body.specs.Framing.{Frames, head_limit}
 use Rattle.tiny_http_body.specs.FramingReading.{sized_form}
 
--- a request that is handed out: its head, its framing, what its body reader gives and how that stops, and all that
--- follows its body
+-- A request that is handed out: its head, its framing, the feed of its body, and the feed after its body.
 pub record Request : Type 0 where
   pub message : Message
   pub framing : Framing
   pub body : Feed
   pub behind : Feed
 
--- why a head is refused
+-- Why a head is refused.
 pub data Refusal : Type 0 where
-  -- it is no head by the grammar, or its framing or its host is invalid
+  -- the bytes are no head by the grammar, or the head's framing or host is invalid
   BadRequest : Refusal
-  -- the reader timed out before it had arrived
+  -- the reader timed out before the head had arrived
   RequestTimeout : Refusal
-  -- what it expects can't be met
+  -- the head's expectation can't be met
   ExpectationFailed : Refusal
-  -- it is larger than the profile allows, or has more field lines
+  -- the head is larger than the profile allows, or has too many field lines
   HeaderFieldsTooLarge : Refusal
-  -- its version is above 1.1
+  -- the head's version is above 1.1
   VersionNotSupported : Refusal
-  -- it is larger than `Standard` allows, in its request line
+  -- the head is larger than `Standard` allows, within its request line
   RequestLineTooLong : Refusal
-  -- its transfer codings are unknown
+  -- the head's transfer codings are unknown
   CodingNotImplemented : Refusal
-  -- its major version isn't 1, under `Standard`
+  -- the head's major version isn't 1, under `Standard`
   MajorVersionNotSupported : Refusal
 
--- the status of the refusal (RFC 9110, sections 15.5.1, 15.5.9, 15.5.15, 15.5.18, 15.6.2 and 15.6.6; RFC 6585, section
--- 5)
+-- the status code of a refusal (RFC 9110, sections 15.5.1, 15.5.9, 15.5.15, 15.5.18, 15.6.2 and 15.6.6; RFC 6585,
+-- section 5)
 abbrev pub refusal_status : Refusal → ℕ
 refusal_status BadRequest = 400
 refusal_status RequestTimeout = 408
@@ -71,7 +70,7 @@ refusal_status RequestLineTooLong = 414
 refusal_status CodingNotImplemented = 501
 refusal_status MajorVersionNotSupported = 505
 
--- the version in which a head is refused, and whether that is printed under `Standard`
+-- How the response to a refused head is printed: in this version, and under `Standard` or not.
 pub record Manner : Type 0 where
   pub version : HTTPVersion
   pub by_standard : Bool
@@ -87,13 +86,13 @@ abbrev pub framing_refusal : FramingFault → Refusal
 framing_refusal Invalid = BadRequest
 framing_refusal Expectation = ExpectationFailed
 
--- a head of the connection: handed out, or refused in this manner; no_body marks a HEAD, which only a 505 depends on;
--- last means that the refusal itself ends the connection
+-- What one head asks for. `Asks`: the request is handed out. `Refuses`: the head is refused in this manner; `no_body`
+-- marks a HEAD, which matters only for a 505, and `last` means that the refusal ends the connection.
 pub data Item : Type 0 where
   Asks : (request : Request) → Item
   Refuses : (refusal : Refusal) (manner : Manner) (no_body last : Bool) → Item
 
--- where the next head begins; or None: the connection has ended
+-- The bytes from the next head on; or `None` if the connection has ended.
 abbrev pub Place : Type 0
 Place = Option (List ℕ)
 
@@ -114,23 +113,24 @@ abbrev pub is_connect_method : Method → Bool
 is_connect_method Connect = true
 is_connect_method _ = false
 
--- BY THE RULES OF TINY_HTTP: the bytes begin with a head of at most `limit` bytes; `after` follows it
+-- BY THE RULES OF TINY_HTTP: whether the bytes begin with this head, of at most `limit` bytes, and `after` follows it
 abbrev pub BeginsWithin : Option ℕ → List ℕ → Message → List ℕ → Type 0
 BeginsWithin None bytes m after = BeginsWithRequestHead bytes m after
 BeginsWithin (Some limit) bytes m after =
     BeginsWithRequestHead bytes m after × (head : List ℕ) × (bytes ≡ head ++ after) × (length head ≤ limit)
 
--- the bytes end within a head, before the limit; the version is that of the request line, if that has ended
+-- whether the bytes end within a head, before the limit; the version is that of the request line, if that has ended
 abbrev pub IsUnfinishedHead : Option ℕ → List ℕ → Option HTTPVersion → Type 0
 IsUnfinishedHead None bytes v = FaultyHead bytes v Cut
 IsUnfinishedHead (Some limit) bytes v = FaultyHead bytes v Cut × (length bytes < limit)
 
--- at least `limit` bytes came; each line that ends among the first `limit` is good, and the head doesn't end among them
+-- whether a head is too large: at least `limit` bytes came, each line that ends among the first `limit` is good, and
+-- the head doesn't end among them
 abbrev pub IsTooLarge : Option ℕ → List ℕ → Option HTTPVersion → Type 0
 IsTooLarge None bytes v = ⊥
 IsTooLarge (Some limit) bytes v = (limit ≤ length bytes) × FaultyHead (take limit bytes) v Cut
 
--- the bytes begin with a whole head, and this is its framing, or why that is invalid
+-- Whether the bytes begin with this complete head, and `framed` is its framing, or why that is invalid.
 pub record IsWholeHead (p : HeadRules) (bytes : List ℕ) (m : Message) (after : List ℕ)
     (framed : Result Framing FramingFault) : Type 0 where
   pub begins : BeginsWithin (head_limit p) bytes m after
@@ -139,7 +139,7 @@ pub record IsWholeHead (p : HeadRules) (bytes : List ℕ) (m : Message) (after :
 abbrev pub body_length_or_0 : Framing → ℕ
 body_length_or_0 f = unwrap_or f.body_length 0
 
--- a body that is read with its head is cut
+-- whether a body of this form is read with its head and is cut
 abbrev pub IsCutWithHead : Form → ℕ → List ℕ → Type 0
 IsCutWithHead WithHead n after = length after < n
 IsCutWithHead _ n after = ⊥
@@ -151,7 +151,7 @@ is_cut_with_head Counted n after = false
 is_cut_with_head Rest n after = false
 is_cut_with_head Chunked n after = false
 
--- the head, or a body that is read with it, is cut
+-- whether the head, or a body that is read with it, is cut
 abbrev pub IsCutHead : HeadRules → List ℕ → Type 0
 IsCutHead p bytes =
     ((line : Option HTTPVersion) × IsUnfinishedHead (head_limit p) bytes line)
@@ -161,17 +161,18 @@ IsCutHead p bytes =
     × IsWholeHead p bytes m after (Ok f)
     × IsCutWithHead f.form (body_length_or_0 f) after)
 
--- the first faulty line of a head, among the bytes in which it is looked for, isn't ASCII
+-- whether the first faulty line of a head, within the size limit, isn't ASCII
 abbrev pub IsNotAsciiHead : HeadRules → List ℕ → Type 0
 IsNotAsciiHead p bytes = (line : Option HTTPVersion) × FaultyHead (seen_within (head_limit p) bytes) line NotAscii
 
--- NO ITEM: the head, or a body that is read with it, is cut, and not by a timeout; or its first faulty line isn't
--- ASCII.
+-- NO ITEM: whether the bytes get no response, since the head, or a body that is read with it, is cut, and not by a
+-- timeout; or since its first faulty line isn't ASCII.
 abbrev pub HasNoItem : HeadRules → List ℕ → Stop → Type 0
 HasNoItem p bytes stop = (IsCutHead p bytes × (is_timed_out stop ≡ false)) ⊎ IsNotAsciiHead p bytes
 
--- A REFUSAL in this manner, with the version of the request line, or 1.1 if that hasn't ended; a 408 is always in 1.1.
--- A version that is too new is left to `item_of`, since a body follows it.
+-- A REFUSAL: whether the head at the front of the bytes is refused in this manner, with the version of the request
+-- line, or 1.1 if that hasn't ended; a 408 is always in 1.1. A version above 1.1 is left to `item_of`, since a body
+-- follows.
 abbrev pub IsRefused : HeadRules → List ℕ → Stop → Refusal → Manner → Type 0
 IsRefused p bytes stop BadRequest v =
     ((line : Option HTTPVersion)
@@ -188,23 +189,24 @@ IsRefused p bytes stop RequestLineTooLong v = ⊥
 IsRefused p bytes stop CodingNotImplemented v = ⊥
 IsRefused p bytes stop MajorVersionNotSupported v = ⊥
 
--- The head of A REQUEST with this framing: a body that is read with it has arrived.
+-- THE HEAD OF A REQUEST: whether the bytes begin with this head, with this framing, and a body that is read with it has
+-- arrived.
 pub record IsRequestHead (p : HeadRules) (bytes : List ℕ) (m : Message) (f : Framing) (after : List ℕ) : Type 0 where
   pub whole : IsWholeHead p bytes m after (Ok f)
   pub uncut : IsCutWithHead f.form (body_length_or_0 f) after → ⊥
 
--- UNDER `STANDARD` the first bytes are read, as many as a head may have.
+-- UNDER `STANDARD`: the bytes in which a head is read, at most as many as a head may have.
 abbrev pub standard_front : List ℕ → List ℕ
 standard_front bytes = take STANDARD_HEAD bytes
 
--- version 1.0 is kept, and any later one counts as 1.1
+-- the version in which a request is served: 1.0 is kept, and any later one counts as 1.1
 abbrev pub served_version : HTTPVersion → HTTPVersion
 served_version v = if is_1_0 v then version 1 0 else version 1 1
 
 abbrev pub served_message : Message → Message
 served_message m = record { method = m.method; path = m.path; version = served_version m.version; headers = m.headers }
 
--- how a head frames its message: an upgrade has no framing of its own
+-- the form of a body by the framing of its head; an upgrade has no framing of its own
 abbrev pub standard_form : Bool → Bool → Option ℕ → Form
 standard_form true owed n = Chunked
 standard_form false owed n = sized_form owed n
@@ -220,47 +222,49 @@ standard_framing s =
       is_last = s.is_last;
     }
 
--- the refusal for each head error
+-- the refusal for a head with this error
 abbrev pub standard_refusal : HeadError → Refusal
 standard_refusal validated.UnsupportedVersion = MajorVersionNotSupported
 standard_refusal validated.InvalidHead = BadRequest
 standard_refusal validated.UnknownCoding = CodingNotImplemented
 standard_refusal validated.UnknownExpectation = ExpectationFailed
 
--- as many bytes came as a head may have, and it hasn't ended: in its request line, or after it
+-- the refusal of a head that has the maximum size and hasn't ended: within its request line, or after it
 abbrev pub long_refusal : Bool → Refusal
 long_refusal false = RequestLineTooLong
 long_refusal true = HeaderFieldsTooLarge
 
--- what the bytes at the position of a head are
+-- What the bytes at the position of a head are. `Silence`: no item, and no response. `Refused`: a head that is refused.
+-- `Heads`: the head of a request, its framing, and the bytes after it.
 pub data Heading : Type 0 where
   Silence : Heading
   Refused : (refusal : Refusal) (manner : Manner) → Heading
   Heads : (message : Message) (framing : Framing) (after : List ℕ) → Heading
 
--- THE HEADING there by the rules of tiny_http
+-- whether this is the heading of the bytes by the rules of tiny_http
 abbrev pub RulesHeadAt : HeadRules → List ℕ → Stop → Heading → Type 0
 RulesHeadAt p bytes stop Silence = HasNoItem p bytes stop
 RulesHeadAt p bytes stop (Refused refusal v) = IsRefused p bytes stop refusal v
 RulesHeadAt p bytes stop (Heads m f after) = IsRequestHead p bytes m f after
 
--- a head, or a body that is read with it, is cut: it gets a response if it has begun and the reader timed out
+-- the heading of a head that is cut, or whose body is read with it and is cut: a 408 if the head has begun and the
+-- reader timed out, otherwise silence
 abbrev pub standard_cut : Bool → Stop → Heading
 standard_cut has_begun stop =
     if (has_begun && is_timed_out stop) then Refused RequestTimeout by_the_standard else Silence
 
--- a head that hasn't ended
+-- the heading of a head that hasn't ended: cut, or too large
 abbrev pub standard_open : Bool → List ℕ → Stop → Heading
 standard_open behind_request_line bytes stop =
     if nat_lt (length bytes) STANDARD_HEAD then standard_cut (is_begun bytes) stop
     else Refused (long_refusal behind_request_line) by_the_standard
 
--- a whole head with this framing; a short body of known length is read with it
+-- the heading of a complete head with this framing; a short body of known length is read with it
 abbrev pub standard_heads : Message → Framing → List ℕ → Stop → Heading
 standard_heads m f after stop =
     if is_cut_with_head f.form (body_length_or_0 f) after then standard_cut true stop else Heads m f after
 
--- THE HEADING there under `Standard`, by how the first bytes are read. All refusals are in version 1.1.
+-- THE HEADING of the bytes under `Standard`, by how the first bytes are read. All refusals are in version 1.1.
 abbrev pub standard_heading : Reading → List ℕ → Stop → Heading
 standard_heading ReadBad bytes stop = Refused BadRequest by_the_standard
 standard_heading ReadTooMany bytes stop = Refused HeaderFieldsTooLarge by_the_standard
@@ -272,7 +276,7 @@ standard_heading (ReadWhole m after (Ok s)) bytes stop =
 abbrev pub StandardHeadAt : List ℕ → Stop → Heading → Type 0
 StandardHeadAt bytes stop h = (r : Reading) × AreReadAs (standard_front bytes) r × (h ≡ standard_heading r bytes stop)
 
--- THE HEADING at the position of a head
+-- THE HEADING at the position of a head: whether these bytes have it under this profile
 abbrev pub HeadAt : Profile → List ℕ → Stop → Heading → Type 0
 HeadAt Lenient bytes stop h = RulesHeadAt rules.Lenient bytes stop h
 HeadAt Strict bytes stop h = RulesHeadAt rules.Strict bytes stop h
@@ -283,12 +287,12 @@ abbrev pub profile_of : HeadRules → Profile
 profile_of rules.Lenient = Lenient
 profile_of rules.Strict = Strict
 
--- the bytes begin with a body of n bytes
+-- whether the bytes begin with this body of n bytes, and `next` is where the next head begins after it
 abbrev pub SizedBody : ℕ → List ℕ → Feed → Place → Type 0
 SizedBody n after body next =
     (rest : List ℕ) × (after ≡ body.bytes ++ rest) × (length body.bytes ≡ n) × (body.stop ≡ End) × (next ≡ Some rest)
 
--- The body after a head, how it stops, and where the next head begins.
+-- Whether this is the body after a head with this framing, with its stop, and `next` is where the next head begins.
 abbrev pub BodyAt : Bool → Form → ℕ → List ℕ → Stop → Feed → Place → Type 0
 BodyAt standard Nothing n after stop body next = (body ≡ record { bytes = []; stop = End }) × (next ≡ Some after)
 BodyAt standard WithHead n after stop body next = SizedBody n after body next
@@ -306,12 +310,13 @@ BodyAt standard Chunked n after stop body next =
     × (body.stop ≡ Faults kind)
     × (next ≡ None))
 
--- where the next head begins after a request
+-- where the next head begins after a request; none, if the request is the last
 abbrev pub place_after : Bool → Place → Place
 place_after true next = None
 place_after false next = next
 
--- a version above 1.1 is refused, and the next head follows the body, if that is neither chunked nor all the rest
+-- whether no head follows one that is refused for a version above 1.1: its body is chunked, or all the rest of the
+-- stream
 abbrev pub ends_too_new : Form → Bool
 ends_too_new Rest = true
 ends_too_new Chunked = true
@@ -326,7 +331,7 @@ item_of m f body behind =
 abbrev pub next_place : Message → Framing → Place → Place
 next_place m f next = place_after (if is_too_new m.version then ends_too_new f.form else f.is_last) next
 
--- what a heading gives: an item, if any, and where the next one begins
+-- whether this is the item of a heading, if it has one, and `next` is where the next head begins
 abbrev pub FoundAt : Stop → Heading → Option Item → Place → Type 0
 FoundAt stop Silence item next = (item ≡ None) × (next ≡ None)
 FoundAt stop (Refused refusal v) item next = (item ≡ Some (Refuses refusal v false true)) × (next ≡ None)
@@ -337,12 +342,12 @@ FoundAt stop (Heads m f after) item next =
     × (item ≡ Some (item_of m f body (place_feed stop behind)))
     × (next ≡ next_place m f behind)
 
--- One head: its item, if any, and where the next one begins.
+-- Whether the head at the front of these bytes is this item, if it is one, and `next` is where the next head begins.
 abbrev pub OneHead : Profile → List ℕ → Stop → Option Item → Place → Type 0
 OneHead p bytes stop item next = (heading : Heading) × HeadAt p bytes stop heading × FoundAt stop heading item next
 
--- The pipeline: the items from a position on, one head after another, until the connection has ended (RFC 9112, section
--- 9.3.2).
+-- THE PIPELINE: whether these are the items from a place on, one head after another, until the connection has ended
+-- (RFC 9112, section 9.3.2).
 abbrev pub Pipeline : Profile → Place → Stop → List Item → Type 0
 Pipeline p None stop [] = ⊤
 Pipeline p None stop (item ∷ items) = ⊥

@@ -1,5 +1,5 @@
--- The pipeline of a feed, computed from the heading at each position; and that heading, by the rules of tiny_http: one
--- plain reading, from which the law of pipelines is proved.
+-- The pipeline of a feed as a computation: from the heading at each position, which is itself computed by the rules of
+-- tiny_http. The law of pipelines is proved from it.
 use Rattle.std.specs.Prelude.{ℕ, zero, suc, ◌+◌, Bool, true, false, nat_lt, nat_le, List, [], ◌∷◌, ◌++◌, length, take}
 use Rattle.std.specs.Prelude.{drop, Option, Some, None, unwrap_or, Result, Ok, Err, if◌then◌else◌}
 use Rattle.tiny_http_io.specs.declared.device.Stop.{Stop}
@@ -23,7 +23,7 @@ use Rattle.tiny_http_open_request.specs.Pipeline.{HeaderFieldsTooLarge, framing_
 use Rattle.tiny_http_open_request.specs.Pipeline.{is_cut_with_head, Heading, Silence, Refused, Heads}
 use Rattle.tiny_http_open_request.specs.Pipeline.{body_length_or_0, item_of, next_place}
 
--- a body and where the next head begins
+-- The result of reading a body: the body, and where the next head begins.
 pub record BodyRead : Type 0 where
   pub body : Feed
   pub next : Place
@@ -42,7 +42,7 @@ sized_read n after stop =
     then record { body = record { bytes = after; stop = stop }; next = None }
     else record { body = record { bytes = take n after; stop = End }; next = Some (drop n after) }
 
--- a counted body that is cut stops as its profile requires
+-- the reading of a counted body, which stops as its profile requires if it is cut
 abbrev pub counted_read : Bool → ℕ → List ℕ → Stop → BodyRead
 counted_read standard n after stop = sized_read n after (cut_stop standard stop)
 
@@ -53,7 +53,7 @@ body_read standard Counted n after stop = counted_read standard n after stop
 body_read standard Rest n after stop = record { body = record { bytes = after; stop = stop }; next = None }
 body_read standard Chunked n after stop = chunked_read (decoded_by (chunk_rules standard) (length after + 1) stop after)
 
--- the head, or a body that is read with it, is cut
+-- the heading of a head that is cut, or whose body is read with it and is cut
 abbrev pub cut_heading : Stop → Heading
 cut_heading stop = if is_timed_out stop then Refused RequestTimeout (plainly (version 1 1)) else Silence
 
@@ -62,17 +62,18 @@ whole_heading m after stop (Err fault) = Refused (framing_refusal fault) (plainl
 whole_heading m after stop (Ok f) =
     if is_cut_with_head f.form (body_length_or_0 f) after then cut_heading stop else Heads m f after
 
--- at least as many bytes as the limit came
+-- whether at least as many bytes came as the limit allows
 abbrev pub is_full : Option ℕ → List ℕ → Bool
 is_full None bytes = false
 is_full (Some limit) bytes = nat_le limit (length bytes)
 
--- what follows the head among all bytes, from what follows it among those that are looked at
+-- the bytes after a head among all bytes, from those after it among the bytes within the limit
 abbrev pub all_after : Option ℕ → List ℕ → List ℕ → List ℕ
 all_after None bytes after = after
 all_after (Some limit) bytes after = after ++ drop limit bytes
 
--- the first faulty line of the head; if the head is only cut, the limit was reached or wasn't
+-- the heading of a head with this fault in its first faulty line; if the head is only cut, `full` says whether the
+-- limit was reached
 abbrev pub faulty : Bool → Option HTTPVersion → GrammarFault → Stop → Heading
 faulty full v Cut stop =
     if full then Refused HeaderFieldsTooLarge (plainly (unwrap_or v (version 1 1))) else cut_heading stop
@@ -84,7 +85,7 @@ heading p bytes stop (Faulty v fault) = faulty (is_full (head_limit p) bytes) v 
 heading p bytes stop (Whole m after) =
     whole_heading m (all_after (head_limit p) bytes after) stop (framing p m.version m.headers)
 
--- the heading at a position, by the rules of tiny_http
+-- the heading of the bytes at a position, by the rules of tiny_http
 abbrev pub heading_of : HeadRules → Stop → List ℕ → Heading
 heading_of p stop bytes = heading p bytes stop (request_head_read (seen_within (head_limit p) bytes))
 
@@ -95,7 +96,7 @@ items_at go stop (Heads m f after) =
     let b = body_read f.by_standard f.form (body_length_or_0 f) after stop in
     item_of m f b.body (place_feed stop b.next) ∷ go (next_place m f b.next)
 
--- the heading at each position, for each stop of the feed
+-- The heading at each position of a feed with each stop.
 abbrev pub Headings : Type 0
 Headings = Stop → List ℕ → Heading
 
@@ -104,6 +105,6 @@ items_from at zero stop place = []
 items_from at (suc fuel) stop place =
     elim place [ None ↦ [] | Some bytes ↦ items_at (items_from at fuel stop) stop (at stop bytes) ]
 
--- the pipeline of a feed, by the heading at each position
+-- the items of a feed's pipeline, by the heading at each position
 abbrev pub items_of : Headings → Feed → List Item
 items_of at feed = items_from at (length feed.bytes + 1) feed.stop (Some feed.bytes)

@@ -1,4 +1,4 @@
--- What a contract sees of a text that isn't printed yet.
+-- What clauses see of a `DropText`, a text that isn't printed yet.
 use Rattle.std.specs.Prelude.{ℕ, Bool, List, [], if◌then◌else◌}
 use Rattle.httpdate.specs.declared.date.HttpDate.{HttpDate}
 use Rattle.tiny_http_response.specs.declared.response_context.ResponseContext.{ResponseContext}
@@ -9,6 +9,6 @@ pub record TextState : Type 0 where
   pub is_taken : Bool
   pub date : HttpDate
 
--- what is sent if a request is dropped: an empty 500; no bytes, once that was taken
+-- the text that is sent if a request is dropped: an empty 500, or no bytes once that was taken
 abbrev pub drop_text : TextState → ResponseContext → List ℕ
 drop_text t context = if t.is_taken then [] else own_text_by 500 (printing_in context t.date)

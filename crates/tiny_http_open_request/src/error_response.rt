@@ -1,5 +1,5 @@
-//! Error responses of the server: the response to a refused head, and that to a dropped request, which is printed when
-//! it is dropped.
+//! The server's own error responses: to a refused head, and to a dropped request. The latter is printed when the
+//! request is dropped.
 ghost use Rattle.std.specs.Prelude.{◌≡◌, ◌<◌, ◌≤◌, ◌^◌, true, false, [], Some, IfOk, length, vec_len, vec_capacity};
 ghost use Rattle.httpdate.specs.Date.{date_text};
 ghost use Rattle.tiny_http_response.specs.ResponseValue.{printing_in};
@@ -28,7 +28,7 @@ use tiny_http_response::sending::send;
 /// The number of bytes reserved for an empty error response, which has at most 162.
 pub const OWN_ANSWER: usize = 168;
 
-// Prints the response to a refused head. Fails if memory is refused.
+// Prints a response to a refused head into memory. Fails if memory is refused.
 fn refused_text<D: ReadDevice + Drop>(
     alloc: Global,
     answer: Response<D>,
@@ -56,8 +56,8 @@ fn refused_text<D: ReadDevice + Drop>(
     }
 }
 
-/// Prints the response to a refused head in this version, with this code, no headers of its own and no data. Under
-/// `Standard` it says that the connection closes. Fails if memory is refused.
+/// Prints the response to a refused head: in this version, with this code, without added headers and without data.
+/// Under `Standard` it says that the connection closes. Fails if memory is refused.
 pub fn error_response(
     alloc: Global,
     status: StatusCode,
@@ -72,8 +72,8 @@ pub fn error_response(
     refused_text(alloc, answer, version, by_standard, false, now)
 }
 
-/// Returns what a response says about its connection under `Standard`: that it closes after the last request, and
-/// persists after any other.
+/// Returns what a response says about its connection: under `Standard` that the connection closes after the last
+/// request and persists after any other, and `None` under another profile.
 pub(crate) fn persistence_of(by_standard: bool, is_last: bool) -> Option<Persistence>
     ensures { result ≡ persistence_of by_standard is_last }
 {
@@ -88,7 +88,8 @@ pub(crate) fn persistence_of(by_standard: bool, is_last: bool) -> Option<Persist
 const TOO_NEW: &str = "This server only supports HTTP versions 1.0 and 1.1";
 
 /// Prints the response to a head whose version is above 1.1: a 505 in version 1.1 with a text that names the supported
-/// versions, which is withheld for `no_body` (as tiny_http; RFC 9110, section 15.6.6). Fails if memory is refused.
+/// versions (as in tiny_http; RFC 9110, section 15.6.6). The text is omitted if `no_body` is set. Fails if memory is
+/// refused.
 pub fn too_new_answer(alloc: Global, no_body: bool, now: HttpDate) -> Result<Vec<u8>, AllocError>
     ensures { IfOk result
         (λ text. text.items ≡ refused_text (refusal_response VersionNotSupported) (plainly (version 1 1)) no_body
@@ -99,8 +100,8 @@ pub fn too_new_answer(alloc: Global, no_body: bool, now: HttpDate) -> Result<Vec
     refused_text(alloc, answer, HTTPVersion(1, 1), false, no_body, now)
 }
 
-// Sends a response to a request with this code, no headers of its own and no data, and flushes it. A fault isn't
-// reported. An outlet that has ended sends nothing. Allocates nothing.
+// Sends a response with this code, without added headers and without data, and flushes it. A fault isn't reported. An
+// outlet that has ended sends nothing. Allocates nothing.
 pub(crate) fn send_own_quietly<W: WriteDevice>(
     alloc: Global,
     outlet: &mut Outlet<W>,
@@ -140,7 +141,8 @@ impl WriteDevice for OwnPage {
         self.failures
     }
 
-    /// Takes as many bytes as fit. If `buf` isn't empty and none fit, the error is `OutOfMemory`.
+    /// Appends as many bytes of `buf` as fit, and returns their number. Fails with `OutOfMemory` if `buf` isn't empty
+    /// and none fits.
     fn write_out(&mut self, buf: &[u8]) -> Result<usize, io::Error> {
         let n = buf.len().min(OWN_ANSWER - self.bytes.len());
         if n == 0 && !buf.is_empty() {
@@ -159,7 +161,7 @@ impl WriteDevice for OwnPage {
     }
 }
 
-// Returns the length of a date's text, 29.
+// Returns 29, the length of a date's text.
 fn date_length(now: HttpDate) -> usize
     ensures length { result ≡ length (date_text now) }
     ensures value { result ≡ 29 }
@@ -189,7 +191,7 @@ fn print_drop(room: Vec<u8>, context: ResponseContext, now: HttpDate) -> Vec<u8>
 }
 
 /// The text that is sent if a request is dropped: an empty 500, or no bytes once it was taken. Its memory is allocated
-/// when it is created; it is printed when the request is dropped.
+/// when the `DropText` is created; the text is printed when the request is dropped.
 #[derive(Drop)]
 pub struct DropText {
     room: Vec<u8>,
@@ -212,7 +214,7 @@ impl Model for DropText {
 }
 
 impl DropText {
-    /// Creates the text with the date `now`. Fails if memory is refused.
+    /// Creates a text that will be printed with the date `now`. Fails if memory is refused.
     pub fn new(alloc: Global, now: HttpDate) -> Result<DropText, AllocError>
         ensures { IfOk result (λ text. text ≡ record { is_taken = false; date = now }) }
     {
@@ -224,7 +226,7 @@ impl DropText {
         })
     }
 
-    /// Takes the text, printed in this context. A later call returns no bytes. Allocates nothing.
+    /// Prints the text in this context, and returns it. A later call returns no bytes. Allocates nothing.
     pub fn take_text(&mut self, context: ResponseContext) -> Vec<u8>
         ensures text { result.items ≡ drop_text self.old context }
         ensures taken { self.new ≡ record self.old { is_taken = true } }
@@ -238,7 +240,7 @@ impl DropText {
         print_drop(room, context, self.now)
     }
 
-    /// Returns the text, printed in this context. Allocates nothing.
+    /// Prints the text in this context, and returns it, or no bytes if it was taken. Allocates nothing.
     pub fn into_text(self, context: ResponseContext) -> Vec<u8>
         ensures { result.items ≡ drop_text self context }
     {

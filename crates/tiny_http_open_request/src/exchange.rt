@@ -33,7 +33,7 @@ pub struct Head {
     pub method: Method,
     /// The request target as it was sent; it may be empty.
     pub path: AsciiString,
-    /// The version in the request line; under `Standard` any later one with major version 1 is 1.1.
+    /// The version in the request line; under `Standard` any version after 1.1 with major version 1 counts as 1.1.
     pub version: HTTPVersion,
     /// The headers, in order.
     pub headers: Vec<Header>,
@@ -52,18 +52,18 @@ pub struct Exchange {
 /// Why no further request follows.
 #[derive(Clone, Copy, Debug, PartialEq, Eq)]
 pub enum EndOfRequests {
-    /// The last request was read: its version or its `Connection` header ends the connection after it. Under `Standard`
-    /// its method `CONNECT` does, too. So does finishing it while its 100 was owed or more than 65,536 bytes of its
-    /// counted body were unread, and, if it asked for an upgrade, its raw writer or its upgrade. Under each profile a
-    /// response by `Response::with_close` does.
+    /// The last request was read. By its version or its `Connection` header the connection ends after it. Under
+    /// `Standard` it also ends by the method `CONNECT`; if the request was finished while its 100 was owed or more than
+    /// 65,536 bytes of its counted body were unread; and, if the request asked for an upgrade, by its raw writer or its
+    /// upgrade. Under any profile it ends after a response with `Response::with_close`.
     LastRequest,
     /// The input ended before any byte of a further head. This includes an end within a body of known length (under
-    /// `Standard` that is `BrokenBody` once it was read up to there), and an end or a fault within the rest of one that
-    /// was discarded or skipped.
+    /// `Standard` that is `BrokenBody` once the body was read up to its cut), and an end or a fault within the rest of
+    /// a body that was discarded or skipped.
     Closed,
     /// The input ended within a head, or within a body that is read with its head.
     Cut,
-    /// A line of the head has a byte from 128 on.
+    /// A line of the head has a byte that isn't ASCII (128 or above).
     NotAscii,
     /// A head was refused with this status, which ended the requests.
     Refused(StatusCode),
@@ -86,8 +86,8 @@ pub enum EndOfRequests {
 pub enum HeadRead {
     /// A request.
     Request(Exchange),
-    /// A head that is refused with this status: the whole text of its response, to be sent in its turn. If `last` is
-    /// set, no head follows.
+    /// A head that is refused with this status. `text` is its complete response, to be sent in the turn of the head. If
+    /// `last` is set, no head follows.
     Refused {
         status: StatusCode,
         text: Vec<u8>,
@@ -98,7 +98,7 @@ pub enum HeadRead {
 }
 
 impl Exchange {
-    // Creates the request with this head, without a response so far.
+    // Creates a request with this head, to which no response was sent yet.
     pub(crate) fn new(head: Head, open_request: OpenRequest<UnreadBody>) -> Exchange
         ensures head { result.head ≡ head }
         ensures open { result.open_request ≡ open_request }
@@ -120,14 +120,14 @@ impl Exchange {
         &self.head
     }
 
-    /// Reads some bytes of the body into the front of `buf`, and returns how many: possibly fewer than fit although
+    /// Reads some bytes of the body into the front of `buf`, and returns their number: possibly fewer than fit although
     /// more follow, and 0 if `buf` is empty. The source must be the one that the request was read from. After the last
     /// byte each call returns 0, or the fault that cuts or breaks the body (RFC 9112, sections 6.2 and 7.1). Allocates
     /// nothing.
     ///
     /// The fault is the reader's own, or `InvalidData` or `UnexpectedEof` of a chunked body; after it the source has
     /// ended. A body of known length that is cut by the end of input ends there; under `Standard` that is
-    /// `UnexpectedEof`. A discarded body returns 0.
+    /// `UnexpectedEof`. A read of a discarded body returns 0.
     pub fn read_body<R: ReadDevice>(
         &mut self,
         source: &mut Source<R>,
@@ -138,22 +138,22 @@ impl Exchange {
         ensures kept { KeepsButBody self.old self.new }
         // The source's reader isn't called for a second end or fault, nor for more than the bytes that arrived.
         ensures stop_count { Tells (R.stop_count source.old.reader) (R.stop_count source.new.reader) result }
-        // It isn't called for an end or fault if the body has its own end.
+        // The source's reader isn't called for an end or fault if the body has its own end.
         ensures whole { R.stop_count source.new.reader ≤ R.stop_count source.old.reader
             + ends_met (exchange_body self.old) (bytes_given result) (exchange_body self.new) }
     {
         self.open_request.read(source, buf)
     }
 
-    /// Sends the response to this request, dated `now`, and flushes it. No 100 is owed afterwards. The caller answers
-    /// each request once, in order, and then discards the body. Under `Standard` the response says that the connection
-    /// closes if the request is the last by its head, its 100 is owed, more than 65,536 bytes of its body are unread,
-    /// or the end of its body isn't known; the caller then reads no further head. A body discarded before this call
-    /// counts as read. `Response::with_close` is ignored.
+    /// Sends the response to this request, dated `now`, and flushes it. No 100 is owed afterwards. The caller responds
+    /// to each request once, in order, and then discards the body. Under `Standard` the response says that the
+    /// connection closes if the request is the last by its head, its 100 is owed, more than 65,536 bytes of its body
+    /// are unread, or the end of its body isn't known; the caller then reads no further head. A body discarded before
+    /// this call counts as read. `Response::with_close` is ignored.
     ///
-    /// On an outlet that has ended nothing is sent, the data aren't read, and the result is `Ok`. The error is the
-    /// first fault, of the data or of the writer; if both fail, either may be reported. The outlet has then ended, and
-    /// what was held before a fault of the data is sent.
+    /// On an outlet that has ended this sends nothing, doesn't read the data, and returns `Ok`. Fails with the first
+    /// fault, of the data or of the writer; if both fail, either may be reported. The outlet has then ended, and the
+    /// bytes held before a fault of the data are sent.
     pub fn respond_on<W: WriteDevice, D: ReadDevice + Drop>(
         &mut self,
         alloc: Global,
@@ -171,17 +171,19 @@ impl Exchange {
     }
 
     /// Sends the response that upgrades the connection to `protocol` (RFC 9110, section 7.8), dated `now`, and flushes
-    /// it: the head alone, with `Connection: upgrade` and `Upgrade: PROTOCOL` before the other headers (as tiny_http).
-    /// The data are dropped unread, and no 100 is owed afterwards. A fault of the writer ends the outlet, and isn't
-    /// reported. An outlet that has ended sends nothing. Allocates nothing.
+    /// it: the head alone, with `Connection: upgrade` and `Upgrade: PROTOCOL` before the other headers (as in
+    /// tiny_http). The data are dropped unread, and no 100 is owed afterwards. A fault of the writer ends the outlet,
+    /// and isn't reported. An outlet that has ended sends nothing. Allocates nothing.
     ///
     /// The caller makes this call in the request's turn, in place of a response, and sends neither a response nor the
-    /// text of a drop afterwards. The output is then the protocol's, and `read_body` gives its input: the request's
-    /// body, or under `Standard` all that follows it. Under `Standard` the caller reads no head after an upgrade.
+    /// text of a drop afterwards. From then on the output is the protocol's, and `read_body` reads its input: the
+    /// request's body, or under `Standard` all that follows that body. Under `Standard` the caller reads no head after
+    /// an upgrade.
     ///
-    /// # Errors Fails if the protocol isn't ASCII. Under `Standard` it also fails if the request doesn't ask for this
-    /// protocol or is its connection's last, if the code isn't 101, and if the body isn't whole (cut, broken, or not
-    /// read to its end) or was discarded. Then nothing has changed, and the caller drops the request.
+    /// # Errors
+    /// Fails if the protocol isn't ASCII. Under `Standard` it also fails if the request doesn't ask for this protocol
+    /// or is its connection's last, if the code isn't 101, and if the body isn't whole (cut, broken, or not read to its
+    /// end) or was discarded. Then nothing has changed, and the caller drops the request.
     pub fn upgrade_on<W: WriteDevice, D: Drop>(
         &mut self,
         alloc: Global,
@@ -192,7 +194,7 @@ impl Exchange {
     ) -> Result<(), UpgradeError>
         ensures checked { result ≡ exchange_check self.old protocol.now response.answer.status }
         ensures refused { OnErr result ((self.new ≡ self.old) × (outlet.new ≡ outlet.old)) }
-        // Holds for any data.
+        // Holds whatever the data are: they aren't read.
         ensures sends { OnOk result ((content : Feed) → SendsQuietlyOn outlet.old outlet.new
             (upgrade_text (record { answer = response.answer; content = content }) protocol.now
             (exchange_printing self.old now))) }
@@ -211,7 +213,7 @@ impl Exchange {
         Ok(())
     }
 
-    /// Sends the 100 that is owed to this request, and flushes (RFC 9110, section 10.1.1). If none is owed, it changes
+    /// Sends the 100 that is owed to this request, and flushes it (RFC 9110, section 10.1.1). If none is owed, changes
     /// nothing. The caller makes this call in the request's turn, before the body is read and before the response. A
     /// fault of the writer ends the outlet, and isn't reported. An outlet that has ended sends nothing. Allocates
     /// nothing.
@@ -232,7 +234,8 @@ impl Exchange {
     }
 
     /// Discards the rest of the body: each later read returns 0, and no 100 is owed. The rest of a body of known length
-    /// is skipped before the next head. After a chunked body whose end or fault wasn't reported the source has ended.
+    /// is skipped before the next head. If the body is chunked and its end or fault wasn't reported, the source has
+    /// then ended.
     pub fn give_up<R: ReadDevice>(&mut self, source: &mut Source<R>)
         ensures gives_up { GivesUpBody self.old source.old source.new }
         ensures kept { Changes HasNoBodyLeft self.old self.new }
@@ -241,10 +244,10 @@ impl Exchange {
         self.open_request.give_up(source);
     }
 
-    /// Takes the text that is sent if this request is dropped: an empty 500, printed for its version, headers and
-    /// method, with the date on which it was read (as tiny_http). A later call returns no bytes, and no 100 is owed
-    /// afterwards. The caller sends the text in the request's turn, in place of a response, and discards the body.
-    /// Allocates nothing.
+    /// Takes the text that is sent if this request is dropped: an empty 500, printed for the request's version, headers
+    /// and method, with the date on which the request was read (as in tiny_http). A later call returns no bytes. No 100
+    /// is owed afterwards. The caller sends the text in the request's turn, in place of a response, and discards the
+    /// body. Allocates nothing.
     pub fn text_of_drop(&mut self) -> Vec<u8>
         ensures text { result.items ≡ exchange_drop_text self.old }
         ensures once { Changes HasNoDropText self.old self.new }
@@ -253,8 +256,8 @@ impl Exchange {
         self.open_request.take_drop_text(left)
     }
 
-    /// Splits the request into its head and what is kept of it until the response; for the crates that build on this
-    /// one.
+    /// Splits the request into its head and what is kept of the request until the response; for the crates that build
+    /// on this one.
     pub fn into_parts(self) -> (Head, OpenRequest<UnreadBody>)
         ensures { self ≡ exchange_of result.0 result.1 }
     {

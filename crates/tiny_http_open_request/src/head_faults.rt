@@ -1,4 +1,4 @@
-//! Results for heads that have a fault or are cut.
+//! The results of reading a head that has a fault or is cut.
 ghost use Rattle.std.specs.Prelude.{◌≡◌, true, false, Some, Ok, IfSome, OnOk};
 ghost use Rattle.tiny_http_io.specs.Source.{GoesOn};
 ghost use Rattle.tiny_http_open_request.specs.Pipeline.{is_timed_out, ends_too_new, refusal_status, framing_refusal};
@@ -17,8 +17,8 @@ use tiny_http_head::common::{HTTPVersion, StatusCode};
 use tiny_http_io::device::{ReadDevice, Stop};
 use tiny_http_io::source::Source;
 
-// Returns why no request comes from a source that stopped in this way before the head, or a body that is read with it,
-// had arrived.
+// Returns why no request follows if the source stopped in this way before a head, or a body that is read with it, had
+// arrived. `has_begun` means that bytes of the head had arrived.
 pub(crate) fn cut_end(stop: Option<Stop>, has_begun: bool) -> EndOfRequests
     ensures { IfSome stop (λ stop. result ≡ cut_end stop has_begun) }
 {
@@ -36,7 +36,8 @@ pub(crate) fn is_timed_out(stop: Option<Stop>) -> bool
     matches!(stop, Some(Stop::Fault(ErrorKind::TimedOut)))
 }
 
-// Refuses a head with this status, in this version: the response is empty, and no head follows.
+// Refuses a head with this status: prints an empty response in this version, after which no head follows. Fails if
+// memory is refused.
 pub(crate) fn refused_with(
     alloc: Global,
     status: StatusCode,
@@ -64,14 +65,15 @@ pub(crate) fn refusal_of(fault: FramingFault) -> StatusCode
     }
 }
 
-// Returns whether no head follows after a version above 1.1: an upgrade is named, or the body is chunked.
+// Returns whether no head follows one that is refused for a version above 1.1: whether that head names an upgrade, or
+// its body is chunked.
 fn ends_too_new(form: Form) -> bool
     ensures { result ≡ ends_too_new form }
 {
     matches!(form, Form::Rest | Form::Chunked)
 }
 
-// Skips a body of which nothing was read. It doesn't call the reader, unless 2^64 bytes or more are to be skipped.
+// Skips a body of which nothing was read. Doesn't call the reader, unless 2^64 bytes or more are to be skipped.
 fn skip<R: ReadDevice>(source: &mut Source<R>, body: &UnreadBody)
     ensures passes { PassesOver body.now source.old source.new }
     ensures goes_on { GoesOn source.old.feed source.new.feed }
@@ -86,7 +88,8 @@ fn skip<R: ReadDevice>(source: &mut Source<R>, body: &UnreadBody)
     }
 }
 
-// Refuses a head for its version. If another head follows, its body is skipped.
+// Refuses a head for its version. If another head follows, skips the body of the refused one. Fails if memory is
+// refused.
 pub(crate) fn refuse_too_new<R: ReadDevice>(
     alloc: Global,
     source: &mut Source<R>,
@@ -111,7 +114,8 @@ pub(crate) fn refuse_too_new<R: ReadDevice>(
     Ok(HeadRead::Refused { status, text, last })
 }
 
-// Returns the result for a source that stopped in this way before a head, or a body that is read with it, had arrived.
+// Returns the result for a source that stopped in this way before a head, or a body that is read with it, had arrived:
+// a refusal with 408 for a timeout, or otherwise why no request follows.
 pub(crate) fn answer_cut(
     alloc: Global,
     stop: Option<Stop>,
@@ -127,8 +131,8 @@ pub(crate) fn answer_cut(
     Ok(HeadRead::Ended(cut_end(stop, has_begun)))
 }
 
-// Returns the result for a faulty head: a refusal, or why the requests end. `stop` is how the source stopped if the
-// head is cut.
+// Returns the result for a faulty head: a refusal, or why no request follows. `stop` is how the source stopped if the
+// head is cut. Fails if memory is refused.
 pub(crate) fn answer_fault(
     alloc: Global,
     version: Option<HTTPVersion>,

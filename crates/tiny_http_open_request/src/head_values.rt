@@ -13,7 +13,7 @@ use tiny_http_head::target::{path_of, query_of};
 use tiny_http_standard_head::lists::has_element;
 
 impl Head {
-    /// Returns the length in `Content-Length` in bytes, if it can be read and no `Transfer-Encoding` overrides it.
+    /// Returns the length in `Content-Length`, in bytes, if it can be read and no `Transfer-Encoding` overrides it.
     #[inline(always)]
     pub fn body_length(&self) -> Option<usize>
         ensures { result ≡ self.now.framing.body_length }
@@ -29,7 +29,7 @@ impl Head {
         self.framing.form
     }
 
-    /// Returns whether the head expects a 100 before the body (RFC 9110, section 10.1.1): in any version and with or
+    /// Returns whether the head expects a 100 before the body (RFC 9110, section 10.1.1): in any version, with or
     /// without a body; under `Standard` only in version 1.1, if a body follows.
     #[inline(always)]
     pub fn owes_continue(&self) -> bool
@@ -38,8 +38,9 @@ impl Head {
         self.framing.owes_continue
     }
 
-    /// Returns whether the head asks for an upgrade (RFC 9110, section 7.8). Always false except under `Standard`,
-    /// where it means version 1.1, a `Connection` with the element `upgrade`, and an `Upgrade` that names a protocol.
+    /// Returns whether the head asks for an upgrade (RFC 9110, section 7.8). Under `Standard` this requires version
+    /// 1.1, a `Connection` with the element `upgrade`, and an `Upgrade` that names a protocol. Under any other profile
+    /// this is false.
     #[inline(always)]
     pub fn asks_upgrade(&self) -> bool
         ensures { result ≡ self.now.framing.asks_upgrade }
@@ -56,7 +57,7 @@ impl Head {
     }
 
     /// Returns the value of the first header with this name, or `None` if there is none. ASCII letter case is ignored
-    /// (RFC 9110, section 5.1). Further headers with that name are ignored.
+    /// (RFC 9110, section 5.1). Further headers with this name are ignored.
     pub fn header(&self, name: &str) -> Option<&str>
         ensures { option_copied result ≡ value_of name.now self.now.headers.items }
     {
@@ -66,10 +67,10 @@ impl Head {
         }
     }
 
-    /// Returns whether the headers with this name list this token. They all form one list (RFC 9110, section 5.3),
+    /// Returns whether the headers with this name list this token. Together they form one list (RFC 9110, section 5.3),
     /// whose elements are separated by commas and trimmed of spaces and tabs (section 5.6.1). ASCII letter case of name
     /// and token is ignored. An element must be the token alone: `gzip;q=1` isn't `gzip`. A comma in a quoted string
-    /// separates as well.
+    /// separates elements, too.
     pub fn header_lists(&self, name: &str, token: &str) -> bool
         ensures { result ≡ has_element name.now token.now self.now.headers.items }
     {
@@ -86,8 +87,8 @@ impl Head {
         path_of(self.path.as_str())
     }
 
-    /// Returns the query of the target as it was sent: the part after its first `?`, which may be empty. `None` if
-    /// there is no `?` (RFC 3986, section 3.4).
+    /// Returns the query of the target as it was sent: the part after its first `?`, which may be empty. Returns `None`
+    /// if there is no `?` (RFC 3986, section 3.4).
     pub fn query(&self) -> Option<&str>
         ensures { IsQuery self.now.path (option_copied result) }
     {
@@ -95,10 +96,10 @@ impl Head {
     }
 
     /// Returns whether the head asks for an upgrade that its profile accepts (RFC 9110, section 7.8). Under `Standard`
-    /// that is `asks_upgrade`, if the connection doesn't end after the request: by its version, by `Connection: close`
-    /// or by its method. Exactly then an upgrade to a protocol that `Upgrade` names isn't refused as not asked for.
-    /// Under the other profiles the first `Connection` must contain `upgrade`; all bytes after the head are then its
-    /// body, and what `Upgrade` names is ignored.
+    /// it must satisfy `asks_upgrade`, and the connection must not end after the request, by its version, by
+    /// `Connection: close` or by its method. In exactly these cases an upgrade to a protocol that `Upgrade` names
+    /// doesn't fail with `NotAsked`. Under the other profiles the first `Connection` must contain `upgrade`; all bytes
+    /// after the head are then its body, and what `Upgrade` names is ignored.
     pub fn is_upgrade(&self) -> bool
         ensures { result ≡ is_upgrade self.now }
     {

@@ -1,4 +1,4 @@
-//! The lines of a head.
+//! Reading a head line by line.
 ghost use Rattle.std.specs.Prelude.{◌≡◌, ◌≢◌, None, Some, Err, OnOk, IfErr};
 ghost use Rattle.tiny_http_io.specs.Source.{GoesOn, IsWithin, IsAtEnd, IsCutOff};
 ghost use Rattle.tiny_http_open_request.specs.HeadReads.{IsBadLine, StartIn, FieldIn, FindsText, ReadsStart};
@@ -22,7 +22,7 @@ pub(crate) struct MessageHead {
     pub headers: Vec<Header>,
 }
 
-/// What is wrong with the next line of a head.
+/// Why the next line of a head can't be read.
 #[derive(Clone, Copy, Debug, PartialEq, Eq)]
 pub(crate) enum HeadFault {
     Cut,
@@ -43,7 +43,7 @@ fn head_fault(fault: LineFault) -> HeadFault
     }
 }
 
-// Finds the next line within the limit: held by the source, or taken from it.
+// Finds the next line within the limit: still in the source's buffer, or consumed.
 fn find_text_line<R: ReadDevice>(
     alloc: Global,
     source: &mut Source<R>,
@@ -62,7 +62,7 @@ fn find_text_line<R: ReadDevice>(
     }
 }
 
-// Returns what is left of the limit after a line of `n` bytes and its CR LF.
+// Returns the rest of the limit after a line of `n` bytes and its CR LF.
 fn left_after(n: usize, left: Option<usize>) -> Option<usize>
     requires { IsWithin left n }
     ensures { result ≡ left_after n left }
@@ -115,7 +115,7 @@ fn read_start<R: ReadDevice>(
     }
 }
 
-// Parses a header line. Returns `None` for an empty one.
+// Parses a header line, or returns `None` for the empty line.
 fn field_in(alloc: Global, text: &[u8]) -> Result<Option<Header>, HeadFault>
     ensures { FieldIn text.now result }
 {
@@ -132,7 +132,7 @@ fn field_in(alloc: Global, text: &[u8]) -> Result<Option<Header>, HeadFault>
     }
 }
 
-// Reads the next header, or `None` at the empty line, within the limit.
+// Reads the next header within the limit, or returns `None` at the empty line.
 fn read_field<R: ReadDevice>(
     alloc: Global,
     source: &mut Source<R>,
@@ -186,8 +186,8 @@ fn read_fields<R: ReadDevice>(
     }
 }
 
-/// Reads a whole head of at most `limit` bytes, including its empty line. The error is its fault, with its version if
-/// that was read.
+/// Reads a complete head of at most `limit` bytes, including its empty line. Fails with the fault of the head, and with
+/// its version if that was read.
 pub(crate) fn read_message<R: ReadDevice>(
     alloc: Global,
     source: &mut Source<R>,

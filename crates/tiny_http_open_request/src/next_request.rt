@@ -11,31 +11,32 @@ use tiny_http_body::framing::Profile;
 use tiny_http_io::device::ReadDevice;
 use tiny_http_io::source::Source;
 
-/// What follows on a connection.
+/// The next request of a connection, or why there is none.
 #[derive(Drop)]
 pub enum NextRequest {
-    /// A request: its head, and what is kept of it until the response.
+    /// A request: its head, and what is kept of the request until the response.
     Request(Head, OpenRequest<UnreadBody>),
     /// No further request, for this reason.
     Ended(EndOfRequests),
 }
 
-/// A destination for the responses to refused heads, each sent in the turn of its head. `O` is the output that is lent
-/// for that.
+/// A destination for the responses to refused heads, each sent in the turn of its head. `O` is the output that each
+/// call borrows.
 pub trait RefusalPlace<O> {
-    /// States that the text was put there, or, if the flag is false, that it wasn't.
+    /// Whether the text was put in the place, or, if the flag is false, wasn't, from the state before the call to that
+    /// after it.
     ghost refuses: { Self → O → List ℕ → Bool → Self → O → Type 0 };
 
-    /// Accepts the whole text of the response to a refused head. It is sent in the turn of the head, and the call
-    /// doesn't block. Fails if memory is refused.
+    /// Accepts the complete response to a refused head, which is sent in the turn of the head. The call doesn't block.
+    /// Fails if memory is refused.
     fn refuse(&mut self, output: &mut O, text: Vec<u8>) -> Result<(), AllocError>
         ensures { refuses self.old output.old text.items (is_ok result) self.new output.new };
 }
 
 /// Reads heads up to that of the next request, and passes the response to each refused head to `place`. A refused head
 /// ends the requests, except that after a 505 the next head is read, unless the refused head names an upgrade, its body
-/// is chunked (as tiny_http), or the profile is `Standard`. `now` dates the responses to refused heads, and the 500 of
-/// a dropped request. Fails if memory is refused, or after 2^64 heads.
+/// is chunked (as in tiny_http), or the profile is `Standard`. `now` dates the responses to refused heads, and the 500
+/// of a dropped request. Fails if memory is refused, or after 2^64 heads.
 pub fn next_request<R: ReadDevice, O, P: RefusalPlace<O>>(
     alloc: Global,
     source: &mut Source<R>,

@@ -1,6 +1,6 @@
-//! A request that was handed out and has no response yet: what it owes, how its response is printed, and its body. A
-//! `Connection` keeps it under its number, a `Request` next to its turn. They manage the turn; this module decides what
-//! is sent, and what is owed afterwards.
+//! A request that was handed out and has no response yet: what the server owes it, how its response is printed, and its
+//! body. A `Connection` keeps it under its number, a `Request` next to its turn. They manage the turn; this module
+//! decides what is sent, and what is owed afterwards.
 ghost use Rattle.std.specs.Prelude.{◌≡◌, ◌+◌, ◌≤◌, ℕ, List, true, false, IfOk};
 ghost use Rattle.tiny_http_standard_head.specs.Validation.{names_protocol};
 ghost use Rattle.std.specs.List.{list_all};
@@ -42,16 +42,16 @@ use tiny_http_standard_head::validation::{asks_chunked, names_protocol};
 /// whether the connection closes, and its body. The head went to the application.
 #[derive(Drop)]
 pub struct OpenRequest<B> {
-    /// How its response is printed.
+    /// How the response to this request is printed.
     pub response_context: ResponseContext,
     /// Whether a 100 is owed that wasn't sent yet.
     pub owes_continue: bool,
     /// Whether the next head isn't read before the response: the request asks for an upgrade, and isn't its
     /// connection's last. The bytes after it may belong to the other protocol (RFC 9110, section 7.8).
     pub holds_next_head: bool,
-    /// Whether its head was read under `Standard`.
+    /// Whether the request's head was read under `Standard`.
     pub by_standard: bool,
-    /// Whether its method is `CONNECT`.
+    /// Whether the request's method is `CONNECT`.
     pub is_connect: bool,
     /// Whether a response asked for the connection to close after this request.
     pub closes: bool,
@@ -59,13 +59,13 @@ pub struct OpenRequest<B> {
     pub upgrades: Vec<Header>,
     /// What is sent if the request is dropped.
     pub dropped: DropText,
-    /// Its body, and how far it was read.
+    /// The request's body, and how far it was read.
     pub body: B,
 }
 
 impl<B: Drop> OpenRequest<B> {
-    /// Creates a request with this head and this body. `now` dates the 500 that is sent if it is dropped. Fails if
-    /// memory for that is refused.
+    /// Creates a request with this head and this body. `now` dates the 500 that is sent if the request is dropped.
+    /// Fails if memory for that response, or for a copy of the `Upgrade` headers, is refused.
     #[inline(always)]
     pub fn new(
         alloc: Global,
@@ -102,7 +102,7 @@ impl<B: Drop> OpenRequest<B> {
         })
     }
 
-    /// Replaces the body by what this function makes of it.
+    /// Replaces the body with the result of `map`.
     #[inline(always)]
     pub fn map_body<C: Drop, F: FnOnce(B) -> C>(self, map: F) -> OpenRequest<C>
         requires { F.pre map self.body }
@@ -130,9 +130,10 @@ impl<B: Drop> OpenRequest<B> {
         self.closes = true;
     }
 
-    /// Returns whether no head is read after this request if it is answered now, dropped, or its raw writer taken, with
-    /// `left` of its body unread. Under `Standard` this holds while its 100 is owed, since the client may omit the body
-    /// or send it, and both are right (RFC 9110, section 10.1.1). It also holds if more is left than is skipped.
+    /// Returns whether no head is read after this request if it is now answered or dropped, or its raw writer is taken,
+    /// with `left` of its body unread. Under `Standard` this holds while its 100 is owed, since the client may omit the
+    /// body or send it, and both are right (RFC 9110, section 10.1.1). It also holds if more of the body is left than
+    /// the server skips.
     pub fn is_last_once_finished(&self, left: Remainder) -> bool
         ensures { result ≡ is_last_once_finished self.now left }
     {
@@ -140,16 +141,16 @@ impl<B: Drop> OpenRequest<B> {
     }
 
     /// Returns whether no head is read after this request once its raw writer or an upgrade takes over the connection's
-    /// stream: it holds the next head, or would be the last if it were answered.
+    /// stream: whether it holds the next head, or `is_last_once_finished` applies.
     pub fn is_last_with_stream(&self, left: Remainder) -> bool
         ensures { result ≡ is_last_with_stream self.now left }
     {
         self.holds_next_head || self.is_last_once_finished(left)
     }
 
-    // Returns how it is answered now, with `left` of its body unread. Under `Standard` the response says that the
-    // connection closes if the request is the last by its head, `close` was called, its 100 is owed, or the rest isn't
-    // skipped: it is long, or its end isn't known (RFC 9112, section 9.6).
+    // Returns how the response to this request is printed now, with `left` of its body unread. Under `Standard` the
+    // response says that the connection closes if the request is the last by its head, `close` was called, its 100 is
+    // owed, or the rest of its body isn't skipped: it is long, or its end isn't known (RFC 9112, section 9.6).
     fn final_context(&self, left: Remainder) -> ResponseContext
         ensures { result ≡ final_context self.now left }
     {
@@ -161,9 +162,9 @@ impl<B: Drop> OpenRequest<B> {
         context
     }
 
-    /// Returns whether a response with this code is refused. Under `Standard` that is a code that isn't final, since
-    /// the client would take a later response for this request's (RFC 9110, section 15.2), or that hasn't three digits;
-    /// and a 2xx to `CONNECT`, since it would open a tunnel (section 9.3.6).
+    /// Returns whether a response with this code is refused. Under `Standard` a code is refused if it isn't final,
+    /// since the client would take a later response for the one to this request (RFC 9110, section 15.2), or hasn't
+    /// three digits. So is a 2xx in response to `CONNECT`, since it would open a tunnel (section 9.3.6).
     pub fn refuses(&self, status: StatusCode) -> bool
         ensures { result ≡ refuses_code self.now.by_standard self.now.is_connect status.0 }
     {
@@ -174,7 +175,7 @@ impl<B: Drop> OpenRequest<B> {
     /// Checks whether a response with this code can upgrade the connection to this protocol; `is_whole` means that the
     /// whole body was read. Returns the first error that applies. Under `Standard` the request must ask for the
     /// protocol and not be its connection's last, the code must be 101, and the body must be whole (RFC 9110, section
-    /// 7.8). An element of `Upgrade` with a percent sign is not taken for a protocol.
+    /// 7.8). An element of `Upgrade` with a percent sign doesn't count as a protocol.
     pub fn check_upgrade(
         &self,
         protocol: &str,
@@ -188,13 +189,14 @@ impl<B: Drop> OpenRequest<B> {
     }
 
     /// Sends the response to this request, dated `now`, with `left` of its body unread, and flushes it. Under
-    /// `Standard` it says that the connection closes if the request is the last by its head, `close` was called, its
-    /// 100 is owed, or the rest isn't skipped (RFC 9112, section 9.6). The caller handles `Response::with_close`. No
-    /// 100 is owed afterwards. The caller makes this call in the request's turn, and then discards the body.
+    /// `Standard` the response says that the connection closes if the request is the last by its head, `close` was
+    /// called, its 100 is owed, or the rest of its body isn't skipped (RFC 9112, section 9.6). The caller handles
+    /// `Response::with_close`. No 100 is owed afterwards. The caller makes this call in the request's turn, and then
+    /// discards the body.
     ///
-    /// On an outlet that has ended nothing is sent, the data aren't read, and the result is `Ok`. The error is the
-    /// first fault, of the data or of the writer; if both fail, either may be reported. The outlet has then ended, and
-    /// what was held before a fault of the data is sent.
+    /// On an outlet that has ended this sends nothing, doesn't read the data, and returns `Ok`. Fails with the first
+    /// fault, of the data or of the writer; if both fail, either may be reported. The outlet has then ended, and the
+    /// bytes held before a fault of the data are sent.
     pub fn respond<W: WriteDevice, D: ReadDevice + Drop>(
         &mut self,
         alloc: Global,
@@ -212,15 +214,14 @@ impl<B: Drop> OpenRequest<B> {
         send_unless_ended(alloc, outlet, response, context, now)
     }
 
-    /// Returns how a body is sent that grows after the head of a response to this request with this code, as
-    /// `ResponseContext::streamed_form` does.
+    /// Returns how the streamed body of a response with this code is sent, as `ResponseContext::streamed_form` does.
     pub fn streamed_form(&self, status: StatusCode) -> StreamedForm
         ensures { result ≡ streamed_form self.now.response_context status.0 }
     {
         self.response_context.streamed_form(status)
     }
 
-    // Returns how the head of a response with a growing body is printed. Under `Standard` it says that the connection
+    // Returns how the head of a response with a streamed body is printed. Under `Standard` it says that the connection
     // closes if any other response would, or if the end of the connection ends the body.
     fn streaming_context(&self, status: StatusCode, left: Remainder) -> ResponseContext
         ensures { result ≡ streaming_context self.now status.0 left }
@@ -232,13 +233,13 @@ impl<B: Drop> OpenRequest<B> {
         context
     }
 
-    /// Writes the head of a response, dated `now`, whose body follows and grows while it is sent, as `streamed_form`
-    /// says; `left` of the request's body is unread. The response's data and their length are ignored. Under `Standard`
-    /// it says that the connection closes if that of `respond` would, or if the end of the connection ends the body. No
-    /// 100 is owed afterwards. Doesn't flush.
+    /// Writes the head, dated `now`, of a response whose body is streamed after it as `streamed_form` says; `left` of
+    /// the request's body is unread. The response's data and their length are ignored. Under `Standard` the head says
+    /// that the connection closes if that of `respond` would, or if the end of the connection ends the body. No 100 is
+    /// owed afterwards. Doesn't flush.
     ///
-    /// The caller makes this call in the request's turn, and then discards the body. The error is the writer's first
-    /// fault. On an outlet that has ended nothing is written, and the result is `Ok`.
+    /// The caller makes this call in the request's turn, and then discards the body. Fails with the writer's first
+    /// fault. On an outlet that has ended this writes nothing, and returns `Ok`.
     pub fn begin_streaming<W: WriteDevice, D>(
         &mut self,
         outlet: &mut Outlet<W>,
@@ -255,7 +256,7 @@ impl<B: Drop> OpenRequest<B> {
         response.print_head(outlet, context, now)
     }
 
-    /// Sends the 100 that is owed to this request, and flushes (RFC 9110, section 10.1.1). If none is owed, it changes
+    /// Sends the 100 that is owed to this request, and flushes it (RFC 9110, section 10.1.1). If none is owed, changes
     /// nothing. The caller makes this call in the request's turn, before the body is read and before the response. A
     /// fault of the writer ends the outlet, and isn't reported. An outlet that has ended sends nothing. Allocates
     /// nothing.
@@ -280,12 +281,12 @@ impl<B: Drop> OpenRequest<B> {
     }
 
     /// Sends the response that upgrades the connection to `protocol` (RFC 9110, section 7.8), dated `now`, and flushes
-    /// it: the head alone, with `Connection: upgrade` and `Upgrade: PROTOCOL` before the other headers (as tiny_http).
-    /// The data are dropped unread, and no 100 is owed afterwards. A fault of the writer ends the outlet, and isn't
-    /// reported. An outlet that has ended sends nothing. Allocates nothing.
+    /// it: the head alone, with `Connection: upgrade` and `Upgrade: PROTOCOL` before the other headers (as in
+    /// tiny_http). The data are dropped unread, and no 100 is owed afterwards. A fault of the writer ends the outlet,
+    /// and isn't reported. An outlet that has ended sends nothing. Allocates nothing.
     ///
-    /// The caller calls `check_upgrade` first. It makes this call in the request's turn, in place of a response. The
-    /// output is then the protocol's, and its input is what the body gives after `become_stream`.
+    /// The caller calls `check_upgrade` first. It makes this call in the request's turn, in place of a response. From
+    /// then on the output is the protocol's, and its input is what the body returns after `become_stream`.
     pub fn upgrade<W: WriteDevice, D: Drop>(
         &mut self,
         alloc: Global,
@@ -295,7 +296,7 @@ impl<B: Drop> OpenRequest<B> {
         now: HttpDate,
     )
         requires { list_all is_ascii protocol.now ≡ true }
-        // Holds for any data.
+        // Holds whatever the data are: they aren't read.
         ensures sends { (content : Feed) → SendsQuietlyOn outlet.old outlet.new
             (upgrade_text (record { answer = response.answer; content = content }) protocol.now
             (printing_in self.old.response_context now)) }
@@ -314,10 +315,10 @@ impl<B: Drop> OpenRequest<B> {
         );
     }
 
-    /// Takes the text that is sent if this request is dropped: an empty 500, printed for its version, headers and
-    /// method, with the date on which it was read (as tiny_http). A later call returns no bytes, and no 100 is owed
-    /// afterwards. The caller sends the text in the request's turn, in place of a response, and discards the body.
-    /// Allocates nothing.
+    /// Takes the text that is sent if this request is dropped with `left` of its body unread: an empty 500, printed for
+    /// the request's version, headers and method, with the date on which the request was read (as in tiny_http). A
+    /// later call returns no bytes. No 100 is owed afterwards. The caller sends the text in the request's turn, in
+    /// place of a response, and discards the body. Allocates nothing.
     pub fn take_drop_text(&mut self, left: Remainder) -> Vec<u8>
         ensures text { result.items ≡ drop_text self.old.dropped (final_context self.old left) }
         ensures once { HasNoDropText self.old self.new }
@@ -327,8 +328,8 @@ impl<B: Drop> OpenRequest<B> {
         self.dropped.take_text(context)
     }
 
-    /// Returns the text that is sent when this request is dropped, and the body. The caller discards the body once it
-    /// has left the text in the request's turn.
+    /// Returns the text that is sent when this request is dropped with `left` of its body unread, and the body. The
+    /// caller discards the body once it has placed the text in the request's turn.
     pub fn into_drop_text(self, left: Remainder) -> (Vec<u8>, B)
         ensures text { result.0.items ≡ drop_text self.dropped (final_context self left) }
         ensures body { result.1 ≡ self.body }
@@ -340,8 +341,8 @@ impl<B: Drop> OpenRequest<B> {
 }
 
 impl OpenRequest<UnreadBody> {
-    /// Reads some bytes of the body into the front of `buf`, and returns how many. The source must be the one that the
-    /// request was read from. Errors and ends are those of `Exchange::read_body`. Allocates nothing.
+    /// Reads some bytes of the body into the front of `buf`, and returns their number. The source must be the one that
+    /// the request was read from. Errors and ends are those of `Exchange::read_body`. Allocates nothing.
     pub fn read<R: ReadDevice>(
         &mut self,
         source: &mut Source<R>,
@@ -351,7 +352,7 @@ impl OpenRequest<UnreadBody> {
         ensures kept { self.new ≡ record self.old { body = self.new.body } }
         // The source's reader isn't called for a second end or fault, nor for more than the bytes that arrived.
         ensures stop_count { Tells (R.stop_count source.old.reader) (R.stop_count source.new.reader) result }
-        // It isn't called for an end or fault if the body has its own end.
+        // The source's reader isn't called for an end or fault if the body has its own end.
         ensures whole { R.stop_count source.new.reader
             ≤ R.stop_count source.old.reader + ends_met self.old.body (bytes_given result) self.new.body }
     {
@@ -359,8 +360,8 @@ impl OpenRequest<UnreadBody> {
     }
 
     /// Discards the rest of the body: each later read returns 0, no 100 is owed, and under `Standard` no upgrade is
-    /// accepted. The rest of a body of known length is skipped before the next head. After a chunked body whose end or
-    /// fault wasn't reported the source has ended.
+    /// accepted. The rest of a body of known length is skipped before the next head. If the body is chunked and its end
+    /// or fault wasn't reported, the source has then ended.
     pub fn give_up<R: ReadDevice>(&mut self, source: &mut Source<R>)
         ensures gives_up { GivesUp self.old.body source.old source.new }
         ensures kept { HasNoBodyLeft self.old self.new }
@@ -387,7 +388,7 @@ fn coding_for(by_standard: bool, headers: &[Header]) -> Option<Coding>
     }
 }
 
-// Copies the `Upgrade` headers among these. Fails if memory is refused.
+// Copies the headers named `Upgrade`. Fails if memory is refused.
 fn upgrade_headers(alloc: Global, headers: &[Header]) -> Result<Vec<Header>, AllocError>
     ensures { IfOk result (λ upgrades. (protocol : List ℕ)
         → names_protocol upgrades.items protocol ≡ names_protocol headers.now protocol) }

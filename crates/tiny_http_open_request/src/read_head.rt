@@ -18,7 +18,7 @@ use tiny_http_body::framing::{Framing, HeadRules, Profile, framing_of, is_too_ne
 use tiny_http_io::device::ReadDevice;
 use tiny_http_io::source::{InputState, Source};
 
-// Makes a head of a message and its framing.
+// Makes a head from a message and its framing.
 #[inline(always)]
 fn head_of(message: MessageHead, framing: Framing) -> Head
     ensures message { head_message result ≡ message_of message }
@@ -105,7 +105,8 @@ fn read_item<R: ReadDevice>(
     read_by_rules(alloc, source, rules, now)
 }
 
-// Returns why no request follows in this input state, if the input alone ends for this reason.
+// Returns why no request follows: the abandoned or broken body that the input state records, or otherwise `why`, the
+// reason that reading the input gave.
 fn end_at(input_state: InputState, why: EndOfRequests) -> EndOfRequests
     ensures { result ≡ end_at input_state why }
 {
@@ -122,14 +123,15 @@ fn end_at(input_state: InputState, why: EndOfRequests) -> EndOfRequests
 ///
 /// Under `Lenient` and `Strict` a head is refused with 400 for a bad line, 408 if the reader timed out, even before the
 /// first byte, 417 for an expectation that can't be met, and 505 for a version above 1.1, with a text that names the
-/// supported ones (as tiny_http). `Strict` also refuses with 431 a head that hasn't ended when its maximum size is
-/// reached (RFC 6585, section 5), and with 400 invalid framing (RFC 9112, section 6.3). The order is: the first bad
-/// line, the size, the framing, the expectation, a cut body that is read with its head, the version.
+/// supported ones (as in tiny_http). `Strict` also refuses a head with 431 if it hasn't ended within its maximum size
+/// (RFC 6585, section 5), and with 400 if its framing is invalid (RFC 9112, section 6.3). If several faults apply, the
+/// first in this order decides: the first bad line, the size, the framing, the expectation, a cut body that is read
+/// with its head, the version.
 ///
 /// Under `Standard` `tiny_http_standard_head` reads the head. It is refused with 400, 408, 414, 417, 431, 501 or 505,
 /// each an empty response in version 1.1 after which no head follows. A timeout before the first byte of a head gets no
-/// response. The order is: the first bad line, the size, the version, the host and the framing of the body, its coding,
-/// the expectation, a cut body that is read with its head.
+/// response. If several faults apply, the first in this order decides: the first bad line, the size, the version, the
+/// host and the framing of the body, its coding, the expectation, a cut body that is read with its head.
 ///
 /// Under the other profiles the next head after a 505 follows the body, which is skipped, unless the head names an
 /// upgrade or the body is chunked. After any other result but a request the source has ended, except after the last

@@ -34,7 +34,7 @@ fn served_version(version: HTTPVersion) -> HTTPVersion
     HTTPVersion(1, 1)
 }
 
-// Returns how the body is read. An upgrade has no framing of its own.
+// Returns how the body is read; `owed` means that a 100 is owed. An upgrade has no framing of its own.
 fn form_of(is_chunked: bool, owed: bool, length: Option<usize>) -> Form
     ensures { result ≡ standard_form is_chunked owed length }
 {
@@ -62,7 +62,7 @@ fn framing_of(summary: HeadSummary) -> Framing
     }
 }
 
-// Returns the head that is handed out.
+// Makes the head that is handed out from the one that was read, in the version in which the request is served.
 fn head_of(head: StandardHead, framing: Framing) -> Head
     ensures message { IsHeadOf head result }
     ensures framing { head_framing result ≡ framing }
@@ -76,7 +76,7 @@ fn head_of(head: StandardHead, framing: Framing) -> Head
     }
 }
 
-// Returns the result for a head that is cut: no response if it hasn't begun.
+// Returns the result for a head that is cut. Without a byte of the head there is no response.
 fn answer_standard_cut(
     alloc: Global,
     stop: Option<Stop>,

@@ -21,7 +21,7 @@ use tiny_http_text::bytes::are_ascii;
 /// Why a connection wasn't upgraded.
 #[derive(Clone, Copy, Debug, PartialEq, Eq, Error)]
 pub enum UpgradeError {
-    /// The name of the protocol isn't ASCII.
+    /// The protocol's name isn't ASCII.
     #[error("the protocol's name is not ASCII")]
     Protocol,
     /// Under `Standard`: the request doesn't ask for this protocol, or can't be upgraded because it is its connection's
@@ -40,8 +40,8 @@ pub enum UpgradeError {
 }
 
 /// Checks whether a response with this code can upgrade a connection to a protocol of this name, and returns the first
-/// error that applies. Under `Standard` the request must ask for it, and its body must be whole (RFC 9110, section
-/// 7.8).
+/// error that applies. Under `Standard` the request must ask for the protocol, the code must be 101, and the body must
+/// be whole (RFC 9110, section 7.8).
 pub fn check_upgrade(
     by_standard: bool,
     is_asked: bool,
@@ -70,8 +70,8 @@ pub fn check_upgrade(
 }
 
 // Sends the response that upgrades a connection to this protocol, and flushes it: the head alone, with `Connection:
-// upgrade` and `Upgrade: PROTOCOL` before the other headers (as tiny_http). Its data are dropped unread. A fault of the
-// writer isn't reported. An outlet that has ended sends nothing. Allocates nothing.
+// upgrade` and `Upgrade: PROTOCOL` before the other headers (as in tiny_http). Its data are dropped unread. A fault of
+// the writer isn't reported. An outlet that has ended sends nothing. Allocates nothing.
 pub(crate) fn send_upgrade_quietly<W: WriteDevice, D: Drop>(
     alloc: Global,
     outlet: &mut Outlet<W>,
@@ -81,7 +81,7 @@ pub(crate) fn send_upgrade_quietly<W: WriteDevice, D: Drop>(
     now: HttpDate,
 )
     requires { list_all is_ascii protocol.now ≡ true }
-    // Holds for any data.
+    // Holds whatever the data are: they aren't read.
     ensures sends { (content : Feed) → SendsQuietlyOn outlet.old outlet.new
         (upgrade_text (record { answer = response.answer; content = content }) protocol.now (printing_in context now)) }
     ensures fails_once { FailsOnce outlet.old outlet.new }

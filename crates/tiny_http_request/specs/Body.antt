@@ -1,4 +1,4 @@
--- The state of a request's body, and of a read of it.
+-- What clauses see of a request's body, and of a read of it.
 use Rattle.std.specs.Prelude.{◌≡◌, ◌<◌, ◌==◌, ◌&&◌, ◌||◌, ℕ, Bool, true, false, List, length, take, Option, Some, None}
 use Rattle.std.specs.Prelude.{Result, Ok, IfOk, IfErr, IfSome}
 use Rattle.std.specs.Option.{option_map}
@@ -17,20 +17,21 @@ use Rattle.tiny_http_request.specs.declared.body.GivesOn.TheVariants.{AfterBody,
 use Rattle.tiny_http_body.specs.Body.{Remaining, is_streaming, body_stop, BodyStops, ReadsOn, remaining, prepended_body}
 use Rattle.tiny_http_body.specs.Body.{is_whole, stream_body}
 
--- the input isn't passed on when the body ends
+-- whether the input isn't passed on when the body ends, but held until the request is answered or dropped
 abbrev pub outlasts_body : GivesOn → Bool
 outlasts_body AfterBody = false
 outlasts_body AfterAnswer = true
 outlasts_body Never = false
 
--- The view of a body.
+-- What clauses see of a `Body`.
 pub record BodyState : Type 0 where
-  -- how far it was read
+  -- how far the body was read
   pub unread : UnreadBody
-  -- What the connection's input still gives, if the body holds it. After it passed the input on: what the input gave
-  -- when the body was made. If it never held it: an ended feed.
+  -- What the connection's input still gives, if the body holds it. If the body passed the input on: what the input gave
+  -- when the body was made. If the body never held the input: an ended feed.
   pub input : Option Feed
-  -- whether it holds the input, and whether it does so after its own end, until its request is answered or dropped
+  -- whether the body holds the input, and whether it does so after its own end, until its request is answered or
+  -- dropped
   pub holds_input : Bool
   pub outlasts : Bool
 
@@ -39,7 +40,7 @@ abbrev pub begun_feed : {R : Type 0} → Option (Remembered (SourceState R)) →
 begun_feed (Some source) = source.value.feed
 begun_feed None = Some (stopped End)
 
--- what the input that is held gives, or what it gave at first
+-- what the input gives if a reader holds it, or what it gave when the body was made
 abbrev pub input_of : {R Rt : Type 0} → Option (HeldReader (SourceState R) Rt) → Option (Remembered (SourceState R))
     → Option Feed
 input_of (Some reader) begun = (held_item reader).feed
@@ -53,22 +54,23 @@ body_part r = r.body
 abbrev pub body_left : BodyState → Option Feed
 body_left b = option_map body_part (remaining b.unread b.input)
 
--- the same is left of it
+-- Whether the same is left of a body before and after a call.
 pub record KeepsLeft (old new : BodyState) : Type 0 where
   pub unread : new.unread ≡ old.unread
   pub left : body_left new ≡ body_left old
 
--- the body that a connection reads once it is upgraded: under Standard all that comes, if the body holds the input
+-- the body of a request once its connection is upgraded: under Standard all that comes, if the body holds the input
 abbrev pub upgraded_body : Bool → BodyState → BodyState
 upgraded_body by_standard b = record b { unread = stream_body (by_standard && b.holds_input) b.unread }
 
--- the input is passed on once the body isn't read from it any more, unless the next head waits for the response
+-- Whether a body passes the input on once it isn't read from the input any more, unless the next head waits for the
+-- response.
 pub record GivesOnInput (old new : BodyState) : Type 0 where
   pub outlasts : new.outlasts ≡ old.outlasts
   pub holds_input : new.holds_input ≡ (is_streaming new.unread || old.outlasts)
 
 -- ONE READ OF A BODY: how far the body was read, and what holds if the connection's reader states no feed; `Reads`
--- gives the bytes. A body that came with its head gives its next bytes, and none only at its end. A body that reports
+-- defines the bytes. A body that came with its head gives its next bytes, and none only at its end. A body that reports
 -- its end is read no further, and no fault ended it. A body that is over reports its end or fault again. A read into an
 -- empty buffer changes nothing.
 pub record ReadsUnread (old new : BodyState) (r : Result ℕ Error) (buf : List ℕ) : Type 0 where

@@ -1,4 +1,4 @@
--- What clauses read of a connection.
+-- What clauses see of a `ClientConnection`.
 use Rattle.std.specs.Prelude.{◌≡◌, ◌||◌, ℕ, zero, suc, Bool, true, false, [], Option, Some, None, Ok, MatchBool}
 use Rattle.std.specs.Global.{Vec}
 use Rattle.std.specs.Option.{option_and_then}
@@ -23,7 +23,7 @@ use Rattle.tiny_http_request.specs.Body.{BodyState}
 use Rattle.tiny_http_request.specs.Request.{request_head, request_secure, request_address, request_open, request_body}
 use Rattle.tiny_http_request.specs.Request.{IsFramed}
 
--- no further request is handed out
+-- whether the connection hands out no further request
 abbrev pub IsOver : {R : Type 0} → {W : Type 0} → {Rt : Type 0} → ClientConnection R W Rt → Type 0
 IsOver c = c.next_head ≡ None
 
@@ -31,16 +31,16 @@ IsOver c = c.next_head ≡ None
 abbrev pub client_secure : {R : Type 0} → {W : Type 0} → {Rt : Type 0} → ClientConnection R W Rt → Bool
 client_secure c = c.client.secure
 
--- the client's address
+-- the address of a connection's client
 abbrev pub client_address : {R : Type 0} → {W : Type 0} → {Rt : Type 0} → ClientConnection R W Rt → Option SocketAddr
 client_address c = c.client.remote_addr
 
--- the profile by which its heads are read
+-- the profile under which a connection's heads are read
 abbrev pub client_profile : {R : Type 0} → {W : Type 0} → {Rt : Type 0} → ClientConnection R W Rt → Profile
 client_profile c = c.profile
 
--- A request that was handed out on this date, whose body fits its head, and whether another may follow. It holds the
--- input while its body is read from there, or if the next head waits for its response.
+-- A request that was handed out on this date, whose body fits its head, and whether another request may follow. The
+-- request holds the input while its body is read from there, or if the next head waits for its response.
 pub record HandsOut {R W Rt : Type 0} (old new : ClientConnection R W Rt) (date : HttpDate)
     (r : Request R W Rt) : Type 0 where
   pub framed : IsFramed r (client_profile old) date
@@ -59,7 +59,7 @@ source_here (Behind reader) = None
 abbrev pub client_source : {R W Rt : Type 0} → ClientConnection R W Rt → Option (SourceState R)
 client_source c = option_and_then source_here c.next_head
 
--- a connection holds an input over this reader, of which nothing was read
+-- Whether a connection holds an input over this reader, of which nothing was read.
 pub record IsFreshSource {R : Type 0} (stated : R → Option Feed) (reader : R) (held : Option (SourceState R)) : Type 0
   where
     pub source : SourceState R
@@ -70,7 +70,7 @@ pub record IsFreshSource {R : Type 0} (stated : R → Option Feed) (reader : R) 
     pub nothing_held : source.held ≡ []
     pub input_state : source.input_state ≡ AtHead
 
--- n heads are refused one after another, and another head follows each
+-- whether n heads are refused one after another, and another head follows each
 abbrev pub PassesRefused : {R : Type 0} → Profile → HttpDate → ℕ → SourceState R → SourceState R → Type 0
 PassesRefused p date zero here there = there ≡ here
 PassesRefused {R = R} p date (suc n) here there =
@@ -80,7 +80,7 @@ PassesRefused {R = R} p date (suc n) here there =
     × PassesRefused p date n here mid
     × TakesHead p date mid there (Ok (read.Refused status text false))
 
--- THE NEXT REQUEST of an input, after the heads that are refused before it, and the input after its head
+-- THE NEXT REQUEST of an input, after the heads that are refused before it, and the input after its head.
 pub record FindsRequest {R : Type 0} (p : Profile) (date : HttpDate) (here : SourceState R) (x : Exchange)
     (there : SourceState R) : Type 0 where
   pub passed : ℕ
@@ -88,13 +88,14 @@ pub record FindsRequest {R : Type 0} (p : Profile) (date : HttpDate) (here : Sou
   pub passes : PassesRefused p date passed here at
   pub reads : TakesHead p date at there (Ok (read.Request x))
 
--- the holder of the input once a request was handed out: its body, or else the connection, if there is a next head
+-- whether the input, once a request was handed out, is held by the request's body, or else by the connection, if a next
+-- head is read
 abbrev pub GivesInput : {R W Rt : Type 0} → SourceState R → ClientConnection R W Rt → Request R W Rt → Type 0
 GivesInput source new r =
     MatchBool (request_body r).holds_input ((request_body r).input ≡ source.feed)
     ((request_head r).framing.is_last ≡ false → client_source new ≡ Some source)
 
--- If the connection holds the input, a request that is handed out on this date is the next one in it.
+-- Whether a request that is handed out on this date is the next one in the input, if the connection holds the input.
 abbrev pub HandsOutNext : {R W Rt : Type 0} → ClientConnection R W Rt → ClientConnection R W Rt → HttpDate
     → Request R W Rt → Type 0
 HandsOutNext {R = R} old new date r = (source : SourceState R)

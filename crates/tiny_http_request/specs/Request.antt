@@ -1,4 +1,4 @@
--- What clauses read of a request, and of the errors of making one.
+-- What clauses see of a request, and of the errors in making one.
 use Rattle.std.specs.Prelude.{◌≡◌, ⊤, ℕ, Bool, true, false, ◌&&◌, List, Option, None, Some, Result, Ok, Err, codes}
 use Rattle.std.specs.IoError.{error_kind}
 use Rattle.std.specs.declared.io.Error.{Error}
@@ -33,89 +33,92 @@ use Rattle.tiny_http_request.specs.declared.request.RequestCreationError.{Reques
 use Rattle.tiny_http_request.specs.declared.request.RequestCreationError.TheVariants.{ExpectationFailed}
 use Rattle.tiny_http_request.specs.declared.request.RequestCreationError.TheVariants.{CreationIoError, Memory}
 
--- the request's head
+-- the head of a request
 abbrev pub request_head : {R : Type 0} → {W : Type 0} → {Rt : Type 0} → Request R W Rt → Head
 request_head r = r.head
 
--- whether its connection is encrypted
+-- whether the connection of a request is encrypted
 abbrev pub request_secure : {R : Type 0} → {W : Type 0} → {Rt : Type 0} → Request R W Rt → Bool
 request_secure r = r.client.secure
 
--- the client's address
+-- the address of a request's client
 abbrev pub request_address : {R : Type 0} → {W : Type 0} → {Rt : Type 0} → Request R W Rt → Option SocketAddr
 request_address r = r.client.remote_addr
 
--- what is kept of it until it is answered, with how far its body was read
+-- what is kept of a request until it is answered, with how far its body was read
 abbrev pub request_open : {R : Type 0} → {W : Type 0} → {Rt : Type 0} → Request R W Rt → OpenRequest UnreadBody
 request_open r = with_body r.open_request r.open_request.body.unread
 
--- its body
+-- the body of a request
 abbrev pub request_body : {R : Type 0} → {W : Type 0} → {Rt : Type 0} → Request R W Rt → BodyState
 request_body r = r.open_request.body
 
--- a response is refused
+-- whether a call failed with `InvalidInput`, as one does whose response is refused
 abbrev pub IsInvalidInput : {T : Type 0} → Result T Error → Type 0
 IsInvalidInput (Ok x) = ⊥
 IsInvalidInput (Err e) = error_kind e ≡ InvalidInput
 
--- whether no request is made because its expectation can't be met
+-- whether the error is that the request's expectation can't be met
 abbrev pub is_expectation_failed : RequestCreationError → Bool
 is_expectation_failed ExpectationFailed = true
 is_expectation_failed (CreationIoError e) = false
 is_expectation_failed Memory = false
 
--- this holds for the fault by which a body couldn't be read, if that is the error
+-- whether P holds for the fault by which a body couldn't be read, if the error is such a fault
 abbrev pub IfCreationIo : RequestCreationError → (Error → Type 0) → Type 0
 IfCreationIo ExpectationFailed P = ⊤
 IfCreationIo (CreationIoError e) P = P e
 IfCreationIo Memory P = ⊤
 
--- the kind of error of a body that ends early because its reader stopped by this
+-- the kind of the error for a body that ends early because its reader stopped like this
 abbrev pub cut_kind : Stop → ErrorKind
 cut_kind End = ConnectionAborted
 cut_kind (Fault kind) = kind
 
--- the body with this framing is read at once and cut short, and is reported by this kind of error
+-- whether a body with this framing is read at once and cut short, and an error of this kind reports that
 abbrev pub IsCutShort : Framing → Option Feed → ErrorKind → Type 0
 IsCutShort f None kind = ⊤
 IsCutShort f (Some x) kind = IsCutWithHead f.form (body_length_or_0 f) x.bytes × (kind ≡ cut_kind x.stop)
 
--- the same for the body after a head with these headers
+-- whether the body after a head with this version and these headers is read at once and cut short, and an error of this
+-- kind reports that
 abbrev pub CutsShort : HTTPVersion → List Header → Option Feed → ErrorKind → Type 0
 CutsShort v headers feed kind = (f : Framing) × (framing Lenient v headers ≡ Ok f) × IsCutShort f feed kind
 
--- the body fits this framing, and begins at this feed of the reader
+-- whether the body fits this framing, and begins at this feed of the reader
 abbrev pub BeginsWith : Framing → Option Feed → UnreadBody → Type 0
 BeginsWith f feed body = (left : Option Feed) × Begins f feed left (Some body) × FitsFraming f body
 
--- the request has this client, and this request line
+-- whether a request has this client and this request line
 abbrev pub Says : {R : Type 0} → {W : Type 0} → {Rt : Type 0} → Request R W Rt → Bool → Option SocketAddr → Method
     → List ℕ → HTTPVersion → Type 0
 Says r secure address method path version =
     (request_secure r ≡ secure) × (request_address r ≡ address)
     × ((request_head r).method ≡ method) × ((request_head r).path ≡ path) × ((request_head r).version ≡ version)
 
--- a request is framed by its version and headers, and what is kept for its response is that of its head, on this date
+-- whether a request is framed by its version and headers, and what is kept for its response is that of its head, on
+-- this date
 abbrev pub IsFramed : {R : Type 0} → {W : Type 0} → {Rt : Type 0} → Request R W Rt → Profile → HttpDate → Type 0
 IsFramed r profile date = IsFramedBy profile date (request_head r) (request_open r)
 
--- Why no request is made of these headers: what they expect can't be met, a body that is read at once is cut short, or
--- memory was refused, which is unrestricted.
+-- Why no request is made from these headers: what they expect can't be met, a body that is read at once is cut short,
+-- or memory was refused, which is unrestricted.
 abbrev pub FailsBy : RequestCreationError → HTTPVersion → List Header → Option Feed → Type 0
 FailsBy e version headers feed =
     (is_expectation_failed e ≡ true → framing Lenient version headers ≡ Err Expectation)
     × IfCreationIo e (λ fault. CutsShort version headers feed (error_kind fault))
 
--- the head asks for an upgrade to this protocol
+-- whether the head asks for an upgrade to this protocol
 abbrev pub asks_for : Head → List ℕ → Bool
 asks_for h protocol = is_upgrade h && has_element (codes "Upgrade") protocol h.headers.items
 
--- the reader of an upgrade's stream gives what is left of the request's body; under Standard all that comes, if the
--- body holds the input
+-- whether the reader of an upgrade's stream gives what is left of the request's body; under Standard all that comes, if
+-- the body holds the input
 abbrev pub ReadsStream : {R : Type 0} → {W : Type 0} → {Rt : Type 0} → Request R W Rt → BodyState → Type 0
 ReadsStream r body = KeepsLeft (upgraded_body (request_open r).by_standard (request_body r)) body
 
--- why an upgrade was refused: by the failed check; or none failed, and the limit of upgraded connections is reached
+-- whether an upgrade was refused for this reason: that of the failed check, or, if no check failed, that the limit of
+-- upgraded connections is reached
 abbrev pub RefusesUpgrade : Result ⊤ UpgradeError → UpgradeError → Type 0
 RefusesUpgrade (Ok u) error = error ≡ TooMany
 RefusesUpgrade (Err found) error = found ≡ error

@@ -1,7 +1,7 @@
--- What a contract reads of the body of a response that grows while it is sent.
+-- What clauses see of the body of a response that grows while it is sent.
 use Rattle.tiny_http_body.specs.declared.streamed.StreamedForm.{StreamedForm}
 use Rattle.tiny_http_request.specs.declared.streamed_body.StreamedBody.{StreamedBody}
 
--- how it is sent
+-- how a body that grows while it is sent is sent
 abbrev pub form_of : {W : Type 0} → {Rt : Type 0} → StreamedBody W Rt → StreamedForm
 form_of b = b.body.form

@@ -1,4 +1,4 @@
--- What clauses read of a test's request.
+-- What clauses see of a test's request.
 use Rattle.std.specs.Prelude.{◌≡◌, ℕ, List, ◌∷◌, ◌++◌, [], None, false, is_some, codes, decimal, if◌then◌else◌}
 use Rattle.tiny_http_head.specs.declared.common.Header.{Header}
 use Rattle.tiny_http_body.specs.Framing.{value_of}
@@ -17,12 +17,12 @@ nowhere_sink _ = record { taken = None; sent = []; failures = 0; last_kind = Non
 abbrev pub recorder_sink : {Rt : Type 0} → Recorder Rt → Sink
 recorder_sink w = record { taken = None; sent = []; failures = w.failures; last_kind = None; has_ended = false }
 
--- the bytes of a body
+-- the bytes of the body of a test's request
 abbrev pub body_bytes : TestBody → List ℕ
 body_bytes (Text text) = text.now
 body_bytes (Bytes bytes) = bytes.items
 
--- the two differ only in their headers and their bodies
+-- Whether two builders differ at most in their headers and their bodies.
 pub record IsLike (old new : TestRequest) : Type 0 where
   pub remote_addr : new.remote_addr ≡ old.remote_addr
   pub secure : new.secure ≡ old.secure
@@ -30,11 +30,11 @@ pub record IsLike (old new : TestRequest) : Type 0 where
   pub path : new.path ≡ old.path
   pub version : new.version ≡ old.version
 
--- the header with this length
+-- the Content-Length header with this length
 abbrev pub length_header : ℕ → Header
 length_header n = record { field = codes "Content-Length"; value = decimal n }
 
--- the headers, with one of this length appended if they have none of that name
+-- the headers, with a Content-Length of n appended if they have no Content-Length
 abbrev pub with_length : ℕ → List Header → List Header
 with_length n headers =
     if is_some (value_of (codes "Content-Length") headers) then headers else headers ++ (length_header n ∷ [])

@@ -13,12 +13,12 @@ use Rattle.tiny_http_body.specs.Body.{is_streaming, bytes_left, body_stop, IsBod
 use Rattle.tiny_http_request.specs.declared.whole_body.BodyError.{BodyError}
 use Rattle.tiny_http_request.specs.declared.whole_body.BodyError.TheVariants.{TooLong, Cut, Broken, Io, Memory}
 
--- what is left of a body, if that is stated, is these bytes, and then its end
+-- whether what is left of a body, if that is stated, is these bytes, and then the body's end
 abbrev pub IsWholeOf : List ℕ → Option Feed → Type 0
 IsWholeOf bytes None = ⊤
 IsWholeOf bytes (Some left) = left ≡ whole_feed bytes
 
--- the error for a fault of this kind of a body of this form
+-- the error for a fault of this kind in a body of this form
 abbrev pub error_by : Form → ErrorKind → Error → BodyError
 error_by Chunked InvalidData e = Broken
 error_by Chunked UnexpectedEof e = Cut
@@ -28,8 +28,8 @@ error_by _ _ e = Io e
 abbrev pub fault_error : Form → Error → BodyError
 fault_error form e = error_by form (error_kind e) e
 
--- Why reading on ended, whatever the form: more bytes than the limit, of unknown length; or the bytes of a known length
--- ended early; or a fault was reported.
+-- Why reading a body on ended, whatever its form. `TooLong`: more bytes than the limit, of an unknown length. `Cut`:
+-- the bytes of a known length ended early. `Io`: a fault was reported. `Memory` is unrestricted.
 abbrev pub FailsReading : UnreadBody → UnreadBody → BodyError → Type 0
 FailsReading old new TooLong = (bytes_left old ≡ None) × ((kind : ErrorKind) → body_stop old ≡ Some (Fault kind) → ⊥)
 FailsReading old new Cut = (is_streaming old ≡ true) × IsBodyOver new
@@ -37,13 +37,13 @@ FailsReading old new Broken = ⊥
 FailsReading old new (Io e) = body_stop new ≡ Some (Fault (error_kind e))
 FailsReading old new Memory = ⊤
 
--- the body is framed so that its end can be missed
+-- whether a body of this form is framed so that its end can be missed
 abbrev pub HasAnEnd : Form → Type 0
 HasAnEnd form = (form ≡ Counted) ⊎ (form ≡ Chunked)
 
--- WHY A BODY OF THIS FORM ISN'T READ WHOLE, with this limit: its length is above it, or unknown with no fault reported
--- before; its bytes ended early; it reported this fault, which each later read reports; or memory was refused, which is
--- unrestricted.
+-- WHY A BODY OF THIS FORM ISN'T READ WHOLE, with this limit. `TooLong`: its length is above the limit, or unknown with
+-- no fault reported before. `Cut`: its bytes ended early. `Broken` or `Io`: it reported this fault, which each later
+-- read reports. `Memory`: memory was refused, which is unrestricted.
 abbrev pub FailsWhole : Form → ℕ → UnreadBody → UnreadBody → BodyError → Type 0
 FailsWhole form most old new TooLong =
     ((n : ℕ) → bytes_left old ≡ Some n → most < n) × ((kind : ErrorKind) → body_stop old ≡ Some (Fault kind) → ⊥)
@@ -53,7 +53,7 @@ FailsWhole form most old new Broken = (form ≡ Chunked) × (body_stop new ≡ S
 FailsWhole form most old new (Io e) = (fault_error form e ≡ Io e) × (body_stop new ≡ Some (Fault (error_kind e)))
 FailsWhole form most old new Memory = ⊤
 
--- the fault for an error of a body
+-- whether a fault is the one for an error of a body
 abbrev pub IsFaultOfBody : BodyError → Error → Type 0
 IsFaultOfBody TooLong fault = error_kind fault ≡ InvalidInput
 IsFaultOfBody Cut fault = error_kind fault ≡ UnexpectedEof

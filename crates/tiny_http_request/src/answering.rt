@@ -1,4 +1,4 @@
-//! What a request does to its body and its turn when its response or its stream begins.
+//! What a request does to its body and its turn when its response or the stream of its upgrade begins.
 ghost use Rattle.tiny_http_request.specs.Body.{KeepsLeft, upgraded_body};
 
 use crate::body::Body;
@@ -9,7 +9,7 @@ use tiny_http_io::outlet::Outlet;
 use tiny_http_open_request::open_request::OpenRequest;
 use tiny_http_threads::sequential::SequentialWriter;
 
-/// Makes the body the stream of an upgrade. No head follows if the stream gets the connection.
+/// Makes the body the stream of an upgrade. No head follows if the stream takes over the connection.
 pub(crate) fn read_stream<R: ReadDevice + Drop, Rt: Wait + Drop>(
     open_request: &mut OpenRequest<Body<R, Rt>>,
 )
@@ -22,8 +22,8 @@ pub(crate) fn read_stream<R: ReadDevice + Drop, Rt: Wait + Drop>(
     }
 }
 
-/// Waits for the turn of a request whose response begins and may end the connection, and returns what is left of its
-/// body. No head is read after the request if this makes it the last.
+/// Waits for the turn of a request whose response begins, and returns what is left of the request's body. If `ends`
+/// holds, the response ends the connection. No head is read after the request if it is the last once finished.
 pub(crate) fn begin_answer<R: ReadDevice + Drop, W: WriteDevice + Drop, Rt: Wait + Drop>(
     open_request: &mut OpenRequest<Body<R, Rt>>,
     writer: &mut SequentialWriter<Outlet<W>, Rt>,

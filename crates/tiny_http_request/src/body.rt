@@ -19,7 +19,7 @@ use tiny_http_io::device::ReadDevice;
 use tiny_http_io::source::{InputState, Source};
 use tiny_http_threads::held_reader::HeldReader;
 
-// When the body passes the connection's input to the next head.
+// When the body passes the connection's input on to the next head.
 #[derive(Drop)]
 pub(crate) enum GivesOn {
     // Once the body was read to its end or given up.
@@ -30,7 +30,7 @@ pub(crate) enum GivesOn {
     Never,
 }
 
-// Ends the requests after this reader, and drops it.
+// Drops the reader, and ends the requests: no head is read after it.
 fn end_behind<R: ReadDevice + Drop, Rt: Wait + Drop>(reader: HeldReader<Source<R>, Rt>) {
     let mut reader = reader;
     reader.turn.item.set_input_state(InputState::Last);
@@ -38,28 +38,29 @@ fn end_behind<R: ReadDevice + Drop, Rt: Wait + Drop>(reader: HeldReader<Source<R
 
 /// The body of a request, as a `Read`.
 ///
-/// While bytes of it are to be read from the connection it holds the connection's input, and the next head waits. A
-/// body with a content length passes the input on with its last byte, a chunked one once a read has returned 0, and a
-/// dropped one at once. No head follows a dropped chunked body whose end wasn't reported, or one that is cut or broken.
+/// While bytes of it are to be read from the connection, the body holds the connection's input, and the next head
+/// waits. A body with a content length passes the input on with its last byte, a chunked one once a read has returned
+/// 0, and a dropped one at once. No head follows a dropped chunked body whose end wasn't reported, or a body that is
+/// cut or broken.
 ///
 /// Under `Standard` the body of a request that asks for an upgrade holds the input until the request is answered or
-/// dropped, and no head follows if its raw writer is taken or it is upgraded; once upgraded, its body reads all that
-/// follows. Nor does one follow a request that is finished while its 100 is owed, or while more than 65,536 bytes of
-/// its body are unread.
+/// dropped. No head follows if the request's raw writer is taken or the request is upgraded; once upgraded, its body
+/// reads all that follows. Nor does a head follow a request that is finished while its 100 is owed, or while more than
+/// 65,536 bytes of its body are unread.
 ///
-/// After the end each read returns 0. After a fault, the client's or the body's own, each read returns that fault, even
-/// one of kind `Interrupted`. The standard library's `read_to_end` and `read_to_string` retry that kind without end: if
-/// the client's reader may be interrupted, use `read` or `read_exact`.
+/// After the end each read returns 0. After a fault, the client's or the body's own, each read fails with that fault,
+/// even one of kind `Interrupted`. The standard library's `read_to_end` and `read_to_string` retry that kind without
+/// end: if the client's reader may be interrupted, use `read` or `read_exact`.
 pub struct Body<R: ReadDevice + Drop, Rt: Wait + Drop> {
     unread: UnreadBody,
     reader: Option<HeldReader<Source<R>, Rt>>,
     gives_on: GivesOn,
-    // The input when the body was made, if it held it then. Only contracts see it.
+    // The input when the body was made, if the body held it then. Only contracts see it.
     begun: Option<Remembered<Source<R>>>,
 }
 
-// Passes the input on if the body isn't read from it any more and the next head needn't wait for the response; else
-// returns it.
+// Passes the input on if the body isn't read from it any more and the next head needn't wait for the response;
+// otherwise returns the reader.
 fn give_on<R: ReadDevice + Drop, Rt: Wait + Drop>(
     reader: HeldReader<Source<R>, Rt>,
     is_read: bool,
@@ -98,14 +99,15 @@ impl<R: ReadDevice + Drop, Rt: Wait + Drop> Model for Body<R, Rt> {
       outlasts = outlasts_body b.gives_on;
     } };
 
-    // It holds the input exactly while it is read from there, or the next head waits for the response. The input states
-    // its feed exactly if it did at first.
+    // The body holds the input exactly while it is read from there, or while the next head waits for the response. The
+    // input states its feed exactly if it did at first.
     ghost invariant = { λ b. (is_some b.reader ≡ (is_streaming b.unread || outlasts_body b.gives_on))
         × (is_some (input_of b.reader b.begun) ≡ is_some (begun_feed b.begun)) };
 }
 
 impl<R: ReadDevice + Drop, Rt: Wait + Drop> Body<R, Rt> {
-    /// Returns a body with the reader of the input, if it is read from there or the next head waits for the response.
+    /// Returns a body with the reader of the input, which it has if it is read from there or the next head waits for
+    /// the response.
     pub(crate) fn new(
         unread: UnreadBody,
         reader: Option<HeldReader<Source<R>, Rt>>,
@@ -131,30 +133,30 @@ impl<R: ReadDevice + Drop, Rt: Wait + Drop> Body<R, Rt> {
         }
     }
 
-    /// Returns whether no more of it is read from the connection and no fault ended it. Under `Lenient` and `Strict` a
-    /// cut body with a content length is whole, too.
+    /// Returns whether no more of the body is read from the connection and no fault ended it. Under `Lenient` and
+    /// `Strict` a cut body with a content length is whole, too.
     pub(crate) fn is_whole(&self) -> bool
         ensures { result ≡ is_whole self.now.unread }
     {
         self.unread.is_whole()
     }
 
-    /// Returns how many bytes of it are left, if a length states it.
+    /// Returns how many bytes of the body are left, if a length states it.
     pub(crate) fn left(&self) -> Option<usize>
         ensures { result ≡ bytes_left self.now.unread }
     {
         self.unread.left()
     }
 
-    /// Returns what is left of it if its request is finished now.
+    /// Returns what is left of the body if its request is finished now.
     pub(crate) fn remainder(&self) -> Remainder
         ensures { result ≡ remainder self.now.unread }
     {
         self.unread.remainder()
     }
 
-    /// Makes the body the stream of an upgrade: under `Standard`, if it holds the input, it reads all that comes from
-    /// now on.
+    /// Makes the body the stream of an upgrade: under `Standard`, if the body holds the input, it reads all that comes
+    /// from now on.
     pub(crate) fn become_stream(&mut self, by_standard: bool)
         ensures { self.new ≡ upgraded_body by_standard self.old }
     {
@@ -163,9 +165,9 @@ impl<R: ReadDevice + Drop, Rt: Wait + Drop> Body<R, Rt> {
         }
     }
 
-    /// Ends the requests after this one, which asks for an upgrade, owes a 100, or has more of its body unread than is
-    /// skipped, so that its body holds the input. If the body isn't read from there any more, the input is passed on at
-    /// once.
+    /// Ends the requests after this body's request, which asks for an upgrade, owes a 100, or has more of its body
+    /// unread than is skipped, so that the body holds the input. If the body isn't read from the input any more, the
+    /// input is passed on at once.
     pub(crate) fn end_requests(&mut self)
         ensures { KeepsLeft self.old self.new }
     {
@@ -211,8 +213,8 @@ impl<R: ReadDevice + Drop, Rt: Wait + Drop> Body<R, Rt> {
 impl<R: ReadDevice + Drop, Rt: Wait + Drop> ReadDevice for Body<R, Rt> {
     ghost feed = { body_left };
 
-    /// Reads some bytes of the body. Returns 0 after its last one, or the fault by which it is cut or broken, and the
-    /// same from then on.
+    /// Reads some bytes of the body. Returns 0 after its last byte, or fails with the fault by which the body is cut or
+    /// broken, and does the same from then on.
     fn read_in(&mut self, buf: &mut [u8]) -> Result<usize, io::Error>
         ensures reads { Reads (body_left self.old) (body_left self.new) result buf.new }
         ensures body { ReadsUnread self.old self.new result buf.new }
@@ -224,7 +226,7 @@ impl<R: ReadDevice + Drop, Rt: Wait + Drop> ReadDevice for Body<R, Rt> {
     }
 }
 
-// Reads into the buffer from `at` on.
+// Reads into the buffer from position `at` on.
 fn read_behind<R: ReadDevice>(reader: &mut R, buf: &mut [u8], at: usize) -> io::Result<usize>
     requires { at < length buf.old }
     ensures bound { IfOk result (λ n. at + n ≤ length buf.new) }
@@ -267,7 +269,7 @@ impl<R: ReadDevice + Drop, Rt: Wait + Drop> Read for Body<R, Rt> {
     }
 
     /// Fills the buffer. Fails with the first fault, even one of kind `Interrupted`, or with `UnexpectedEof` if the
-    /// body ends before.
+    /// body ends before the buffer is full.
     fn read_exact(&mut self, buf: &mut [u8]) -> io::Result<()>
         ensures bytes { OnOk result (Consumes (bytes_of (body_left self.old)) (bytes_of (body_left self.new)) buf.new) }
         ensures reads { OnOk result (body_left self.old ≡ prepended buf.new (body_left self.new)) }

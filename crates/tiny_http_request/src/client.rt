@@ -37,7 +37,7 @@ pub(crate) struct Client {
     pub remote_addr: Option<SocketAddr>,
 }
 
-/// State that a request shares with its connection.
+/// The state that a request shares with its connection.
 #[derive(Drop)]
 pub(crate) struct Links {
     /// Whether the connection's flushes may hold their bytes, if they ever may.
@@ -46,13 +46,14 @@ pub(crate) struct Links {
     pub timers: Option<Arc<ConnectionTimers>>,
 }
 
-/// A connection that hands out its requests one after another. Any thread may hold one, even while the next is read.
+/// A connection that hands out its requests one after another. Any thread may hold a request, even while the next is
+/// read.
 #[derive(Drop)]
 pub struct ClientConnection<R: ReadDevice + Drop, W: WriteDevice + Drop, Rt: Wait + Drop> {
     alloc: Global,
     profile: Profile,
     client: Client,
-    // State that it shares with its requests.
+    // The state that the connection shares with its requests.
     links: Links,
     source: SequentialReaderBuilder<Source<R>, Rt>,
     sink: SequentialWriterBuilder<Outlet<W>, Rt>,
@@ -65,14 +66,14 @@ pub struct ClientConnection<R: ReadDevice + Drop, W: WriteDevice + Drop, Rt: Wai
 enum NextHead<R: ReadDevice + Drop, Rt: Wait + Drop> {
     // On the input, which the connection holds.
     Here(HeldReader<Source<R>, Rt>),
-    // After the request before, which took the input.
+    // After the previous request, which took the input.
     Behind(SequentialReader<Source<R>, Rt>),
 }
 
 impl<R: ReadDevice + Drop, Rt: Wait + Drop> NextHead<R, Rt> {
     ghost use Rattle.tiny_http_request.specs.Client.{source_here};
 
-    // Waits until the request before passes the input on.
+    // Waits until the previous request passes the input on.
     fn hold(self) -> HeldReader<Source<R>, Rt>
         ensures { IfSome (source_here self) (λ source. held_item result ≡ source) }
     {
@@ -100,8 +101,8 @@ impl<Rt: Wait + Copy> ClientConnection<RefinedTcpStream, RefinedTcpStream, Rt> {
     ghost use Rattle.tiny_http_request.specs.Client.{client_source, IsFreshSource};
 
     /// Returns a connection over the two halves of a client's socket, before its first read, under `Lenient`. Its
-    /// requests have the client's address, or none for a Unix socket, or if the system no longer knows it. Fails if
-    /// memory is refused.
+    /// requests have the client's address, or none if the socket is a Unix socket or the system no longer knows the
+    /// address. Fails if memory is refused.
     pub fn new(
         rt: Rt,
         alloc: Global,
@@ -117,7 +118,7 @@ impl<Rt: Wait + Copy> ClientConnection<RefinedTcpStream, RefinedTcpStream, Rt> {
         ClientConnection::new_with(rt, alloc, Profile::Lenient, write_socket, read_socket)
     }
 
-    /// Returns a connection like `new`, whose heads are read by this profile.
+    /// Returns a connection like `new`, but under this profile.
     pub fn new_with(
         rt: Rt,
         alloc: Global,
@@ -160,7 +161,7 @@ impl<R: ReadDevice + Drop, W: WriteDevice + Drop, Rt: Wait + Copy> ClientConnect
         ClientConnection::over_with(rt, alloc, profile, writer, reader, remote_addr, secure)
     }
 
-    /// Returns a connection like `over`, whose heads are read by this profile.
+    /// Returns a connection like `over`, but under this profile.
     pub fn over_with(
         rt: Rt,
         alloc: Global,
@@ -202,12 +203,12 @@ impl<R: ReadDevice + Drop, W: WriteDevice + Drop, Rt: Wait + Copy> ClientConnect
         self.client.secure
     }
 
-    /// Lets responses leave together: flushes hold their bytes while this policy lets them.
+    /// Lets responses leave together: flushes hold their bytes back while this policy lets them.
     ///
-    /// It does for a request whose turn has come when it is handed out, whose body isn't read from the connection, and
-    /// which asks for no upgrade under `Standard`; it stops when any other request is handed out. A raw writer, an
-    /// upgrade and a 100 end it too. The caller has the held bytes sent by the `Cork` of this policy: by
-    /// `send_unless_leaving` after each `next`, and by `send` at the end.
+    /// The policy lets them once the connection hands out a request whose turn has come, whose body isn't read from the
+    /// connection, and which asks for no upgrade under `Standard`; it stops when any other request is handed out. A raw
+    /// writer, an upgrade and a 100 end it too. The caller has the `Cork` of this policy send the held bytes: with
+    /// `send_unless_leaving` after each `next`, and with `send` at the end.
     pub fn set_flush_policy(&mut self, flush_policy: Arc<FlushPolicy>)
         ensures over { IsOver self.new ↔ IsOver self.old }
         ensures input { client_source self.new ≡ client_source self.old }
@@ -218,13 +219,13 @@ impl<R: ReadDevice + Drop, W: WriteDevice + Drop, Rt: Wait + Copy> ClientConnect
         self.links.flush_policy = Some(flush_policy);
     }
 
-    /// Has `next` report to these timers when it waits for a head and when it hands out a request, and apply their
-    /// limit of open requests, at least 2: before a head, and before the response to a refused one, it waits until
-    /// fewer are open. A `TimedReader` and a `TimedWriter` apply the other limits.
+    /// Makes `next` report to these timers when it waits for a head and when it hands out a request, and apply their
+    /// limit of open requests, which is at least 2: before a head, and before the response to a refused head, `next`
+    /// waits until fewer are open. A `TimedReader` and a `TimedWriter` apply the other limits.
     ///
     /// `next` returns `None` once the timers were stopped. With limits it also does once a response ended the output
     /// without being whole: its data were too short or failed, or the writer did; the client of a socket then sees end
-    /// of file. Fails if no handle is left.
+    /// of file. Fails if no further handle to the timers can be made.
     pub fn set_timers(&mut self, timers: Arc<ConnectionTimers>) -> Result<(), AllocError>
         ensures over { IsOver self.new ↔ IsOver self.old }
         ensures input { client_source self.new ≡ client_source self.old }
@@ -240,22 +241,22 @@ impl<R: ReadDevice + Drop, W: WriteDevice + Drop, Rt: Wait + Copy> ClientConnect
         Ok(())
     }
 
-    /// Reads the next request and hands it out, or returns `None`, from then on, if the connection has no further one.
-    /// `now` dates the responses to refused heads, and the 500 of this request if it is dropped. Fails if memory is
-    /// refused; then each later call returns `None`.
+    /// Reads the next request and hands it out, or returns `None`, from then on, if the connection has no further
+    /// request. `now` dates the responses to refused heads, and the 500 of this request if it is dropped. Fails if
+    /// memory is refused; then each later call returns `None`.
     ///
-    /// It waits for the client, and until the last request's body, if it holds the input, is read to its end or given
-    /// up. Under `Standard` it also waits until a request that asks for an upgrade is answered or dropped: a program
-    /// does that before it makes this call on the same thread. It returns `None` after such a request whose raw writer
-    /// was taken or which was upgraded; if the stream of an upgrade still reads, once that has ended. Under `Standard`
-    /// it also returns `None` after a request that was finished while its 100 was owed, or while more than 65,536 bytes
-    /// of its body were unread.
+    /// The call waits for the client, and until the last request's body, if it holds the input, is read to its end or
+    /// given up. Under `Standard` it also waits until a request that asks for an upgrade is answered or dropped: a
+    /// program that makes this call on the same thread does that first. It returns `None` after such a request if its
+    /// raw writer was taken or it was upgraded; if the stream of the upgrade still reads, once the stream has ended.
+    /// Under `Standard` it also returns `None` after a request that was finished while its 100 was owed, or while more
+    /// than 65,536 bytes of its body were unread.
     ///
     /// It returns `None` too once a response that was made by `with_close` was sent; a call that waits for the client
     /// then returns when the client sends a head or ends. The client of a socket sees end of file after the last
-    /// response, as `Request::respond` says. Refused heads are answered in their turn, without waiting for it, and end
-    /// the requests; but after one with a version above 1.1 the next head is read, unless it names an upgrade or its
-    /// body is chunked.
+    /// response, as `Request::respond` says. Refused heads are answered in their turn, but the call doesn't wait for
+    /// it, and end the requests; but after a head with a version above 1.1 the next head is read, unless that head
+    /// names an upgrade or its body is chunked.
     pub fn next(&mut self, now: HttpDate) -> Result<Option<Request<R, W, Rt>>, AllocError>
         ensures over { IsOver self.old → (result ≡ Ok None) × IsOver self.new }
         ensures none { IfOk result (λ r. IfNone r (IsOver self.new)) }
@@ -263,7 +264,7 @@ impl<R: ReadDevice + Drop, W: WriteDevice + Drop, Rt: Wait + Copy> ClientConnect
         // Whether a request that was handed out has closed the connection is known only under a lock. So no clause
         // states when a request is handed out: the result may be `None` although one is in the input.
         ensures handed { IfOk result (λ r. IfSome r (HandsOut self.old self.new now)) }
-        // If the connection holds the input, it is the next request in what the input gives.
+        // If the connection holds the input, the request is the next one in what the input gives.
         ensures reads { IfOk result (λ r. IfSome r (HandsOutNext self.old self.new now)) }
         ensures same { (client_secure self.new ≡ client_secure self.old)
             × (client_address self.new ≡ client_address self.old)
@@ -306,8 +307,8 @@ impl<R: ReadDevice + Drop, W: WriteDevice + Drop, Rt: Wait + Copy> ClientConnect
     }
 
     /// Waits until all that was handed out is answered: each request was answered or dropped, or its raw writer or
-    /// stream was dropped, and the refused heads were answered. Then nothing reads or writes the connection, unless a
-    /// further request is asked for. Fails if memory is refused.
+    /// stream was dropped, and the refused heads were answered. After that nothing reads or writes the connection,
+    /// unless the next request is asked for. Fails if memory is refused.
     pub fn wait_for_answers(&mut self) -> Result<(), AllocError>
         ensures over { IsOver self.new ↔ IsOver self.old }
         ensures input { client_source self.new ≡ client_source self.old }
@@ -320,8 +321,8 @@ impl<R: ReadDevice + Drop, W: WriteDevice + Drop, Rt: Wait + Copy> ClientConnect
         Ok(())
     }
 
-    // Hands out a request that was read by this reader and responds on this writer. The request takes the reader if its
-    // body is read from it, or if the next head waits for its response.
+    // Hands out a request that was read by this reader and is answered on this writer. The request takes the reader if
+    // its body is read from it, or if the next head waits for its response.
     fn hand_out(
         &mut self,
         reader: HeldReader<Source<R>, Rt>,
@@ -368,8 +369,8 @@ impl<R: ReadDevice + Drop, W: WriteDevice + Drop, Rt: Wait + Copy> ClientConnect
     }
 }
 
-// Returns where the head after a request is read, if one is: on the input that is held, or after the request that took
-// it.
+// Returns where the head after a request is read, if one is: on the input if `held` has it, or after the request that
+// took the input.
 fn next_head<R: ReadDevice + Drop, Rt: Wait + Copy>(
     source: &mut SequentialReaderBuilder<Source<R>, Rt>,
     is_last: bool,
@@ -405,8 +406,8 @@ fn note_end(timers: &Option<Arc<ConnectionTimers>>, end: EndOfRequests) {
     }
 }
 
-// Records that a request is handed out, and returns another handle for it if it reads from the connection. Fails if no
-// handle is left.
+// Records that a request is handed out, and returns another handle to the timers for a request that reads from the
+// connection. Fails if no further handle can be made.
 fn begin_body(
     timers: &Option<Arc<ConnectionTimers>>,
     holds_reader: bool,
@@ -421,7 +422,8 @@ fn begin_body(
     Ok(Some(Arc::try_clone(timers)?))
 }
 
-// Sets this policy, if there is one, and returns another handle of it, for a request. Fails if no handle is left.
+// Sets whether flushes may hold their bytes, if there is a policy, and returns another handle to the policy, for a
+// request. Fails if no further handle can be made.
 fn set_policy(
     flush_policy: &Option<Arc<FlushPolicy>>,
     may_leave: bool,
@@ -449,7 +451,8 @@ fn wait_if_full<W: WriteDevice + Drop, Rt: Wait + Copy>(
     }
 }
 
-// Sends the responses to refused heads, each by the next writer. It waits at the limit of open requests.
+// A place for the responses to refused heads, each of which takes the next writer. It waits at the limit of open
+// requests.
 #[derive(Drop)]
 struct NextWriter<'a> {
     timers: &'a Option<Arc<ConnectionTimers>>,
@@ -460,8 +463,8 @@ impl<W: WriteDevice + Drop, Rt: Wait + Copy> RefusalPlace<SequentialWriterBuilde
     // No contract states what is under a lock.
     ghost refuses = { λ _ _ _ _ _ _. ⊤ };
 
-    // Takes the next turn, and leaves the response in it. Fails if memory is refused, 2^64 - 1 writers were issued, or
-    // the connection is to end.
+    // Takes the next turn, and leaves the response in it. Fails if memory is refused, if 2^64 - 1 writers were issued,
+    // or if the connection is to end.
     fn refuse(
         &mut self,
         sink: &mut SequentialWriterBuilder<Outlet<W>, Rt>,

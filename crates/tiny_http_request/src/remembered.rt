@@ -1,4 +1,5 @@
-//! A past value for contracts, like the standard library's `Snapshot`, but `Send` for a type whose other fields are.
+//! A past value for contracts, like the standard library's `Snapshot`, but `Send` if the other fields of the type that
+//! holds it are.
 ghost use Rattle.std.specs.Prelude.{◌≡◌};
 ghost use base.Fml.{ftrue};
 

@@ -64,13 +64,14 @@ use tiny_http_threads::sequential::{
     SequentialReaderBuilder, SequentialWriter, SequentialWriterBuilder,
 };
 
-/// An error of making a request from its parts.
+/// An error in making a request from its parts.
 #[derive(Debug, Drop, Error)]
 pub enum RequestCreationError {
     /// The headers expect something other than a 100 (RFC 9110, section 10.1.1).
     #[error("the expectation can't be met")]
     ExpectationFailed,
-    /// A body of up to 1024 bytes couldn't be read: the reader's fault, or `ConnectionAborted` if its bytes end early.
+    /// A body of up to 1024 bytes couldn't be read: the reader's fault, or `ConnectionAborted` if the reader's bytes
+    /// end early.
     #[error("{0}")]
     CreationIoError(io::Error),
     /// Out of memory.
@@ -108,14 +109,15 @@ impl<R: ReadDevice, W: WriteDevice> ReadWrite for CustomStream<R, W> {}
 /// A refused upgrade: the reason, and the request, unchanged.
 #[derive(Drop)]
 pub struct RefusedUpgrade<R: ReadDevice + Drop, W: WriteDevice + Drop, Rt: Wait + Drop> {
-    /// Why it was refused.
+    /// The reason for the refusal.
     pub error: UpgradeError,
     /// The request, which can still be answered.
     pub request: Request<R, W, Rt>,
 }
 
-/// A request. Any thread may hold it, read its body and respond to it while the connection reads on. Responses are sent
-/// in the order of the requests. A request that is dropped gets an empty 500, in its turn.
+/// A client's request, with its body and its turn to be answered. Any thread may hold it, read its body and respond to
+/// it while the connection reads on. Responses are sent in the order of the requests. A request that is dropped gets an
+/// empty 500, in its turn.
 pub struct Request<R: ReadDevice + Drop, W: WriteDevice + Drop, Rt: Wait + Drop> {
     alloc: Global,
     client: Client,
@@ -126,7 +128,7 @@ pub struct Request<R: ReadDevice + Drop, W: WriteDevice + Drop, Rt: Wait + Drop>
 }
 
 impl<R: ReadDevice + Drop, W: WriteDevice + Drop, Rt: Wait + Drop> Request<R, W, Rt> {
-    /// Returns a request of these parts.
+    /// Makes a request from these parts.
     pub(crate) fn from_parts(
         alloc: Global,
         client: Client,
@@ -164,7 +166,8 @@ impl<R: ReadDevice + Drop, W: WriteDevice + Drop, Rt: Wait + Drop> Request<R, W,
         }
     }
 
-    // Takes what finishing the request needs: what it owes, and its turn.
+    // Takes the request apart, and returns what is needed to finish it: what is kept of it until it is answered, and
+    // its turn.
     fn into_parts(self) -> (OpenRequest<Body<R, Rt>>, SequentialWriter<Outlet<W>, Rt>)
         ensures { result.0 ≡ self.open_request }
     {
@@ -216,9 +219,9 @@ impl<R: ReadDevice + Drop, W: WriteDevice + Drop, Rt: Wait + Drop> Request<R, W,
     }
 
     /// Returns whether the headers of this name list this token. Together they form one list (RFC 9110, section 5.3),
-    /// whose elements are separated by commas and trimmed of spaces and tabs (RFC 9110, section 5.6.1). Name and token
-    /// are compared without regard to the case of ASCII letters. An element has to be the token alone: `gzip;q=1` isn't
-    /// `gzip`.
+    /// whose elements are separated by commas and trimmed of spaces and tabs (RFC 9110, section 5.6.1). The name and
+    /// the token are compared without regard to the case of ASCII letters. An element has to be the token alone:
+    /// `gzip;q=1` isn't `gzip`.
     pub fn header_lists(&self, name: &str, token: &str) -> bool
         ensures { result ≡ has_element name.now token.now (request_head self.now).headers.items }
     {
@@ -235,8 +238,8 @@ impl<R: ReadDevice + Drop, W: WriteDevice + Drop, Rt: Wait + Drop> Request<R, W,
         self.head.target_path()
     }
 
-    /// Returns the query of the target as it was sent: what follows its first `?`. It may be empty. `None` if there is
-    /// no `?` (RFC 3986, section 3.4).
+    /// Returns the query of the target as it was sent: what follows its first `?`, which may be empty. Returns `None`
+    /// if there is no `?` (RFC 3986, section 3.4).
     pub fn query(&self) -> Option<&str>
         ensures { IsQuery (request_head self.now).path (option_copied result) }
     {
@@ -244,10 +247,10 @@ impl<R: ReadDevice + Drop, W: WriteDevice + Drop, Rt: Wait + Drop> Request<R, W,
     }
 
     /// Returns whether the head asks for an upgrade that its profile accepts (RFC 9110, section 7.8). Under `Standard`
-    /// that takes `upgrade` in `Connection`, a protocol in `Upgrade` and version 1.1, unless the connection ends after
-    /// the request; then `upgrade` to a named protocol isn't `NotAsked`. Under the other profiles it takes a first
-    /// `Connection` header that contains `upgrade`; then all that follows the head is the body, whatever `Upgrade`
-    /// names.
+    /// the head needs `upgrade` in `Connection`, a protocol in `Upgrade` and version 1.1, and the connection must not
+    /// end after the request; then `upgrade` to a named protocol doesn't fail with `NotAsked`. Under the other profiles
+    /// it needs a first `Connection` header that contains `upgrade`; then all that follows the head is the body,
+    /// whatever `Upgrade` names.
     pub fn is_upgrade(&self) -> bool
         ensures { result ≡ is_upgrade (request_head self.now) }
     {
@@ -275,14 +278,14 @@ impl<R: ReadDevice + Drop, W: WriteDevice + Drop, Rt: Wait + Drop> Request<R, W,
         self.client.remote_addr.as_ref()
     }
 
-    // Has each later flush of the connection send its bytes, so that a flush by the program never holds them.
+    // Makes each later flush of the connection send its bytes, so that a flush by the program never holds them back.
     fn send_at_flush(&self) {
         if let Some(flush_policy) = &self.links.flush_policy {
             flush_policy.send_at_flush();
         }
     }
 
-    // Sends the 100 that is owed, if any, in the turn of the request. Then none is owed.
+    // Sends the 100 that is owed, if any, in the turn of the request. After that none is owed.
     fn send_continue(&mut self, now: HttpDate)
         ensures open { request_open self.new ≡ record (request_open self.old) { owes_continue = false } }
         ensures body { request_body self.new ≡ request_body self.old }
@@ -299,7 +302,7 @@ impl<R: ReadDevice + Drop, W: WriteDevice + Drop, Rt: Wait + Drop> Request<R, W,
     }
 
     /// Returns the body. If a 100 is owed it is sent first, dated `now`, in the turn of the request: the call waits
-    /// until the requests before are finished. A fault of the writer isn't reported here.
+    /// until the earlier requests are finished. A fault of the writer isn't reported here.
     pub fn as_reader(&mut self, now: HttpDate) -> &mut Body<R, Rt>
         ensures { result.now ≡ request_body self.old }
     {
@@ -308,7 +311,7 @@ impl<R: ReadDevice + Drop, W: WriteDevice + Drop, Rt: Wait + Drop> Request<R, W,
     }
 
     /// Returns the head and the body, so that the head can be used while the body is read. A 100 that is owed is sent
-    /// first, as by `as_reader`.
+    /// first, as `as_reader` sends it.
     pub fn parts(&mut self, now: HttpDate) -> (&Head, &mut Body<R, Rt>)
         ensures head { result.0.now ≡ request_head self.old }
         ensures body { result.1.now ≡ request_body self.old }
@@ -323,17 +326,18 @@ impl<R: ReadDevice + Drop, W: WriteDevice + Drop, Rt: Wait + Drop> Request<R, W,
     }
 
     /// Reads the body to its end, at most `most` bytes. If a 100 is owed it is sent first, dated `now`, in the turn of
-    /// the request: the call waits until the requests before are finished. Bytes that were read before aren't in the
+    /// the request: the call waits until the earlier requests are finished. Bytes that were read before aren't in the
     /// result. Memory is taken as bytes come, and not for a stated length.
     ///
-    /// It is `TooLong` if more than `most` bytes are left: at once if the length is known, and then nothing is sent or
-    /// read; else once `most` bytes and one more have been read. It is `Cut` if the client's bytes end within a body of
-    /// a known length or within chunks, `Broken` if chunks break the grammar (RFC 9112, section 7.1), `Io` for any
-    /// other fault of the reader, including one of kind `Interrupted`, and `Memory` if memory is refused.
+    /// Fails with `TooLong` if more than `most` bytes are left: at once if the length is known, and then nothing is
+    /// sent or read; otherwise once `most` bytes and one more have been read. Fails with `Cut` if the client's bytes
+    /// end within a body of a known length or within chunks, with `Broken` if chunks break the grammar (RFC 9112,
+    /// section 7.1), with `Io` if the reader meets any other fault, including one of kind `Interrupted`, and with
+    /// `Memory` if memory is refused.
     ///
     /// After an immediate `TooLong` nothing has changed. After any other error the bytes that were read are lost, and
     /// the body continues at the current position. A later call reports a fault again, and `Cut` too, except for a body
-    /// of a known length under `Lenient` and `Strict`: that body is over, and a later call returns no byte.
+    /// of a known length under `Lenient` and `Strict`: that body is over, and a later call returns no bytes.
     ///
     /// No error responds to the request: a handler that returns it by `?` drops the request, which sends a 500.
     /// `BodyError` lists the status code for each error. A body that is all that follows the head, such as that of an
@@ -381,24 +385,26 @@ impl<R: ReadDevice + Drop, W: WriteDevice + Drop, Rt: Wait + Drop> Request<R, W,
     }
 
     /// Sends the response, dated `now`, in the turn of the request, and then gives up the body. It waits until the
-    /// requests before are finished. The first fault is the error, of the data or of the writer. After it nothing more
-    /// is sent on the connection, and a server with limits ends the connection and hands out no further request.
+    /// earlier requests are finished. Fails with the first fault of the data or of the writer. After a fault nothing
+    /// more is sent on the connection, and a server with limits ends the connection and hands out no further request.
     ///
     /// A fault of kind `BrokenPipe`, `ConnectionAborted`, `ConnectionRefused` or `ConnectionReset` isn't reported, even
-    /// from the data. Data that end before their stated length are `UnexpectedEof`, in chunks only under `Standard`.
-    /// There a status code below 200 or above 999, or 2xx to `CONNECT`, is `InvalidInput`, and the request is dropped.
+    /// from the data. Fails with `UnexpectedEof` if the data end before their stated length; if they are sent in
+    /// chunks, only under `Standard`. Under `Standard` it fails with `InvalidInput` if the status code is below 200 or
+    /// above 999, or 2xx to `CONNECT`; then the request is dropped.
     ///
     /// Under `Standard` no request follows one that is answered or dropped while its 100 is owed, or while more than
     /// 65,536 bytes of its body are unread. Then the response says `Connection: close`, as it does if the request is
     /// the last by its head or the end of its body isn't known (RFC 9112, section 9.6).
     ///
     /// After a response that was made by `with_close` no further request is handed out. Under `Standard` the response
-    /// to the last number says `Connection: close`: this response, or that of a later request or refused head. A later
-    /// request doesn't say it if it was already dropped, is upgraded, or its raw writer is taken.
+    /// to the last number says `Connection: close`: this response, or that to a later request or refused head. The
+    /// response to a later request doesn't say it if that request was already dropped, is upgraded, or gives its raw
+    /// writer.
     ///
     /// Under each profile the writer signals that no byte follows once that last response is flushed: the client of a
     /// socket then sees end of file, even while a thread waits for the next head. It signals nothing after a raw writer
-    /// or an upgrade, nor after a text that was left and is written when their turn ends.
+    /// or an upgrade, nor after a text that was left and is written when the turn of that writer or upgrade ends.
     pub fn respond<D: ReadDevice + Drop>(
         self,
         response: Response<D>,
@@ -423,18 +429,18 @@ impl<R: ReadDevice + Drop, W: WriteDevice + Drop, Rt: Wait + Drop> Request<R, W,
     }
 
     /// Begins a response whose body grows while it is sent, such as server-sent events. It writes the head, dated
-    /// `now`, in the turn of the request, and gives up the request's body. It waits until the requests before are
+    /// `now`, in the turn of the request, and gives up the request's body. It waits until the earlier requests are
     /// finished. The response's data are dropped, and no length is stated. The client gets the head with the first
     /// flush, or once 8192 bytes have been written.
     ///
-    /// The body is sent in chunks (RFC 9112, section 7.1). To a version up to 1.0 it is sent as it is, and ends with
-    /// the connection (section 6.3): no further request is handed out, and responses to those that were are lost. It
-    /// isn't sent if none is allowed (`HEAD`, or a code without content): if `StreamedBody::form` is `Absent`, call
-    /// `finish` at once, since no call would report that the client has disconnected.
+    /// The body is sent in chunks (RFC 9112, section 7.1). To a client of version 1.0 or lower it is sent as it is, and
+    /// ends with the connection (section 6.3): no further request is handed out, and responses to those that were are
+    /// lost. The body isn't sent if none is allowed (`HEAD`, or a code without content): if `StreamedBody::form` is
+    /// `Absent`, call `finish` at once, since no call would report that the client has disconnected.
     ///
-    /// A status code that `respond` refuses is `InvalidInput`, and the request is dropped. Any other error is a fault
-    /// of the client's writer, or `BrokenPipe` if one ended the connection's output before. The rules of `respond` on
-    /// the end of the connection and on `with_close` apply.
+    /// Fails with `InvalidInput` if `respond` would refuse the status code; then the request is dropped. Fails with the
+    /// fault of the client's writer, or with `BrokenPipe` if one ended the connection's output before. The rules of
+    /// `respond` on the end of the connection and on `with_close` apply.
     pub fn respond_streaming<D: Drop>(
         self,
         response: Response<D>,
@@ -480,17 +486,17 @@ impl<R: ReadDevice + Drop, W: WriteDevice + Drop, Rt: Wait + Drop> Request<R, W,
         writer
     }
 
-    /// Upgrades the connection to this protocol by this response, in the turn of the request (RFC 9110, section 7.8).
-    /// It sends only the response's head, dated `now`, and drops its data unread. It waits until the requests before
+    /// Upgrades the connection to this protocol with this response, in the turn of the request (RFC 9110, section 7.8).
+    /// It sends only the response's head, dated `now`, and drops its data unread. It waits until the earlier requests
     /// are finished, and reports no fault of the writer. The stream then reads the body, and writes in the turn of the
-    /// request, which ends when the stream is dropped. Under `Standard` it reads all that follows the body, and no
-    /// request follows.
+    /// request, which ends when the stream is dropped. Under `Standard` the stream reads all that follows the body, and
+    /// no request follows.
     ///
-    /// It is an error if the protocol isn't ASCII. Under `Standard` it is also an error if the request doesn't ask for
-    /// this protocol or is its connection's last, if the status code isn't 101, and if the body wasn't read until a
-    /// read returned 0, or was cut or is broken. An empty body, or one of up to 1024 bytes that came with its head,
-    /// needn't be read, and one with a content length only to its last byte. On a server with limits it is `TooMany` if
-    /// the limit of upgraded connections is reached. A request that isn't upgraded is dropped.
+    /// Fails if the protocol isn't ASCII. Under `Standard` it also fails if the request doesn't ask for this protocol
+    /// or is its connection's last, if the status code isn't 101, and if the body wasn't read until a read returned 0,
+    /// or was cut or is broken. An empty body, or one of up to 1024 bytes that came with its head, needn't be read, and
+    /// one with a content length only to its last byte. On a server with limits it fails with `TooMany` if the limit of
+    /// upgraded connections is reached. A request that isn't upgraded is dropped.
     pub fn upgrade<D: Drop>(
         self,
         protocol: &str,
@@ -515,8 +521,8 @@ impl<R: ReadDevice + Drop, W: WriteDevice + Drop, Rt: Wait + Drop> Request<R, W,
     }
 
     /// Upgrades as `upgrade` does, but under each profile only if the head asks for this protocol, by `is_upgrade` and
-    /// by an `Upgrade` header that lists it; else it is `NotAsked`. If it is refused, nothing was sent, and the error
-    /// returns the request, which can be answered. The response is dropped.
+    /// by an `Upgrade` header that lists it; otherwise it fails with `NotAsked`. If the upgrade is refused, nothing was
+    /// sent, and the error returns the request, which can still be answered. The response is dropped.
     pub fn try_upgrade<D: Drop>(
         self,
         protocol: &str,
@@ -585,7 +591,7 @@ impl<R: ReadDevice + Drop, W: WriteDevice + Drop, Rt: Wait + Drop> Request<R, W,
         self.writer.is_broken()
     }
 
-    // Sends the response that upgrades, and returns the stream.
+    // Sends the response of the upgrade, and returns the stream.
     fn begin_stream<D: Drop>(
         self,
         protocol: &str,
@@ -616,8 +622,8 @@ impl<R: ReadDevice + Drop, W: WriteDevice + Drop, Rt: Wait + Drop> Request<R, W,
 
 impl<R: ReadDevice + Drop, W: WriteDevice + Drop, Rt: Wait + Drop> Drop for Request<R, W, Rt> {
     /// Leaves the turn with an empty 500, and then gives up the body. Under `Standard` the 500 says `Connection: close`
-    /// as a response by `respond` does. If it is the last response after one that asked to close the connection, the
-    /// writer signals that no byte follows, as by `respond`.
+    /// as a response by `respond` does. If the 500 is the last response after one that asked to close the connection,
+    /// the writer signals that no byte follows, as `respond` describes.
     fn drop(self) {
         let (mut open_request, writer) = self.into_parts();
         let left = open_request.body.remainder();
@@ -644,7 +650,7 @@ impl<R: ReadDevice + Drop, W: WriteDevice + Drop, Rt: Wait + Drop> fmt::Debug
     }
 }
 
-// Returns the kind of error for a body that ends early because its reader stopped by `stop`.
+// Returns the kind of the error for a body that ends early because its reader stopped like this.
 fn cut_kind(stop: Option<Stop>) -> ErrorKind
     ensures { IfSome stop (λ stop. result ≡ cut_kind stop) }
 {
@@ -675,7 +681,7 @@ fn body_of<R: ReadDevice>(
     }
 }
 
-// Returns the only reader of a source, if the body is to be read from it.
+// Returns the only reader of a source, if the body is to be read from the source; otherwise drops the source.
 fn alone<R: ReadDevice + Drop, Rt: Wait + Copy>(
     rt: Rt,
     alloc: Global,
@@ -692,9 +698,9 @@ fn alone<R: ReadDevice + Drop, Rt: Wait + Copy>(
     Ok(Some(reader))
 }
 
-/// Returns a request of these parts, on a connection of its own: its body is read from `source_data`, and its response
+/// Makes a request from these parts, on a connection of its own: its body is read from `source_data`, and its response
 /// is written to `writer`. A body of up to 1024 bytes is read at once, unless a 100 is owed. `now` dates the 500 that
-/// is sent if the request is dropped. Any version is accepted, and the framing is that of `Lenient`.
+/// is sent if the request is dropped. Any version is accepted, and the request is framed as under `Lenient`.
 #[allow(clippy::too_many_arguments)]
 pub fn new_request<R: ReadDevice + Drop, W: WriteDevice + Drop, Rt: Wait + Copy>(
     rt: Rt,

@@ -12,10 +12,11 @@ use tiny_http_threads::sequential::SequentialWriter;
 
 /// The body of a response that `Request::respond_streaming` began. It is written in the turn of its request, and sent
 /// by `Streamed`: bytes are held until they fill a piece of 8192 bytes, and `flush` sends what is held, with the head
-/// before the first byte. `finish` ends the body. If it is dropped instead, the connection ends within the body: a body
-/// in chunks is visibly cut; to a version up to 1.0, whose body ends with the connection, it looks whole.
+/// before the first byte. `finish` ends the body. If the body is dropped instead, the connection ends within it: a body
+/// in chunks is visibly cut; to a client of version 1.0 or lower, where the body ends with the connection, it looks
+/// whole.
 ///
-/// The first fault of the client's writer is the error of the call that met it. Each later call is an error of kind
+/// The call that meets the first fault of the client's writer fails with that fault. Each later call fails with
 /// `BrokenPipe`, and nothing more is sent on the connection. If the body isn't sent at all, no call reports a fault: a
 /// program whose body has no end checks `form` first.
 pub struct StreamedBody<W: WriteDevice + Drop, Rt: Wait + Drop> {
@@ -23,7 +24,7 @@ pub struct StreamedBody<W: WriteDevice + Drop, Rt: Wait + Drop> {
 }
 
 impl<W: WriteDevice + Drop, Rt: Wait + Drop> StreamedBody<W, Rt> {
-    // Returns an empty body after a head that was written.
+    // Returns an empty body, after its head was written.
     pub(crate) fn new(
         writer: SequentialWriter<Outlet<W>, Rt>,
         form: StreamedForm,
@@ -35,8 +36,8 @@ impl<W: WriteDevice + Drop, Rt: Wait + Drop> StreamedBody<W, Rt> {
         }
     }
 
-    /// Returns how the body is sent: in chunks, up to the connection's end, or not at all, and then what is written is
-    /// discarded.
+    /// Returns how the body is sent: in chunks, up to the connection's end, or not at all; in the last case what is
+    /// written is discarded.
     pub fn form(&self) -> StreamedForm
         ensures { result ≡ form_of self.now }
     {
@@ -44,7 +45,7 @@ impl<W: WriteDevice + Drop, Rt: Wait + Drop> StreamedBody<W, Rt> {
     }
 
     /// Sends what is held and the end of the body, flushes, and ends the turn of its request. A body that goes up to
-    /// the connection's end ends the connection. Errors are as for `write`.
+    /// the connection's end ends the connection. Fails as `write` does.
     pub fn finish(self) -> io::Result<()> {
         let Self { body } = self;
         let form = body.form();
@@ -68,8 +69,7 @@ impl<W: WriteDevice + Drop, Rt: Wait + Drop> Write for StreamedBody<W, Rt> {
         self.body.write(buf)
     }
 
-    /// Takes all the bytes. It stops at the first fault and reports it, even one of kind `Interrupted`: the body is
-    /// broken afterwards.
+    /// Takes all the bytes. Fails with the first fault, even one of kind `Interrupted`: the body is broken afterwards.
     fn write_all(&mut self, buf: &[u8]) -> io::Result<()> {
         let mut at = 0;
         while at < buf.len() {

@@ -46,8 +46,8 @@ impl WriteDevice for Nowhere {
     }
 }
 
-/// A writer that keeps all bytes, so that a test sees the response: one clone goes to the request, and the other
-/// returns the bytes.
+/// A writer that keeps all bytes, so that a test sees the response: the request gets one clone, and another returns the
+/// bytes.
 #[derive(Drop)]
 pub struct Recorder<Rt: Wait + Drop> {
     rt: Rt,
@@ -95,7 +95,7 @@ impl<Rt: Wait + Drop> WriteDevice for Recorder<Rt> {
         self.failures
     }
 
-    /// Keeps all the bytes. It fails with `OutOfMemory` if memory is refused.
+    /// Keeps all the bytes. Fails with `OutOfMemory` if memory is refused.
     fn write_out(&mut self, buf: &[u8]) -> Result<usize, io::Error> {
         match self.bytes.lock(&self.rt).extend_from_slice(buf) {
             Ok(()) => Ok(buf.len()),
@@ -120,7 +120,7 @@ enum TestBody {
 }
 
 impl TestBody {
-    // Returns its bytes. Fails if memory is refused.
+    // Returns the bytes of the body. Fails if memory is refused.
     fn into_bytes(self, alloc: Global) -> Result<Vec<u8>, AllocError>
         ensures { IfOk result (λ v. v.items ≡ body_bytes self) }
     {
@@ -194,7 +194,7 @@ impl TestRequest {
         })
     }
 
-    /// Sets the body.
+    /// Sets the body to this text.
     pub fn with_body(self, body: &'static str) -> TestRequest
         ensures body { body_bytes result.body ≡ body.now }
         ensures headers { result.headers ≡ self.headers }
@@ -243,7 +243,8 @@ impl TestRequest {
         request
     }
 
-    /// Sets the request target. It is `Refused` if it isn't ASCII, and also fails if memory is refused.
+    /// Sets the request target. Fails with `Refused` if the target isn't ASCII, and only then; with `Memory` if memory
+    /// is refused.
     pub fn with_path(self, alloc: Global, path: &str) -> Result<TestRequest, ParseError>
         ensures path { IfOk result (λ r. r ≡ record self { path = path.now }) }
         ensures refused { IsErrOf result ParseError.Refused ↔ ¬ (IsAscii path.now) }
@@ -279,7 +280,7 @@ impl TestRequest {
         Ok(request)
     }
 
-    /// Returns the request, whose response is discarded. Otherwise it is like `into_request_over`.
+    /// Makes the request, and discards its response. Otherwise it is like `into_request_over`.
     pub fn into_request<Rt: Wait + Copy>(
         self,
         rt: Rt,
@@ -299,10 +300,10 @@ impl TestRequest {
         self.into_request_over(rt, alloc, now, Nowhere)
     }
 
-    /// Returns the request, whose response goes to this writer, such as a `Recorder`. Without a `Content-Length`, one
-    /// with the body's length is appended to the headers. `now` dates the 500 that is sent if the request is dropped.
-    /// It is framed as under `Lenient`, even if its handler is that of a stricter server. Errors are those of
-    /// `new_request`.
+    /// Makes the request, whose response goes to this writer, such as a `Recorder`. If the headers have no
+    /// `Content-Length`, one with the body's length is appended. `now` dates the 500 that is sent if the request is
+    /// dropped. The request is framed as under `Lenient`, even if its handler is that of a stricter server. Fails as
+    /// `new_request` does.
     pub fn into_request_over<W: WriteDevice + Drop, Rt: Wait + Copy>(
         self,
         rt: Rt,

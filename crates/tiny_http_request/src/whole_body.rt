@@ -1,4 +1,4 @@
-//! The body of a request, read whole.
+//! Reading the body of a request whole.
 ghost use Rattle.std.specs.Prelude.{◌≡◌, ◌⊎◌, ◌≤◌, ℕ, true, false, length, Option, Some, None, IfOk, IfErr, OnOk};
 ghost use Rattle.std.specs.IoError.{error_kind};
 ghost use Rattle.std.specs.declared.io.ErrorKind.{ErrorKind};
@@ -24,13 +24,13 @@ const PIECE: usize = 4096;
 /// An error of `read_body`.
 #[derive(Debug, Drop, Error)]
 pub enum BodyError {
-    /// More bytes than the limit: 413 (RFC 9110, section 15.5.14).
+    /// More bytes are left than the limit: 413 (RFC 9110, section 15.5.14).
     #[error("the body is too long")]
     TooLong,
-    /// The client's bytes ended within it (RFC 9112, section 8): 400, if the client still reads.
+    /// The client's bytes ended within the body (RFC 9112, section 8): 400, if the client still reads.
     #[error("the body is cut")]
     Cut,
-    /// Chunks that break the grammar (RFC 9112, section 7.1): 400.
+    /// The chunks break the grammar (RFC 9112, section 7.1): 400.
     #[error("the chunks of the body are broken")]
     Broken,
     /// Another fault of the client's reader. Usually there is no client to respond to.
@@ -96,7 +96,7 @@ fn fault_error(form: Form, fault: io::Error) -> BodyError
     }
 }
 
-// Reads what is left of a body of a known length.
+// Reads the `count` bytes that are left of a body of a known length.
 fn read_exactly<R: ReadDevice + Drop, Rt: Wait + Drop>(
     alloc: Global,
     body: &mut Body<R, Rt>,
@@ -124,7 +124,7 @@ fn read_exactly<R: ReadDevice + Drop, Rt: Wait + Drop>(
     Ok(bytes)
 }
 
-// Reads a body of unknown length to its end, at most `most` bytes. It reads one byte more of a longer one.
+// Reads a body of unknown length to its end, at most `most` bytes. It reads one byte more if the body is longer.
 fn read_to_end<R: ReadDevice + Drop, Rt: Wait + Drop>(
     alloc: Global,
     body: &mut Body<R, Rt>,
@@ -155,7 +155,7 @@ fn read_to_end<R: ReadDevice + Drop, Rt: Wait + Drop>(
     }
 }
 
-/// Reads what is left of a body of this form. If its length is known, it is at most `most` bytes.
+/// Reads what is left of a body of this form, at most `most` bytes. A known length has to be at most `most`.
 pub(crate) fn read_left<R: ReadDevice + Drop, Rt: Wait + Drop>(
     alloc: Global,
     body: &mut Body<R, Rt>,

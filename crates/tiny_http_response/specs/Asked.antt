@@ -7,16 +7,16 @@ use Rattle.tiny_http_text.specs.Qualities.{ListsQualities}
 use Rattle.tiny_http_response.specs.declared.coding.Coding.{Coding}
 use Rattle.tiny_http_response.specs.Coding.{coding_named}
 
--- an element of the value of TE: a name and its quality, in thousandths
+-- An element of the value of a TE header: a name and its quality, in thousandths.
 abbrev pub TeElement : Type 0
 TeElement = List ℕ × ℕ
 
--- the element names a supported coding
+-- whether an element names a supported coding
 abbrev pub IsSupported : TeElement → Type 0
 IsSupported e = coding_named e.0 ≢ None
 
--- one of the elements names the coding, with a quality above 0: no supported element has a greater quality, and none
--- before it an equal one
+-- Whether a coding is the one that the elements choose: one of them names it with a quality above 0, no supported
+-- element has a greater quality, and none before that one has an equal quality.
 pub record IsChosen (elements : List TeElement) (coding : Coding) : Type 0 where
   pub before : List TeElement
   pub chosen : TeElement
@@ -27,7 +27,7 @@ pub record IsChosen (elements : List TeElement) (coding : Coding) : Type 0 where
   pub none_greater : All (λ e. IsSupported e → e.1 ≤ chosen.1) elements
   pub none_equal_before : All (λ e. IsSupported e → e.1 ≢ chosen.1) before
 
--- the elements choose this coding, or none if each supported one has quality 0
+-- whether the elements choose this coding, or none if each supported element has quality 0
 abbrev pub Choose : List TeElement → Option Coding → Type 0
 Choose elements None = All (λ e. IsSupported e → e.1 ≡ 0) elements
 Choose elements (Some coding) = IsChosen elements coding
@@ -35,7 +35,8 @@ Choose elements (Some coding) = IsChosen elements coding
 abbrev pub IsTe : Header → Type 0
 IsTe h = IsTrue (same_name h.field (codes "TE"))
 
--- THE CODING ASKED FOR: the one that the elements of the first TE header choose; none if there is no such header
+-- THE CODING ASKED FOR: whether request headers ask for this coding. The elements of the first TE header choose it;
+-- without such a header it is none.
 abbrev pub AsksFor : List Header → Option Coding → Type 0
 AsksFor [] asked = asked ≡ None
 AsksFor (h ∷ hs) asked =

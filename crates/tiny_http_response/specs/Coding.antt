@@ -8,17 +8,17 @@ use Rattle.tiny_http_text.specs.QualityReading.{qualities}
 use Rattle.tiny_http_response.specs.declared.coding.Coding.{Coding}
 use Rattle.tiny_http_response.specs.declared.coding.Coding.TheVariants.{Identity, Chunked}
 
--- a coding with the quality that a request gives it, in thousandths
+-- A coding with the quality that a request gives it, in thousandths.
 abbrev pub Weighed : Type 0
 Weighed = Coding × ℕ
 
--- the supported coding with this name
+-- the supported coding with this name, if any
 abbrev pub coding_named : List ℕ → Option Coding
 coding_named name =
     if same_name name (codes "identity") then Some Identity
     else if same_name name (codes "chunked") then Some Chunked else None
 
--- the supported codings among names with their qualities
+-- the supported codings with their qualities, from elements of a name and a quality
 abbrev pub supported_codings : List (List ℕ × ℕ) → List Weighed
 supported_codings elements = filter_map (λ e. option_map (λ coding. (coding, e.1)) (coding_named e.0)) elements
 
@@ -37,7 +37,7 @@ coding_asked request_headers =
     option_and_then (λ h. most_wanted (supported_codings (qualities h.value)))
     (find (λ h. same_name h.field (codes "TE")) request_headers)
 
--- if the request asks for none: chunked, unless the length is known and below the threshold
+-- the coding if the request asks for none: chunked, unless the length is known and below the threshold
 abbrev pub coding_by_length : ℕ → Option ℕ → Coding
 coding_by_length threshold None = Chunked
 coding_by_length threshold (Some n) = if nat_le threshold n then Chunked else Identity
@@ -46,11 +46,12 @@ abbrev pub coding_by : Option Coding → ℕ → Option ℕ → Coding
 coding_by (Some coding) threshold length = coding
 coding_by None threshold length = coding_by_length threshold length
 
--- versions up to 1.0
+-- whether a version is at most 1.0
 abbrev pub is_up_to_1_0 : HTTPVersion → Bool
 is_up_to_1_0 v = nat_lt v.0 1 || (v.0 == 1 && v.1 == 0)
 
--- only identity is sent to a version up to 1.0, with a status below 200 and with a 204
+-- whether a response is sent without a transfer coding whatever is asked for: to a version up to 1.0, with a status
+-- below 200 and with a 204
 abbrev pub takes_identity_alone : HTTPVersion → ℕ → Bool
 takes_identity_alone version status = is_up_to_1_0 version || (nat_lt status 200 || status == 204)
 

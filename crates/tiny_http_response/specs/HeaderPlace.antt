@@ -1,4 +1,4 @@
--- What becomes of a header that is added to a response.
+-- How a header is added to a response: where it goes.
 use Rattle.std.specs.Prelude.{◌≡◌, ℕ, List, ◌∷◌, ◌++◌, [], Option, Some, None, codes, if◌then◌else◌, Bool}
 use Rattle.tiny_http_head.specs.declared.common.Header.{Header}
 use Rattle.tiny_http_head.specs.Common.{same_name}
@@ -12,14 +12,14 @@ abbrev pub place_of_length : Option ℕ → Place
 place_of_length None = Nowhere
 place_of_length (Some n) = Length n
 
--- the place of a header among these
+-- how a header is added to this list
 abbrev pub place_of : Header → List Header → Place
 place_of h headers =
     if is_reserved h.field then Nowhere else
     if same_name h.field (codes "Content-Length") then place_of_length (length_in h.value) else
     if is_second_type h headers then ContentType else Last
 
--- the response with the header at this place
+-- the response after a header is added in this way
 abbrev pub placed : Place → Header → Answer → Answer
 placed Nowhere h a = a
 placed (Length n) h a = record a { data_length = Some n }
@@ -39,14 +39,16 @@ answer_of status threshold closes offered contentless headers length =
       contentless = contentless;
     }
 
--- the list and the length after a header is added to a response that had these, whatever its other parts
+-- whether `more` and `known` are the list and the length after a header is added to a response that had `headers` and
+-- `length`, whatever its other parts
 abbrev pub Adds : Header → List Header → Option ℕ → List Header → Option ℕ → Type 0
 Adds h headers length more known =
     (status threshold : ℕ) (closes : Bool) (offered : Option (List ℕ)) (contentless : Bool)
     → answer_of status threshold closes offered contentless more known
     ≡ add_header h (answer_of status threshold closes offered contentless headers length)
 
--- the same for headers added one after another
+-- whether `more` and `known` are the list and the length after the headers `hs` are added, one after another, to a
+-- response that had `headers` and `length`, whatever its other parts
 abbrev pub AddsAll : List Header → List Header → Option ℕ → List Header → Option ℕ → Type 0
 AddsAll hs headers length more known =
     (status threshold : ℕ) (closes : Bool) (offered : Option (List ℕ)) (contentless : Bool)

@@ -6,12 +6,12 @@ use Rattle.tiny_http_io.specs.declared.device.Stop.TheVariants.{Fault}
 use Rattle.tiny_http_response.specs.declared.response_context.Persistence.{Persistence}
 use Rattle.tiny_http_response.specs.declared.owing.OwingReader.{OwingReader}
 
--- how many bytes the data owe: under `Standard` the stated length
+-- how many bytes the data of a chunked response must have: under `Standard` the stated length, otherwise 0
 abbrev pub owed : Option Persistence → Option ℕ → ℕ
 owed (Some says) (Some n) = n
 owed says length = 0
 
--- data that owe n bytes: an end before the last of them is a fault
+-- the feed of data that must have n bytes: an end before the last of them is a fault
 abbrev pub owing : ℕ → Feed → Feed
 owing n feed =
     record {
@@ -19,10 +19,10 @@ owing n feed =
       stop = if nat_le n (length feed.bytes) then feed.stop else Fault (fault_of feed.stop);
     }
 
--- what a reader of such data still gives
+-- the feed of an `OwingReader`: that of its inner reader, in which an end before the required bytes is a fault
 abbrev pub owing_feed : {R : Type 0} → (R → Option Feed) → OwingReader R → Option Feed
 owing_feed feed r = option_map (owing r.left) (feed r.inner)
 
--- the inner reader
+-- the inner reader of an `OwingReader`
 abbrev pub owing_inner : {R : Type 0} → OwingReader R → R
 owing_inner r = r.inner

@@ -1,9 +1,9 @@
--- What a writer into a fixed buffer states.
+-- What a `Page` states as a writer.
 use Rattle.std.specs.Prelude.{Some, None, false, take}
 use Rattle.tiny_http_io.specs.Device.{Sink}
 use Rattle.tiny_http_response.specs.declared.page.Page.{Page}
 
--- no bytes are held back
+-- what a page states: its bytes are taken and sent on at once, and it never ends
 abbrev pub page_sink : Page → Sink
 page_sink p =
     record {

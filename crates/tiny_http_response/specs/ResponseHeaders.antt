@@ -9,12 +9,12 @@ use Rattle.tiny_http_response.specs.Answer.{has_header}
 abbrev pub count_named : List Header → List ℕ → ℕ
 count_named headers name = count_by (λ h. same_name h.field name) headers
 
--- no header of the list has this name
+-- whether no header of the list has this name
 abbrev pub HasNone : List Header → List ℕ → Type 0
 HasNone headers name = has_header headers name ≡ false
 
--- THE LAW OF A LIST: the server itself states how the response is sent, and the response states its length;
--- Content-Type occurs at most once. Letter case is ignored.
+-- THE LAW OF A HEADER LIST: whether a list may be that of a response. It has none of the headers by which the server
+-- states how the response is sent, nor Content-Length, and Content-Type at most once. Letter case is ignored.
 pub record IsResponseHeaders (headers : List Header) : Type 0 where
   pub connection : HasNone headers (codes "Connection")
   pub trailer : HasNone headers (codes "Trailer")

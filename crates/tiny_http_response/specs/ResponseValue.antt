@@ -10,12 +10,12 @@ use Rattle.tiny_http_io.specs.Device.{Feed, whole_feed}
 use Rattle.tiny_http_body.specs.Text.{Text}
 use Rattle.tiny_http_response.specs.Answer.{Answer, Printing, answer_with, text_of}
 
--- a response: the answer, and what its data give
+-- A response as a value: the answer, and the feed of its data.
 pub record ResponseValue : Type 0 where
   pub answer : Answer
   pub content : Feed
 
--- a response with these headers, whose data are a text
+-- the response with this status code and these headers, whose data are this text
 abbrev pub response_of : ℕ → List Header → List ℕ → ResponseValue
 response_of status headers text =
     record { answer = answer_with status headers (length text); content = whole_feed text }
@@ -23,8 +23,8 @@ response_of status headers text =
 abbrev pub response_text : ResponseValue → Printing → Text
 response_text r p = text_of r.answer r.content p
 
--- how the response to a request that asks for this coding is printed, and what it says of its connection under
--- `Standard`
+-- how a response is printed to a request that asks for this coding, and what the response says about its connection
+-- under `Standard`
 abbrev pub printing_to : Option Coding → HTTPVersion → Bool → Option Persistence → HttpDate → Printing
 printing_to asked version no_body persistence date =
     record {
@@ -36,15 +36,15 @@ printing_to asked version no_body persistence date =
       date = date;
     }
 
--- how the response to a request is printed, from what is kept of the request
+-- how a response is printed in this context, without an upgrade
 abbrev pub printing_in : ResponseContext → HttpDate → Printing
 printing_in context date = printing_to context.asked_coding context.version context.no_body context.persistence date
 
--- the same, with an upgrade to this protocol, if there is one
+-- how a response is printed in this context, with an upgrade to this protocol, if there is one
 abbrev pub printing_with : ResponseContext → Option (List ℕ) → HttpDate → Printing
 printing_with context upgrade date = record (printing_in context date) { upgrade = upgrade }
 
--- the same printing, with an upgrade to this protocol
+-- this printing with an upgrade to this protocol
 abbrev pub upgrading : List ℕ → Printing → Printing
 upgrading protocol p = record p { upgrade = Some protocol }
 

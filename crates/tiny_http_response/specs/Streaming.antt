@@ -1,4 +1,4 @@
--- Responses whose body follows the head and grows while it is sent.
+-- Responses whose body is streamed: it follows the head and grows while it is sent.
 use Rattle.std.specs.Prelude.{ℕ, Bool, true, false, List, Option, Some, None}
 use Rattle.httpdate.specs.declared.date.HttpDate.{HttpDate}
 use Rattle.tiny_http_response.specs.Coding.{is_up_to_1_0}
@@ -10,20 +10,21 @@ use Rattle.tiny_http_response.specs.declared.response_context.ResponseContext.{R
 use Rattle.tiny_http_response.specs.ByStandard.{status_version, listed_headers, contentless_framing}
 use Rattle.tiny_http_response.specs.Answer.{Answer, answer_head_text}
 
--- the form of the body, by the framing of a code without content, whether the request is a HEAD, and whether its
--- version is at most 1.0: no body, the bytes as they are, or chunks
+-- The form of a streamed body, by the framing of a code without content, whether the request is a HEAD, and whether its
+-- version is at most 1.0. `Absent`: no body. `Plain`: the bytes as they are. `Chunks`: in chunks.
 abbrev pub form_by : Option FramingHeader → Bool → Bool → StreamedForm
 form_by (Some framing) no_body is_old = Absent
 form_by None true is_old = Absent
 form_by None false true = Plain
 form_by None false false = Chunks
 
--- HOW SUCH A BODY IS SENT with this code (RFC 9112, sections 6.3 and 7.1)
+-- HOW A STREAMED BODY IS SENT in the response with this status code (RFC 9112, sections 6.3 and 7.1)
 abbrev pub streamed_form : ResponseContext → ℕ → StreamedForm
 streamed_form context status =
     form_by (contentless_framing context.persistence true status None) context.no_body (is_up_to_1_0 context.version)
 
--- the head states neither length nor coding to a version up to 1.0, and chunked to a later one, even for a HEAD
+-- the header that frames a streamed body: that of a code without content; otherwise neither to a version up to 1.0, and
+-- chunked to a later one, even for a HEAD
 abbrev pub framing_by : Option FramingHeader → Bool → FramingHeader
 framing_by (Some framing) is_old = framing
 framing_by None true = Neither
@@ -33,7 +34,7 @@ abbrev pub streamed_framing : ResponseContext → ℕ → FramingHeader
 streamed_framing context status =
     framing_by (contentless_framing context.persistence true status None) (is_up_to_1_0 context.version)
 
--- THE HEAD of such a response
+-- THE HEAD of a response whose body is streamed
 abbrev pub streamed_head : Answer → ResponseContext → HttpDate → List ℕ
 streamed_head a context date =
     answer_head_text (status_version context.persistence context.version) a.status None a.headers

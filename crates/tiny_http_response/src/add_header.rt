@@ -12,7 +12,7 @@ use tiny_http_head::common::{Header, HeaderField};
 use tiny_http_head::grammar::parse_content_length;
 use tiny_http_text::ascii::AsciiString;
 
-/// What becomes of a header that is added to a response.
+/// How a header is added to a response.
 #[derive(Clone, Copy)]
 enum Place {
     /// The header is ignored.
@@ -25,7 +25,7 @@ enum Place {
     Last,
 }
 
-// Returns whether a header with this name is never added.
+// Returns whether a header with this name is ignored when it is added.
 fn is_reserved(name: &HeaderField) -> bool
     ensures { result ≡ is_reserved name.now }
 {
@@ -35,7 +35,7 @@ fn is_reserved(name: &HeaderField) -> bool
         || name.equiv("Upgrade")
 }
 
-// Returns the place of a header among these.
+// Returns how a header is added to this list.
 fn place_of(header: &Header, headers: &[Header]) -> Place
     ensures { result ≡ place_of header.now headers.now }
 {
@@ -54,7 +54,7 @@ fn place_of(header: &Header, headers: &[Header]) -> Place
     Place::Last
 }
 
-// Swaps a value with that of the first header with this name.
+// Swaps a value with that of the first header with this name, if there is one.
 fn replace_value(headers: &mut [Header], name: &str, value: &mut AsciiString)
     ensures { headers.new ≡ with_value name.now value.old headers.old }
 {
@@ -66,8 +66,8 @@ fn replace_value(headers: &mut [Header], name: &str, value: &mut AsciiString)
     }
 }
 
-/// Adds a header to the list of a response, or to the length of its data. If memory is refused, the error returns the
-/// header, and nothing changes.
+/// Adds a header to the list of a response, or sets the length of its data, as `Response::add_header` does. If memory
+/// is refused, the error hands back the header, and nothing changes.
 pub(crate) fn add(
     headers: &mut Vec<Header>,
     data_length: &mut Option<usize>,
@@ -93,7 +93,8 @@ pub(crate) fn add(
     }
 }
 
-/// Adds these headers one after another. The error returns the first for which memory is refused.
+/// Adds these headers one after another. If memory for one is refused, the error hands it back, and the rest are
+/// dropped.
 pub(crate) fn add_all(
     headers: &mut Vec<Header>,
     data_length: &mut Option<usize>,
@@ -114,7 +115,7 @@ pub(crate) fn add_all(
     Ok(())
 }
 
-// Returns the place of the header at `at` among the first `kept`.
+// Returns how the header at `at` is added to the first `kept` headers.
 fn place_at(headers: &[Header], kept: usize, at: usize) -> Place
     requires order { kept ≤ at }
     requires within { at < length headers.now }
@@ -123,7 +124,7 @@ fn place_at(headers: &[Header], kept: usize, at: usize) -> Place
     place_of(&headers[at], &headers[..kept])
 }
 
-// Puts the value of the header at `at` into the first `Content-Type` among the first `kept`.
+// Replaces the value of the first `Content-Type` among the first `kept` headers with that of the header at `at`.
 fn replace_type(headers: &mut [Header], kept: usize, at: usize)
     requires order { kept ≤ at }
     requires within { at < length headers.old }
@@ -136,7 +137,7 @@ fn replace_type(headers: &mut [Header], kept: usize, at: usize)
     replace_value(&mut front[..kept], "Content-Type", &mut rest[0].value);
 }
 
-// Adds the header at `at` to the first `kept`, and returns how many those then are. The headers after `at` are
+// Adds the header at `at` to the first `kept` headers, and returns the new number of these. The headers after `at` are
 // unchanged.
 fn add_at(headers: &mut [Header], data_length: &mut Option<usize>, kept: usize, at: usize) -> usize
     requires order { kept ≤ at }
@@ -178,7 +179,7 @@ fn add_each(headers: &mut [Header], data_length: &mut Option<usize>) -> usize
     kept
 }
 
-/// Replaces these headers by the result of adding them one after another to an empty list, in the same allocation.
+/// Replaces these headers with the result of adding them one after another to an empty list, in the same allocation.
 /// Returns the resulting length of the data.
 pub(crate) fn add_in_place(
     headers: &mut Vec<Header>,

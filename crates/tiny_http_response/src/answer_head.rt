@@ -124,7 +124,7 @@ fn put_protocol<W: WriteDevice>(writer: &mut W, protocol: &str) -> Result<(), io
     put_field(writer, b"Upgrade", protocol.as_bytes())
 }
 
-// Writes those lines, if there is an upgrade.
+// Writes the two field lines of an upgrade to a protocol, if there is an upgrade.
 #[tactic(auto, unfolding(crate::specs::Answer::upgrade_lines))]
 fn put_upgrade<W: WriteDevice>(writer: &mut W, upgrade: Option<&str>) -> Result<(), io::Error>
     ensures { Puts (W.sink writer.old) (W.sink writer.new) result (upgrade_lines (option_copied upgrade.entry)) }
@@ -158,7 +158,7 @@ fn put_date<W: WriteDevice>(
     if has_header(headers, "Date") {
         return Ok(());
     }
-    // The 29 bytes of this date are overwritten.
+    // The 29 bytes of this date are overwritten with `now`.
     let mut line = *b"Date: Thu, 01 Jan 1970 00:00:00 GMT\r\n";
     line[6..35].copy_from_slice(&now.to_bytes());
     put(writer, &line)
@@ -185,7 +185,7 @@ fn put_framing<W: WriteDevice>(writer: &mut W, framing: FramingHeader) -> Result
     }
 }
 
-// Writes the status line of a head.
+// Writes the status line of a head, with the request's version, or with 1.1 under `Profile::Standard`.
 fn put_status<W: WriteDevice>(writer: &mut W, head: &ResponseHead<'_>) -> Result<(), io::Error>
     ensures { Puts (W.sink writer.old) (W.sink writer.new) result
         (status_line (status_version head.now.persistence head.now.version) head.now.status.0) }
@@ -196,7 +196,8 @@ fn put_status<W: WriteDevice>(writer: &mut W, head: &ResponseHead<'_>) -> Result
     }
 }
 
-// Writes the field lines after the date, with or without an upgrade.
+// Writes the field lines after `Date`: the headers of the response. Under `Profile::Standard` they are made safe, and
+// `Connection` and `Upgrade` come before them, except for an upgrade and a code below 200.
 fn put_listed<W: WriteDevice>(
     writer: &mut W,
     head: &ResponseHead<'_>,
@@ -218,7 +219,7 @@ fn put_listed<W: WriteDevice>(
     put_safe_headers(writer, head.headers)
 }
 
-// Writes the lines of a head, piece by piece, and the empty line.
+// Writes a head line by line, and the empty line after it.
 fn put_lines<W: WriteDevice>(
     writer: &mut W,
     head: &ResponseHead<'_>,
@@ -238,9 +239,9 @@ fn put_lines<W: WriteDevice>(
 }
 
 /// Writes the head of a response: status line, field lines and an empty line (RFC 9112, sections 4 and 5). Under
-/// `Profile::Standard` the status line has version 1.1. Unless it is an upgrade or the code is below 200, `Connection`
-/// says that the connection closes, or for versions up to 1.0 that it persists, and offers protocols. A header whose
-/// name isn't a token is omitted; any other takes one line. A head of up to 512 bytes is one write.
+/// `Profile::Standard` the status line has version 1.1. Except for an upgrade and a code below 200, `Connection` states
+/// that the connection closes, or for versions up to 1.0 that it persists, and `Upgrade` offers protocols. A header
+/// whose name isn't a token is omitted; any other takes one line. A head of up to 512 bytes is one write.
 pub(crate) fn put_head<W: WriteDevice>(
     writer: &mut W,
     head: &ResponseHead<'_>,

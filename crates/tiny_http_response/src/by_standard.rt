@@ -1,5 +1,5 @@
-//! What the head of a response says under `Profile::Standard`: the state of its connection, and each header on one line
-//! (RFC 9112, sections 9.3, 9.6 and 11.1; RFC 9110, sections 5.5, 7.8 and 15).
+//! What the head of a response says under `Profile::Standard`: whether its connection persists, and each header on one
+//! line (RFC 9112, sections 9.3, 9.6 and 11.1; RFC 9110, sections 5.5, 7.8 and 15).
 ghost use Rattle.std.specs.Prelude.{◌≡◌, ◌∷◌, [], Some, option_map};
 ghost use Rattle.std.specs.List.{flat_map};
 ghost use Rattle.std.specs.Option.{option_copied};
@@ -44,7 +44,7 @@ fn safe_byte(byte: u8) -> u8
     }
 }
 
-// Writes a value byte by byte, with its disallowed bytes replaced.
+// Writes a value byte by byte, with a space in place of each byte that isn't allowed in a field value.
 fn put_replaced<W: WriteDevice>(writer: &mut W, value: &[u8]) -> Result<(), io::Error>
     ensures { Puts (W.sink writer.old) (W.sink writer.new) result (safe_value value.now) }
 {
@@ -54,7 +54,7 @@ fn put_replaced<W: WriteDevice>(writer: &mut W, value: &[u8]) -> Result<(), io::
     Ok(())
 }
 
-// Writes the field line of a header whose value has bytes that aren't allowed in a field value.
+// Writes a field line byte by byte, with a space in place of each byte that isn't allowed in a field value.
 fn put_replaced_field<W: WriteDevice>(
     writer: &mut W,
     field: &[u8],
@@ -68,7 +68,8 @@ fn put_replaced_field<W: WriteDevice>(
     put(writer, b"\r\n")
 }
 
-// Writes a field line, with a space in place of each byte that isn't allowed in a field value.
+// Writes a field line, with a space in place of each byte that isn't allowed in a field value. A value without such
+// bytes is one write.
 fn put_safe_field<W: WriteDevice>(
     writer: &mut W,
     field: &[u8],
@@ -82,7 +83,7 @@ fn put_safe_field<W: WriteDevice>(
     put_replaced_field(writer, field, value)
 }
 
-// Writes the field line of a header, unless its name isn't a token.
+// Writes the field line of a header with a safe value, or nothing if its name isn't a token.
 fn put_safe_header<W: WriteDevice>(writer: &mut W, header: &Header) -> Result<(), io::Error>
     ensures { Puts (W.sink writer.old) (W.sink writer.new) result
         (flat_map field_line_of (safe_headers (header.now ∷ []))) }
@@ -95,7 +96,8 @@ fn put_safe_header<W: WriteDevice>(writer: &mut W, header: &Header) -> Result<()
     put_safe_field(writer, field, header.value.as_str().as_bytes())
 }
 
-/// Writes the field lines of a list of headers, each made safe.
+/// Writes the field lines of a list of headers. Omits those whose name isn't a token, and writes a space in place of
+/// each byte that isn't allowed in a field value.
 pub(crate) fn put_safe_headers<W: WriteDevice>(
     writer: &mut W,
     headers: &[Header],
@@ -108,7 +110,8 @@ pub(crate) fn put_safe_headers<W: WriteDevice>(
     Ok(())
 }
 
-// Writes the `Connection` header of a response that offers protocols.
+// Writes the `Connection` header of a response that offers protocols: `upgrade`, after the connection option if there
+// is one.
 fn put_options<W: WriteDevice>(writer: &mut W, option: Option<&str>) -> Result<(), io::Error>
     ensures { Puts (W.sink writer.old) (W.sink writer.new) result
         (field_line_of (connection_header (options_with_upgrade (option_copied option.entry)))) }
@@ -122,7 +125,7 @@ fn put_options<W: WriteDevice>(writer: &mut W, option: Option<&str>) -> Result<(
     }
 }
 
-// Writes the headers that offer protocols and state whether the connection closes.
+// Writes `Connection` and `Upgrade` for a response that offers protocols, with this connection option if there is one.
 fn put_offer<W: WriteDevice>(
     writer: &mut W,
     protocols: &str,
@@ -135,8 +138,8 @@ fn put_offer<W: WriteDevice>(
     put_safe_field(writer, b"Upgrade", protocols.as_bytes())
 }
 
-/// Writes the headers that state whether the connection closes, and offer protocols (RFC 9112, section 9.6; RFC 9110,
-/// section 7.8).
+/// Writes the headers that state whether the connection closes and that offer protocols, if there are any to write (RFC
+/// 9112, section 9.6; RFC 9110, section 7.8).
 pub(crate) fn put_connection<W: WriteDevice>(
     writer: &mut W,
     offered: &Option<AsciiString>,
@@ -165,8 +168,8 @@ fn framing_of_304(data_length: Option<usize>) -> FramingHeader
 }
 
 // Returns the framing of a response that is only a head because of its code, under `Profile::Standard` (RFC 9110,
-// sections 8.6 and 15.3.6; RFC 9112, section 6.1). A 1xx and a 204 have neither header, a 205 has length 0, and a 304
-// the length of its data, if known and not 0.
+// sections 8.6 and 15.3.6; RFC 9112, section 6.1): neither header for a code below 200 and a 204, length 0 for a 205,
+// and for a 304 the length of its data, if known and not 0. Returns `None` for any other code or profile.
 fn framing_by_standard(
     persistence: Option<Persistence>,
     status: StatusCode,
@@ -194,8 +197,9 @@ pub(crate) fn has_no_content(status: StatusCode) -> bool
     (status.0 >= 100 && status.0 < 200) || status.0 == 204 || status.0 == 304
 }
 
-/// Returns the framing of a response that is only a head because of its code: under `Profile::Standard`, or if it was
-/// made by `Response::contentless` with a code that has no content. The latter has neither header.
+/// Returns the framing of a response that is only a head because of its code, or `None` if it isn't. A response made by
+/// `Response::contentless` with a code that has no content has neither header. Any other is only a head under
+/// `Profile::Standard`, with the framing for its code.
 pub(crate) fn contentless_framing(
     persistence: Option<Persistence>,
     contentless: bool,

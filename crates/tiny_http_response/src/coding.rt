@@ -40,8 +40,8 @@ fn coding_named(name: &str) -> Option<Coding>
     }
 }
 
-// Returns the supported coding with the greatest quality in the value of a `TE` header, the first among equals. `None`
-// if that quality is 0.
+// Returns the supported coding with the greatest quality in the value of a `TE` header, the first among equals, or
+// `None` if the value has no supported coding with a quality above 0.
 fn most_wanted(value: &str) -> Option<Coding>
     ensures { result ≡ most_wanted (supported_codings (qualities value.now)) }
 {
@@ -60,8 +60,8 @@ fn most_wanted(value: &str) -> Option<Coding>
 }
 
 /// Returns the coding that the headers of a request ask for (RFC 9110, section 10.1.4): in the first `TE` header the
-/// one with the greatest quality above 0, the first among equals (section 12.4.2). `None` if there is no `TE`, or if it
-/// accepts neither `identity` nor `chunked`. Allocates nothing.
+/// one with the greatest quality above 0, the first among equals (section 12.4.2). Returns `None` if there is no `TE`,
+/// or if the first accepts neither `identity` nor `chunked`. Allocates nothing.
 #[tactic(auto, unfolding(crate::specs::Coding::coding_asked))]
 pub fn asked_coding(request_headers: &[Header]) -> Option<Coding>
     ensures { result ≡ coding_asked request_headers.now }
@@ -74,9 +74,10 @@ pub fn asked_coding(request_headers: &[Header]) -> Option<Coding>
     None
 }
 
-/// Chooses the coding of a response (RFC 9112, sections 6.1 and 7.4; as tiny_http). It is `Identity` for a version up
-/// to 1.0, a status below 200 and a 204; else what the request asks for, as `asked_coding` returns it; else `Chunked`
-/// if the length of the data, in bytes, is unknown or at least the threshold.
+/// Chooses the coding of a response (RFC 9112, sections 6.1 and 7.4; as in tiny_http). It is `Identity` for a version
+/// up to 1.0, a status below 200 and a 204. Otherwise it is what the request asks for, as `asked_coding` returns it. If
+/// the request asks for none, it is `Chunked` if the length of the data, in bytes, is unknown or at least the
+/// threshold, and `Identity` if it is shorter.
 pub fn choose(
     version: HTTPVersion,
     asked: Option<Coding>,

@@ -15,7 +15,7 @@ use crate::response::THRESHOLD;
 use tiny_http_body::chunked::{LONGEST_LINE, MOST_TRAILERS};
 use tiny_http_body::chunks::CHUNK;
 
-/// The sizes that the definitions of a chunked body and of a response take from the code.
+/// The constants of the code that the definitions of a chunked body and of a response use as numbers.
 pub fn sizes_of_bodies()
     ensures line { LONGEST_LINE ≡ 8192 }
     ensures trailers { MOST_TRAILERS ≡ 128 }
@@ -23,8 +23,9 @@ pub fn sizes_of_bodies()
     ensures threshold { THRESHOLD ≡ 32768 }
 {}
 
-/// The headers of a request ask for at most one coding: that of the element of the first `TE` header which no other
-/// element outranks (RFC 9110, sections 10.1.4 and 12.4.2).
+/// The headers of a request ask for exactly one coding or for none, as `coding_asked` computes: the coding of the
+/// supported element of the first `TE` header that no other supported element outranks (RFC 9110, sections 10.1.4 and
+/// 12.4.2).
 pub fn one_coding_asked()
     ensures some { (headers : List Header) → AsksFor headers (coding_asked headers) }
     ensures one { (headers : List Header) (asked other : Option Coding)

@@ -1,4 +1,4 @@
-//! Responses made from texts and from status codes, and the conversion of refused memory to `io::Error`.
+//! Responses made from status codes, headers made from texts, and the conversion of refused memory to `io::Error`.
 ghost use Rattle.std.specs.Prelude.{◌≡◌, ◌↔◌, ◌∷◌, [], IfOk, OnOk, IsErrOf, length, string_bytes};
 ghost use Rattle.tiny_http_io.specs.Cursor.{cursor_bytes};
 ghost use Rattle.tiny_http_head.specs.HeaderTexts.{AreHeaderTexts, header_of};
@@ -12,7 +12,7 @@ use std::io::{Cursor, ErrorKind};
 use tiny_http_head::common::{Header, ParseError, StatusCode};
 use tiny_http_text::number::Numeral;
 
-// Returns the text of a response made from a status code.
+// Returns the text of a response made from a status code: the code and its reason phrase. Fails if memory is refused.
 #[tactic(auto, unfolding(crate::specs::Answer::status_text))]
 fn status_text(alloc: Global, status: StatusCode) -> Result<String, AllocError>
     ensures { IfOk result (λ text. string_bytes text ≡ status_text status.0) }
@@ -40,9 +40,9 @@ impl Response<Cursor<Vec<u8>>> {
 
 impl<R> Response<R> {
     /// Adds a header, made from a name and a value as by `Header::new`, as `add_header` does: `Connection`, `Trailer`,
-    /// `Transfer-Encoding` and `Upgrade` are ignored. The error is `Refused` if and only if the texts make no header,
-    /// and `Memory` if memory is refused. Both drop the response; `with_header` returns it. In a function that returns
-    /// `io::Result`, `?` converts them to `InvalidInput` and `OutOfMemory`.
+    /// `Transfer-Encoding` and `Upgrade` are ignored. Fails with `Refused` if the texts make no header, and only then;
+    /// with `Memory` if memory is refused. Both errors drop the response; `with_header` hands it back. In a function
+    /// that returns `io::Result`, `?` converts them to `InvalidInput` and `OutOfMemory`.
     pub fn with(self, alloc: Global, name: &str, value: &str) -> Result<Response<R>, ParseError>
     where
         R: Drop,

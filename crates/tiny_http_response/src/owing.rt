@@ -1,4 +1,4 @@
-//! A reader that reports data ending before their stated length.
+//! Data with a stated length: a reader that reports an end before that length as an error.
 ghost use Rattle.std.specs.Prelude.{◌≡◌};
 ghost use Rattle.tiny_http_response.specs.Owing.{owed};
 
@@ -7,16 +7,17 @@ use std::io;
 use std::io::ErrorKind;
 use tiny_http_io::device::ReadDevice;
 
-/// A reader that owes a number of bytes. If the inner reader ends before the last of them, the end is reported as
-/// `UnexpectedEof`. Bytes past that number pass unchanged.
+/// A reader that requires `left` more bytes of its inner reader: an end before the last of them is reported as
+/// `UnexpectedEof`. Bytes past them pass unchanged.
 #[derive(Drop)]
 pub(crate) struct OwingReader<R> {
     inner: R,
     left: usize,
 }
 
-/// Returns how many bytes the data of a chunked response owe: under `Profile::Standard` their length, if it is known,
-/// otherwise 0. A client takes a chunked body without its last chunk for incomplete (RFC 9112, section 8).
+/// Returns how many bytes the data of a chunked response must have: under `Profile::Standard` their length, if it is
+/// known, otherwise 0. A chunked body without its last chunk shows the client that it is incomplete (RFC 9112, section
+/// 8).
 pub(crate) fn owed(persistence: Option<Persistence>, data_length: Option<usize>) -> usize
     ensures { result ≡ owed persistence data_length }
 {
@@ -27,7 +28,7 @@ pub(crate) fn owed(persistence: Option<Persistence>, data_length: Option<usize>)
 }
 
 impl<R> OwingReader<R> {
-    /// Wraps a reader whose data owe `length` bytes.
+    /// Wraps a reader whose data must have at least `length` bytes.
     pub(crate) fn new(reader: R, length: usize) -> OwingReader<R>
         ensures { result ≡ record { inner = reader; left = length } }
     {
@@ -45,7 +46,7 @@ impl<R: ReadDevice> ReadDevice for OwingReader<R> {
 
     ghost stop_count = { λ r. R.stop_count (owing_inner r) };
 
-    /// Reads once from the inner reader.
+    /// Reads once from the inner reader. Fails with `UnexpectedEof` if that reader ends while bytes are still required.
     fn read_in(&mut self, buf: &mut [u8]) -> Result<usize, io::Error> {
         let n = self.inner.read_in(buf)?;
         if n == 0 && !buf.is_empty() && self.left > 0 {

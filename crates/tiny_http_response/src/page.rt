@@ -9,7 +9,7 @@ use tiny_http_io::device::WriteDevice;
 // The capacity of a page, in bytes.
 const ROOM: usize = 512;
 
-/// A writer that takes `ROOM` bytes, after which each nonempty write fails.
+/// A writer into a buffer of `ROOM` bytes. Once the buffer is full, each nonempty write fails.
 #[derive(Drop)]
 pub(crate) struct Page {
     bytes: [u8; ROOM],
@@ -62,7 +62,8 @@ impl WriteDevice for Page {
         self.failures
     }
 
-    /// Takes as many bytes as fit. If `buf` isn't empty and none fit, the error is `OutOfMemory`.
+    /// Appends as many bytes of `buf` as fit, and returns their number. Fails with `OutOfMemory` if `buf` isn't empty
+    /// and none fits.
     fn write_out(&mut self, buf: &[u8]) -> Result<usize, io::Error> {
         let n = buf.len().min(ROOM - self.len);
         if n == 0 && !buf.is_empty() {

@@ -42,8 +42,8 @@ use tiny_http_text::ascii::AsciiString;
 use tiny_http_text::bytes::are_ascii;
 use tiny_http_text::copies::owned;
 
-/// A response: a status code, headers, and a reader of the data with its length, if known. A contract sees it as an
-/// `Answer` and the reader.
+/// A response: a status code, headers, and a reader of the data, whose length may be known. Contracts see it as a
+/// `ResponseState`: an `Answer`, and the reader.
 #[derive(Drop)]
 pub struct Response<R> {
     reader: R,
@@ -56,7 +56,7 @@ pub struct Response<R> {
     contentless: bool,
 }
 
-/// A response whose data come from any boxed reader (as tiny_http).
+/// A response whose data come from a boxed reader of any type (as in tiny_http).
 pub type ResponseBox = Response<Metered<Box<dyn Read + Send + Drop>>>;
 
 impl<R> Model for Response<R> {
@@ -81,11 +81,11 @@ impl<R> Model for Response<R> {
     ghost invariant = { λ r. IsResponseHeaders r.headers.items };
 }
 
-/// The default chunked threshold: data of this length in bytes or more are sent in chunks (as tiny_http). To send a
-/// `Content-Length` whatever the length, as for a file, use `with_chunked_threshold(usize::MAX)`.
+/// The default chunked threshold: data of this length in bytes or more are sent in chunks (as in tiny_http). To send a
+/// `Content-Length` whatever the length, such as for a file, use `with_chunked_threshold(usize::MAX)`.
 pub const THRESHOLD: usize = 32768;
 
-// Returns the `Content-Type` header of plain text.
+// Returns the header `Content-Type: text/plain; charset=UTF-8`. Fails if memory is refused.
 #[tactic(auto, unfolding(crate::specs::Answer::text_plain))]
 fn text_plain(alloc: Global) -> Result<Header, AllocError>
     ensures { IfOk result (λ h. h ≡ text_plain) }
@@ -96,10 +96,11 @@ fn text_plain(alloc: Global) -> Result<Header, AllocError>
 }
 
 impl<F: Read + OpenFile> Response<Metered<F>> {
-    /// Creates a 200 response with an open file as its data, and no headers (as tiny_http). The length is the file's,
-    /// by its metadata, or unknown if that can't be read. A file of `THRESHOLD` bytes or more is sent in chunks,
-    /// without a `Content-Length`, unless `with_chunked_threshold(usize::MAX)` is set. If the file shrinks meanwhile,
-    /// sending it reports `UnexpectedEof`; in chunks it does so only under `Profile::Standard`. Allocates nothing.
+    /// Creates a 200 response with an open file as its data, and no headers (as in tiny_http). The length is the one in
+    /// the file's metadata, or unknown if the metadata can't be read. A file of `THRESHOLD` bytes or more is sent in
+    /// chunks, without a `Content-Length`, unless `with_chunked_threshold(usize::MAX)` is set. If the file shrinks
+    /// before it is sent, sending it reports `UnexpectedEof`; in chunks it does so only under `Profile::Standard`.
+    /// Allocates nothing.
     pub fn from_file(alloc: Global, file: F) -> Response<Metered<F>>
         ensures status { result.answer.status ≡ 200 }
         ensures headers { result.answer.headers ≡ [] }
@@ -112,8 +113,8 @@ impl<F: Read + OpenFile> Response<Metered<F>> {
 }
 
 impl Response<Cursor<Vec<u8>>> {
-    /// Creates a 200 response with a text as its data, of known length, and `Content-Type: text/plain; charset=UTF-8`
-    /// (as tiny_http). Fails if memory for that header is refused.
+    /// Creates a 200 response with this text as its data, of known length, and `Content-Type: text/plain;
+    /// charset=UTF-8` (as in tiny_http). Fails if memory for that header is refused.
     pub fn from_string(alloc: Global, text: String) -> Result<Response<Cursor<Vec<u8>>>, AllocError>
         ensures answer { IfOk result (λ r. r.answer ≡ answer_with 200 (text_plain ∷ []) (string_len text)) }
         ensures bytes { IfOk result (λ r. cursor_bytes r.data_reader ≡ string_bytes text) }
@@ -143,8 +144,9 @@ impl Response<io::Empty> {
 
     /// Creates a response without headers or data for a status code that has no content: 100 to 199, 204 or 304 (RFC
     /// 9110, sections 6.4.1, 8.6, 15.3.5 and 15.4.5). It has neither `Content-Length` nor `Transfer-Encoding`, under
-    /// each profile and whatever the request asks for. `empty` with such a code states the length 0, except under
-    /// `Profile::Standard`. With any other code this response is printed as that of `empty`. Allocates nothing.
+    /// any profile and whatever the request asks for. The response of `empty` with such a code has one of them, usually
+    /// `Content-Length: 0`, except under `Profile::Standard`. With any other code this response is printed like that of
+    /// `empty`. Allocates nothing.
     pub fn contentless(alloc: Global, status: StatusCode) -> Response<io::Empty>
         ensures { result.answer ≡ contentless_answer status.0 }
     {
@@ -160,7 +162,7 @@ impl Response<io::Empty> {
         Response::empty(alloc, status)
     }
 
-    /// Copies the response, or fails if memory is refused.
+    /// Copies the response. Fails if memory is refused.
     pub fn try_clone(&self) -> Result<Response<io::Empty>, AllocError>
         ensures { IfOk result (λ r. r ≡ self.now) }
     {
@@ -178,7 +180,7 @@ impl Response<io::Empty> {
     }
 }
 
-// Copies a text, if there is one.
+// Copies a text, if there is one. Fails if memory is refused.
 fn copy_of(text: &Option<AsciiString>) -> Result<Option<AsciiString>, AllocError>
     ensures { IfOk result (λ copy. copy ≡ text.now) }
 {
@@ -188,7 +190,7 @@ fn copy_of(text: &Option<AsciiString>) -> Result<Option<AsciiString>, AllocError
     }
 }
 
-// Copies the headers into a list with exactly their capacity.
+// Copies the headers into a list whose capacity is their number. Fails if memory is refused.
 fn copies_of(alloc: Global, headers: &[Header]) -> Result<Vec<Header>, AllocError>
     ensures { IfOk result (λ list. list.items ≡ headers.now) }
 {
@@ -199,14 +201,14 @@ fn copies_of(alloc: Global, headers: &[Header]) -> Result<Vec<Header>, AllocErro
     Ok(list)
 }
 
-/// The error of `Response::new` when memory for a header is refused. It returns the data.
+/// The error of `Response::new` if memory for a header is refused. It hands back the reader of the data.
 #[derive(Drop)]
 pub struct Refused<R> {
     /// The reader of the data, unchanged.
     pub reader: R,
 }
 
-/// The error of `Response::with_header` when memory for the header is refused. It returns the response and the header,
+/// The error of `Response::with_header` if memory for the header is refused. It hands back the response and the header,
 /// both unchanged.
 #[derive(Drop)]
 pub struct NotAdded<R> {
@@ -217,8 +219,8 @@ pub struct NotAdded<R> {
 }
 
 impl<R> Response<R> {
-    /// Creates a response with this status code and data, and no headers. `data_length` is in bytes, if known.
-    /// Allocates nothing.
+    /// Creates a response with this status code and data, and no headers. `data_length` is the length of the data in
+    /// bytes, if known. Allocates nothing.
     pub fn of(
         alloc: Global,
         status: StatusCode,
@@ -240,9 +242,10 @@ impl<R> Response<R> {
         }
     }
 
-    /// Creates a response with this status code and data; `data_length` is in bytes, if known. Adds each of `headers`
-    /// and then each of `more` as `add_header` does. The list reuses the allocation of `headers`, so only a header of
-    /// `more` needs memory. If that is refused, the error returns the data.
+    /// Creates a response with this status code and data; `data_length` is the length of the data in bytes, if known.
+    /// Adds each of `headers` and then each of `more` as `add_header` does. The list reuses the allocation of
+    /// `headers`, so only a header of `more` needs memory. If that is refused, the error hands back the reader of the
+    /// data.
     pub fn new(
         status: StatusCode,
         mut headers: Vec<Header>,
@@ -284,7 +287,8 @@ impl<R> Response<R> {
         self
     }
 
-    /// Replaces the data; `data_length` is in bytes, if known. The threshold is kept.
+    /// Replaces the data; `data_length` is the length of the new data in bytes, if known. Keeps the rest of the
+    /// response, such as the chunked threshold.
     pub fn with_data<S>(self, reader: S, data_length: Option<usize>) -> Response<S>
     where
         R: Drop,
@@ -303,7 +307,8 @@ impl<R> Response<R> {
     }
 
     /// Sets the chunked threshold: data of this length in bytes or more are sent in chunks. Shorter data are sent with
-    /// a `Content-Length`, unless the request's `TE` asks for chunks.
+    /// a `Content-Length`. The request's version, its `TE` and the status code may require otherwise
+    /// (`coding::choose`).
     pub fn with_chunked_threshold(self, length: usize) -> Response<R>
         ensures { result ≡ record self { answer = record self.answer { threshold = length } } }
     {
@@ -313,9 +318,10 @@ impl<R> Response<R> {
     }
 
     /// Offers to upgrade to these protocols, in place of any offered before: a list such as `websocket` or `h2c,
-    /// foo/2`, which a 426 must have (RFC 9110, sections 7.8 and 15.5.22). Under `Profile::Standard` the response sends
+    /// foo/2`. A 426 must have one (RFC 9110, sections 7.8 and 15.5.22). Under `Profile::Standard` the response sends
     /// it in `Upgrade`, with a space in place of each byte that isn't allowed in a field value, and names `upgrade` in
-    /// `Connection`. Under other profiles, in an upgrade's own response and with a code below 200 it is omitted.
+    /// `Connection`. Under other profiles, in the response of an upgrade and with a code below 200 the offer is
+    /// omitted.
     pub fn with_upgrade_offer(self, protocols: AsciiString) -> Response<R>
         ensures { result ≡ record self { answer = record self.answer { offered = Some protocols } } }
     {
@@ -325,10 +331,10 @@ impl<R> Response<R> {
     }
 
     /// Closes the connection after this response (RFC 9112, section 9.6). Once a `Connection` or a `Request` has sent
-    /// it, no further request is handed out; requests already handed out are answered. Under `Profile::Standard` the
-    /// last response of the connection has `Connection: close`: this one, if nothing was read after its request. After
-    /// the last response of `Request`s a socket's client sees end of file; a `Connection` closes nothing. Upgrades and
-    /// `Exchange` ignore this, and `raw_print` and `print` print the same bytes.
+    /// it, no further request is handed out; requests already handed out are still answered. Under `Profile::Standard`
+    /// the last response on the connection has `Connection: close`: this one, if nothing was read after its request.
+    /// With `Request`s, a socket's client sees end of file after the last response; a `Connection` closes nothing.
+    /// Upgrades and `Exchange` ignore this setting, and it doesn't change the bytes that `raw_print` and `print` print.
     pub fn with_close(self) -> Response<R>
         ensures { result ≡ record self { answer = record self.answer { closes = true } } }
     {
@@ -337,10 +343,10 @@ impl<R> Response<R> {
         response
     }
 
-    /// Adds a header (as tiny_http). `Connection`, `Trailer`, `Transfer-Encoding` and `Upgrade` are ignored, in any
+    /// Adds a header (as in tiny_http). `Connection`, `Trailer`, `Transfer-Encoding` and `Upgrade` are ignored, in any
     /// letter case. `Content-Length` sets the length of the data if its value is an optional `+` and digits, at most
     /// 18446744073709551615; otherwise it is ignored. A second `Content-Type` replaces the value of the first, in
-    /// place. Any other header is appended, which alone needs memory: if that is refused, the error returns the header,
+    /// place. Any other header is appended. Only that needs memory: if it is refused, the error hands back the header,
     /// and the response is unchanged.
     pub fn add_header(&mut self, header: Header) -> Result<(), Header>
         ensures added { OnOk result (self.new ≡ record self.old { answer = add_header header self.old.answer }) }
@@ -350,7 +356,7 @@ impl<R> Response<R> {
         add(&mut self.headers, &mut self.data_length, header)
     }
 
-    /// Adds a header as `add_header` does, and returns the response. If memory is refused, the error returns both.
+    /// Adds a header as `add_header` does, and returns the response. If memory is refused, the error hands back both.
     pub fn with_header(mut self, header: Header) -> Result<Response<R>, NotAdded<R>>
         ensures added { IfOk result (λ r. r ≡ record self { answer = add_header header self.answer }) }
         ensures refused { IfErr result (λ e. (e.response ≡ self) × (e.header ≡ header)) }
@@ -421,15 +427,15 @@ impl<R> Response<R> {
         self.threshold
     }
 
-    /// Prints head and body for a request of this version with these headers, dated `now` (RFC 9112, sections 4 to 7).
-    /// An upgrade to a protocol prints the head alone. The body is withheld if `no_body` (HEAD) is set and for the
-    /// codes 100 to 199, 204 and 304. `coding::choose` chooses the coding, with what the request's `TE` asks for.
-    /// Doesn't flush.
+    /// Prints the head and the body of the response to a request with this version and these headers, dated `now` (RFC
+    /// 9112, sections 4 to 7). With `upgrade`, prints the head alone. The body is omitted if `no_body` is set, as for a
+    /// `HEAD`, or if the code is 100 to 199, 204 or 304. `coding::choose` chooses the coding by the request's version
+    /// and `TE`, the code, and the length. Doesn't flush.
     ///
-    /// The error is the first fault, of the writer or of the data; nothing is written after it. Data that end before
-    /// their length are `UnexpectedEof`, except in chunks. Data of unknown length that aren't sent in chunks are read
-    /// whole first: if they fail or memory is refused (`OutOfMemory`), nothing is written. Nor is it for a protocol
-    /// that isn't ASCII (`InvalidInput`).
+    /// Fails with the first fault, of the writer or of the data, and writes nothing after it. Fails with
+    /// `UnexpectedEof` if the data end before their length, except in chunks. Reads data of unknown length whole before
+    /// the head, unless it sends them in chunks: if they fail, or if memory is refused (`OutOfMemory`), nothing is
+    /// written. Fails with `InvalidInput`, and writes nothing, if the protocol to upgrade to isn't ASCII.
     pub fn raw_print<W: WriteDevice>(
         self,
         alloc: Global,
@@ -452,7 +458,7 @@ impl<R> Response<R> {
               upgrade = option_copied upgrade.entry;
               date = now;
             })) }
-        // For any data and writer: the writer's count accounts for a fault of the writer's.
+        // For any data and writer: a fault of the writer raises its failure count.
         ensures uses { CountsFaults (W.sink writer.old) (W.sink writer.new) result }
     {
         let context = ResponseContext {
@@ -464,11 +470,11 @@ impl<R> Response<R> {
         self.print(alloc, writer, context, upgrade, now)
     }
 
-    /// Prints head and body as `raw_print` does, with what `context` holds of the request. If `context.persistence` is
-    /// `Some`, it follows `Profile::Standard`: the status line has version 1.1, each header takes one line, and
-    /// `Connection` follows the date if needed, except for an upgrade and a code below 200. No data are read for a code
-    /// below 200, 204, 205 and 304. Chunked data, too, that end before their length are `UnexpectedEof`; without the
-    /// last chunk the client sees that the response is incomplete (RFC 9112, section 8).
+    /// Prints the head and the body as `raw_print` does, with what `context` keeps of the request. If
+    /// `context.persistence` is `Some`, it follows `Profile::Standard`: the status line has version 1.1, each header
+    /// takes one line, and `Connection` follows the date if needed, except for an upgrade and a code below 200. No data
+    /// are read for a code below 200, 204, 205 and 304. In chunks, too, data that end before their length are
+    /// `UnexpectedEof`; without the last chunk the client sees that the response is incomplete (RFC 9112, section 8).
     pub fn print<W: WriteDevice>(
         self,
         alloc: Global,
@@ -531,11 +537,11 @@ impl<R> Response<R> {
         }
     }
 
-    /// Prints only the head of a response whose body follows and grows while it is sent, as
-    /// `ResponseContext::streamed_form` says. From version 1.1 on the head has `Transfer-Encoding: chunked`, even for a
-    /// `HEAD`; for earlier versions it has neither a length nor a coding (RFC 9112, section 6). The data, their length
-    /// and the threshold are ignored. Follows `Profile::Standard` if `print` would. The error is the writer's first
-    /// fault, after which nothing more is written. Doesn't flush.
+    /// Prints only the head, for a response whose body is streamed after it as `ResponseContext::streamed_form` says.
+    /// From version 1.1 on the head has `Transfer-Encoding: chunked`, even for a `HEAD`, unless the code has no
+    /// content; for earlier versions it has neither a length nor a coding (RFC 9112, section 6). The data, their length
+    /// and the threshold are ignored. Follows `Profile::Standard` if `print` would. Fails with the writer's first
+    /// fault, and writes nothing after it. Doesn't flush.
     pub fn print_head<W: WriteDevice>(
         &self,
         writer: &mut W,
@@ -563,14 +569,15 @@ impl<R> Response<R> {
     }
 }
 
-// Returns whether the body of a response with this status code is not sent.
+// Returns whether the body of a response with this status code is omitted.
 fn is_withheld(no_body: bool, status: StatusCode) -> bool
     ensures { result ≡ is_withheld no_body status.0 }
 {
     no_body || has_no_content(status)
 }
 
-// Prints a response of known length whose body is sent as it is.
+// Prints a response of known length without a transfer coding. If `withheld`, omits the body and leaves the data
+// unread.
 fn print_as_it_is<D: ReadDevice, W: WriteDevice>(
     source: &mut D,
     writer: &mut W,
@@ -584,7 +591,7 @@ fn print_as_it_is<D: ReadDevice, W: WriteDevice>(
         (if withheld then whole [] else identity_body n feed))) }
     ensures unread { withheld ≡ true → source.new ≡ source.old }
     ensures uses { CountsFaults (W.sink writer.old) (W.sink writer.new) result }
-    // `Ok` reaches no end of the data; an error reaches at most one end or fault of them.
+    // If the call returns `Ok`, it reached no end or fault of the data; if it fails, it reached at most one.
     ensures stop_count { D.stop_count source.new ≤ D.stop_count source.old + fault_count result }
 {
     put_head(writer, head, None, FramingHeader::ContentLength(n))?;
@@ -594,7 +601,7 @@ fn print_as_it_is<D: ReadDevice, W: WriteDevice>(
     put_exactly(source, writer, n)
 }
 
-// Prints bytes as the body of a response.
+// Prints a head with the length of these bytes, and the bytes as the body unless it is withheld.
 fn print_bytes<W: WriteDevice>(
     bytes: &[u8],
     writer: &mut W,
@@ -617,7 +624,7 @@ fn print_bytes<W: WriteDevice>(
     put(writer, bytes)
 }
 
-// Prints a response of unknown length whose body is sent as it is, after reading the data whole.
+// Prints a response of unknown length without a transfer coding: reads the data whole first, and states their length.
 fn print_gathered<D: ReadDevice, W: WriteDevice>(
     alloc: Global,
     source: &mut D,
@@ -630,14 +637,14 @@ fn print_gathered<D: ReadDevice, W: WriteDevice>(
         (response_head_text head.now None (FramingHeader.ContentLength (length feed.bytes)))
         withheld feed) }
     ensures uses { CountsFaults (W.sink writer.old) (W.sink writer.new) result }
-    // Reads no data after their end or fault.
+    // Reaches at most one end or fault of the data.
     ensures stop_count { D.stop_count source.new ≤ D.stop_count source.old + 1 }
 {
     let bytes = gather(alloc, source)?;
     print_bytes(bytes.as_slice(), writer, head, withheld)
 }
 
-// Prints a response whose body isn't coded, with its length.
+// Prints a response without a transfer coding, with its `Content-Length`.
 fn print_uncoded<D: ReadDevice, W: WriteDevice>(
     alloc: Global,
     source: &mut D,
@@ -650,7 +657,7 @@ fn print_uncoded<D: ReadDevice, W: WriteDevice>(
         PrintsUncoded (W.sink writer.old) (W.sink writer.new) result data_length
         (uncoded_text data_length (λ framing. response_head_text head.now None framing) withheld feed)) }
     ensures uses { CountsFaults (W.sink writer.old) (W.sink writer.new) result }
-    // Reads no data after their end or fault.
+    // Reaches at most one end or fault of the data.
     ensures stop_count { D.stop_count source.new ≤ D.stop_count source.old + 1 }
 {
     match data_length {
@@ -659,7 +666,7 @@ fn print_uncoded<D: ReadDevice, W: WriteDevice>(
     }
 }
 
-// Prints a response whose body is sent in chunks.
+// Prints a response whose body is sent in chunks. If `withheld`, omits the body and leaves the data unread.
 fn print_in_chunks<D: ReadDevice, W: WriteDevice>(
     source: &mut D,
     writer: &mut W,
@@ -672,7 +679,7 @@ fn print_in_chunks<D: ReadDevice, W: WriteDevice>(
         (body_unless_withheld withheld (chunked_body feed)))) }
     ensures unread { withheld ≡ true → source.new ≡ source.old }
     ensures uses { CountsFaults (W.sink writer.old) (W.sink writer.new) result }
-    // Reads no data after their end or fault.
+    // Reaches at most one end or fault of the data.
     ensures stop_count { D.stop_count source.new ≤ D.stop_count source.old + 1 }
 {
     put_head(writer, head, None, FramingHeader::TransferEncoding)?;
@@ -682,7 +689,8 @@ fn print_in_chunks<D: ReadDevice, W: WriteDevice>(
     put_chunked(source, writer)
 }
 
-// Prints the response of an upgrade, or fails with `InvalidInput` for a protocol that isn't ASCII.
+// Prints the head of the response that upgrades to a protocol. Fails with `InvalidInput`, and writes nothing, if the
+// protocol isn't ASCII.
 fn print_upgrade<W: WriteDevice>(
     writer: &mut W,
     head: &ResponseHead<'_>,

@@ -1,4 +1,4 @@
-//! What printing a response needs to know of its request.
+//! The response context, and how it decides the form of a streamed body.
 ghost use Rattle.std.specs.Prelude.{◌≡◌};
 ghost use Rattle.tiny_http_response.specs.Streaming.{streamed_form, streamed_framing};
 
@@ -16,7 +16,7 @@ pub enum Persistence {
     Close,
 }
 
-/// What printing a response needs to know of its request, so that the request's headers needn't be kept.
+/// What printing a response needs to know about its request, kept instead of the request's headers.
 #[derive(Clone, Copy, Debug, PartialEq, Eq)]
 pub struct ResponseContext {
     /// The HTTP version of the request.
@@ -26,15 +26,16 @@ pub struct ResponseContext {
     /// Whether the response has no body because the request is a `HEAD`.
     pub no_body: bool,
     /// What the response says about its connection (RFC 9112, section 9.6). `Some` prints the response as
-    /// `Profile::Standard` requires. `None` prints it as tiny_http does: in the version of the request, with its
-    /// headers unchanged, and with a length or a coding whatever its status code is.
+    /// `Profile::Standard` requires. `None` prints it as tiny_http does: with the request's version in the status line,
+    /// with the response's headers unchanged, and with a length or a coding for any status code, unless it was made by
+    /// `Response::contentless`.
     pub persistence: Option<Persistence>,
 }
 
 impl ResponseContext {
-    /// Returns how to send a body that grows after the head of a response with this status code. It is absent for a
-    /// `HEAD` and for a code without content. For versions up to 1.0 the bytes are sent as they are, and the end of the
-    /// connection ends them (RFC 9112, section 6.3). Otherwise they are sent in chunks (section 7.1).
+    /// Returns how the body of a streamed response with this status code is sent. `Absent`: not at all, for a `HEAD`,
+    /// for a code without content, and under `Profile::Standard` for a 205. `Plain`: as it is, for versions up to 1.0;
+    /// the end of the connection ends it (RFC 9112, section 6.3). `Chunks`: in chunks, otherwise (section 7.1).
     pub fn streamed_form(&self, status: StatusCode) -> StreamedForm
         ensures { result ≡ streamed_form self.now status.0 }
     {
@@ -47,7 +48,7 @@ impl ResponseContext {
         StreamedForm::Chunks
     }
 
-    // Returns the header that frames a growing body.
+    // Returns the header that frames the body of a streamed response with this status code.
     pub(crate) fn streamed_framing(&self, status: StatusCode) -> FramingHeader
         ensures { result ≡ streamed_framing self.now status.0 }
     {

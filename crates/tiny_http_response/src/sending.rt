@@ -36,7 +36,8 @@ fn end_behind_fault<W: WriteDevice>(outlet: &mut Outlet<W>, failures: u64)
     }
 }
 
-// Prints a response, or an upgrade to a protocol, and flushes it, as `send` does.
+// Prints a response and flushes it, as `send` does; with `upgrade`, the response that upgrades the connection to that
+// protocol.
 fn send_printed<W: WriteDevice, D: ReadDevice + Drop>(
     alloc: Global,
     outlet: &mut Outlet<W>,
@@ -67,7 +68,7 @@ fn send_printed<W: WriteDevice, D: ReadDevice + Drop>(
     outlet.flush()
 }
 
-/// Prints a response and flushes it. The error is the first fault, of the data or of the writer. After an error nothing
+/// Prints a response and flushes it. Fails with the first fault, of the data or of the writer. After an error nothing
 /// more is sent on the connection; bytes that were held before a fault of the data are still sent.
 pub fn send<W: WriteDevice, D: ReadDevice + Drop>(
     alloc: Global,
@@ -92,7 +93,7 @@ pub fn send<W: WriteDevice, D: ReadDevice + Drop>(
     send_printed(alloc, outlet, response, response_context, None, now)
 }
 
-/// Sends a response as `send` does, unless the output has ended. Then it sends nothing, leaves the data unread and
+/// Sends a response as `send` does, unless the outlet has ended. If it has, sends nothing, drops the data unread and
 /// returns `Ok`.
 pub fn send_unless_ended<W: WriteDevice, D: ReadDevice + Drop>(
     alloc: Global,
@@ -124,8 +125,8 @@ pub fn is_closed_client(kind: ErrorKind) -> bool
     )
 }
 
-/// Converts the outcome of sending a response to what is reported. An error whose kind means that the client has closed
-/// the connection becomes `Ok`, even if it came from the data; any other error is kept.
+/// Converts the result of sending a response into the one to report. An error whose kind means that the client has
+/// closed the connection becomes `Ok`, even if it came from the data; any other error is kept.
 pub fn reported(sent: Result<(), io::Error>) -> Result<(), io::Error>
     ensures { result ≡ reported sent }
 {
@@ -136,9 +137,9 @@ pub fn reported(sent: Result<(), io::Error>) -> Result<(), io::Error>
 }
 
 /// Prints the response that upgrades the connection to a protocol, and flushes it (RFC 9110, section 7.8): the head
-/// alone, with `Connection: upgrade` and `Upgrade: PROTOCOL` before the other headers. The data are dropped unread. The
-/// error is the writer's first fault, or `InvalidInput` for a protocol that isn't ASCII, of which nothing is sent.
-/// After an error nothing more is sent on the connection. Allocates nothing.
+/// alone, with `Connection: upgrade` and `Upgrade: PROTOCOL` before the other headers. The data are dropped unread.
+/// Fails with the writer's first fault, or with `InvalidInput` if the protocol isn't ASCII; then nothing of the
+/// response is sent. After an error nothing more is sent on the connection. Allocates nothing.
 pub fn send_upgrade<W: WriteDevice, D: Drop>(
     alloc: Global,
     outlet: &mut Outlet<W>,
@@ -147,7 +148,7 @@ pub fn send_upgrade<W: WriteDevice, D: Drop>(
     protocol: &str,
     now: HttpDate,
 ) -> Result<(), io::Error>
-    // Holds for any data.
+    // Holds whatever the data are: they aren't read.
     ensures sends { (content : Feed) → CanSend (output_of outlet.old)
         → SendsText (output_of outlet.old) (output_of outlet.new) (outlet_ended outlet.new) result
         (text_of response.answer content (upgrading protocol.now (printing_in response_context now))) }
@@ -160,7 +161,7 @@ pub fn send_upgrade<W: WriteDevice, D: Drop>(
     send_printed(alloc, outlet, answer, response_context, Some(protocol), now)
 }
 
-/// Writes bytes. A fault is not reported.
+/// Writes bytes without reporting a fault. On an outlet that has ended, sends nothing.
 pub fn write_quietly<W: WriteDevice>(outlet: &mut Outlet<W>, text: &[u8])
     ensures sends { SendsQuietlyOn outlet.old outlet.new text.now }
     ensures fails_once { FailsOnce outlet.old outlet.new }
@@ -169,7 +170,7 @@ pub fn write_quietly<W: WriteDevice>(outlet: &mut Outlet<W>, text: &[u8])
     let _ = outlet.write(text);
 }
 
-/// Flushes what was written. A fault is not reported.
+/// Flushes the bytes written so far, without reporting a fault.
 pub fn flush_quietly<W: WriteDevice>(outlet: &mut Outlet<W>)
     ensures sends { SendsQuietlyOn outlet.old outlet.new [] }
     ensures fails_once { FailsOnce outlet.old outlet.new }

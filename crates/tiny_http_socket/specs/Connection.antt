@@ -13,59 +13,59 @@ use Rattle.tiny_http_socket.specs.declared.connection.ConfigListenAddr.TheVarian
 use Rattle.tiny_http_socket.specs.declared.connection.ListenAddr.{ListenAddr}
 use Rattle.tiny_http_socket.specs.declared.connection.ListenAddr.TheVariants as A
 
--- the two are the same addresses in the same order, or the same path
+-- whether a copy is of the same addresses in the same order, or of the same path
 abbrev pub IsCopyOf : ConfigListenAddr → ConfigListenAddr → Type 0
 IsCopyOf (G.IP addrs) (G.IP copy) = copy.items ≡ addrs.items
 IsCopyOf (G.IP addrs) (G.Unix path) = ⊥
 IsCopyOf (G.Unix path) (G.IP addrs) = ⊥
 IsCopyOf (G.Unix path) (G.Unix copy) = path_buf_bytes copy ≡ path_buf_bytes path
 
--- a socket that listens at such an address is of its kind
+-- whether a listener is of the kind that this configuration asks for
 abbrev pub IsBoundAs : ConfigListenAddr → Listener → Type 0
 IsBoundAs (G.IP addrs) (L.Tcp l) = ⊤
 IsBoundAs (G.IP addrs) (L.Unix l) = ⊥
 IsBoundAs (G.Unix path) (L.Tcp l) = ⊥
 IsBoundAs (G.Unix path) (L.Unix l) = ⊤
 
--- the address of a listening socket is of its kind
+-- whether an address is of the kind of this listener
 abbrev pub HasAddressOf : Listener → ListenAddr → Type 0
 HasAddressOf (L.Tcp l) (A.IP addr) = ⊤
 HasAddressOf (L.Tcp l) (A.Unix addr) = ⊥
 HasAddressOf (L.Unix l) (A.IP addr) = ⊥
 HasAddressOf (L.Unix l) (A.Unix addr) = ⊤
 
--- a TCP connection has a peer address, a Unix one has none
+-- whether a connection has this peer address: TCP has one, a Unix socket has none
 abbrev pub HasPeerOf : Connection → Option SocketAddr → Type 0
 HasPeerOf (C.Tcp s) (Some addr) = ⊤
 HasPeerOf (C.Tcp s) None = ⊥
 HasPeerOf (C.Unix s) (Some addr) = ⊥
 HasPeerOf (C.Unix s) None = ⊤
 
--- the two are of the same kind
+-- whether two connections are of the same kind
 abbrev pub IsSameKind : Connection → Connection → Type 0
 IsSameKind (C.Tcp s) (C.Tcp t) = ⊤
 IsSameKind (C.Tcp s) (C.Unix t) = ⊥
 IsSameKind (C.Unix s) (C.Tcp t) = ⊥
 IsSameKind (C.Unix s) (C.Unix t) = ⊤
 
--- a client's connection is of the kind of the listener that accepted it, and has a peer address if that kind has one
+-- whether a connection is of the kind of the listener that accepted it, and has a peer address if that kind has one
 abbrev pub IsAcceptedBy : Listener → Connection → Option SocketAddr → Type 0
 IsAcceptedBy (L.Tcp l) (C.Tcp s) addr = HasPeerOf (C.Tcp s) addr
 IsAcceptedBy (L.Tcp l) (C.Unix s) addr = ⊥
 IsAcceptedBy (L.Unix l) (C.Tcp s) addr = ⊥
 IsAcceptedBy (L.Unix l) (C.Unix s) addr = HasPeerOf (C.Unix s) addr
 
--- the IP address and port, if it is one
+-- the IP address and port of a listener, if it is TCP
 abbrev pub ip_of : ListenAddr → Option SocketAddr
 ip_of (A.IP addr) = Some addr
 ip_of (A.Unix addr) = None
 
--- the address of a Unix socket, if it is one
+-- the address of a listener, if it is a Unix socket
 abbrev pub unix_of : ListenAddr → Option UnixAddr
 unix_of (A.IP addr) = None
 unix_of (A.Unix addr) = Some addr
 
--- the text of an IP address and port; that of a Unix socket's isn't stated
+-- the text of an IP address and port; the text of a Unix socket's address is not stated
 abbrev pub address_text : ListenAddr → Option (List ℕ)
 address_text (A.IP addr) = Some (socket_text addr)
 address_text (A.Unix addr) = None

@@ -7,11 +7,11 @@ use Rattle.tiny_http_socket.specs.ReadAhead.{ahead_feed}
 use Rattle.tiny_http_socket.specs.declared.cork.FlushingReader.{FlushingReader}
 use Rattle.tiny_http_socket.specs.declared.cork.CorkedWriter.{CorkedWriter}
 
--- the bytes that the read half still gives
+-- the feed of the read half: the bytes read ahead, and then that of the inner reader
 abbrev pub reader_feed : {R W : Type 0} → FlushingReader R W → Option Feed
 reader_feed r = ahead_feed r.ahead
 
--- how many ends and faults the reader of that half has reported
+-- the number of ends and faults that the inner reader of the read half has reported
 abbrev pub reader_stop_count : {R W : Type 0} → (R → ℕ) → FlushingReader R W → ℕ
 reader_stop_count stop_count r = stop_count r.ahead.reader
 
@@ -19,11 +19,11 @@ reader_stop_count stop_count r = stop_count r.ahead.reader
 abbrev pub writer_sink : {W Rt : Type 0} → CorkedWriter W Rt → Sink
 writer_sink w = record { taken = None; sent = []; failures = w.failures; last_kind = w.last; has_ended = false }
 
--- what a writer states that has not failed
+-- what a `CorkedWriter` or another such writer states before it has failed
 abbrev pub fresh_sink : Sink
 fresh_sink = record { taken = None; sent = []; failures = 0; last_kind = None; has_ended = false }
 
--- a fault was counted, if there was one
+-- whether the write half counted the fault of a call, or is unchanged if the call succeeded
 abbrev pub CountsOutcome : {W Rt T : Type 0} → CorkedWriter W Rt → CorkedWriter W Rt → Result T Error → Type 0
 CountsOutcome old new (Ok x) = new ≡ old
 CountsOutcome old new (Err e) = new ≡ record old { failures = next_count old.failures; last = Some (error_kind e) }

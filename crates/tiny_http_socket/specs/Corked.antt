@@ -1,4 +1,4 @@
--- What a contract sees of a `Corked`.
+-- What clauses see of a `Corked`, a writer with a buffer.
 use Rattle.std.specs.Prelude.{◌≡◌, ℕ, ◌<◌, ◌≤◌, Bool, true, false, List, ◌++◌, length, take, Option, Some, None}
 use Rattle.std.specs.Prelude.{Result, Ok, Err}
 use Rattle.std.specs.IoError.{error_kind}
@@ -8,8 +8,8 @@ use Rattle.tiny_http_io.specs.Device.{Sink, IsFront, IsKnownFront, HoldsNothing,
 use Rattle.tiny_http_socket.specs.declared.corked.State.{State}
 use Rattle.tiny_http_socket.specs.declared.corked.State.TheVariants.{Open, Broken, Ended}
 
--- What a clause sees of a `Corked`: the buffered bytes, whether it takes more, the failures that it reported and the
--- kind of the last one, the inner writer, and what that states.
+-- What clauses see of a `Corked`: the buffered bytes, whether it takes more, the number of failures that it reported
+-- and the kind of the last one, the inner writer, and what the inner writer states.
 pub record CorkedState (W : Type 0) : Type 0 where
   pub waiting : List ℕ
   pub state : State
@@ -18,28 +18,29 @@ pub record CorkedState (W : Type 0) : Type 0 where
   pub writer : W
   pub sink : Sink
 
--- the fault that was met and isn't reported yet
+-- the kind of a fault that was met and isn't reported yet, by the state of the writer
 abbrev pub unreported_of : State → Option ErrorKind
 unreported_of (Broken kind) = Some kind
 unreported_of Open = None
 unreported_of Ended = None
 
+-- the kind of a fault that a `Corked` met and hasn't reported yet
 abbrev pub unreported : {W : Type 0} → CorkedState W → Option ErrorKind
 unreported c = unreported_of c.state
 
--- what a writer took and the bytes buffered before it; none are buffered once it has failed
+-- the bytes that the inner writer took, followed by the buffered ones; none are buffered once it has failed
 abbrev pub taken_by : State → Sink → List ℕ → Option (List ℕ)
 taken_by Open s waiting = grown s.has_ended s.taken waiting
 taken_by (Broken kind) s waiting = s.taken
 taken_by Ended s waiting = s.taken
 
--- it takes nothing more: its fault was reported, or the writer has ended by itself
+-- whether a `Corked` takes nothing more: a call reported its fault, or the inner writer has ended
 abbrev pub takes_none : State → Sink → Bool
 takes_none Open s = s.has_ended
 takes_none (Broken kind) s = false
 takes_none Ended s = true
 
--- what its writer took and what is buffered, as one sink
+-- what a `Corked` states as one writer: the bytes that the inner writer took, followed by the buffered ones
 abbrev pub corked_sink : {W : Type 0} → CorkedState W → Sink
 corked_sink c =
     record {
@@ -50,24 +51,26 @@ corked_sink c =
       has_ended = takes_none c.state c.sink;
     }
 
--- a writer took the buffered bytes and then n bytes of the text after them, or it failed within them
+-- whether the inner writer took the buffered bytes and then n bytes of the text after them, or failed within them
 abbrev pub PassesBehind : Sink → Sink → List ℕ → Result ℕ Error → List ℕ → Type 0
 PassesBehind old new waiting (Ok n) text =
     (n ≤ length text) × (0 < length text → 0 < n) × Took old new (waiting ++ take n text)
 PassesBehind old new waiting (Err e) text = Failed old new (waiting ++ text) (error_kind e)
 
--- a fault of this kind that was met earlier is reported, and the writer isn't called
+-- whether a call reports a fault of this kind that was met earlier, without calling the inner writer
 abbrev pub ReportsFault : {W T : Type 0} → CorkedState W → CorkedState W → Result T Error → ErrorKind → Type 0
 ReportsFault old new (Ok x) kind = ⊥
 ReportsFault old new (Err e) kind = (error_kind e ≡ kind) × (new.writer ≡ old.writer) × (new.sink ≡ old.sink)
 
--- all that was taken is sent; or a prefix of it is, and the fault isn't reported yet
+-- whether all bytes taken so far were sent on; or, if a fault isn't reported yet, whether the bytes still stated as
+-- taken are a prefix of those
 abbrev pub SentOrBroken : Sink → Sink → Option ErrorKind → Type 0
 SentOrBroken old new None =
     (new.taken ≡ old.taken) × (new.has_ended ≡ old.has_ended) × (new.has_ended ≡ false → HoldsNothing new)
 SentOrBroken old new (Some kind) = IsKnownFront new.taken old.taken × (new.has_ended ≡ false)
 
--- THE BUFFERED BYTES ARE SENT, or the writer failed within them. No fault is reported, and so none is counted.
+-- THE BUFFERED BYTES ARE SENT: whether a call sends them, or the inner writer fails within them. The call reports no
+-- fault, and so counts none.
 pub record SendsWaiting (old new : Sink) (unreported : Option ErrorKind) : Type 0 where
   pub taken : SentOrBroken old new unreported
   pub sent : IsFront old.sent new.sent

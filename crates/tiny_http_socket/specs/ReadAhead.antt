@@ -1,13 +1,14 @@
--- What a contract sees of a `ReadAhead`.
+-- What clauses see of a `ReadAhead`, a reader that reads ahead.
 use Rattle.std.specs.Prelude.{ℕ, List, Option}
 use Rattle.tiny_http_io.specs.Device.{Feed, prepended}
 
--- the bytes that were read ahead and not given yet, the inner reader, and what that still gives
+-- What clauses see of a `ReadAhead`: the bytes that were read ahead and not returned yet, the inner reader, and the
+-- feed of the inner reader.
 pub record AheadState (R : Type 0) : Type 0 where
   pub held : List ℕ
   pub reader : R
   pub feed : Option Feed
 
--- the bytes that it still gives
+-- the feed of a `ReadAhead`: the held bytes, followed by the feed of the inner reader
 abbrev pub ahead_feed : {R : Type 0} → AheadState R → Option Feed
 ahead_feed a = prepended a.held a.feed

@@ -12,41 +12,41 @@ use Rattle.tiny_http_socket.specs.declared.refined_tcp_stream.Half.{Half}
 use Rattle.tiny_http_socket.specs.declared.refined_tcp_stream.Half.TheVariants.{Reading, Writing}
 use Rattle.tiny_http_socket.specs.declared.refined_tcp_stream.RefinedTcpStream.{RefinedTcpStream}
 
--- what shuts a direction down alone
+-- the system's name for shutting down this direction alone
 abbrev pub shutdown_of : Half → Shutdown
 shutdown_of Reading = Read
 shutdown_of Writing = Write
 
--- what it states as a writer: its failures and the kind of the last one, and no bytes
+-- what a half states as a writer: its failures and the kind of the last one, and no bytes
 abbrev pub stream_sink : RefinedTcpStream → Sink
 stream_sink s = record { taken = None; sent = []; failures = s.failures; last_kind = s.last; has_ended = false }
 
--- the connection that it shares with the other half
+-- the connection that a half shares with the other half
 abbrev pub connection_of : RefinedTcpStream → Connection
 connection_of s = s.connection.value
 
--- it shuts down the direction from the client, and uses the connection
+-- Whether a stream is the read half of this connection, which shuts down the direction from the client.
 pub record IsReadingHalf (connection : Connection) (s : RefinedTcpStream) : Type 0 where
   pub half : s.half ≡ Reading
   pub same : connection_of s ≡ connection
   pub sink : stream_sink s ≡ fresh_sink
 
--- it shuts down the direction to the client, and uses the connection
+-- Whether a stream is the write half of this connection, which shuts down the direction to the client.
 pub record IsWritingHalf (connection : Connection) (s : RefinedTcpStream) : Type 0 where
   pub half : s.half ≡ Writing
   pub same : connection_of s ≡ connection
   pub sink : stream_sink s ≡ fresh_sink
 
--- it has a peer address if its connection has one
+-- whether a half has this peer address: TCP has one, a Unix socket has none
 abbrev pub HasSamePeer : RefinedTcpStream → Option SocketAddr → Type 0
 HasSamePeer s addr = HasPeerOf (connection_of s) addr
 
--- a Unix connection has no peer address; a TCP one may have one
+-- whether a connection may have this peer address: a TCP connection any or none, a Unix socket none
 abbrev pub MayHavePeerOf : Connection → Option SocketAddr → Type 0
 MayHavePeerOf (C.Tcp s) addr = ⊤
 MayHavePeerOf (C.Unix s) None = ⊤
 MayHavePeerOf (C.Unix s) (Some addr) = ⊥
 
--- the same for the connection of this half
+-- whether a half may have this peer address: that of a TCP connection any or none, that of a Unix socket none
 abbrev pub MayHavePeer : RefinedTcpStream → Option SocketAddr → Type 0
 MayHavePeer s addr = MayHavePeerOf (connection_of s) addr

@@ -1,4 +1,4 @@
--- What clauses see of a writer with a timeout.
+-- What clauses see of a reader and a writer with timeouts.
 use Rattle.std.specs.Prelude.{◌≡◌, ℕ, [], Some, None, false, Result, Ok, Err}
 use Rattle.std.specs.IoError.{error_kind}
 use Rattle.std.specs.declared.io.Error.{Error}
@@ -7,28 +7,29 @@ use Rattle.std.specs.declared.io.ErrorKind.TheVariants.{WouldBlock, TimedOut}
 use Rattle.tiny_http_io.specs.Device.{Sink, next_count}
 use Rattle.tiny_http_socket.specs.declared.timed_writer.TimedWriter.{TimedWriter}
 
--- the kind of a fault as it is reported under limits: a socket's own timeout is the client's
+-- the kind of a fault as it is reported under limits: the socket's own timeout becomes `TimedOut`
 abbrev pub kind_in_time : ErrorKind → ErrorKind
 kind_in_time WouldBlock = TimedOut
 kind_in_time kind = kind
 
--- what an inner call gave is reported: its bytes, or its fault with the kind under limits
+-- whether a call reports the result of an inner call: its number of bytes, or its fault, with the kind that is reported
+-- under limits
 abbrev pub IsReportOf : Result ℕ Error → Result ℕ Error → Type 0
 IsReportOf (Ok n) (Ok m) = m ≡ n
 IsReportOf (Ok n) (Err e) = ⊥
 IsReportOf (Err f) (Ok m) = ⊥
 IsReportOf (Err f) (Err e) = error_kind e ≡ kind_in_time (error_kind f)
 
--- an error of kind TimedOut
+-- whether the result is an error of kind `TimedOut`
 abbrev pub IsLate : Result ℕ Error → Type 0
 IsLate (Ok n) = ⊥
 IsLate (Err e) = error_kind e ≡ TimedOut
 
--- what it states: its failures and the kind of the last one, and no bytes
+-- what a `TimedWriter` states: its failures and the kind of the last one, and no bytes
 abbrev pub timed_sink : {Rt : Type 0} → TimedWriter Rt → Sink
 timed_sink w = record { taken = None; sent = []; failures = w.failures; last_kind = w.last; has_ended = false }
 
--- the same after one more failure, of this kind
+-- what a `TimedWriter` states after one more failure, of this kind
 abbrev pub failed_sink : {Rt : Type 0} → TimedWriter Rt → ErrorKind → Sink
 failed_sink w kind =
     record { taken = None; sent = []; failures = next_count w.failures; last_kind = Some kind; has_ended = false }

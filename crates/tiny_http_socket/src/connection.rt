@@ -13,8 +13,8 @@ use std::rt::Files;
 use std::time::Duration;
 use std::{fmt, fs, io};
 
-/// The files of Unix sockets: what a server needs of the file system. Any runtime with files and sockets implements it.
-/// A bound by `Files` instead would not let generic code share a server among threads.
+/// What a server needs of the file system for Unix sockets. Any runtime with files and sockets implements it. A bound
+/// by `Files` instead would not let generic code share a server among threads.
 pub trait SocketFiles {
     /// Listens at this path, where it creates a file. Fails with the system's error.
     fn bind_unix(&self, path: Path<'_>) -> io::Result<unix_net::UnixListener>;
@@ -22,22 +22,23 @@ pub trait SocketFiles {
     /// Removes the file at this path. Fails with the system's error.
     fn remove_socket(&self, path: Path<'_>) -> io::Result<()>;
 
-    /// Returns whether the file at this path is a socket, without following links. False if the system can't say.
+    /// Returns whether the file at this path is a socket, without following links. Returns false if the system can't
+    /// tell.
     fn is_socket(&self, path: Path<'_>) -> bool;
 }
 
 impl<R: Files + Net> SocketFiles for R {
-    /// Listens, using the system.
+    /// Listens at this path, by a system call.
     fn bind_unix(&self, path: Path<'_>) -> io::Result<unix_net::UnixListener> {
         unix_net::UnixListener::bind(self, path)
     }
 
-    /// Removes the file, using the system.
+    /// Removes the file at this path, by a system call.
     fn remove_socket(&self, path: Path<'_>) -> io::Result<()> {
         fs::remove_file(self, path)
     }
 
-    /// Asks the system.
+    /// Returns whether the file at this path is a socket, by a system call.
     fn is_socket(&self, path: Path<'_>) -> bool {
         match fs::symlink_metadata(self, path) {
             Ok(metadata) => metadata.file_type().is_socket(),
@@ -56,7 +57,7 @@ pub enum Listener {
 }
 
 impl Listener {
-    /// Returns the address that it is bound to. Fails with the system's error if there is none.
+    /// Returns the address that the listener is bound to. Fails with the system's error if the system can't tell.
     pub fn local_addr(&self) -> io::Result<ListenAddr>
         ensures { IfOk result (λ addr. HasAddressOf self.now addr) }
     {
@@ -66,8 +67,8 @@ impl Listener {
         }
     }
 
-    /// Waits for a client. Returns its connection, of the listener's kind, and the client's address if it is TCP. Fails
-    /// with the system's error if no client can be accepted.
+    /// Waits for a client, and returns its connection, which is of the listener's kind, with the client's address. The
+    /// address is `None` for a Unix socket. Fails with the system's error if no client can be accepted.
     pub fn accept(&self) -> io::Result<(Connection, Option<SocketAddr>)>
         ensures { IfOk result (λ client. IsAcceptedBy self.now client.0 client.1) }
     {
@@ -106,18 +107,18 @@ impl From<unix_net::UnixListener> for Listener {
     }
 }
 
-/// A connection to a peer, TCP or Unix.
+/// A connection to a client, TCP or Unix.
 #[derive(Debug, Drop)]
 pub enum Connection {
-    /// A connection between two IP addresses and ports.
+    /// A TCP connection.
     Tcp(TcpStream),
-    /// A connection over a path.
+    /// A connection over a Unix socket.
     Unix(unix_net::UnixStream),
 }
 
 impl Connection {
-    /// Returns the peer's address, or `None` for a Unix socket. Fails with the system's error if it no longer knows the
-    /// address.
+    /// Returns the client's address, or `None` for a Unix socket. Fails with the system's error if the system no longer
+    /// knows the address.
     pub fn peer_addr(&self) -> io::Result<Option<SocketAddr>>
         ensures { IfOk result (λ addr. HasPeerOf self.now addr) }
     {
@@ -127,8 +128,8 @@ impl Connection {
         }
     }
 
-    /// Shuts down one direction or both, for this and every other handle of the connection. Fails with the system's
-    /// error if the peer has disconnected.
+    /// Shuts down one direction or both, for this and every other handle to the connection. Fails with the system's
+    /// error if the client has disconnected.
     pub fn shutdown(&self, how: Shutdown) -> io::Result<()> {
         match self {
             Connection::Tcp(stream) => stream.shutdown(how),
@@ -136,7 +137,7 @@ impl Connection {
         }
     }
 
-    /// Creates another handle of the same connection. Fails with the system's error if it has no handle left.
+    /// Returns another handle to the same connection. Fails with the system's error if no file descriptor is left.
     pub fn try_clone(&self) -> io::Result<Connection>
         ensures { IfOk result (λ other. IsSameKind self.now other) }
     {
@@ -146,7 +147,8 @@ impl Connection {
         }
     }
 
-    /// Makes TCP send each piece at once (TCP_NODELAY), or gather small ones. Does nothing for a Unix socket.
+    /// Makes TCP send each write at once (TCP_NODELAY), or gather small writes. Does nothing for a Unix socket. Fails
+    /// with the system's error.
     pub fn set_nodelay(&self, nodelay: bool) -> io::Result<()> {
         match self {
             Connection::Tcp(stream) => stream.set_nodelay(nodelay),
@@ -156,8 +158,8 @@ impl Connection {
 }
 
 impl Connection {
-    /// Sets the maximum wait of each later read, by this and every other handle. After that time a read fails with
-    /// `WouldBlock`. Fails with the system's error, and with `InvalidInput` if the timeout is 0.
+    /// Sets the maximum time that each later read waits, by this and every other handle. After that time a read fails
+    /// with `WouldBlock`. Fails with the system's error, or with `InvalidInput` if the timeout is 0.
     pub fn set_read_timeout(&self, timeout: Duration) -> io::Result<()> {
         match self {
             Connection::Tcp(stream) => stream.set_read_timeout(Some(timeout)),
@@ -165,7 +167,7 @@ impl Connection {
         }
     }
 
-    /// Makes each later read wait without a timeout. Fails with the system's error.
+    /// Makes each later read wait without a timeout, by this and every other handle. Fails with the system's error.
     pub fn clear_read_timeout(&self) -> io::Result<()> {
         match self {
             Connection::Tcp(stream) => stream.set_read_timeout(None),
@@ -173,8 +175,8 @@ impl Connection {
         }
     }
 
-    /// Sets the maximum wait of each later write, by this and every other handle. After that time a write fails with
-    /// `WouldBlock`, or returns the number of bytes taken so far. Fails with the system's error, and with
+    /// Sets the maximum time that each later write waits, by this and every other handle. After that time a write fails
+    /// with `WouldBlock`, or returns the number of bytes taken so far. Fails with the system's error, or with
     /// `InvalidInput` if the timeout is 0.
     pub fn set_write_timeout(&self, timeout: Duration) -> io::Result<()> {
         match self {
@@ -185,7 +187,7 @@ impl Connection {
 }
 
 impl Read for Connection {
-    /// Reads once. Returns 0 at the end of input.
+    /// Reads once, and returns the number of bytes read: 0 at the end of input.
     fn read(&mut self, buf: &mut [u8]) -> io::Result<usize> {
         match self {
             Connection::Tcp(stream) => stream.read(buf),
@@ -195,7 +197,7 @@ impl Read for Connection {
 }
 
 impl Write for Connection {
-    /// Writes once.
+    /// Writes once, and returns the number of bytes taken.
     fn write(&mut self, buf: &[u8]) -> io::Result<usize> {
         match self {
             Connection::Tcp(stream) => stream.write(buf),
@@ -209,7 +211,7 @@ impl Write for Connection {
     }
 }
 
-// Reads once.
+// Reads once through this stream.
 fn read_by<S: Read + Drop>(stream: S, buf: &mut [u8]) -> io::Result<usize>
     ensures { IfOk result (λ n. n ≤ length buf.new) }
 {
@@ -217,7 +219,7 @@ fn read_by<S: Read + Drop>(stream: S, buf: &mut [u8]) -> io::Result<usize>
     stream.read(buf)
 }
 
-// Writes once.
+// Writes once through this stream.
 fn write_by<S: Write + Drop>(stream: S, buf: &[u8]) -> io::Result<usize>
     ensures { IfOk result (λ n. n ≤ length buf.now) }
 {
@@ -226,7 +228,7 @@ fn write_by<S: Write + Drop>(stream: S, buf: &[u8]) -> io::Result<usize>
 }
 
 impl Connection {
-    /// Reads once through a shared reference, as `read` does. Returns 0 at the end of input.
+    /// Reads once through a shared reference, as `read` does.
     pub fn read_shared(&self, buf: &mut [u8]) -> io::Result<usize>
         ensures { IfOk result (λ n. n ≤ length buf.new) }
     {
@@ -248,7 +250,8 @@ impl Connection {
 }
 
 impl Connection {
-    /// Writes once from the front of the concatenation of two texts, by one system call.
+    /// Writes once, by one system call, from the front of the concatenation of two texts. Returns the number of bytes
+    /// taken.
     pub fn write_both_shared(&self, front: &[u8], back: &[u8]) -> io::Result<usize>
         ensures { IfOk result (λ n. n ≤ length (front.now ++ back.now)) }
     {
@@ -287,13 +290,13 @@ impl From<unix_net::UnixStream> for Connection {
 pub enum ConfigListenAddr {
     /// The first of these addresses that can be bound.
     IP(Vec<SocketAddr>),
-    /// This path.
+    /// A Unix socket at this path.
     Unix(PathBuf),
 }
 
 impl ConfigListenAddr {
-    /// Resolves addresses. Fails if a host name isn't found or the text is no address, and with `OutOfMemory` if memory
-    /// is refused.
+    /// Resolves the addresses to listen at. Fails with the system's error if a host name isn't found or a text isn't an
+    /// address, and with `OutOfMemory` if memory is refused.
     pub fn from_socket_addrs<R: Net, A: ToSocketAddrs>(
         rt: &R,
         alloc: Global,
@@ -303,7 +306,7 @@ impl ConfigListenAddr {
         Ok(ConfigListenAddr::IP(found.collect(alloc)?))
     }
 
-    /// Listens at this path.
+    /// Returns the configuration of a Unix socket at this path.
     pub fn unix_from_path(path: PathBuf) -> ConfigListenAddr
         ensures { result ≡ ConfigListenAddr.Unix path }
     {
@@ -323,8 +326,9 @@ impl ConfigListenAddr {
         }
     }
 
-    /// Listens at the first address that can be bound, or at the path, where it creates a file. Fails with the system's
-    /// error: that of the last address, or `InvalidInput` if there is no address or the path is too long.
+    /// Listens at the first of the addresses that can be bound, or at the path, where it creates a file. Fails with the
+    /// system's error for the last address if none can be bound, or for the path; with `InvalidInput` if there is no
+    /// address or if the path is too long.
     pub fn bind<R: Net<Listener = TcpListener, Stream = TcpStream> + SocketFiles>(
         &self,
         rt: &R,

@@ -1,4 +1,4 @@
-//! What a connection waits for from its client.
+//! The phase of a connection, its counts, and the limits that decide how long it waits for its client.
 ghost use Rattle.std.specs.Prelude.{◌≡◌};
 ghost use Rattle.std.specs.IoError.{error_kind};
 ghost use Rattle.tiny_http_socket.specs.Timed.{kind_in_time};
@@ -11,11 +11,11 @@ use std::sync::atomic::{AtomicBool, AtomicU8, AtomicU16, AtomicU64, Ordering};
 use tiny_http_limits::counts::{Closing, Summary};
 use tiny_http_limits::limits::Limits;
 
-// The minimum of the limit of open requests on a connection.
+// The lowest limit of open requests on a connection. A lower one is raised to it.
 const LEAST_OPEN: usize = 2;
 
-/// Maps an error to what is reported under limits: the system's timeout, `WouldBlock`, becomes `TimedOut`; any other is
-/// unchanged.
+/// Maps an error to the one that is reported under limits: `WouldBlock`, the system's timeout, becomes `TimedOut`; any
+/// other error is unchanged.
 pub fn fault_in_time(fault: io::Error) -> io::Error
     ensures { error_kind result ≡ kind_in_time (error_kind fault) }
 {
@@ -30,7 +30,7 @@ pub fn fault_in_time(fault: io::Error) -> io::Error
 pub enum Phase {
     /// The first byte of a head.
     Between,
-    /// The rest of a head, or of a body that is read with it or skipped before it.
+    /// The rest of a head; also of a body that is read together with its head, or that is skipped before the next head.
     Head,
     /// Bytes of a body that is being read.
     Body,
@@ -64,7 +64,7 @@ impl Phase {
     }
 }
 
-// Returns the number that encodes a limit; 0 encodes none.
+// Returns the number that encodes the limit that closed a connection. No limit has number 0.
 fn closing_number(closing: Closing) -> u8 {
     match closing {
         Closing::Idle => 1,
@@ -74,7 +74,7 @@ fn closing_number(closing: Closing) -> u8 {
     }
 }
 
-// Returns the limit that this number encodes, if any.
+// Returns the limit that this number encodes, or `None` for 0.
 fn closing_of(number: u8) -> Option<Closing> {
     match number {
         1 => Some(Closing::Idle),
@@ -86,32 +86,33 @@ fn closing_of(number: u8) -> Option<Closing> {
 }
 
 /// A connection's state that its threads share, apart from its reader and writer: the limits, the phase (what is
-/// awaited from the client), whether it was stopped, and its counts. Its methods compute how long each wait may last;
-/// it runs no timer.
+/// awaited from the client), whether the connection was stopped, and its counts. It runs no timer: the connection's
+/// reader and writer compute how long they may wait.
 #[derive(Drop)]
 pub struct ConnectionTimers {
     limits: Option<Limits>,
     phase: AtomicU8,
-    // No further head is read.
+    // Whether no further head is read.
     is_stopped: AtomicBool,
     requests: AtomicU64,
     // The number of requests and refused heads without a response so far.
     open: Arc<AtomicU64>,
     // The number of upgraded connections among those that share this count.
     upgraded: Arc<AtomicU64>,
-    // Whether this connection is counted among them.
+    // Whether this connection is counted in `upgraded`.
     is_upgraded: AtomicBool,
-    // Bytes of an upgraded stream were written since `take_written` was last called.
+    // Whether bytes of an upgraded stream were written since `take_written` was last called.
     has_written: AtomicBool,
-    // 0 for none.
+    // The status with which a head was refused, or 0 for none.
     refusal: AtomicU16,
+    // The number of the limit that closed the connection, or 0 for none.
     closing: AtomicU8,
 }
 
 impl ConnectionTimers {
     /// Creates the state of a connection from which nothing was read yet. Without limits there are no timeouts.
-    /// `upgraded` counts the upgraded connections; those that share it share the limit of upgrades. Fails if memory is
-    /// refused.
+    /// `upgraded` counts the upgraded connections; connections with the same counter share the limit of upgrades. Fails
+    /// if memory is refused.
     pub fn new(
         alloc: Global,
         limits: Option<Limits>,
@@ -143,8 +144,8 @@ impl ConnectionTimers {
         self.open.load(Ordering::SeqCst) > 0
     }
 
-    /// Returns the maximum number of open requests and refused heads, if there is one and it is reached. It is at least
-    /// 2, since a buffered response is sent only as the connection is read.
+    /// Returns the maximum number of open requests and refused heads, if there is one and it is reached. The maximum is
+    /// at least 2, since a buffered response is sent only when the connection is read.
     pub fn full_at(&self) -> Option<usize> {
         let most = self.limits.as_ref()?.open_requests.max(LEAST_OPEN);
         if self.open.load(Ordering::SeqCst) < most as u64 {
@@ -163,8 +164,9 @@ impl ConnectionTimers {
         Phase::of(self.phase.load(Ordering::SeqCst))
     }
 
-    /// Starts the wait for the next head; `has_begun` means that bytes of it, or of what is skipped before it, may have
-    /// arrived. Returns false if the connection was stopped: the caller then doesn't read the head.
+    /// Records that the connection waits for its next head; `has_begun` means that bytes of that head, or of what is
+    /// skipped before it, may have arrived. Returns false if the connection was stopped: the caller then doesn't read
+    /// the head.
     pub fn begin_head(&self, has_begun: bool) -> bool {
         let phase = if has_begun {
             Phase::Head
@@ -175,7 +177,7 @@ impl ConnectionTimers {
         !self.is_stopped.load(Ordering::SeqCst)
     }
 
-    /// Records that the first byte of a head has arrived, if it was waited for.
+    /// Records that the first byte of a head has arrived: phase `Between` becomes `Head`, and any other is unchanged.
     pub fn head_began(&self) {
         let (old, new) = (Phase::Between.number(), Phase::Head.number());
         let _ = self
@@ -183,13 +185,14 @@ impl ConnectionTimers {
             .compare_exchange(old, new, Ordering::SeqCst, Ordering::SeqCst);
     }
 
-    /// Records that a request is handed out: reads now wait for its body.
+    /// Counts a request that is handed out, and records that reads now wait for its body.
     pub fn begin_body(&self) {
         self.phase.store(Phase::Body.number(), Ordering::SeqCst);
         self.requests.fetch_add(1, Ordering::SeqCst);
     }
 
-    /// Counts the connection as upgraded until `end_stream`. Returns false if the limit of upgrades is reached.
+    /// Counts the connection as upgraded until `end_stream`, and returns true. If that would exceed the limit of
+    /// upgrades, doesn't count it and returns false. Without limits it only returns true.
     pub fn enter_stream(&self) -> bool {
         let Some(limits) = &self.limits else {
             return true;
@@ -212,12 +215,12 @@ impl ConnectionTimers {
         }
     }
 
-    /// Records that what is read from now on is an upgraded stream.
+    /// Records that later reads are from an upgraded stream.
     pub fn begin_stream(&self) {
         self.phase.store(Phase::Stream.number(), Ordering::SeqCst);
     }
 
-    /// Records that bytes were written to the client, if it is on an upgraded stream.
+    /// Records that bytes were written to the client, if the connection is an upgraded stream.
     pub fn wrote(&self) {
         if self.phase() == Phase::Stream {
             self.has_written.store(true, Ordering::SeqCst);
@@ -230,13 +233,13 @@ impl ConnectionTimers {
     }
 
     /// Prevents any further head from being read. Returns whether the connection was waiting for a head: then nothing
-    /// more is read, and the caller shuts down the client's direction.
+    /// more is read, and the caller shuts down the direction from the client.
     pub fn stop(&self) -> bool {
         self.is_stopped.store(true, Ordering::SeqCst);
         self.stop_from(Phase::Between) || self.stop_from(Phase::Head)
     }
 
-    // Ends reading if the connection is in this phase, and returns whether it was.
+    // Stops all reading if the connection is in this phase, and returns whether it was.
     fn stop_from(&self, phase: Phase) -> bool {
         let new = Phase::Stopped.number();
         let swapped = self
@@ -245,12 +248,12 @@ impl ConnectionTimers {
         swapped.is_ok()
     }
 
-    /// Records that a head was refused with this status, which ends the requests.
+    /// Records that a head was refused with this status. No request follows it.
     pub fn refused(&self, status: u16) {
         self.refusal.store(status, Ordering::SeqCst);
     }
 
-    /// Records that this limit closed the connection. Only the first is kept.
+    /// Records that this limit closed the connection. Only the first such limit is kept.
     pub fn closed_by(&self, closing: Closing) {
         let new = closing_number(closing);
         let _ = self
@@ -263,7 +266,8 @@ impl ConnectionTimers {
         self.requests.load(Ordering::SeqCst)
     }
 
-    /// Returns what became of the connection so far.
+    /// Returns the counts of the connection so far: the number of requests handed out, the status of a refused head,
+    /// and the limit that closed the connection.
     pub fn summary(&self) -> Summary {
         let refusal = match self.refusal.load(Ordering::SeqCst) {
             0 => None,

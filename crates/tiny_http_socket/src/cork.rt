@@ -1,4 +1,4 @@
-//! The two halves of a connection whose responses may be sent together. Threads share them.
+//! The two halves of a connection that may send several responses together. Threads share them.
 ghost use Rattle.std.specs.Prelude.{◌≡◌, ◌<◌, ◌≤◌, ⊤, length, IfOk};
 ghost use Rattle.tiny_http_socket.specs.Cork.{reader_feed, writer_sink, fresh_sink, CountsOutcome};
 
@@ -12,17 +12,17 @@ use std::sync::atomic::{AtomicBool, Ordering};
 use std::sync::{Arc, Mutex, Wait};
 use tiny_http_io::device::{ReadDevice, WriteDevice};
 
-/// Whether a flush of a connection may leave its bytes buffered. Whoever allows that must send them soon, by
+/// Whether a flush of a connection's writer may leave bytes buffered. A caller that allows it has to send them soon, by
 /// `Cork::send`.
 #[derive(Drop)]
 pub struct FlushPolicy {
     may_leave: AtomicBool,
-    // Bytes may have been left since `stop_and_take` was last called.
+    // Whether bytes may have been left since `stop_and_take` was last called.
     may_wait: AtomicBool,
 }
 
 impl FlushPolicy {
-    // Creates a policy by which each flush sends.
+    // Creates a policy under which each flush sends.
     fn new() -> FlushPolicy {
         FlushPolicy {
             may_leave: AtomicBool::new(false),
@@ -30,17 +30,17 @@ impl FlushPolicy {
         }
     }
 
-    /// Makes each later flush leave its bytes buffered. A write may leave its bytes, too.
+    /// Makes each later flush leave its bytes buffered. A write then buffers its bytes, too, if they fit.
     pub fn leave_at_flush(&self) {
         self.may_leave.store(true, Ordering::SeqCst);
     }
 
-    /// Makes each later flush send, including the buffered bytes.
+    /// Makes each later write and flush send its bytes, after those that are buffered.
     pub fn send_at_flush(&self) {
         self.may_leave.store(false, Ordering::SeqCst);
     }
 
-    // Returns whether a flush may leave its bytes.
+    // Returns whether a flush may leave its bytes buffered.
     fn may_leave(&self) -> bool {
         self.may_leave.load(Ordering::SeqCst)
     }
@@ -51,8 +51,8 @@ impl FlushPolicy {
         self.may_wait.swap(false, Ordering::SeqCst)
     }
 
-    // Returns whether bytes that are written or flushed now are left. It checks again after recording them as left,
-    // since `stop_and_take` may have run in between.
+    // Returns whether bytes that are written or flushed now stay buffered. It checks again after recording that they
+    // may have been left, since `stop_and_take` may have run in between.
     fn leaves(&self) -> bool {
         if !self.may_leave() {
             return false;
@@ -64,11 +64,11 @@ impl FlushPolicy {
 
 /// What the two halves of a connection share: the writer, and the bytes buffered before it. Bytes are written under the
 /// lock. Only the thread whose turn it is waits for the lock; a thread that sends the buffered bytes before it reads
-/// asks that thread instead.
+/// asks the thread that holds the lock instead.
 #[derive(Drop)]
 pub struct Cork<W: WriteBoth + Drop> {
     flush_policy: Arc<FlushPolicy>,
-    // A thread that found the lock taken has asked for the buffered bytes to be sent.
+    // Whether a thread that found the lock taken has asked for the buffered bytes to be sent.
     is_asked: AtomicBool,
     corked: Mutex<Corked<W>>,
 }
@@ -105,7 +105,7 @@ impl<W: WriteBoth + Drop> Cork<W> {
         self.send_if_free();
     }
 
-    /// Sends as `send` does if a flush may not leave its bytes. Otherwise does nothing.
+    /// Sends as `send` does, unless a flush may leave its bytes buffered.
     pub fn send_unless_leaving(&self) {
         if !self.flush_policy.may_leave() {
             self.send();
@@ -123,14 +123,14 @@ impl<W: WriteBoth + Drop> Cork<W> {
         }
     }
 
-    // Sends the buffered bytes if a thread asked for it.
+    // Sends the buffered bytes if another thread has asked for it.
     fn send_if_asked<Rt: Wait>(&self, rt: &Rt) {
         if self.is_asked.load(Ordering::SeqCst) && self.is_asked.swap(false, Ordering::SeqCst) {
             self.corked.lock(rt).send_waiting();
         }
     }
 
-    // Takes some of these bytes. They stay buffered only if a flush may leave them.
+    // Takes some of these bytes, and returns their number. They stay buffered only if a flush may leave them.
     fn write<Rt: Wait>(&self, rt: &Rt, buf: &[u8]) -> io::Result<usize>
         ensures { IfOk result (λ n. (n ≤ length buf.now) × (0 < length buf.now → 0 < n)) }
     {
@@ -166,7 +166,7 @@ impl<W: WriteBoth + Drop> Cork<W> {
 }
 
 /// The write half of a connection. Bytes stay buffered while a flush may leave them, and are sent at once otherwise. As
-/// a `WriteDevice` it counts its failures and states no bytes, since others may send the buffered ones.
+/// a `WriteDevice` it counts its failures and states no bytes, since other threads may send the buffered ones.
 #[derive(Drop)]
 pub struct CorkedWriter<W: WriteBoth + Drop, Rt: Wait> {
     rt: Rt,
@@ -176,12 +176,12 @@ pub struct CorkedWriter<W: WriteBoth + Drop, Rt: Wait> {
 }
 
 impl<W: WriteBoth + Drop, Rt: Wait> CorkedWriter<W, Rt> {
-    /// Returns what it shares with the read half.
+    /// Returns the state that this half shares with the read half.
     pub fn cork(&self) -> &Arc<Cork<W>> {
         &self.cork
     }
 
-    // Counts a fault, if there is one.
+    // Counts the fault of a call, if it failed.
     fn count<T>(&mut self, outcome: &io::Result<T>)
         ensures { CountsOutcome self.old self.new outcome.now }
     {
@@ -202,15 +202,17 @@ impl<W: WriteBoth + Drop, Rt: Wait> WriteDevice for CorkedWriter<W, Rt> {
         self.failures
     }
 
-    /// Takes some of these bytes. They stay buffered if they may and fit; otherwise the buffered bytes are sent, with
-    /// some of these. A fault met in sending buffered bytes is reported.
+    /// Takes some of these bytes, and returns their number. They stay buffered if a flush may leave them and they fit;
+    /// otherwise the buffered bytes are sent, with some of these. Fails also with an earlier fault in sending buffered
+    /// bytes, if no call has reported it.
     fn write_out(&mut self, buf: &[u8]) -> Result<usize, io::Error> {
         let written = self.cork.write(&self.rt, buf);
         self.count(&written);
         written
     }
 
-    /// Sends the buffered bytes, unless they may be left. If it sends, it reports a fault met earlier.
+    /// Sends the buffered bytes, unless a flush may leave them. If it sends, it fails also with an earlier fault that
+    /// no call has reported.
     fn flush_out(&mut self) -> Result<(), io::Error> {
         let sent = self.cork.flush(&self.rt);
         self.count(&sent);
@@ -223,17 +225,17 @@ impl<W: WriteBoth + Drop, Rt: Wait> WriteDevice for CorkedWriter<W, Rt> {
     }
 }
 
-// Sends the buffered bytes before the socket is read.
+// The action before each read of the socket: sends the buffered bytes.
 #[derive(Drop)]
 struct Sending<W: WriteBoth + Drop> {
     cork: Arc<Cork<W>>,
 }
 
 impl<W: WriteBoth + Drop> BeforeRead for Sending<W> {
-    // States nothing, since the bytes are sent under a lock.
+    // Clauses state nothing of it, since the bytes are sent under a lock.
     ghost does = { λ _ _. ⊤ };
 
-    /// Sends the buffered bytes.
+    /// Sends the buffered bytes, and makes each later flush send.
     fn before_read(&mut self) {
         self.cork.send();
     }

@@ -1,4 +1,4 @@
-//! A writer with a buffer.
+//! A writer with a buffer, which sends the bytes of several writes together.
 ghost use Rattle.std.specs.Prelude.{◌≡◌, ◌≢◌, ◌≤◌, ◌++◌, false, [], length, vec_len, None, Some, Ok, IfOk, IfErr};
 ghost use Rattle.std.specs.Prelude.{IfSome, OnOk, OnErr, IsOk};
 ghost use Rattle.std.specs.IoError.{error_kind};
@@ -19,17 +19,18 @@ pub const ROOM: usize = 16_384;
 // Whether a writer takes bytes.
 #[derive(Clone, Copy, Debug, PartialEq, Eq)]
 enum State {
-    // It takes bytes.
+    // The writer takes bytes.
     Open,
-    // It has failed with this kind, and the next call reports it.
+    // The writer has failed with this kind, which the next call reports.
     Broken(ErrorKind),
-    // It has failed, and a call has reported it.
+    // The writer has failed, and a call has reported it.
     Ended,
 }
 
-/// A writer that buffers up to 16,384 bytes. They are sent when more bytes come than fit, by a flush, by `write_past`,
-/// and by `send_waiting`. After its first fault it sends nothing. The fault is reported by the call that met it, or
-/// after `send_waiting` by the next call. After that it discards what it is given, and returns `Ok`.
+/// A writer that buffers up to 16,384 bytes. It sends the buffered bytes before bytes that don't fit, by a flush, by
+/// `write_past`, and by `send_waiting`. After its first fault it sends nothing. The fault is reported by the call that
+/// met it, or after `send_waiting` by the next call. After that report it discards the bytes of each write, and returns
+/// `Ok`.
 #[derive(Drop)]
 pub struct Corked<W: WriteBoth> {
     writer: W,
@@ -87,7 +88,7 @@ impl<W: WriteBoth> Corked<W> {
         self.waiting.as_slice()
     }
 
-    /// Returns the writer. The buffered bytes are discarded.
+    /// Returns the inner writer, and discards the buffered bytes.
     pub fn into_inner(self) -> W
         ensures { result ≡ self.writer }
     {
@@ -95,7 +96,8 @@ impl<W: WriteBoth> Corked<W> {
         writer
     }
 
-    // Ends it with this fault, which is reported now.
+    // Ends the writer with this fault: discards the buffered bytes, counts the fault, and returns it for the caller to
+    // report.
     fn end(&mut self, fault: io::Error) -> io::Error
         ensures kind { error_kind result ≡ error_kind fault }
         ensures begins { BeginsKnown self.old.sink.sent self.old.sink.taken }
@@ -110,7 +112,7 @@ impl<W: WriteBoth> Corked<W> {
         fault
     }
 
-    // Sends the buffered bytes, and flushes the writer.
+    // Sends the buffered bytes, and flushes the inner writer.
     fn send(&mut self) -> Result<(), io::Error>
         ensures puts { Puts self.old.sink self.new.sink result self.old.waiting }
         ensures sent { OnOk result (self.new.sink.has_ended ≡ false → HoldsNothing self.new.sink) }
@@ -122,7 +124,7 @@ impl<W: WriteBoth> Corked<W> {
         self.writer.flush_out()
     }
 
-    // Passes the buffered bytes and then these to the writer, and returns how many of these it took.
+    // Passes the buffered bytes and then `buf` to the inner writer, and returns how many bytes of `buf` that took.
     fn pass(&mut self, buf: &[u8]) -> Result<usize, io::Error>
         ensures puts { PassesBehind self.old.sink self.new.sink self.old.waiting result buf.now }
         ensures rest { self.new ≡ record self.old { waiting = []; writer = self.new.writer; sink = self.new.sink } }
@@ -148,7 +150,8 @@ impl<W: WriteBoth> Corked<W> {
         self.writer.write_out(buf)
     }
 
-    // Sends the buffered bytes with some of these, at least one if there is one. Reports a fault.
+    // Sends the buffered bytes with some bytes of `buf`, at least one unless `buf` is empty, and returns their number.
+    // A fault ends the writer.
     fn take_past(&mut self, buf: &[u8]) -> Result<usize, io::Error>
         requires open { self.old.state ≡ Open }
         ensures puts { PutsFront (corked_sink self.old) (corked_sink self.new) result buf.now }
@@ -163,7 +166,8 @@ impl<W: WriteBoth> Corked<W> {
         }
     }
 
-    // Takes some bytes, at least one if there is one. If they don't fit, the buffered bytes are sent.
+    // Takes some bytes of `buf`, at least one unless `buf` is empty, and returns their number. If they don't fit, sends
+    // the buffered bytes with them. A fault ends the writer.
     fn take_some(&mut self, buf: &[u8]) -> Result<usize, io::Error>
         requires open { self.old.state ≡ Open }
         ensures puts { PutsFront (corked_sink self.old) (corked_sink self.new) result buf.now }
@@ -178,7 +182,7 @@ impl<W: WriteBoth> Corked<W> {
         self.take_past(buf)
     }
 
-    // Sends the buffered bytes, and reports a fault.
+    // Sends the buffered bytes. A fault ends the writer.
     fn flush(&mut self) -> Result<(), io::Error>
         requires open { self.old.state ≡ Open }
         ensures fault { IfErr result (λ e. Failed self.old.sink self.new.sink self.old.waiting (error_kind e)) }
@@ -193,7 +197,7 @@ impl<W: WriteBoth> Corked<W> {
         }
     }
 
-    /// Writes as `write_out` does, but leaves the buffer empty: sends the buffered bytes with some of these.
+    /// Writes as `write_out` does, but leaves the buffer empty: sends the buffered bytes with some bytes of `buf`.
     pub fn write_past(&mut self, buf: &[u8]) -> Result<usize, io::Error>
         ensures puts { PutsFront (corked_sink self.old) (corked_sink self.new) result buf.now }
         ensures none { self.new.waiting ≡ [] }
@@ -211,13 +215,13 @@ impl<W: WriteBoth> Corked<W> {
         }
     }
 
-    /// Sends the buffered bytes, and flushes the writer. The buffer is then empty. A fault isn't reported here, but by
-    /// the next write or flush. After a fault it does nothing.
+    /// Sends the buffered bytes, and flushes the inner writer. The buffer is then empty. A fault isn't reported here,
+    /// but by the next write or flush. After a fault this does nothing.
     pub fn send_waiting(&mut self)
         ensures sends { SendsWaiting (corked_sink self.old) (corked_sink self.new) (unreported self.new) }
         ensures none { self.new.waiting ≡ [] }
         ensures kept { self.old.state ≢ Open → self.new ≡ self.old }
-        // The fault is the writer's.
+        // The fault is the inner writer's.
         ensures fault { self.old.state ≡ Open
             → IfSome (unreported self.new) (λ kind. Failed self.old.sink self.new.sink self.old.waiting kind) }
     {
@@ -241,8 +245,8 @@ impl<W: WriteBoth> WriteDevice for Corked<W> {
         self.failures
     }
 
-    /// Buffers all the bytes if they fit. Otherwise sends the buffered bytes with some of these. A fault that
-    /// `send_waiting` met is reported, and no byte is taken.
+    /// Buffers all the bytes if they fit. Otherwise sends the buffered bytes with some of these. Fails with a fault
+    /// that `send_waiting` met, and then takes no byte.
     fn write_out(&mut self, buf: &[u8]) -> Result<usize, io::Error>
         ensures puts { PutsFront (corked_sink self.old) (corked_sink self.new) result buf.now }
         ensures fault { self.old.state ≡ Open
@@ -259,7 +263,7 @@ impl<W: WriteBoth> WriteDevice for Corked<W> {
         }
     }
 
-    /// Sends the buffered bytes, and flushes the writer. A fault that `send_waiting` met is reported.
+    /// Sends the buffered bytes, and flushes the inner writer. Fails with a fault that `send_waiting` met.
     fn flush_out(&mut self) -> Result<(), io::Error>
         ensures puts { Puts (corked_sink self.old) (corked_sink self.new) result [] }
         ensures sent { OnOk result ((corked_sink self.new).has_ended ≡ false → HoldsNothing (corked_sink self.new)) }
@@ -277,7 +281,7 @@ impl<W: WriteBoth> WriteDevice for Corked<W> {
         }
     }
 
-    /// Ends the writer, unless bytes are buffered: the caller sends them first.
+    /// Ends the inner writer, unless bytes are buffered. The caller sends those first.
     fn end_out(&mut self)
         ensures sink { corked_sink self.new ≡ corked_sink self.old }
         // The buffer is unchanged, and so is whether more bytes are taken.

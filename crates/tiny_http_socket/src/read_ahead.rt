@@ -1,4 +1,4 @@
-//! A reader that reads ahead in large pieces.
+//! Reading ahead in large pieces.
 ghost use Rattle.std.specs.Prelude.{◌≡◌, ◌≢◌, ◌<◌, ◌≤◌, ◌+◌, ◌++◌, min, [], length, take, drop, Ok, Err, IfOk, IfErr};
 ghost use Rattle.std.specs.Prelude.{OnOk, OnErr, vec_len};
 ghost use Rattle.std.specs.IoError.{error_kind};
@@ -11,15 +11,15 @@ use std::io;
 use std::marker::Model;
 use tiny_http_io::device::{ReadDevice, copy_front};
 
-/// The size of a piece, in bytes.
+/// The maximum number of bytes that are read ahead at once.
 pub const PIECE: usize = 16_384;
 
-/// An action before each call of a reader.
+/// An action to take before each call of an inner reader.
 pub trait BeforeRead {
-    /// States that the action was done.
+    /// Whether the action was done, from the state before it to the state after it.
     ghost does: { Self → Self → Type 0 };
 
-    /// Does the action.
+    /// Takes the action.
     fn before_read(&mut self)
         ensures { Self.does self.old self.new };
 }
@@ -50,7 +50,7 @@ impl<R: ReadDevice> Model for ReadAhead<R> {
 impl<R: ReadDevice + Drop> ReadAhead<R> {
     ghost use Rattle.tiny_http_socket.specs.ReadAhead.{ahead_feed};
 
-    /// Wraps a reader from which nothing was read yet. Fails if memory is refused.
+    /// Wraps a reader, with no byte read ahead. Fails if memory is refused.
     pub fn new(alloc: Global, reader: R) -> Result<ReadAhead<R>, AllocError>
         ensures { IfOk result (λ a. (a.reader ≡ reader) × (a.held ≡ []) × (a.feed ≡ R.feed reader)) }
     {
@@ -75,7 +75,7 @@ impl<R: ReadDevice> ReadAhead<R> {
         self.start += n;
     }
 
-    // Copies as many held bytes as fit into `buf`, and returns how many.
+    // Moves as many held bytes as fit to the front of `buf`, and returns their number.
     fn give(&mut self, buf: &mut [u8]) -> usize
         ensures count { result ≡ min (length self.old.held) (length buf.new) }
         ensures bytes { self.old.held ≡ take result buf.new ++ self.new.held }
@@ -86,7 +86,7 @@ impl<R: ReadDevice> ReadAhead<R> {
         n
     }
 
-    // Reads a piece when no byte is held.
+    // Reads at most a piece from the inner reader. No byte may be held before.
     fn fill(&mut self) -> Result<(), io::Error>
         requires none { self.old.held ≡ [] }
         ensures bytes { OnOk result (self.old.feed ≡ ahead_feed self.new) }
@@ -104,9 +104,9 @@ impl<R: ReadDevice> ReadAhead<R> {
         Ok(())
     }
 
-    /// Reads some bytes into the front of `buf`, and returns how many. Held bytes come first. If there are none, it
-    /// runs `before` and calls the reader: for a piece, or for `buf.len()` bytes if that is at least a piece. An empty
-    /// `buf` changes nothing.
+    /// Reads some bytes into the front of `buf`, and returns their number. Held bytes come first. If there are none, it
+    /// runs `before` and calls the inner reader: for at most a piece, or directly into `buf` if that has room for a
+    /// piece. An empty `buf` changes nothing.
     pub fn read_after<B: BeforeRead>(
         &mut self,
         before: &mut B,
@@ -128,7 +128,8 @@ impl<R: ReadDevice> ReadAhead<R> {
         self.read_more(buf)
     }
 
-    // Reads some bytes when none are held.
+    // Reads some bytes from the inner reader: directly into `buf` if that has room for a piece, and otherwise by way of
+    // a piece. No byte may be held before.
     fn read_more(&mut self, buf: &mut [u8]) -> Result<usize, io::Error>
         requires none { self.old.held ≡ [] }
         ensures reads { Reads self.old.feed (ahead_feed self.new) result buf.new }

@@ -47,8 +47,8 @@ impl RefinedTcpStream {
     ghost use Rattle.tiny_http_socket.specs.Stream.{IsReadingHalf, IsWritingHalf, stream_sink, connection_of};
     ghost use Rattle.tiny_http_socket.specs.Stream.{HasSamePeer};
 
-    /// Splits a connection into its read half and its write half. The connection is closed once both are dropped, and
-    /// any other handle. Fails if memory is refused; the connection is then closed.
+    /// Splits a connection into its read half and its write half. The connection is closed once both halves and any
+    /// other handle are dropped. Fails if memory is refused; the connection is then closed.
     pub fn new(
         alloc: Global,
         connection: Connection,
@@ -70,7 +70,7 @@ impl RefinedTcpStream {
         &self.connection
     }
 
-    // Creates a half without failures.
+    // Creates a half with no failures counted.
     fn of(connection: Arc<Connection>, half: Half) -> RefinedTcpStream
         ensures { result ≡ record { connection = connection; half = half; failures = 0; last = None } }
     {
@@ -89,15 +89,16 @@ impl RefinedTcpStream {
         false
     }
 
-    /// Returns the client's address, or `None` for a Unix socket. Fails with the system's error if it no longer knows
-    /// the address.
+    /// Returns the client's address, or `None` for a Unix socket. Fails with the system's error if the system no longer
+    /// knows the address.
     pub fn peer_addr(&self) -> io::Result<Option<SocketAddr>>
         ensures { IfOk result (λ addr. HasSamePeer self.now addr) }
     {
         self.connection.peer_addr()
     }
 
-    // Converts the result of a write to what is reported, and counts a fault. A write that takes no byte is one.
+    // Converts the result of a write into the one to report, and counts a failure. A write that takes no byte becomes
+    // `WriteZero`.
     fn report(&mut self, written: io::Result<usize>) -> io::Result<usize>
         ensures taken { IfOk result (λ n. (0 < n) × (written ≡ Ok n) × (self.new ≡ self.old)) }
         ensures fault { IfErr result
@@ -123,7 +124,7 @@ impl RefinedTcpStream {
 }
 
 impl Drop for RefinedTcpStream {
-    /// Shuts its direction down. The system's result is ignored.
+    /// Shuts down the direction of this half, and ignores the system's result.
     fn drop(self) {
         let RefinedTcpStream {
             connection,
@@ -211,8 +212,8 @@ impl Write for RefinedTcpStream {
 }
 
 impl ReadDevice for RefinedTcpStream {
-    /// Reads once from the client, and retries a call that a signal interrupts. Returns 0 at the end of input, and for
-    /// an empty buffer, without a call.
+    /// Reads once from the client, and retries a call that a signal interrupts. Returns 0 at the end of input. If `buf`
+    /// is empty, returns 0 without a call.
     fn read_in(&mut self, buf: &mut [u8]) -> Result<usize, io::Error> {
         if buf.is_empty() {
             return Ok(0);
@@ -232,8 +233,8 @@ impl WriteDevice for RefinedTcpStream {
         self.failures
     }
 
-    /// Writes once to the client, and retries a call that a signal interrupts. An empty buffer writes nothing. If no
-    /// byte is taken, the error is `WriteZero`.
+    /// Writes once to the client, and retries a call that a signal interrupts. If `buf` is empty, returns 0 without a
+    /// call. Fails with `WriteZero` if no byte is taken.
     fn write_out(&mut self, buf: &[u8]) -> Result<usize, io::Error>
         ensures puts { PutsFront (stream_sink self.old) (stream_sink self.new) result buf.now }
         ensures empty { length buf.now ≡ 0 → (result ≡ Ok 0) × (self.new ≡ self.old) }
@@ -255,8 +256,8 @@ impl WriteDevice for RefinedTcpStream {
         Ok(())
     }
 
-    /// Shuts down the direction to the client, which then sees the end of input. The system's result is ignored. A
-    /// drop, and a server that closes the connection, may do it again.
+    /// Shuts down the direction to the client, who then sees the end of input. The system's result is ignored. Dropping
+    /// this half, or a server that closes the connection, may shut the direction down again.
     fn end_out(&mut self)
         ensures sink { stream_sink self.new ≡ stream_sink self.old }
         ensures unchanged { self.new ≡ self.old }

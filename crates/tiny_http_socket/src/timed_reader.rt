@@ -13,12 +13,12 @@ use tiny_http_io::device::ReadDevice;
 use tiny_http_limits::counts::Closing;
 use tiny_http_limits::times::{Patience, Stall, time_left};
 
-// The minimum read timeout of a socket in milliseconds, since 0 means none.
+// The minimum read timeout of a socket, in milliseconds: 0 would mean no timeout.
 const LEAST_MILLIS: u64 = 1;
 
 /// A reader over a client's socket, with timeouts if its connection has limits. A timeout for the first byte of a head
-/// counts as the end of input. A timeout for a head, a body or an upgraded stream is a fault of kind `TimedOut`. It
-/// states no feed.
+/// counts as the end of input. A timeout for a head, a body or an upgraded stream is a fault of kind `TimedOut`. As a
+/// `ReadDevice` it states no feed.
 #[derive(Drop)]
 pub struct TimedReader<R: ReadDevice + Drop, Rt: Clock> {
     rt: Rt,
@@ -29,16 +29,16 @@ pub struct TimedReader<R: ReadDevice + Drop, Rt: Clock> {
     timeout: Option<Duration>,
     // The number of requests handed out as of the last read.
     request: u64,
-    // When the head after them began.
+    // When the time for the head after these requests began.
     begun: Option<Duration>,
-    // The progress of reading the body of the last of them.
+    // The progress of reading the body of the last request handed out.
     stall: Stall,
-    // Whether the time for that body is over.
+    // Whether the time for the body of that request is over.
     is_late: bool,
 }
 
 impl<R: ReadDevice + Drop, Rt: Clock> TimedReader<R, Rt> {
-    /// Wraps a reader that reads from this socket.
+    /// Wraps a reader of this socket, with the state of its connection.
     pub fn new(
         rt: Rt,
         inner: R,
@@ -58,12 +58,12 @@ impl<R: ReadDevice + Drop, Rt: Clock> TimedReader<R, Rt> {
         }
     }
 
-    // Returns the time of the clock, or 0 if it can't be read.
+    // Returns the clock's time, or 0 if the clock can't be read.
     fn now(&self) -> Duration {
         self.rt.monotonic().unwrap_or(Duration::from_secs(0))
     }
 
-    // Sets the socket's read timeout, or clears it.
+    // Sets the socket's read timeout, or clears it, unless it is unchanged.
     fn wait_for(&mut self, timeout: Option<Duration>) {
         if self.timeout != timeout {
             self.timeout = timeout;
@@ -76,7 +76,8 @@ impl<R: ReadDevice + Drop, Rt: Clock> TimedReader<R, Rt> {
         }
     }
 
-    // Reads while waiting for the first byte of a head. The timeout restarts if a request was open when it began.
+    // Reads the first bytes of a head. Returns 0, the end of input, if none arrive for this time. The wait starts again
+    // if a request was open when it began.
     fn read_first(&mut self, time: Duration, buf: &mut [u8]) -> io::Result<usize>
         ensures { IfOk result (λ n. n ≤ length buf.new) }
     {
@@ -101,8 +102,8 @@ impl<R: ReadDevice + Drop, Rt: Clock> TimedReader<R, Rt> {
         Ok(0)
     }
 
-    // Reads the rest of a head. Its time begins at the first such read, so a head that arrives in one piece needs no
-    // clock.
+    // Reads the rest of a head, and fails with `TimedOut` once this time is over. The time begins at the first such
+    // read, so a head that arrives in one piece needs no clock.
     fn read_head(&mut self, time: Duration, buf: &mut [u8]) -> io::Result<usize>
         ensures { IfOk result (λ n. n ≤ length buf.new) }
     {
@@ -119,7 +120,7 @@ impl<R: ReadDevice + Drop, Rt: Clock> TimedReader<R, Rt> {
         }
     }
 
-    // Reports that the time for the head is over.
+    // Records that the time for the head is over, and fails with `TimedOut`.
     fn head_is_late(&mut self) -> io::Result<usize>
         ensures { IsLate result }
     {
@@ -127,7 +128,7 @@ impl<R: ReadDevice + Drop, Rt: Clock> TimedReader<R, Rt> {
         Err(ErrorKind::TimedOut.into())
     }
 
-    // Reads from a body, waiting at most for the rest of its time.
+    // Reads from a body, and fails with `TimedOut` once the time for it is over.
     fn read_body(&mut self, patience: Patience, buf: &mut [u8]) -> io::Result<usize>
         ensures { IfOk result (λ n. n ≤ length buf.new) }
     {
@@ -141,7 +142,8 @@ impl<R: ReadDevice + Drop, Rt: Clock> TimedReader<R, Rt> {
         self.check_body(patience, begun, read)
     }
 
-    // Converts the result of a read from a body, begun at `begun`, to what is reported.
+    // Converts the result of a read from a body, begun at `begun`, into the one to report, and counts the time that it
+    // took.
     fn check_body(
         &mut self,
         patience: Patience,
@@ -167,7 +169,7 @@ impl<R: ReadDevice + Drop, Rt: Clock> TimedReader<R, Rt> {
         }
     }
 
-    // Reports that the time for the body is over. Each later read of it fails.
+    // Records that the time for the body is over, and fails with `TimedOut`, as does each later read of the body.
     fn body_is_late(&mut self) -> io::Result<usize>
         ensures { IsLate result }
     {
@@ -176,7 +178,8 @@ impl<R: ReadDevice + Drop, Rt: Clock> TimedReader<R, Rt> {
         Err(ErrorKind::TimedOut.into())
     }
 
-    // Reads from an upgraded stream. The timeout restarts if bytes were written meanwhile.
+    // Reads from an upgraded stream, and fails with `TimedOut` if no byte arrives for this time. The wait starts again
+    // if bytes were written meanwhile.
     fn read_stream(&mut self, time: Option<Duration>, buf: &mut [u8]) -> io::Result<usize>
         ensures { IfOk result (λ n. n ≤ length buf.new) }
     {
@@ -195,7 +198,7 @@ impl<R: ReadDevice + Drop, Rt: Clock> TimedReader<R, Rt> {
         self.stream_is_late()
     }
 
-    // Shuts the connection down because the time for the stream is over.
+    // Shuts the connection down because the time for the stream is over, and fails with `TimedOut`.
     fn stream_is_late(&mut self) -> io::Result<usize>
         ensures { IsLate result }
     {
@@ -204,7 +207,7 @@ impl<R: ReadDevice + Drop, Rt: Clock> TimedReader<R, Rt> {
         Err(ErrorKind::TimedOut.into())
     }
 
-    // Resets the times if another request was handed out since: for its body, or for the head after it.
+    // Resets the times of the head and the body if another request was handed out since the last read.
     fn go_to(&mut self, request: u64) {
         if self.request != request {
             self.request = request;
@@ -216,7 +219,8 @@ impl<R: ReadDevice + Drop, Rt: Clock> TimedReader<R, Rt> {
 }
 
 impl<R: ReadDevice + Drop, Rt: Clock> ReadDevice for TimedReader<R, Rt> {
-    /// Reads once. Under limits it waits at most as long as the current phase allows.
+    /// Reads once. Under limits it waits at most as long as the current phase allows, and returns 0 without a call in
+    /// phase `Stopped`. An empty `buf` returns 0 without a call, too.
     fn read_in(&mut self, buf: &mut [u8]) -> Result<usize, io::Error> {
         if buf.is_empty() {
             return Ok(0);

@@ -15,8 +15,8 @@ use tiny_http_limits::counts::Closing;
 use tiny_http_limits::limits::Limits;
 use tiny_http_limits::times::{Patience, Stall};
 
-// The maximum wait of one system call in milliseconds; it is less if a write has less time. A call may report a timeout
-// although there is some room by then, which the next call finds.
+// The maximum time that one system call waits, in milliseconds; it waits less if a write has less time. A call may time
+// out although the socket has room by then; the next call finds it.
 const STEP_MILLIS: u64 = 1_000;
 
 /// A writer to a client's socket. Under limits a write that takes too long fails with `TimedOut`, and the connection is
@@ -38,7 +38,7 @@ pub struct TimedWriter<Rt: Clock> {
     last: Option<ErrorKind>,
 }
 
-// A writing system call: when it began, if its time counts, and how many bytes it was given.
+// A system call that writes: when it began, if its time counts, and how many bytes it was given.
 #[derive(Clone, Copy)]
 struct Asked {
     begun: Option<Duration>,
@@ -48,7 +48,7 @@ struct Asked {
 impl<Rt: Clock> TimedWriter<Rt> {
     ghost use Rattle.tiny_http_socket.specs.Timed.{timed_sink, failed_sink, IsReportOf};
 
-    /// Creates a writer to this half of a socket.
+    /// Creates a writer to this half of a socket. Under limits it sets the socket's write timeout.
     pub fn new(rt: Rt, socket: RefinedTcpStream, timers: Arc<ConnectionTimers>) -> TimedWriter<Rt> {
         let patience = timers.limits().map(Limits::write_patience);
         if let Some(patience) = patience {
@@ -68,12 +68,12 @@ impl<Rt: Clock> TimedWriter<Rt> {
         }
     }
 
-    // Returns the time of the clock, or 0 if it can't be read.
+    // Returns the clock's time, or 0 if the clock can't be read.
     fn now(&self) -> Duration {
         self.rt.monotonic().unwrap_or(Duration::from_secs(0))
     }
 
-    // Begins a call that is given this number of bytes.
+    // Records the beginning of a system call that is given this number of bytes.
     fn ask(&self, bytes: usize) -> Asked {
         let begun = if self.has_waited {
             Some(self.now())
@@ -83,7 +83,8 @@ impl<Rt: Clock> TimedWriter<Rt> {
         Asked { begun, bytes }
     }
 
-    // Converts the result of such a call to what is reported, and counts a fault. Under limits its time is counted.
+    // Converts the result of a system call into the one to report, and counts a failure. Under limits the time of the
+    // call is counted.
     fn report(&mut self, asked: Asked, written: io::Result<usize>) -> io::Result<usize>
         ensures taken { IfOk result (λ n. (written ≡ Ok n) × (timed_sink self.new ≡ timed_sink self.old)) }
         ensures fault { IfErr result (λ e. timed_sink self.new ≡ failed_sink self.old (error_kind e)) }
@@ -96,7 +97,8 @@ impl<Rt: Clock> TimedWriter<Rt> {
         written
     }
 
-    // Converts the result if the time of the write counts: the system's timeout becomes `TimedOut`.
+    // Converts the result of a system call under limits: the system's timeout becomes `TimedOut`. If the time for a
+    // write is over and only some bytes were taken, shuts the connection down.
     fn in_time(
         &mut self,
         patience: Patience,
@@ -109,7 +111,7 @@ impl<Rt: Clock> TimedWriter<Rt> {
         match written {
             Ok(n) => {
                 self.timers.wrote();
-                // Bytes that were all taken are sent, however late.
+                // If all bytes were taken, they are sent, however late.
                 if self.is_over(patience, asked, n) && n < asked.bytes {
                     self.end_late();
                 }
@@ -121,7 +123,7 @@ impl<Rt: Clock> TimedWriter<Rt> {
 
     // Counts the time of a call that wrote this number of bytes, and returns whether the time for a write is over. A
     // call that wrote nothing waited for one step, even if the clock can't be read. The wait of the first call that
-    // wrote only some of its bytes is unknown.
+    // wrote only some of its bytes is unknown, and isn't counted.
     fn is_over(&mut self, patience: Patience, asked: Asked, written: usize) -> bool
         ensures { timed_sink self.new ≡ timed_sink self.old }
     {
@@ -167,7 +169,7 @@ impl<Rt: Clock> TimedWriter<Rt> {
         let _ = self.socket.connection().shutdown(Shutdown::Both);
     }
 
-    // Counts a fault, if there is one.
+    // Counts the fault of a call, if it failed.
     fn count(&mut self, outcome: &io::Result<usize>)
         ensures taken { IfOk outcome.now (λ n. timed_sink self.new ≡ timed_sink self.old) }
         ensures fault { IfErr outcome.now (λ e. timed_sink self.new ≡ failed_sink self.old (error_kind e)) }
@@ -179,7 +181,7 @@ impl<Rt: Clock> TimedWriter<Rt> {
     }
 }
 
-// Returns how long one system call waits if a write has this time.
+// Returns how long one system call may wait if a write has this time.
 fn step(time: Duration) -> Duration {
     time.min(Duration::from_millis(STEP_MILLIS))
 }
@@ -194,8 +196,8 @@ impl<Rt: Clock> WriteDevice for TimedWriter<Rt> {
         self.failures
     }
 
-    /// Writes once to the client; an empty buffer writes nothing. Under limits it ends at most a second after the time
-    /// for a write is over.
+    /// Writes once to the client. If `buf` is empty, returns 0 without a call. Under limits it returns at most a second
+    /// after the time for a write is over.
     fn write_out(&mut self, buf: &[u8]) -> Result<usize, io::Error> {
         if buf.is_empty() {
             return Ok(0);
@@ -219,7 +221,7 @@ impl<Rt: Clock> WriteDevice for TimedWriter<Rt> {
         Ok(())
     }
 
-    /// Shuts down the direction to the client, which then sees the end of input.
+    /// Shuts down the direction to the client, who then sees the end of input.
     fn end_out(&mut self) {
         self.socket.end_out();
     }

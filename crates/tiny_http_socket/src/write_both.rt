@@ -1,4 +1,4 @@
-//! Writers that take two texts in one call.
+//! Writing two texts in one call, such as buffered bytes and the bytes after them.
 ghost use Rattle.std.specs.Prelude.{◌++◌};
 ghost use Rattle.tiny_http_io.specs.Device.{PutsFront};
 
@@ -8,14 +8,14 @@ use tiny_http_io::device::{Budget, WriteDevice};
 
 /// A writer that may take two texts in one call.
 pub trait WriteBoth: WriteDevice {
-    /// Writes some bytes from the front of the concatenation of the two texts, and returns how many: at least one,
+    /// Writes some bytes from the front of the concatenation of the two texts, and returns their number: at least one,
     /// unless both are empty.
     fn write_both(&mut self, front: &[u8], back: &[u8]) -> Result<usize, io::Error>
         ensures puts { PutsFront (Self.sink self.old) (Self.sink self.new) result (front.now ++ back.now) };
 }
 
 impl WriteBoth for Budget {
-    /// Writes the first text, and the second one only if the first is empty.
+    /// Writes some bytes of the first text, or of the second one if the first is empty.
     fn write_both(&mut self, front: &[u8], back: &[u8]) -> Result<usize, io::Error> {
         if front.is_empty() {
             return self.write_out(back);

@@ -19,12 +19,12 @@ use Rattle.tiny_http_standard_head.specs.Heads.{HasOpenRequestLine, HasOpenField
 use Rattle.tiny_http_standard_head.specs.Heads.{HasGoodRequestLine, message_of}
 use Rattle.tiny_http_standard_head.specs.Validation.{Validates}
 
--- why the bytes don't begin with a line
+-- whether the bytes don't begin with a line, for this reason
 abbrev pub HasNoLine : NoLine → List ℕ → Type 0
 HasNoLine no.Bare bytes = BeginsWithBareLine bytes
 HasNoLine no.Open bytes = HasNo line_feed bytes
 
--- why the bytes don't begin with a request line
+-- whether the bytes don't begin with a request line, for this reason
 abbrev pub StopsRequest : List ℕ → NoHead → Type 0
 StopsRequest bytes stop.Bad = BeginsWithBadLine IsNoRequestLine (behind_empty_line bytes)
 StopsRequest bytes stop.OpenRequest = HasNo line_feed (behind_empty_line bytes)
@@ -32,12 +32,12 @@ StopsRequest bytes stop.OpenField = ⊥
 StopsRequest bytes stop.TooMany = ⊥
 StopsRequest bytes stop.Memory = HasGoodRequestLine bytes
 
--- the bytes begin with a valid field line
+-- whether the bytes begin with a valid field line
 abbrev pub HasGoodFieldLine : List ℕ → Type 0
 HasGoodFieldLine bytes = (text : List ℕ) × (rest : List ℕ) × Line bytes text rest × (IsNoFieldLine text → ⊥)
 
--- why the bytes don't begin with field lines, at most MOST_HEADERS, and an empty line; memory is needed only for a
--- valid field line
+-- whether the bytes don't begin with field lines, at most MOST_HEADERS, and an empty line, for this reason; memory is
+-- needed only for a valid field line
 abbrev pub StopsFields : List ℕ → NoHead → Type 0
 StopsFields bytes stop.Bad =
     (headers : List Header)
@@ -59,7 +59,7 @@ StopsFields bytes stop.TooMany =
     × (length headers ≡ MOST_HEADERS + 1)
 StopsFields bytes stop.Memory = HasGoodFieldLine bytes
 
--- the bytes are field lines, at most MOST_HEADERS, an empty line, and `after`
+-- whether the bytes are these field lines, at most MOST_HEADERS, an empty line, and `after`
 abbrev pub EndsFields : List ℕ → List Header → List ℕ → Type 0
 EndsFields bytes headers after =
     (empty : List ℕ)
@@ -67,7 +67,7 @@ EndsFields bytes headers after =
     × (length headers ≤ MOST_HEADERS)
     × Line empty [] after
 
--- why no complete head was read
+-- whether no complete head was read from the bytes, for this reason
 abbrev pub StopsHead : List ℕ → NoHead → Type 0
 StopsHead bytes stop.Bad = HasBadLine bytes
 StopsHead bytes stop.OpenRequest = HasOpenRequestLine bytes
@@ -75,7 +75,8 @@ StopsHead bytes stop.OpenField = HasOpenField bytes
 StopsHead bytes stop.TooMany = HasTooManyFields bytes
 StopsHead bytes stop.Memory = HasGoodRequestLine bytes
 
--- a complete head: its length in bytes and the result of its validation
+-- whether a complete head was read from the bytes with this result: its length in bytes and the result of its
+-- validation
 abbrev pub ReadsWhole : List ℕ → StandardRead → Type 0
 ReadsWhole bytes (Whole h) =
     (after : List ℕ)

@@ -27,12 +27,12 @@ carriage_return = 13
 abbrev pub is_carriage_return : ℕ → Bool
 is_carriage_return b = b == carriage_return
 
--- the bytes begin with a line, which has no LF, and its CR LF; the rest follows
+-- whether the bytes begin with the line `text`, which has no LF, and its CR LF, and `rest` follows
 pub record Line (bytes text rest : List ℕ) : Type 0 where
   pub joins : bytes ≡ text ++ (carriage_return ∷ line_feed ∷ rest)
   pub first : HasNo line_feed text
 
--- the first LF of the bytes has no CR before it
+-- whether the first LF of the bytes has no CR before it
 pub record BeginsWithBareLine (bytes : List ℕ) : Type 0 where
   pub text : List ℕ
   pub rest : List ℕ
@@ -40,20 +40,20 @@ pub record BeginsWithBareLine (bytes : List ℕ) : Type 0 where
   pub first : HasNo line_feed text
   pub bare : IsTrue (has_bare_end is_carriage_return text)
 
--- the bytes without one empty line at the beginning
+-- the bytes without one empty line at the beginning, if there is one
 abbrev pub behind_empty_line : List ℕ → List ℕ
 behind_empty_line [] = []
 behind_empty_line (a ∷ []) = a ∷ []
 behind_empty_line (a ∷ b ∷ bs) = if (a == carriage_return && b == line_feed) then bs else a ∷ b ∷ bs
 
--- the bytes begin with a request line, after at most one empty line; the field lines follow
+-- whether the bytes begin with this request line, after at most one empty line, and the bytes `fields` follow
 pub record BeginsWithRequestLine (bytes : List ℕ) (method : Method) (target : List ℕ) (v : HTTPVersion)
     (fields : List ℕ) : Type 0 where
   pub text : List ℕ
   pub line : Line (behind_empty_line bytes) text fields
   pub reads : ReadsRequestLine text method target v
 
--- the bytes begin with these field lines; the rest follows
+-- whether the bytes begin with these field lines, and `rest` follows
 abbrev pub BeginsWithFieldLines : List ℕ → List Header → List ℕ → Type 0
 BeginsWithFieldLines bytes [] rest = rest ≡ bytes
 BeginsWithFieldLines bytes (h ∷ hs) rest =
@@ -63,7 +63,7 @@ BeginsWithFieldLines bytes (h ∷ hs) rest =
     × ReadsFieldLine text h
     × BeginsWithFieldLines next hs rest
 
--- A HEAD: a request line, field lines, at most MOST_HEADERS, and an empty line
+-- A HEAD: whether the bytes begin with a request line, field lines, at most MOST_HEADERS, and an empty line
 pub record BeginsWithHead (bytes : List ℕ) (m : Message) (after : List ℕ) : Type 0 where
   pub fields : List ℕ
   pub empty : List ℕ
@@ -72,23 +72,23 @@ pub record BeginsWithHead (bytes : List ℕ) (m : Message) (after : List ℕ) : 
   pub few : length m.headers ≤ MOST_HEADERS
   pub end : Line empty [] after
 
--- a valid request line has ended, after at most one empty line
+-- whether the bytes begin with a complete and valid request line, after at most one empty line
 pub record HasGoodRequestLine (bytes : List ℕ) : Type 0 where
   pub text : List ℕ
   pub rest : List ℕ
   pub line : Line (behind_empty_line bytes) text rest
   pub good : IsNoRequestLine text → ⊥
 
--- A MALFORMED LINE: its LF has no CR before it, or its text doesn't match the grammar there.
+-- A MALFORMED LINE: its LF has no CR before it, or its text doesn't match the grammar for its place.
 abbrev pub BeginsWithBadLine : (List ℕ → Type 0) → List ℕ → Type 0
 BeginsWithBadLine IsBad bytes =
     BeginsWithBareLine bytes ⊎ ((text : List ℕ) × (rest : List ℕ) × Line bytes text rest × IsBad text)
 
--- the text is neither empty nor a field line
+-- whether the text is neither empty nor a field line
 abbrev pub IsNoFieldOrEnd : List ℕ → Type 0
 IsNoFieldOrEnd text = (text ≢ []) × IsNoFieldLine text
 
--- these bytes follow a request line and field lines, at most MOST_HEADERS
+-- whether `rest` follows a request line and field lines, at most MOST_HEADERS
 pub record ComesToField (bytes rest : List ℕ) : Type 0 where
   pub method : Method
   pub target : List ℕ
@@ -99,7 +99,7 @@ pub record ComesToField (bytes rest : List ℕ) : Type 0 where
   pub lines : BeginsWithFieldLines fields headers rest
   pub few : length headers ≤ MOST_HEADERS
 
--- there is one field line more than a head may have
+-- whether the bytes begin with a request line and one field line more than a head may have
 pub record HasTooManyFields (bytes : List ℕ) : Type 0 where
   pub method : Method
   pub target : List ℕ
@@ -111,28 +111,30 @@ pub record HasTooManyFields (bytes : List ℕ) : Type 0 where
   pub lines : BeginsWithFieldLines fields headers rest
   pub many : length headers ≡ MOST_HEADERS + 1
 
--- the first malformed line of a head
+-- whether the bytes have a malformed line, and before it only the valid lines of a head
 abbrev pub HasBadLine : List ℕ → Type 0
 HasBadLine bytes =
     BeginsWithBadLine IsNoRequestLine (behind_empty_line bytes)
     ⊎ ((rest : List ℕ) × ComesToField bytes rest × BeginsWithBadLine IsNoFieldOrEnd rest)
 
--- the request line hasn't ended; a later line hasn't ended
+-- whether the request line hasn't ended
 abbrev pub HasOpenRequestLine : List ℕ → Type 0
 HasOpenRequestLine bytes = HasNo line_feed (behind_empty_line bytes)
 
+-- whether the request line is valid, and a later line of the head hasn't ended
 abbrev pub HasOpenField : List ℕ → Type 0
 HasOpenField bytes = (rest : List ℕ) × ComesToField bytes rest × HasNo line_feed rest
 
--- how bytes are read: as a complete head, with what follows it and the result of its validation; as a malformed line;
--- as a surplus field line; or as a line that hasn't ended, either the request line or a later one
+-- how bytes are read. `ReadWhole`: as a complete head, with what follows it and the result of its validation.
+-- `ReadBad`: as a malformed line. `ReadTooMany`: as a surplus field line. `ReadOpen`: as a line that hasn't ended,
+-- either the request line or a later one.
 pub data Reading : Type 0 where
   ReadWhole : (message : Message) (after : List ℕ) (validated : Result HeadSummary HeadError) → Reading
   ReadBad : Reading
   ReadTooMany : Reading
   ReadOpen : (behind_request_line : Bool) → Reading
 
--- HOW BYTES ARE READ
+-- HOW BYTES ARE READ: whether this is the reading of the bytes
 abbrev pub AreReadAs : List ℕ → Reading → Type 0
 AreReadAs bytes (ReadWhole m after validated) = BeginsWithHead bytes m after
     × Validates m.version m.method m.headers validated
@@ -141,7 +143,7 @@ AreReadAs bytes ReadTooMany = HasTooManyFields bytes
 AreReadAs bytes (ReadOpen false) = HasOpenRequestLine bytes
 AreReadAs bytes (ReadOpen true) = HasOpenField bytes
 
--- the status code of a fault
+-- the status code of the response to a fault
 abbrev pub status_of : StandardFault → ℕ
 status_of BadLine = 400
 status_of RequestLineTooLong = 414
@@ -155,11 +157,11 @@ status_of (Invalid UnknownExpectation) = 417
 abbrev pub message_of : StandardHead → Message
 message_of h = record { method = h.method; path = h.target; version = h.version; headers = h.headers.items }
 
--- a byte of a head has come
+-- whether a byte of a head has come
 abbrev pub is_begun : List ℕ → Bool
 is_begun bytes = not (length (behind_empty_line bytes) == 0)
 
--- THE RESULT OF READING these bytes, if a head has at most `limit` bytes
+-- THE RESULT OF READING these bytes, if a head may have at most `limit` bytes
 abbrev pub Reads : ℕ → List ℕ → StandardRead → Type 0
 Reads limit bytes (Whole h) =
     (after : List ℕ)
@@ -178,7 +180,7 @@ Reads limit bytes (Refused TooManyFields) = HasTooManyFields (take limit bytes)
 Reads limit bytes (Unfinished has_begun) =
     (length bytes < limit) × (HasOpenRequestLine bytes ⊎ HasOpenField bytes) × (has_begun ≡ is_begun bytes)
 
--- Two results agree: the same head with the same length and summary; the same fault; or unfinished with the same flag.
+-- whether two results agree: the same head, length and summary; the same fault; or unfinished with the same flag
 abbrev pub IsSameRead : StandardRead → StandardRead → Type 0
 IsSameRead (Whole h) (Whole k) = (message_of h ≡ message_of k) × (h.length ≡ k.length) × (h.summary ≡ k.summary)
 IsSameRead (Refused e) (Refused f) = e ≡ f

@@ -9,57 +9,59 @@ use Rattle.tiny_http_head.specs.Heads.{length_of}
 abbrev pub percent : ℕ
 percent = 37
 
--- the text begins with two hexadecimal digits
+-- whether the text begins with two hexadecimal digits
 abbrev pub begins_with_two_hexadecimal_digits : List ℕ → Bool
 begins_with_two_hexadecimal_digits [] = false
 begins_with_two_hexadecimal_digits (a ∷ []) = false
 begins_with_two_hexadecimal_digits (a ∷ b ∷ bs) = is_ascii_hexdigit a && is_ascii_hexdigit b
 
--- a byte that is allowed unencoded in a registered name
+-- whether a byte is allowed unencoded in a registered name
 abbrev pub is_registered_name_byte : ℕ → Bool
 is_registered_name_byte b = is_ascii_alphanumeric b || list_any (λ c. c == b) (codes "-._~!$&'()*+,;=")
 
--- reg-name: such bytes, and percent signs that are followed by two hexadecimal digits
+-- whether the text is a reg-name: bytes that are allowed unencoded, and percent signs followed by two hexadecimal
+-- digits
 abbrev pub is_registered_name : List ℕ → Bool
 is_registered_name [] = true
 is_registered_name (b ∷ bs) =
     (is_registered_name_byte b || (b == percent && begins_with_two_hexadecimal_digits bs)) && is_registered_name bs
 
--- a byte that is allowed in a bracketed address
+-- whether a byte is allowed in a bracketed address
 abbrev pub is_address_byte : ℕ → Bool
 is_address_byte b = is_ascii_hexdigit b || (b == colon || b == point)
 
--- Instead of IP-literal: hexadecimal digits, colons and points in brackets, not validated further.
+-- whether the text is a bracketed address, which replaces IP-literal: one or more hexadecimal digits, colons and points
+-- in brackets, not validated further
 pub record IsBracketedAddress (text : List ℕ) : Type 0 where
   pub address : List ℕ
   pub joins : text ≡ codes "[" ++ address ++ codes "]"
   pub not_empty : address ≢ []
   pub bytes : IsTrue (list_all is_address_byte address)
 
--- uri-host, but not empty: a bracketed address or a name
+-- whether the text is a uri-host that isn't empty: a bracketed address or a registered name
 abbrev pub IsHost : List ℕ → Type 0
 IsHost text = IsBracketedAddress text ⊎ ((text ≢ []) × IsTrue (is_registered_name text))
 
--- uri-host ":" port, which may have no digits
+-- whether the text is uri-host ":" port, where the port may have no digits
 pub record HostAndPort (text host port : List ℕ) : Type 0 where
   pub joins : text ≡ host ++ colon ∷ port
   pub is_host : IsHost host
   pub digits : IsTrue (list_all is_ascii_digit port)
 
--- uri-host [ ":" port ]: a host with or without a port
+-- whether the text is uri-host [ ":" port ]: a host with or without a port
 abbrev pub IsHostWithPort : List ℕ → Type 0
 IsHostWithPort text = IsHost text ⊎ ((host : List ℕ) × (port : List ℕ) × HostAndPort text host port)
 
--- the value of a Host field: empty, or a host with or without a port
+-- whether the text is a valid Host value: empty, or a host with or without a port
 abbrev pub IsHostValue : List ℕ → Type 0
 IsHostValue value = (value ≡ []) ⊎ IsHostWithPort value
 
--- the number is present and from 1 to 65535
+-- whether the number is present and from 1 to 65535
 abbrev pub is_port_number : Option ℕ → Bool
 is_port_number None = false
 is_port_number (Some n) = nat_lt 0 n && nat_lt n 65536
 
--- authority-form, the target of a CONNECT: a host, and a port from 1 to 65535
+-- whether the target is in authority-form, as for CONNECT: a host, and a port from 1 to 65535
 abbrev pub IsAuthority : List ℕ → Type 0
 IsAuthority target =
     (host : List ℕ) × (port : List ℕ) × HostAndPort target host port × IsTrue (is_port_number (length_of port))

@@ -22,13 +22,13 @@ digit_zero = 48
 abbrev pub capital_a : ℕ
 capital_a = 65
 
--- HTTP-version = "HTTP/" DIGIT "." DIGIT
+-- whether the text is this HTTP-version = "HTTP/" DIGIT "." DIGIT
 pub record IsVersion (text : List ℕ) (v : HTTPVersion) : Type 0 where
   pub joins : text ≡ codes "HTTP/" ++ (digit_zero + v.0) ∷ point ∷ (digit_zero + v.1) ∷ []
   pub major : v.0 < 10
   pub minor : v.1 < 10
 
--- the text isn't a version
+-- whether the text isn't a version
 abbrev pub IsNoVersion : List ℕ → Type 0
 IsNoVersion text = (v : HTTPVersion) → IsVersion text v → ⊥
 
@@ -37,32 +37,33 @@ abbrev pub authority_in : List ℕ → List ℕ
 authority_in [] = []
 authority_in (b ∷ bs) = if (b == slash || b == question_mark) then [] else b ∷ authority_in bs
 
--- the target begins with the scheme, in any case, and its authority is a host with or without a port
+-- whether the target begins with the scheme, in any case, and its authority is a host with or without a port
 pub record HasScheme (scheme target : List ℕ) : Type 0 where
   pub front : IsTrue (same_name (take (length scheme) target) scheme)
   pub authority : IsHostWithPort (authority_in (drop (length scheme) target))
 
--- Instead of absolute-form: http:// or https://, and a host with or without a port. The rest isn't validated.
+-- whether the target is in absolute-form, of which only the front is validated: http:// or https://, and a host with or
+-- without a port
 abbrev pub IsAbsoluteForm : List ℕ → Type 0
 IsAbsoluteForm target = HasScheme (codes "http://") target ⊎ HasScheme (codes "https://") target
 
--- Instead of origin-form: a slash. The rest isn't validated.
+-- whether the target is in origin-form, of which only the slash at the front is validated
 abbrev pub is_origin_form : List ℕ → Bool
 is_origin_form target = starts_with ◌==◌ target (codes "/")
 
--- asterisk-form: a target of OPTIONS only
+-- whether the target is in asterisk-form, which only OPTIONS may have
 abbrev pub is_asterisk_form : List ℕ → List ℕ → Bool
 is_asterisk_form method target = bytes_eq target (codes "*") && bytes_eq method (codes "OPTIONS")
 
--- request-target: bytes 33 to 126. For CONNECT it is in authority-form, and for other methods in one of the other three
--- forms.
+-- whether the target is a valid request-target for this method: bytes 33 to 126, for CONNECT in authority-form, and for
+-- other methods in one of the other three forms
 abbrev pub IsTarget : List ℕ → List ℕ → Type 0
 IsTarget method target =
     IsTrue (list_all is_ascii_graphic target)
     × MatchBool (bytes_eq method (codes "CONNECT")) (IsAuthority target)
     (IsTrue (is_origin_form target || is_asterisk_form method target) ⊎ IsAbsoluteForm target)
 
--- request-line = method SP request-target SP HTTP-version
+-- whether the text is this request-line = method SP request-target SP HTTP-version
 pub record RequestLine (text method target : List ℕ) (v : HTTPVersion) : Type 0 where
   pub version_text : List ℕ
   pub joins : text ≡ method ++ space ∷ (target ++ space ∷ version_text)
@@ -70,20 +71,20 @@ pub record RequestLine (text method target : List ℕ) (v : HTTPVersion) : Type 
   pub target_is : IsTarget method target
   pub version_is : IsVersion version_text v
 
--- the text is a request line, and its method is the one of that name
+-- whether the text is a request line with this method, target and version
 abbrev pub ReadsRequestLine : List ℕ → Method → List ℕ → HTTPVersion → Type 0
 ReadsRequestLine text method target v = (name : List ℕ) × RequestLine text name target v × (method ≡ method_of name)
 
--- the text isn't a request line
+-- whether the text isn't a request line
 abbrev pub IsNoRequestLine : List ℕ → Type 0
 IsNoRequestLine text = (method : List ℕ) → (target : List ℕ) → (v : HTTPVersion) → RequestLine text method target v → ⊥
 
--- In these fields a byte above 127 is refused before percent-encoding, whose result would be valid there.
+-- whether a byte above 127 is refused in this field before percent-encoding, whose result would be valid there
 abbrev pub must_be_ascii : List ℕ → Bool
 must_be_ascii field = same_name field (codes "Host") || same_name field (codes "Transfer-Encoding")
 
--- field-line = field-name ":" OWS field-value OWS. A byte above 127 is valid in a value, except in Host and
--- Transfer-Encoding.
+-- whether the text is this field-line = field-name ":" OWS field-value OWS. A byte above 127 is valid in a value,
+-- except in Host and Transfer-Encoding.
 pub record FieldLine (text field value : List ℕ) : Type 0 where
   pub padded : List ℕ
   pub joins : text ≡ field ++ colon ∷ padded
@@ -92,7 +93,7 @@ pub record FieldLine (text field value : List ℕ) : Type 0 where
   pub trims : Trims is_ows padded value
   pub ascii : IsTrue (must_be_ascii field) → AreAscii value
 
--- a hexadecimal digit, in upper case
+-- the hexadecimal digit of a value, in upper case
 abbrev pub uppercase_hexadecimal_digit : ℕ → ℕ
 uppercase_hexadecimal_digit d = if nat_lt d 10 then digit_zero + d else capital_a + (d - 10)
 
@@ -106,10 +107,10 @@ percent_encoded_byte b =
 abbrev pub percent_encoded : List ℕ → List ℕ
 percent_encoded value = flat_map percent_encoded_byte value
 
--- the text is a field line, and this is its header
+-- whether the text is a field line that is read as this header
 abbrev pub ReadsFieldLine : List ℕ → Header → Type 0
 ReadsFieldLine text h = (value : List ℕ) × FieldLine text h.field value × (h.value ≡ percent_encoded value)
 
--- the text isn't a field line
+-- whether the text isn't a field line
 abbrev pub IsNoFieldLine : List ℕ → Type 0
 IsNoFieldLine text = (field : List ℕ) → (value : List ℕ) → FieldLine text field value → ⊥

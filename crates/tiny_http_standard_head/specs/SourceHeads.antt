@@ -29,21 +29,22 @@ use Rattle.tiny_http_standard_head.specs.Heads.{behind_empty_line, BeginsWithReq
 use Rattle.tiny_http_standard_head.specs.Heads.{BeginsWithBadLine, IsNoFieldOrEnd, HasOpenRequestLine, is_begun}
 use Rattle.tiny_http_standard_head.specs.Heads.{HasGoodRequestLine, Reads}
 
--- a malformed line: it doesn't end with a CR, or its text doesn't match the grammar there
+-- whether the line is malformed: it doesn't end with a CR, or its text doesn't match the grammar for its place
 abbrev pub IsBadLine : (List ℕ → Type 0) → List ℕ → Type 0
 IsBadLine IsBad line =
     IsTrue (has_bare_end is_carriage_return line)
     ⊎ ((text : List ℕ) × (line ≡ text ++ carriage_return ∷ []) × IsBad text)
 
--- a valid line: it ends with a CR, and its text isn't a bad one
+-- whether the line is valid: it ends with a CR, and its text isn't a bad one
 abbrev pub IsGoodLine : (List ℕ → Type 0) → List ℕ → Type 0
 IsGoodLine IsBad line = (text : List ℕ) × (line ≡ text ++ carriage_return ∷ []) × (IsBad text → ⊥)
 
--- the text is neither empty nor a request line
+-- whether the text is neither empty nor a request line
 abbrev pub IsNoRequestOrEmpty : List ℕ → Type 0
 IsNoRequestOrEmpty text = (text ≢ []) × IsNoRequestLine text
 
--- what a line is read as: a request line or the empty line; memory is needed only for a request line
+-- whether a line is read with this result: as a request line or the empty line; memory is needed only for a request
+-- line
 abbrev pub RequestIn : List ℕ → Result (Option (Method × List ℕ × HTTPVersion)) NoHead → Type 0
 RequestIn line (Ok None) = line ≡ carriage_return ∷ []
 RequestIn line (Ok (Some r)) =
@@ -52,7 +53,7 @@ RequestIn line (Err (Refused BadLine)) = IsBadLine IsNoRequestOrEmpty line
 RequestIn line (Err Memory) = IsGoodLine IsNoRequestLine line
 RequestIn line (Err _) = ⊥
 
--- what a line is read as: a field line or the empty line; memory is needed only for a field line
+-- whether a line is read with this result: as a field line or the empty line; memory is needed only for a field line
 abbrev pub FieldIn : List ℕ → Result (Option Header) NoHead → Type 0
 FieldIn line (Ok None) = line ≡ carriage_return ∷ []
 FieldIn line (Ok (Some h)) = (text : List ℕ) × (line ≡ text ++ carriage_return ∷ []) × ReadsFieldLine text h
@@ -60,41 +61,42 @@ FieldIn line (Err (Refused BadLine)) = IsBadLine IsNoFieldOrEnd line
 FieldIn line (Err Memory) = IsGoodLine IsNoFieldLine line
 FieldIn line (Err _) = ⊥
 
--- why there is no head if there is no line; `later` means that a line of the head has come
+-- the reason why no head was read if no line was found; `later` means that a line of the head came before
 abbrev pub no_head : NoLine → StandardFault → Bool → NoHead
 no_head (no_line.Cut has_begun) too_long later = Unfinished (has_begun || later)
 no_head no_line.TooLong too_long later = Refused too_long
 no_head no_line.Memory too_long later = Memory
 
--- the source stopped before the end of the head
+-- whether no head was read because the source stopped before the end of the head
 abbrev pub IsUnfinished : NoHead → Type 0
 IsUnfinished (Unfinished has_begun) = ⊤
 IsUnfinished _ = ⊥
 
+-- whether the result is that the source stopped before the end of the head
 abbrev pub IsUnfinishedRead : StandardRead → Type 0
 IsUnfinishedRead (read.Unfinished has_begun) = ⊤
 IsUnfinishedRead _ = ⊥
 
--- the limit shrinks by the number of bytes taken
+-- whether the limit shrank by the number of bytes taken
 abbrev pub IsSpent : ℕ → List ℕ → ℕ → List ℕ → Type 0
 IsSpent limit bytes left rest = limit + length rest ≡ left + length bytes
 
--- a line is at the front of the bytes within the limit, and was taken
+-- whether a line at the front of the bytes, within the limit, was taken
 pub record TakesText (limit left : ℕ) (f : Feed) (new : Option Feed) (text : List ℕ) : Type 0 where
   pub rest : List ℕ
   pub line : Line (take limit f.bytes) text (take left rest)
   pub goes : new ≡ feed_from f rest
   pub spent : IsSpent limit f.bytes left rest
 
--- the limit was reached before the end of a line
+-- whether the limit was reached before the end of a line
 abbrev pub IsLong : ℕ → List ℕ → Type 0
 IsLong limit bytes = HasNo line_feed (take limit bytes) × (limit ≤ length bytes)
 
--- the bytes ended before the end of a line and before the limit
+-- whether the bytes ended before the end of a line and before the limit
 abbrev pub IsShort : ℕ → List ℕ → Type 0
 IsShort limit bytes = HasNo line_feed bytes × (length bytes < limit)
 
--- reading a request line, or an empty one
+-- The effect of reading a request line, or an empty line, on the limit and the feed.
 abbrev pub ReadsRequest : ℕ → ℕ → Option Feed → Option Feed → Result (Option (Method × List ℕ × HTTPVersion)) NoHead
     → Type 0
 ReadsRequest limit left None new r = ⊤
@@ -108,7 +110,7 @@ ReadsRequest limit left (Some f) new (Err (Unfinished has_begun)) =
 ReadsRequest limit left (Some f) new (Err Memory) = ⊤
 ReadsRequest limit left (Some f) new (Err _) = ⊥
 
--- reading a field line, or the empty line
+-- The effect of reading a field line, or the empty line, on the limit and the feed.
 abbrev pub ReadsField : ℕ → ℕ → Option Feed → Option Feed → Result (Option Header) NoHead → Type 0
 ReadsField limit left None new r = ⊤
 ReadsField limit left (Some f) new (Ok None) = TakesText limit left f new []
@@ -120,8 +122,8 @@ ReadsField limit left (Some f) new (Err (Unfinished has_begun)) = IsShort limit 
 ReadsField limit left (Some f) new (Err Memory) = ⊤
 ReadsField limit left (Some f) new (Err _) = ⊥
 
--- why memory was needed for the first line: it is valid; or it isn't whole in the buffer, since bytes of it were taken,
--- or the buffered bytes within the limit have no LF
+-- whether memory was needed for the first line: the line is valid; or it isn't whole in the buffer, since bytes of it
+-- were taken, or the buffered bytes within the limit have no LF
 abbrev pub LacksMemory : (List ℕ → Type 0) → ℕ → Feed → Option Feed → List ℕ → Type 0
 LacksMemory IsBad limit f new held =
     ((text : List ℕ) × (rest : List ℕ) × Line (take limit f.bytes) text rest × (IsBad text → ⊥))
@@ -130,7 +132,8 @@ LacksMemory IsBad limit f new held =
     × HasNo line_feed gone
     × (gone ≡ [] → HasNo line_feed (take limit held)))
 
--- the same for a request line, after at most one empty line
+-- whether memory was needed for the request line, after at most one empty line: the line is valid, or isn't whole in
+-- the buffer
 abbrev pub LacksMemoryAtStart : ℕ → Feed → Option Feed → List ℕ → Type 0
 LacksMemoryAtStart limit f new held =
     HasGoodRequestLine (take limit f.bytes)
@@ -139,7 +142,7 @@ LacksMemoryAtStart limit f new held =
     × HasNo line_feed (behind_empty_line gone)
     × (behind_empty_line gone ≡ [] → HasNo line_feed (take (limit - length gone) held)))
 
--- reading the request line, after at most one empty line
+-- The effect of reading the request line, after at most one empty line, on the limit and the feed.
 abbrev pub ReadsStart : ℕ → ℕ → Option Feed → Option Feed → Result (Method × List ℕ × HTTPVersion) NoHead → Type 0
 ReadsStart limit left None new r = ⊤
 ReadsStart limit left (Some f) new (Ok r) =
@@ -156,7 +159,7 @@ ReadsStart limit left (Some f) new (Err (Unfinished has_begun)) =
 ReadsStart limit left (Some f) new (Err Memory) = ⊤
 ReadsStart limit left (Some f) new (Err _) = ⊥
 
--- these header fields were read
+-- whether these header fields were read
 abbrev pub HasReadFields : ℕ → ℕ → Option Feed → Option Feed → List Header → Type 0
 HasReadFields limit left None new headers = ⊤
 HasReadFields limit left (Some f) new headers =
@@ -165,7 +168,7 @@ HasReadFields limit left (Some f) new headers =
     × (new ≡ feed_from f rest)
     × IsSpent limit f.bytes left rest
 
--- reading all field lines and the empty line
+-- The effect of reading all field lines and the empty line on the limit and the feed.
 abbrev pub ReadsFields : ℕ → ℕ → Option Feed → Option Feed → Result (Vec Header) NoHead → Type 0
 ReadsFields limit left None new r = ⊤
 ReadsFields limit left (Some f) new (Ok headers) =
@@ -182,23 +185,23 @@ ReadsFields limit left (Some f) new (Err (Unfinished has_begun)) =
 ReadsFields limit left (Some f) new (Err Memory) = ⊤
 ReadsFields limit left (Some f) new (Err _) = ⊥
 
--- the result if there is no head
+-- whether this is the result of reading a head if there is none, for this reason
 abbrev pub IsWithoutHead : NoHead → Result StandardRead AllocError → Type 0
 IsWithoutHead (Refused fault) r = r ≡ Ok (read.Refused fault)
 IsWithoutHead (Unfinished has_begun) r = r ≡ Ok (read.Unfinished has_begun)
 IsWithoutHead Memory r = IsErr r
 
--- the input continues after a complete head
+-- whether the input continues after a complete head
 abbrev pub LeavesBehind : Feed → Option Feed → StandardRead → Type 0
 LeavesBehind f new (read.Whole h) = new ≡ feed_from f (drop h.length f.bytes)
 LeavesBehind f new _ = ⊤
 
--- A HEAD OF A SOURCE is read as all bytes that are still to come
+-- A HEAD OF A SOURCE is read as all bytes still to come would be, and the input continues after it.
 abbrev pub ReadsFrom : ℕ → Option Feed → Option Feed → StandardRead → Type 0
 ReadsFrom limit None new r = ⊤
 ReadsFrom limit (Some f) new r = Reads limit f.bytes r × LeavesBehind f new r
 
--- whatever the source states, a complete head was validated with this summary
+-- whether a complete head was validated with this summary, whatever the source states
 abbrev pub IsValidated : StandardRead → Type 0
 IsValidated (read.Whole h) = Validates h.version h.method h.headers.items (Ok h.summary)
 IsValidated _ = ⊤

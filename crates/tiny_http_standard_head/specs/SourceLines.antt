@@ -9,35 +9,35 @@ use Rattle.tiny_http_standard_head.specs.declared.source_lines.NoLine.{NoLine}
 use Rattle.tiny_http_standard_head.specs.declared.source_lines.NoLine.TheVariants.{Cut, TooLong, Memory}
 use Rattle.tiny_http_head.specs.Heads.{line_feed}
 
--- the first LF is after n bytes
+-- whether the first LF comes after n bytes
 pub record EndsLine (bytes : List ℕ) (n : ℕ) : Type 0 where
   pub within : n + 1 ≤ length bytes
   pub ends : take (n + 1) bytes ≡ take n bytes ++ line_feed ∷ []
   pub first : HasNo line_feed (take n bytes)
 
--- these bytes were taken; none is an LF
+-- whether these bytes were taken, and none is an LF
 pub record Passes (old new : Option Feed) (gone : List ℕ) : Type 0 where
   pub joins : old ≡ prepended gone new
   pub none : HasNo line_feed gone
 
--- a line was taken, with its LF
+-- whether this line was taken, with its LF, and is within the limit
 pub record TakesLine (limit : ℕ) (old new : Option Feed) (line : List ℕ) : Type 0 where
   pub joins : old ≡ prepended (line ++ line_feed ∷ []) new
   pub first : HasNo line_feed line
   pub within : length line < limit
 
--- a line was found: it is buffered, or was taken
+-- whether a line within the limit was found: it is buffered, or was taken
 abbrev pub FindsLine : ℕ → Option Feed → Option Feed → List ℕ → ℕ → FoundLine → Type 0
 FindsLine limit old new held skip (Held n) = (new ≡ old) × (skip ≡ 0) × EndsLine held n × (n < limit)
 FindsLine limit old new held skip (Taken line) = TakesLine limit old new line.items
 
--- the source stopped before the end of the line
+-- whether no line was found because the source stopped before the end of the line
 abbrev pub IsCut : NoLine → Type 0
 IsCut (Cut has_begun) = ⊤
 IsCut _ = ⊥
 
--- why there is no line within the limit, with these bytes buffered afterwards; memory is needed only for a line that
--- isn't whole in the buffer
+-- whether there is no line within the limit, for this reason, with these bytes buffered afterwards; memory is needed
+-- only for a line that isn't whole in the buffer
 abbrev pub HasNoLine : ℕ → Option Feed → Option Feed → List ℕ → NoLine → Type 0
 HasNoLine limit old new held (Cut has_begun) =
     (gone : List ℕ)

@@ -19,33 +19,33 @@ use Rattle.tiny_http_head.specs.Target.{slash}
 use Rattle.tiny_http_standard_head.specs.Hosts.{percent, IsHostValue}
 use Rattle.tiny_http_standard_head.specs.Lists.{values_of, elements_of, has_element_that, has_element}
 
--- version 1.0. Each later minor version counts as 1.1; below, 1.1 means all of them.
+-- whether the version is 1.0. Each later minor version counts as 1.1; in this file's comments 1.1 means all of them.
 abbrev pub is_1_0 : HTTPVersion → Bool
 is_1_0 v = v.0 == 1 && v.1 == 0
 
--- THE HOST: exactly one in version 1.1, at most one in 1.0
+-- THE HOST: whether there is exactly one in version 1.1, and at most one in 1.0
 abbrev pub HasValidHost : HTTPVersion → List (List ℕ) → Type 0
 HasValidHost v [] = IsTrue (is_1_0 v)
 HasValidHost v (value ∷ []) = IsHostValue value
 HasValidHost v (value ∷ another ∷ more) = ⊥
 
--- the coding is chunked, compared case-insensitively
+-- whether the coding is chunked, compared case-insensitively
 abbrev pub is_chunked : List ℕ → Bool
 is_chunked coding = same_name coding (codes "chunked")
 
--- a coding that is neither empty nor chunked
+-- whether the coding is neither empty nor chunked
 abbrev pub is_unknown_coding : List ℕ → Bool
 is_unknown_coding coding = not (is_chunked coding) && not (bytes_eq coding [])
 
 -- THE BODY, by the elements of Content-Length and Transfer-Encoding: without codings it has the one length, or there is
--- none; otherwise it is chunked alone, in version 1.1.
+-- none; with codings it is chunked, which is the only coding, in version 1.1 and without a content length.
 abbrev pub IsBodyFraming : HTTPVersion → List (List ℕ) → List (List ℕ) → Option ℕ → Bool → Type 0
 IsBodyFraming v lengths [] n chunked = IsOneLength lengths n × (chunked ≡ false)
 IsBodyFraming v [] (coding ∷ codings) n chunked =
     IsTrue (not (is_1_0 v)) × IsTrue (is_chunked coding) × (codings ≡ []) × (n ≡ None) × (chunked ≡ true)
 IsBodyFraming v (length ∷ lengths) (coding ∷ codings) n chunked = ⊥
 
--- unknown codings followed by chunked, without a content length, in version 1.1
+-- whether unknown codings are followed by chunked, without a content length, in version 1.1
 pub record HasUnknownCodings (v : HTTPVersion) (lengths codings : List (List ℕ)) : Type 0 where
   pub later : IsTrue (not (is_1_0 v))
   pub no_length : lengths ≡ []
@@ -56,76 +56,77 @@ pub record HasUnknownCodings (v : HTTPVersion) (lengths codings : List (List ℕ
   pub named : IsTrue (list_all is_unknown_coding others)
   pub chunked : IsTrue (is_chunked last)
 
--- a body follows the head
+-- whether a body follows the head
 abbrev pub has_body : Option ℕ → Bool → Bool
 has_body None chunked = chunked
 has_body (Some n) chunked = nat_lt 0 n
 
--- an expectation that is neither 100-continue nor empty
+-- whether the expectation is neither 100-continue nor empty
 abbrev pub is_unknown_expectation : List ℕ → Bool
 is_unknown_expectation element = not (same_name element (codes "100-continue")) && not (bytes_eq element [])
 
--- a 100 is due: in version 1.1, if a body follows and the head expects it
+-- whether a 100 is due: in version 1.1, if a body follows and the head expects it
 abbrev pub owes_continue : HTTPVersion → List Header → Option ℕ → Bool → Bool
 owes_continue v headers n chunked =
     not (is_1_0 v) && (has_body n chunked && has_element (codes "Expect") (codes "100-continue") headers)
 
--- one token, or two
+-- whether the texts are one token or two tokens
 abbrev pub is_one_or_two_tokens : List (List ℕ) → Bool
 is_one_or_two_tokens [] = false
 is_one_or_two_tokens (name ∷ []) = is_token name
 is_one_or_two_tokens (name ∷ version ∷ []) = is_token name && is_token version
 is_one_or_two_tokens (name ∷ version ∷ another ∷ more) = false
 
--- a protocol: token, or token "/" token. It has no percent sign, which may stand for a byte above 127.
+-- whether the text is a protocol: token, or token "/" token, without a percent sign, which may stand for a byte above
+-- 127
 abbrev pub is_protocol : List ℕ → Bool
 is_protocol text = is_one_or_two_tokens (parts slash text) && list_all (λ b. not (b == percent)) text
 
--- the head asks for an upgrade: in version 1.1, with upgrade in Connection and a protocol in Upgrade
+-- whether the head asks for an upgrade: in version 1.1, with upgrade in Connection and a protocol in Upgrade
 abbrev pub asks_upgrade : HTTPVersion → List Header → Bool
 asks_upgrade v headers =
     not (is_1_0 v)
     && (has_element (codes "Connection") (codes "upgrade") headers
     && has_element_that (codes "Upgrade") is_protocol headers)
 
--- the element is a protocol and equals this one, compared case-insensitively
+-- whether the element is a protocol and equals this one, compared case-insensitively
 abbrev pub is_protocol_named : List ℕ → List ℕ → Bool
 is_protocol_named protocol element = is_protocol element && same_name element protocol
 
--- some element of Upgrade is this protocol
+-- whether some element of Upgrade is this protocol
 abbrev pub names_protocol : List Header → List ℕ → Bool
 names_protocol headers protocol = has_element_that (codes "Upgrade") (is_protocol_named protocol) headers
 
--- the method is CONNECT
+-- whether the method is CONNECT
 abbrev pub is_connect : Method → Bool
 is_connect method = bytes_eq (method_text method) (codes "CONNECT")
 
--- the head makes this the last request of the connection
+-- whether the head makes this the last request of the connection
 abbrev pub is_last : HTTPVersion → Method → List Header → Bool
 is_last v method headers =
     has_element (codes "Connection") (codes "close") headers
     || ((is_1_0 v && not (has_element (codes "Connection") (codes "keep-alive") headers)) || is_connect method)
 
--- the version, the host and the body framing are valid: the body has this length, or is chunked
+-- whether the version, the host and the body framing are valid: the body has this length, or is chunked
 pub record IsFramedRequest (v : HTTPVersion) (headers : List Header) (n : Option ℕ) (chunked : Bool) : Type 0 where
   pub version : v.0 ≡ 1
   pub host : HasValidHost v (values_of (codes "Host") headers)
   pub body : IsBodyFraming v (elements_of (codes "Content-Length") headers)
       (elements_of (codes "Transfer-Encoding") headers) n chunked
 
--- the head names unknown codings
+-- whether the head names unknown codings before a final chunked
 abbrev pub NamesUnknownCodings : HTTPVersion → List Header → Type 0
 NamesUnknownCodings v headers =
     HasUnknownCodings v (elements_of (codes "Content-Length") headers)
     (elements_of (codes "Transfer-Encoding") headers)
 
--- the host is valid, and the body is framed, or would be if its codings were known
+-- whether the host is valid, and the body is framed, or would be if its codings were known
 abbrev pub IsValid : HTTPVersion → List Header → Type 0
 IsValid v headers =
     HasValidHost v (values_of (codes "Host") headers)
     × (NamesUnknownCodings v headers ⊎ ((n : Option ℕ) × (chunked : Bool) × IsFramedRequest v headers n chunked))
 
--- THE ORDER OF VALIDATION: the version, host and body, codings, expectations
+-- THE ORDER OF VALIDATION: the version, the host and the body framing, the codings, the expectations
 abbrev pub Validates : HTTPVersion → Method → List Header → Result HeadSummary HeadError → Type 0
 Validates v method headers (Err UnsupportedVersion) = v.0 ≢ 1
 Validates v method headers (Err InvalidHead) = (v.0 ≡ 1) × (IsValid v headers → ⊥)

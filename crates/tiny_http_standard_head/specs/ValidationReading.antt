@@ -15,7 +15,7 @@ use Rattle.tiny_http_standard_head.specs.declared.validation.HeadError.TheVarian
 use Rattle.tiny_http_standard_head.specs.Validation.{is_chunked, is_unknown_expectation, is_protocol, is_1_0}
 use Rattle.tiny_http_standard_head.specs.Te.{element_asks_chunked}
 
--- the element matches
+-- whether the element is what is wanted
 abbrev pub is_wanted : Wanted → List ℕ → Bool
 is_wanted Close element = same_name element (codes "close")
 is_wanted KeepAlive element = same_name element (codes "keep-alive")
@@ -25,7 +25,7 @@ is_wanted Protocol element = is_protocol element
 is_wanted UnknownExpectation element = is_unknown_expectation element
 is_wanted Chunks element = element_asks_chunked element
 
--- the state after one more coding
+-- the state of the codings after one more coding
 abbrev pub coding_after : Codings → List ℕ → Codings
 coding_after Absent coding = if is_chunked coding then Chunked else if bytes_eq coding [] then Bad else Others
 coding_after Others coding = if is_chunked coding then Behind else if bytes_eq coding [] then Bad else Others
@@ -33,6 +33,7 @@ coding_after Chunked coding = Bad
 coding_after Behind coding = Bad
 coding_after Bad coding = Bad
 
+-- the state of the codings after these codings
 abbrev pub codings_on : Codings → List (List ℕ) → Codings
 codings_on was [] = was
 codings_on was (coding ∷ codings) = codings_on (coding_after was coding) codings
@@ -42,7 +43,7 @@ coded_body Chunked = Ok (None, true)
 coded_body Behind = Err UnknownCoding
 coded_body _ = Err InvalidHead
 
--- the body by the codings and the content length
+-- the length of the body, if it has one, and whether it is chunked, by its codings and content length; or the error
 abbrev pub body_with : HTTPVersion → Codings → Option ℕ → Result (Option ℕ × Bool) HeadError
 body_with v Absent n = Ok (n, false)
 body_with v codings n = if (is_1_0 v || is_some n) then Err InvalidHead else coded_body codings

@@ -12,10 +12,10 @@ use tiny_http_head::common::{HTTPVersion, Header, Method};
 use tiny_http_text::ascii::AsciiString;
 use tiny_http_text::bytes::cut;
 
-/// Maximum number of field lines in a head. One more is answered with 431 (RFC 6585, section 5).
+/// Maximum number of field lines in a head. A head with more is answered with 431 (RFC 6585, section 5).
 pub const MOST_HEADERS: usize = 256;
 
-/// A request head, with what its fields say.
+/// A parsed and validated request head, with a summary of what its fields say.
 #[derive(Drop)]
 pub struct StandardHead {
     /// The method.
@@ -28,7 +28,7 @@ pub struct StandardHead {
     pub headers: Vec<Header>,
     /// What the head says about its body and the connection.
     pub summary: HeadSummary,
-    /// The length in bytes, including an empty line before the head and the one that ends it.
+    /// The length in bytes, including an empty line before the head, if there was one, and the empty line that ends it.
     pub length: usize,
 }
 
@@ -43,13 +43,13 @@ pub enum StandardFault {
     HeaderFieldsTooLarge,
     /// A valid field line came after `MOST_HEADERS` others.
     TooManyFields,
-    /// All lines are valid, but the head isn't.
+    /// All lines are valid, but the head as a whole isn't.
     Invalid(HeadError),
 }
 
 impl StandardFault {
-    /// Returns the status code that reports it: 400, 414, 431, 505, 501 or 417 (RFC 9110, section 15; RFC 6585, section
-    /// 5).
+    /// Returns the status code of the response to this fault: 400, 414, 431, 505, 501 or 417 (RFC 9110, section 15; RFC
+    /// 6585, section 5).
     pub fn status(self) -> u16
         ensures { result ≡ status_of self }
     {
@@ -74,20 +74,20 @@ pub enum StandardRead {
     /// More bytes are needed.
     Unfinished {
         /// Whether a byte of a head has come. A lone CR counts as one until an LF makes it an empty line, so only the
-        /// last value counts.
+        /// value of the last call counts.
         has_begun: bool,
     },
 }
 
-// The reason why there is no line.
+// The reason why no line was found.
 enum NoLine {
-    // Its LF has no CR before it.
+    // The first LF has no CR before it.
     Bare,
-    // It hasn't ended.
+    // There is no LF yet.
     Open,
 }
 
-// The reason why there is no complete head.
+// The reason why no complete head was parsed.
 enum NoHead {
     // A line is malformed.
     Bad,
@@ -95,13 +95,13 @@ enum NoHead {
     OpenRequest,
     // A line after the request line hasn't ended.
     OpenField,
-    // There is one field line too many.
+    // There are more than `MOST_HEADERS` field lines.
     TooMany,
     // Memory was refused.
     Memory,
 }
 
-// Splits the bytes after the first line: its text without CR LF, and the rest.
+// Splits off the first line. Returns its text, without the CR LF, and the rest of the bytes.
 fn next_line(bytes: &[u8]) -> Result<(&[u8], &[u8]), NoLine>
     ensures some { IfOk result (λ r. Line bytes.now r.0.now r.1.now) }
     ensures none { IfErr result (λ why. HasNoLine why bytes.now) }
@@ -116,7 +116,7 @@ fn next_line(bytes: &[u8]) -> Result<(&[u8], &[u8]), NoLine>
     Ok((&line[..n - 1], rest))
 }
 
-// Skips one empty line at the beginning.
+// Skips one empty line at the beginning, if there is one.
 fn behind_empty_line(bytes: &[u8]) -> &[u8]
     ensures { result.now ≡ behind_empty_line bytes.now }
 {
@@ -203,8 +203,8 @@ fn read_whole(alloc: Global, bytes: &[u8]) -> Result<StandardRead, NoHead>
     }
 }
 
-// Returns the result for a head that hasn't ended: this fault if the limit is reached, or else that more bytes are
-// needed.
+// Returns the result for a head that hasn't ended: `Refused` with this fault if the limit is reached, and otherwise
+// `Unfinished`.
 fn not_ended(bytes: &[u8], limit: usize, fault: StandardFault) -> StandardRead
     ensures full { limit ≤ length bytes.now → result ≡ StandardRead.Refused fault }
     ensures open { length bytes.now < limit → result ≡ StandardRead.Unfinished (is_begun bytes.now) }
@@ -217,12 +217,14 @@ fn not_ended(bytes: &[u8], limit: usize, fault: StandardFault) -> StandardRead
     }
 }
 
-/// Parses and validates the head at the start of `bytes`, of at most `limit` bytes with its empty lines and at most
-/// `MOST_HEADERS` field lines. A line ends at its first LF, which needs a CR before it. One empty line before the
-/// request line is skipped. The first malformed or surplus line is refused, whatever follows, and so are `limit` bytes
-/// without an end; below 3 even before a byte of a head. If more bytes are needed, call again with these and the new
-/// ones. Each call starts over, so for a head that comes byte by byte use a reader that keeps its lines. Fails if
-/// memory is refused, which happens only after a valid request line.
+/// Parses and validates the head at the start of `bytes`. It may have at most `limit` bytes, including its empty lines,
+/// and `MOST_HEADERS` field lines. A line ends at its first LF, which needs a CR before it. One empty line before the
+/// request line is skipped.
+///
+/// The first malformed or surplus line is refused, whatever follows, and so are `limit` bytes without the end of a
+/// head; if `limit` is below 3, even before a byte of a head. If more bytes are needed, call again with these bytes and
+/// the new ones. Each call starts over, so for a head that comes byte by byte use a reader that keeps its lines. Fails
+/// if memory is refused, which happens only after a valid request line.
 pub fn read_head(alloc: Global, bytes: &[u8], limit: usize) -> Result<StandardRead, AllocError>
     ensures reads { IfOk result (λ read. Reads limit bytes.now read) }
     ensures begun { OnErr result (HasGoodRequestLine (take limit bytes.now)) }

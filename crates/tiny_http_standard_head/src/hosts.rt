@@ -25,7 +25,7 @@ fn is_registered_name_byte(b: u8) -> bool
     b.is_ascii_alphanumeric() || b"-._~!$&'()*+,;=".contains(&b)
 }
 
-// Returns whether the text is a registered name, or empty.
+// Returns whether the text is a registered name, which may be empty.
 fn is_registered_name(text: &[u8]) -> bool
     ensures { result ≡ is_registered_name text.now }
 {
@@ -64,9 +64,9 @@ fn is_bracketed_address(text: &[u8]) -> bool
     are_address_bytes(&text[1..n - 1])
 }
 
-/// Returns whether the text is a host (RFC 3986, section 3.2.2): one or more hexadecimal digits, `:` and `.` in
-/// brackets, which are not validated further; or one or more of letters, digits, ``-._~!$&'()*+,;=``, and `%` with two
-/// hexadecimal digits.
+/// Returns whether the text is a host (RFC 3986, section 3.2.2): in brackets, one or more hexadecimal digits, `:` and
+/// `.`, which are not validated further; or one or more letters, digits, bytes of ``-._~!$&'()*+,;=``, and `%` followed
+/// by two hexadecimal digits.
 pub fn is_host(text: &[u8]) -> bool
     ensures { IsTrue result ↔ IsHost text.now }
 {
@@ -79,7 +79,8 @@ pub fn is_host(text: &[u8]) -> bool
     is_registered_name(text)
 }
 
-// Splits the text at the last `c`.
+// Splits the text at the last `c`. Returns the bytes before it and the bytes after it, or `None` if the text has no
+// `c`.
 fn cut_last(text: &[u8], c: u8) -> Option<(&[u8], &[u8])>
     ensures some { IfSome result (λ r. (text.now ≡ r.0.now ++ c ∷ r.1.now) × HasNo c r.1.now) }
     ensures none { IfNone result (HasNo c text.now) }

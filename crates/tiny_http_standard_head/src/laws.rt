@@ -1,4 +1,5 @@
-//! Laws of heads by the standard: a text has at most one reading, all bytes have exactly one, and so has validation.
+//! Laws of heads by the standard: each line has at most one reading, any bytes have exactly one, and validation has
+//! exactly one result.
 ghost use Rattle.std.specs.Prelude.{◌≡◌, ℕ, List, Result};
 ghost use Rattle.tiny_http_head.specs.declared.common.Method.{Method};
 ghost use Rattle.tiny_http_head.specs.declared.common.HTTPVersion.{HTTPVersion};
@@ -10,7 +11,7 @@ ghost use Rattle.tiny_http_standard_head.specs.Heads.{Reading, AreReadAs, Reads,
 ghost use Rattle.tiny_http_standard_head.specs.Lines.{RequestLine, FieldLine};
 ghost use Rattle.tiny_http_standard_head.specs.Validation.{Validates};
 
-/// A text is at most one request line: one method, one target and one version.
+/// A text is a request line in at most one way: with one method, one target and one version.
 pub fn one_request_line()
     ensures { (text m t m' t' : List ℕ) (v v' : HTTPVersion)
         → RequestLine text m t v
@@ -18,7 +19,7 @@ pub fn one_request_line()
         → (m ≡ m') × (t ≡ t') × (v ≡ v') }
 {}
 
-/// A text is at most one field line: one name and one value.
+/// A text is a field line in at most one way: with one name and one value.
 pub fn one_field_line()
     ensures { (text field value field' value' : List ℕ)
         → FieldLine text field value
@@ -36,8 +37,8 @@ pub fn one_validation()
         → r ≡ r' }
 {}
 
-/// The first bytes of a client have exactly one reading: a complete head with the result of its validation, a malformed
-/// or surplus line, or a line that hasn't ended.
+/// The first bytes from a client have exactly one reading: a complete head with the result of its validation, a
+/// malformed or surplus line, or a line that hasn't ended.
 pub fn one_reading()
     ensures some { (bytes : List ℕ) → (r : Reading) × AreReadAs bytes r }
     ensures read { (bytes : List ℕ) (r r' : Reading) → AreReadAs bytes r → AreReadAs bytes r' → r ≡ r' }

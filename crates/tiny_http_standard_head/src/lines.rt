@@ -107,12 +107,13 @@ fn split_request_line(text: &[u8]) -> Option<(&[u8], &[u8], HTTPVersion)>
     Some((method, target, version))
 }
 
-/// Parses a request line: a token, a space, the target, a space and the version (RFC 9112, section 3). The target has
-/// only bytes 33 to 126. For `CONNECT` it is a host with a port. Otherwise it begins with `/`, or is `*` for `OPTIONS`,
-/// or begins with `http://` or `https://` in any case and a nonempty host, with or without a port, up to the first `/`
-/// or `?` (`hosts::is_host_with_port`). The version is `HTTP/`, a digit, a point and a digit; `validation::validate`
-/// checks if it is supported. Returns `None` for any other text. Fails if the text is a request line and memory is
-/// refused.
+/// Parses a request line: a token, a space, the target, a space and the version (RFC 9112, section 3). Returns `None`
+/// for any other text. Fails if the text is a request line and memory is refused.
+///
+/// The target has only bytes 33 to 126. For `CONNECT` it is a host with a port. Otherwise it begins with `/`, or is `*`
+/// for `OPTIONS`, or begins with `http://` or `https://` in any case, followed up to the first `/` or `?` by a nonempty
+/// host, with or without a port (`hosts::is_host_with_port`). The version is `HTTP/`, a digit, a point and a digit;
+/// `validation::validate` checks whether it is supported.
 pub fn parse_request_line(
     alloc: Global,
     text: &[u8],
@@ -129,7 +130,7 @@ pub fn parse_request_line(
     Ok(Some((method, target, version)))
 }
 
-// Returns the hexadecimal digit, in upper case.
+// Returns the hexadecimal digit of a value below 16, in upper case.
 fn uppercase_hexadecimal_digit(d: u8) -> u8
     requires { d < 16 }
     ensures { result ≡ uppercase_hexadecimal_digit d }
@@ -190,11 +191,12 @@ fn split_field_line(text: &[u8]) -> Option<(&[u8], &[u8])>
     Some((field, value))
 }
 
-/// Parses a field line: a token, immediately a colon, and the value, stripped of spaces and tabs (RFC 9112, section 5).
+/// Parses a field line: a token, a colon directly after it, and the value, stripped of spaces and tabs (RFC 9112,
+/// section 5).
 ///
 /// The value has no byte 0 to 8, 10 to 31 or 127. A byte above 127 is percent-encoded in upper case, so the byte 233
-/// and the three bytes `%E9` give the same text. `Host` and `Transfer-Encoding` must not have one, whatever the
-/// version. Returns `None` for any other text. Fails if the text is a field line and memory is refused.
+/// and the three bytes `%E9` give the same text. `Host` and `Transfer-Encoding` must not contain such a byte, whatever
+/// the version. Returns `None` for any other text. Fails if the text is a field line and memory is refused.
 pub fn parse_field_line(alloc: Global, text: &[u8]) -> Result<Option<Header>, AllocError>
     ensures some { IfOk result (λ found. IfSome found (λ h. ReadsFieldLine text.now h)) }
     ensures none { result ≡ Ok None → IsNoFieldLine text.now }

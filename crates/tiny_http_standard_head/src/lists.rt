@@ -7,7 +7,7 @@ ghost use Rattle.tiny_http_standard_head.specs.Lists.{between_commas, has_elemen
 use crate::validation::trim;
 use tiny_http_head::common::Header;
 
-// Compares an element with a word, case-insensitively.
+// Returns whether an element equals a word, case-insensitively.
 fn is_word(word: &str, element: &[u8]) -> bool
     ensures { result ≡ same_name element.now word.now }
 {
@@ -26,10 +26,10 @@ fn has_word(value: &str, word: &str) -> bool
     false
 }
 
-/// Returns whether the fields of this name list this word. All such fields form one list (RFC 9110, section 5.3), whose
-/// elements are between commas, stripped of spaces and tabs (RFC 9110, section 5.6.1). Name and word are compared
-/// case-insensitively (ASCII). The whole element must match: one with parameters doesn't. A comma in a quoted string
-/// also separates. The empty word matches an empty element.
+/// Returns whether the fields of this name list this word. All these fields form one list (RFC 9110, section 5.3),
+/// whose elements are the texts between commas, stripped of spaces and tabs (RFC 9110, section 5.6.1). Name and word
+/// are compared case-insensitively (ASCII). The whole element must match, so an element with parameters doesn't. A
+/// comma in a quoted string also separates. The empty word matches an empty element.
 pub fn has_element(headers: &[Header], name: &str, word: &str) -> bool
     ensures { result ≡ has_element name.now word.now headers.now }
 {

@@ -22,10 +22,10 @@ use tiny_http_io::device::ReadDevice;
 use tiny_http_io::source::Source;
 use tiny_http_text::ascii::AsciiString;
 
-// The reason why there is no head.
+// The reason why no head was read.
 #[derive(Clone, Copy, Debug, PartialEq, Eq)]
 enum NoHead {
-    // It is refused.
+    // The head is refused.
     Refused(StandardFault),
     // The source stopped before the end of the head.
     Unfinished { has_begun: bool },
@@ -82,7 +82,8 @@ fn field_in(alloc: Global, line: &[u8]) -> Result<Option<Header>, NoHead>
     }
 }
 
-// Converts the reason why there is no line; `too_long` is the fault of one that is too long.
+// Converts the reason why no line was found. `too_long` is the fault of a line that is too long; `later` says whether a
+// line of the head came before.
 fn no_head(why: NoLine, too_long: StandardFault, later: bool) -> NoHead
     ensures { result ≡ no_head why too_long later }
 {
@@ -186,14 +187,14 @@ fn read_start<R: ReadDevice>(
     }
 }
 
-// Reads the field lines and the empty line after them.
+// Reads the field lines and the empty line that ends them.
 fn read_fields<R: ReadDevice>(
     alloc: Global,
     source: &mut Source<R>,
     left: &mut usize,
 ) -> Result<Vec<Header>, NoHead>
     ensures reads { ReadsFields left.old left.new source.old.feed source.new.feed result }
-    // Reports `Memory` only after a valid line, or for a line that isn't whole in the buffer.
+    // `Memory` is reported only after a valid line, or for a line that isn't whole in the buffer.
     ensures memory { result ≡ Err NoHead.Memory → IfSome source.old.feed
         (λ f. LacksMemory IsNoFieldLine left.old f source.new.feed source.new.held) }
     ensures shorter { OnOk result (left.new ≤ left.old) }
@@ -220,7 +221,7 @@ fn read_fields<R: ReadDevice>(
     }
 }
 
-// Converts the reason why there is no head.
+// Converts the reason why no head was read to a result.
 fn without_head(why: NoHead) -> Result<StandardRead, AllocError>
     ensures { IsWithoutHead why result }
 {
@@ -232,7 +233,7 @@ fn without_head(why: NoHead) -> Result<StandardRead, AllocError>
 }
 
 /// Reads the next head of a source, with at most `limit` bytes and `MOST_HEADERS` field lines. The result is that of
-/// `heads::read_head` on all bytes that the source still gives. No byte after the head is consumed, and none is read
+/// `heads::read_head` on all bytes still to come from the source. No byte after the head is consumed, and none is read
 /// ahead beyond one call of the reader. A line that is whole in the buffer is parsed in place. A malformed or surplus
 /// line is refused as soon as its LF has come. `Unfinished` means that the source has stopped, and is over. Fails if
 /// memory is refused; the source may then be in the middle of the head.
@@ -242,7 +243,7 @@ pub fn read_head_from<R: ReadDevice>(
     limit: usize,
 ) -> Result<StandardRead, AllocError>
     ensures reads { IfOk result (λ read. ReadsFrom limit source.old.feed source.new.feed read) }
-    // Memory is needed only from a valid request line on, or for a line that isn't whole in the buffer.
+    // Memory is needed only once the request line is valid, or for a line that isn't whole in the buffer.
     ensures memory { OnErr result (IfSome source.old.feed
         (λ f. LacksMemoryAtStart limit f source.new.feed source.new.held)) }
     ensures validated { IfOk result IsValidated }

@@ -10,24 +10,24 @@ use std::alloc::Global;
 use tiny_http_io::device::ReadDevice;
 use tiny_http_io::source::Source;
 
-/// A line, without its LF.
+/// A line that was found, up to its first LF: still in the buffer, or consumed.
 #[derive(Drop)]
 pub(crate) enum FoundLine {
-    /// The line is whole in the buffer: n bytes, then an LF. It isn't consumed yet.
+    /// The whole line is still in the buffer: this number of bytes, then an LF.
     Held(usize),
-    /// The line was consumed, with its LF.
+    /// The line was consumed with its LF. These are its bytes, without the LF.
     Taken(Vec<u8>),
 }
 
-/// The reason why there is no line.
+/// The reason why no line was found.
 #[derive(Clone, Copy, Debug, PartialEq, Eq)]
 pub(crate) enum NoLine {
     /// The source stopped before an LF and before the limit.
     Cut {
-        /// Whether a byte came.
+        /// Whether a byte of the line came.
         has_begun: bool,
     },
-    /// The limit was reached.
+    /// The limit was reached without an LF.
     TooLong,
     /// Memory for the line was refused.
     Memory,
@@ -48,7 +48,7 @@ fn within(bytes: &[u8], limit: usize) -> &[u8]
     &bytes[..bytes.len().min(limit)]
 }
 
-// Consumes a line that is only partly in the buffer, and reads the rest of it.
+// Reads and consumes a line of which only a part is in the buffer.
 fn take_line<R: ReadDevice>(
     alloc: Global,
     source: &mut Source<R>,
@@ -96,7 +96,7 @@ fn take_line<R: ReadDevice>(
 }
 
 /// Finds the next line, within `limit` bytes including its LF. A line that is whole in the buffer stays there, to be
-/// parsed in place, and takes no memory.
+/// parsed in place without an allocation. Any other line is consumed.
 pub(crate) fn find_line<R: ReadDevice>(
     alloc: Global,
     source: &mut Source<R>,

@@ -26,18 +26,18 @@ use tiny_http_text::bytes::{cut, is};
 /// What a head says about its body and the connection.
 #[derive(Clone, Copy, Debug, PartialEq, Eq)]
 pub struct HeadSummary {
-    /// The value of `Content-Length`. There is no body if it is `Some(0)`, or if it is `None` and the body isn't
-    /// chunked.
+    /// The value of `Content-Length`, if there is one. There is no body if it is `Some(0)`, or if it is `None` and the
+    /// body isn't chunked.
     pub body_length: Option<usize>,
     /// Whether the body is chunked.
     pub is_chunked: bool,
     /// Whether a 100 (Continue) is due before the body: in 1.1, if a body follows and `Expect` lists `100-continue`.
     pub owes_continue: bool,
-    /// Whether the head asks for an upgrade: in 1.1, if `Connection` lists `upgrade` and `Upgrade` lists a protocol.
-    /// That is a token, or two with a slash between, without `%`, which may stand for a byte above 127.
+    /// Whether the head asks for an upgrade: in 1.1, if `Connection` lists `upgrade` and `Upgrade` lists a protocol. A
+    /// protocol is a token, or two tokens with a slash between, without `%`, which may stand for a byte above 127.
     pub asks_upgrade: bool,
-    /// Whether the head alone makes this the last request of the connection: by `close`, in 1.0 without `keep-alive`,
-    /// or by the method `CONNECT`.
+    /// Whether the head alone makes this the last request of the connection: if `Connection` lists `close`, if the
+    /// version is 1.0 and `Connection` doesn't list `keep-alive`, or if the method is `CONNECT`.
     pub is_last: bool,
 }
 
@@ -46,13 +46,13 @@ pub struct HeadSummary {
 pub enum HeadError {
     /// The major version isn't 1: 505 (RFC 9110, section 15.6.6).
     UnsupportedVersion,
-    /// The host or the framing of the body is invalid: 400 (RFC 9112, sections 3.2 and 6). There is no `Host` in 1.1,
-    /// there are two, or the value is neither empty nor a host. Or the elements of `Content-Length` aren't one number;
-    /// an empty one isn't. Or `Transfer-Encoding` comes in 1.0 or beside `Content-Length`, its last element isn't
-    /// `chunked`, or another one is empty or `chunked`.
+    /// The host or the framing of the body is invalid: 400 (RFC 9112, sections 3.2 and 6). Either `Host` is missing in
+    /// 1.1, comes more than once, or is neither empty nor a host. Or the elements of `Content-Length` aren't all the
+    /// same number; an empty element isn't a number. Or `Transfer-Encoding` comes in 1.0 or beside `Content-Length`,
+    /// its last element isn't `chunked`, or another element is empty or `chunked`.
     InvalidHead,
-    /// There are other transfer codings before a final `chunked`, in version 1.1 or later and without a content length:
-    /// 501 (RFC 9112, section 6.1).
+    /// Other transfer codings come before a final `chunked`, in version 1.1 or later and without a content length: 501
+    /// (RFC 9112, section 6.1).
     UnknownCoding,
     /// An element of `Expect` is neither `100-continue` nor empty: 417 (RFC 9110, section 10.1.1).
     UnknownExpectation,
@@ -73,15 +73,15 @@ enum Wanted {
 // The elements of `Transfer-Encoding` so far.
 #[derive(Clone, Copy, PartialEq, Eq)]
 enum Codings {
-    // None.
+    // No element.
     Absent,
-    // Only others than `chunked`.
+    // Only elements other than `chunked`.
     Others,
-    // Only `chunked`.
+    // Only `chunked`, once.
     Chunked,
-    // Others, then `chunked`.
+    // Other elements, then `chunked`.
     Behind,
-    // An empty one, or one after `chunked`.
+    // An empty element, or an element after `chunked`.
     Bad,
 }
 
@@ -92,7 +92,7 @@ pub(crate) fn trim(text: &str) -> &[u8]
     trim_space_and_tab(text.as_bytes())
 }
 
-// Returns whether the text is a token, or two with a slash between.
+// Returns whether the text is a token, or two tokens with a slash between.
 fn is_one_or_two_tokens(text: &[u8]) -> bool
     ensures { result ≡ is_one_or_two_tokens (parts slash text.now) }
 {
@@ -116,7 +116,8 @@ fn is_protocol(text: &[u8]) -> bool
     is_one_or_two_tokens(text) && has_no_percent(text)
 }
 
-// Returns the value of a weight parameter: the text after `q=` or `Q=` (RFC 9110, section 12.4.2).
+// Returns the value of a weight parameter, the text after `q=` or `Q=` (RFC 9110, section 12.4.2), or `None` for any
+// other parameter.
 fn weight_value(parameter: &[u8]) -> Option<&[u8]>
     ensures some { IfSome result (λ value. IsTrue (is_weight parameter.now)
         × (value.now ≡ weight_value parameter.now)) }
@@ -164,7 +165,7 @@ fn element_asks_chunked(element: &[u8]) -> bool
     is_chunked(trim_space_and_tab(coding)) && !has_zero_weight(parameters)
 }
 
-// Returns whether the element matches.
+// Returns whether the element is what is wanted.
 fn is_wanted(wanted: Wanted, element: &[u8]) -> bool
     ensures { result ≡ is_wanted wanted element.now }
 {
@@ -180,7 +181,7 @@ fn is_wanted(wanted: Wanted, element: &[u8]) -> bool
     }
 }
 
-// Returns whether some element of the value matches.
+// Returns whether some element of the value is what is wanted.
 fn has_in(value: &str, wanted: Wanted) -> bool
     ensures { result ≡ list_any (is_wanted wanted) (between_commas value.now) }
 {
@@ -192,7 +193,7 @@ fn has_in(value: &str, wanted: Wanted) -> bool
     false
 }
 
-// Returns whether some element of the fields of that name matches.
+// Returns whether some element of the fields of this name is what is wanted.
 fn has(headers: &[Header], name: &str, wanted: Wanted) -> bool
     ensures { result ≡ has_element_that name.now (is_wanted wanted) headers.now }
 {
@@ -204,7 +205,7 @@ fn has(headers: &[Header], name: &str, wanted: Wanted) -> bool
     false
 }
 
-// Returns whether there is exactly one valid `Host`; version 1.0 may have none.
+// Returns whether there is exactly one `Host` and its value is valid; version 1.0 may have none.
 fn has_valid_host(version: HTTPVersion, headers: &[Header]) -> bool
     ensures { IsTrue result ↔ HasValidHost version (values_of (codes "Host") headers.now) }
 {
@@ -220,7 +221,7 @@ fn has_valid_host(version: HTTPVersion, headers: &[Header]) -> bool
     has_one || is_1_0(version)
 }
 
-// Returns the state after one more coding.
+// Returns the state of the codings after one more coding.
 fn coding_after(was: Codings, coding: &[u8]) -> Codings
     ensures { result ≡ coding_after was coding.now }
 {
@@ -233,7 +234,7 @@ fn coding_after(was: Codings, coding: &[u8]) -> Codings
     }
 }
 
-// Returns the state after the codings of one more value.
+// Returns the state of the codings after those of one more value.
 fn codings_in(value: &str, was: Codings) -> Codings
     ensures { result ≡ codings_on was (between_commas value.now) }
 {
@@ -244,7 +245,7 @@ fn codings_in(value: &str, was: Codings) -> Codings
     codings
 }
 
-// Returns the state after all `Transfer-Encoding` fields.
+// Returns the state of the codings after all `Transfer-Encoding` fields.
 fn codings_of(headers: &[Header]) -> Codings
     ensures { result ≡ codings_on Absent (elements_of (codes "Transfer-Encoding") headers.now) }
 {
@@ -257,7 +258,8 @@ fn codings_of(headers: &[Header]) -> Codings
     codings
 }
 
-// Returns the content length, and whether the body is chunked.
+// Returns the content length, if there is one, and whether the body is chunked. Fails if the framing is invalid or a
+// coding is unknown.
 fn body_of(version: HTTPVersion, headers: &[Header]) -> Result<(Option<usize>, bool), HeadError>
     ensures { result ≡ body_by version (codings_on Absent (elements_of (codes "Transfer-Encoding") headers.now))
         (one_length (elements_of (codes "Content-Length") headers.now)) }
@@ -317,14 +319,14 @@ fn asks_upgrade(version: HTTPVersion, headers: &[Header]) -> bool
         && has(headers, "Upgrade", Wanted::Protocol)
 }
 
-// Returns whether the element is this protocol.
+// Returns whether the element is this protocol, case-insensitively.
 fn is_protocol_named(protocol: &str, element: &[u8]) -> bool
     ensures { result ≡ is_protocol_named protocol.now element.now }
 {
     is_protocol(element) && element.eq_ignore_ascii_case(protocol.as_bytes())
 }
 
-// Returns whether some element of the value is this protocol.
+// Returns whether some element of the value is this protocol, case-insensitively.
 fn names_in(value: &str, protocol: &str) -> bool
     ensures { result ≡ list_any (is_protocol_named protocol.now) (between_commas value.now) }
 {
@@ -337,7 +339,8 @@ fn names_in(value: &str, protocol: &str) -> bool
 }
 
 /// Returns whether the `Upgrade` fields list this protocol, case-insensitively, as a whole element (RFC 9110, section
-/// 7.8). An element is ignored if it has a percent sign, or isn't a token or two with a slash between.
+/// 7.8). An element with a percent sign is ignored, and so is one that is neither a token nor two tokens with a slash
+/// between.
 pub fn names_protocol(headers: &[Header], protocol: &str) -> bool
     ensures { result ≡ names_protocol headers.now protocol.now }
 {
@@ -350,10 +353,11 @@ pub fn names_protocol(headers: &[Header], protocol: &str) -> bool
 }
 
 /// Returns whether the `TE` fields of a request, which form one list, ask for chunks (RFC 9110, sections 5.3, 5.6.1.2
-/// and 10.1.4). An element does if its coding is `chunked`, case-insensitively, and its weight isn't zero. The weight
-/// is the first parameter that begins with `q=` or `Q=` (RFC 9110, section 12.4.2); zero is `0`, `0.`, `0.0`, `0.00` or
-/// `0.000`, and any other value, even one that isn't a number, asks for chunks. All other parameters and empty elements
-/// are ignored. A comma or semicolon in a quoted string also separates.
+/// and 10.1.4). An element asks for chunks if its coding is `chunked`, case-insensitively, and its weight isn't zero.
+///
+/// The weight is the first parameter that begins with `q=` or `Q=` (RFC 9110, section 12.4.2). Zero is `0`, `0.`,
+/// `0.0`, `0.00` or `0.000`; any other value, even one that isn't a number, asks for chunks. All other parameters and
+/// empty elements are ignored. A comma or semicolon in a quoted string also separates.
 pub fn asks_chunked(headers: &[Header]) -> bool
     ensures { result ≡ asks_chunked headers.now }
 {
@@ -373,10 +377,10 @@ fn is_last(version: HTTPVersion, method: &Method, headers: &[Header]) -> bool
     method.as_str() == "CONNECT"
 }
 
-/// Validates a head with valid lines, and returns what it says.
+/// Validates a head whose lines are valid, and returns its summary.
 ///
-/// The errors come in the order of `HeadError`: the version, the host and the body's framing, its codings, and last the
-/// expectations. Each minor version after 1.0 counts as 1.1.
+/// The checks come in the order of `HeadError`: the version, the host and the body's framing, the transfer codings, and
+/// last the expectations. Each minor version after 1.0 counts as 1.1.
 pub fn validate(
     version: HTTPVersion,
     method: &Method,

@@ -2,10 +2,10 @@
 use Rattle.std.specs.Prelude.{ℕ, List}
 use Rattle.tiny_http_text.specs.declared.ascii.FromAsciiError.{FromAsciiError}
 
--- the bytes that were refused
+-- the bytes that `AsciiString::from_ascii` refused
 abbrev pub refused_bytes : FromAsciiError → List ℕ
 refused_bytes e = e.source.items
 
--- the position of the first byte above 127
+-- the position of the first byte above 127 among the refused bytes
 abbrev pub bad_place : FromAsciiError → ℕ
 bad_place e = e.place

@@ -2,17 +2,17 @@
 use Rattle.std.specs.Prelude.{◌≡◌, ℕ, Bool, true, false, ◌&&◌, ◌==◌, List, [], ◌∷◌, ◌++◌, if◌then◌else◌}
 use Rattle.tiny_http_text.specs.Bytes.{crlf}
 
--- the bytes contain a CR LF
+-- whether the bytes contain a CR LF
 abbrev pub has_crlf : List ℕ → Bool
 has_crlf [] = false
 has_crlf (a ∷ []) = false
 has_crlf (a ∷ b ∷ bs) = if (a == 13 && b == 10) then true else has_crlf (b ∷ bs)
 
--- the bytes are a line, CR LF, and the rest; the line has no CR LF
+-- whether the bytes are the line `text`, a CR LF, and `rest`; the line contains no CR LF
 pub record Line (bytes text rest : List ℕ) : Type 0 where
   pub joins : bytes ≡ text ++ crlf ++ rest
   pub first : has_crlf text ≡ false
 
--- the bytes contain no complete line
+-- whether the bytes contain no complete line
 abbrev pub IsUnfinished : List ℕ → Type 0
 IsUnfinished bytes = has_crlf bytes ≡ false

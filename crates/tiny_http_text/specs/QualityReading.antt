@@ -1,21 +1,21 @@
--- The lists of qualities as functions that compute them.
+-- Lists of qualities, as functions that compute them.
 use Rattle.std.specs.Prelude.{ℕ, ◌+◌, ◌-◌, ◌*◌, ◌^◌, ◌&&◌, ◌==◌, nat_lt, nat_le, List, [], ◌∷◌, length, map, Option}
 use Rattle.std.specs.Prelude.{Some, None, option_map, unwrap_or, if◌then◌else◌}
 use Rattle.std.specs.Str.{all_ascii_digits}
 use Rattle.std.specs.Str.Parse.{digits_value}
 use Rattle.tiny_http_text.specs.Bytes.{is_blank, parts, comma, semicolon, point, skip_while, trimmed}
 
--- the bytes before the first c and after it
+-- the bytes before the first c and the bytes after it, or `None` if there is no c
 abbrev pub cut : ℕ → List ℕ → Option (List ℕ × List ℕ)
 cut c [] = None
 cut c (b ∷ bs) = if b == c then Some ([], bs) else option_map (λ r. (b ∷ r.0, r.1)) (cut c bs)
 
--- the value of one to six digits
+-- the value of one to six digits, or `None` for any other text
 unfoldable pub short_number : List ℕ → Option ℕ
 short_number ds =
     if nat_lt 0 (length ds) && (nat_le (length ds) 6 && all_ascii_digits ds) then Some (digits_value 10 ds) else None
 
--- the thousandths of at most three digits after a point
+-- the thousandths that at most three digits after a point stand for, or `None` for any other text
 unfoldable pub thousandths : List ℕ → Option ℕ
 thousandths ds =
     if nat_le (length ds) 3 && all_ascii_digits ds then Some (digits_value 10 ds * 10 ^ (3 - length ds)) else None

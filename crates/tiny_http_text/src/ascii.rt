@@ -17,7 +17,7 @@ use std::hash::{Hash, Hasher};
 use std::marker::Model;
 use thiserror::Error;
 
-// The longest text, in bytes, that is stored inline, without an allocation.
+// The greatest length, in bytes, of a copy that is stored inline, without an allocation.
 const SHORT: usize = 30;
 
 // The bytes of a text that is stored inline: the first `len` of `bytes`.
@@ -28,7 +28,7 @@ struct ShortBytes {
     ghost within: { len ≤ 30 },
 }
 
-// The bytes of a text. Short texts, such as most header fields, are stored inline.
+// The bytes of a text. Copies of short texts, such as most header fields, are stored inline.
 #[derive(Drop)]
 enum TextBytes {
     Short(ShortBytes),
@@ -37,7 +37,7 @@ enum TextBytes {
 
 /// An owned ASCII string.
 ///
-/// A copy of at most 30 bytes is stored inline and takes no memory. A contract sees the string as the list of its
+/// A copy of at most 30 bytes is stored inline, without an allocation. A contract sees the string as the list of its
 /// bytes.
 #[derive(Drop)]
 pub struct AsciiString {
@@ -55,7 +55,7 @@ impl Model for AsciiString {
     ghost invariant = { λ s. IsAscii (text_bytes s.text) };
 }
 
-/// A borrowed ASCII string: an `AsciiString` or a part of one. A contract sees it as the list of its bytes.
+/// A borrowed ASCII string: all or part of an `AsciiString`. A contract sees it as the list of its bytes.
 #[derive(Debug, Drop)]
 pub struct AsciiStr<'a> {
     text: &'a str,
@@ -69,7 +69,8 @@ impl<'a> Model for AsciiStr<'a> {
     ghost invariant = { λ s. IsAscii s.text.now };
 }
 
-/// The error for bytes that are not ASCII. It keeps the bytes and the position of the first byte above 127.
+/// The error of `AsciiString::from_ascii` for bytes that aren't ASCII. It holds the bytes and the position of the first
+/// byte above 127.
 #[derive(Debug, Drop, Error)]
 #[error("the byte at place {place} is not ASCII")]
 pub struct FromAsciiError {
@@ -95,7 +96,7 @@ impl FromAsciiError {
     }
 }
 
-// Returns the position of the first byte above 127, or the length if there is none.
+// Returns the position of the first byte above 127, or the number of bytes if there is none.
 fn ascii_len(bytes: &[u8]) -> usize
     ensures bound { result ≤ length bytes.now }
     ensures found { result < length bytes.now → IsFirstNotAscii bytes.now result }
@@ -137,7 +138,8 @@ impl ShortBytes {
 impl TextBytes {
     ghost use Rattle.tiny_http_text.specs.TextBytes.{text_bytes};
 
-    // Copies the bytes, inline if there are at most 30. Fails only if memory for more is refused.
+    // Copies the bytes: inline if there are at most 30, and otherwise into an allocation. Fails only if that is
+    // refused.
     fn copied(alloc: Global, bytes: &[u8]) -> Result<TextBytes, AllocError>
         ensures text { IfOk result (λ t. text_bytes t ≡ bytes.now) }
         ensures short { length bytes.now ≤ 30 → IsOk result }
@@ -157,7 +159,7 @@ impl TextBytes {
         }
     }
 
-    // Copies the text. Fails only if memory for more than 30 bytes is refused.
+    // Copies the text. Fails only if it has more than 30 bytes and memory is refused.
     fn try_clone(&self) -> Result<TextBytes, AllocError>
         ensures text { IfOk result (λ t. text_bytes t ≡ text_bytes self.now) }
         ensures short { length (text_bytes self.now) ≤ 30 → IsOk result }
@@ -172,7 +174,7 @@ impl TextBytes {
 impl AsciiString {
     ghost use Rattle.tiny_http_text.specs.FromAsciiError.{refused_bytes, bad_place};
 
-    /// Makes a string of bytes that are all below 128. The error hands other bytes back.
+    /// Makes a string from bytes that are all below 128. For other bytes it fails, and the error hands them back.
     pub fn from_ascii(bytes: Vec<u8>) -> Result<AsciiString, FromAsciiError>
         ensures ok { IfOk result (λ s. s ≡ bytes.items) }
         ensures succeeds { IsOk result ↔ IsAscii bytes.items }
@@ -193,8 +195,8 @@ impl AsciiString {
         })
     }
 
-    /// Copies bytes that are known to be ASCII, without checking them again. Fails if memory is refused; a copy of at
-    /// most 30 bytes takes none.
+    /// Copies bytes that are known to be ASCII, without checking them. Fails if memory is refused; a copy of at most 30
+    /// bytes needs none.
     pub(crate) fn copied_unchecked(alloc: Global, bytes: &[u8]) -> Result<AsciiString, AllocError>
         requires { IsAscii bytes.now }
         ensures text { IfOk result (λ s. s ≡ bytes.now) }
@@ -249,7 +251,7 @@ impl AsciiString {
         self.as_ascii().eq_ignore_ascii_case(other)
     }
 
-    /// Copies the text. Fails if memory is refused; a copy of at most 30 bytes takes none.
+    /// Copies the text. Fails if memory is refused; a copy of at most 30 bytes needs none.
     pub fn try_clone(&self) -> Result<AsciiString, AllocError>
         ensures text { IfOk result (λ s. s ≡ self.now) }
         ensures short { length self.now ≤ 30 → IsOk result }
@@ -260,7 +262,7 @@ impl AsciiString {
 }
 
 impl fmt::Debug for AsciiString {
-    /// Writes the text in quotes, as a `&str` does.
+    /// Writes the text in quotes, as the `Debug` of `str` does.
     fn fmt<W: fmt::Write>(&self, f: &mut fmt::Formatter<W>) -> fmt::Result {
         fmt::Debug::fmt(self.as_str(), f)
     }
@@ -282,7 +284,7 @@ impl PartialEq for AsciiString {
 
     ghost laws = { Prim.search (comparing, rules) };
 
-    /// Compares the texts byte by byte; letter case counts.
+    /// Compares the texts byte by byte. Letter case matters.
     fn eq(&self, other: &AsciiString) -> bool {
         self.as_str() == other.as_str()
     }
@@ -297,7 +299,7 @@ impl Hash for AsciiString {
 
     ghost respects_eq = { Prim.search (hashing, rules) };
 
-    /// Feeds the text to the hasher, as a `&str` does.
+    /// Feeds the text to the hasher, as `str` does.
     fn hash<H: Hasher>(&self, state: &mut H) {
         self.as_str().hash(state);
     }

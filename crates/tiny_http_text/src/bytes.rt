@@ -6,7 +6,7 @@ ghost use Rattle.std.specs.Str.{bytes_eq};
 ghost use Rattle.tiny_http_text.specs.Bytes.{HasNo, IsTrimmed, is_ascii, is_blank, parts, skip_while, skip_end_while};
 ghost use Rattle.tiny_http_text.specs.Bytes.{trimmed};
 
-// Returns whether the byte is white space: 9 to 13 or 32.
+// Returns whether the byte is white space: one of 9 to 13, or 32.
 fn is_blank(b: u8) -> bool
     ensures { result ≡ is_blank b }
 {
@@ -49,7 +49,7 @@ pub fn is_trimmed(text: &[u8]) -> bool
     trim(text).len() == text.len()
 }
 
-// Returns the position of the first `c`, or the length if there is none.
+// Returns the position of the first `c`, or the length of the text if there is none.
 fn find(text: &[u8], c: u8) -> usize
     ensures bound { result ≤ length text.now }
     ensures first { HasNo c (take result text.now) }
@@ -62,7 +62,8 @@ fn find(text: &[u8], c: u8) -> usize
     i
 }
 
-/// Splits the text at the first `c`: the bytes before it and the bytes after it.
+/// Splits the text at the first `c`. Returns the bytes before it and the bytes after it, or `None` if the text has no
+/// `c`.
 pub fn cut(text: &[u8], c: u8) -> Option<(&[u8], &[u8])>
     ensures some { IfSome result (λ r. (text.now ≡ r.0.now ++ c ∷ r.1.now) × HasNo c r.0.now) }
     ensures none { IfNone result (HasNo c text.now) }
@@ -74,14 +75,14 @@ pub fn cut(text: &[u8], c: u8) -> Option<(&[u8], &[u8])>
     Some((&text[..i], &text[i + 1..]))
 }
 
-/// Compares the text with a word, byte by byte.
+/// Returns whether the text equals a word, byte by byte.
 pub fn is(text: &[u8], word: &str) -> bool
     ensures { result ≡ bytes_eq text.now word.now }
 {
     text == word.as_bytes()
 }
 
-/// Returns the bytes before the first `c`, or all of them if there is none.
+/// Returns the bytes before the first `c`, or all bytes if the text has no `c`.
 pub fn first_part(text: &[u8], c: u8) -> &[u8]
     ensures { (more : List (List ℕ)) × (parts c text.now ≡ result.now ∷ more) }
 {

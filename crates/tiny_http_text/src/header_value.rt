@@ -10,10 +10,10 @@ ghost use Rattle.tiny_http_text.specs.QualityReading.{first_quality, element};
 use crate::text::{cut, trim, trim_front};
 use std::alloc::{AllocError, Global};
 
-// The quality, in thousandths, of an element without a readable one.
+// The quality, in thousandths, of an element that has no readable quality.
 const DEFAULT_QUALITY: u32 = 1000;
 
-// Parses decimal digits as a number below 2^32. `str::parse` accepts a leading plus, which a quality can't have.
+// Parses decimal digits as a number below 2^32. `str::parse` accepts a leading plus sign, which a quality can't have.
 fn number(digits: &str) -> Option<u32>
     ensures { SomeIff result (IsNumeral 10 digits.now × (digits_value 10 digits.now < 2 ^ 32))
         (digits_value 10 digits.now) }
@@ -24,7 +24,7 @@ fn number(digits: &str) -> Option<u32>
     digits.parse::<u32>().ok()
 }
 
-// Parses one to six digits.
+// Parses one to six decimal digits. Returns `None` for any other text.
 fn short_number(digits: &str) -> Option<u32>
     ensures value { result ≡ short_number digits.now }
     ensures bound { IfSome result (λ n. (n < 10 ^ length digits.now) × (n < 1000000)) }
@@ -48,7 +48,7 @@ fn scale(digits: usize) -> u32
     }
 }
 
-// Parses at most three fraction digits as thousandths.
+// Parses at most three fraction digits and returns them in thousandths: 0 if there are no digits.
 fn thousandths(digits: &str) -> Option<u32>
     ensures value { result ≡ thousandths digits.now }
     ensures bound { IfSome result (λ n. n < 1000) }
@@ -62,7 +62,7 @@ fn thousandths(digits: &str) -> Option<u32>
     Some(short_number(digits)? * scale(digits.len()))
 }
 
-// Parses a quality, in thousandths.
+// Parses a quality and returns it in thousandths.
 fn quality(text: &str) -> Option<u32>
     ensures { result ≡ quality text.now }
 {
@@ -72,7 +72,7 @@ fn quality(text: &str) -> Option<u32>
     }
 }
 
-// Returns the quality of a `q=` parameter, or `None` if the parameter is another one or can't be read.
+// Returns the quality of a `q=` parameter, or `None` if the parameter has another name or its quality can't be read.
 fn parameter_quality(parameter: &str) -> Option<u32>
     ensures { result ≡ parameter_quality parameter.now }
 {
@@ -80,7 +80,7 @@ fn parameter_quality(parameter: &str) -> Option<u32>
     quality(trim(padded))
 }
 
-// Returns the first readable quality among the parameters, or 1000 if there is none.
+// Returns the first readable quality among the parameters, or 1000 if none has one.
 fn first_quality(parameters: &str) -> u32
     ensures { result ≡ first_quality (parts semicolon parameters.now) }
 {
@@ -96,7 +96,7 @@ fn first_quality(parameters: &str) -> u32
 
 /// Parses one list element, the text between two commas, into its name and its quality in thousandths.
 ///
-/// It follows the rules of `parse_header_value` and takes no memory.
+/// It follows the rules of `parse_header_value` and allocates nothing.
 pub fn parse_element(text: &str) -> (&str, u32)
     ensures computed { (result.0.now, result.1) ≡ element text.now }
     ensures element { Element text.now result.0.now result.1 }
@@ -108,10 +108,13 @@ pub fn parse_element(text: &str) -> (&str, u32)
 }
 
 /// Parses the value of `TE`, or of a similar field, into its names and their qualities in thousandths, in order (RFC
-/// 9110, section 12.4.2). The original crate differs in the form of numbers. A name is the part of its element before
-/// the first semicolon, without white space (bytes 9 to 13 and 32) at its ends. Its quality is that of the first
-/// parameter that begins, after white space, with `q=` and can be read: one to six digits, optionally a point and at
-/// most three digits, between white space. Without one it is 1000. Fails if memory for the list is refused.
+/// 9110, section 12.4.2).
+///
+/// A name is the part of a list element before the first semicolon, without white space (bytes 9 to 13 and 32) at its
+/// ends. The quality of the name is that of the first parameter that begins, after optional white space, with `q=` and
+/// has a readable number: one to six digits, then optionally a point and at most three digits, with optional white
+/// space around the number. If there is no such parameter, the quality is 1000. The original crate accepts other forms
+/// of numbers. Fails if memory for the list is refused.
 pub fn parse_header_value(alloc: Global, value: &str) -> Result<Vec<(&str, u32)>, AllocError>
     ensures { IfOk result (λ list. ListsQualities value.now (map (λ e. (e.0.now, e.1)) list.items)) }
 {

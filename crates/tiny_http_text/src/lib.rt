@@ -1,5 +1,5 @@
-//! The texts of a small HTTP server: trimming and splitting, ASCII strings, formatted numbers, and field values that
-//! list names with qualities. The crate depends on the standard library alone. `tiny_http_wire` re-exports `ascii`,
+//! Text handling for a small HTTP server: trimming and splitting, ASCII strings, formatted numbers, and field values
+//! that list names with qualities. The crate depends only on the standard library. `tiny_http_wire` re-exports `ascii`,
 //! `header_value` and `number`.
 #![tactic(auto)]
 

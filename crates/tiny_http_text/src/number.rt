@@ -4,7 +4,7 @@ ghost use Rattle.std.specs.Fmt.{digits, digit_glyph};
 
 use std::marker::Model;
 
-// The digits of the greatest number in base 10. Greater bases need fewer.
+// The number of decimal digits of the greatest `u64`. Larger bases need fewer.
 const MOST_DIGITS: usize = 20;
 
 /// The digits of a number, in an inline buffer. A contract sees it as the list of the digits.
@@ -25,7 +25,7 @@ impl Model for Numeral {
     ghost invariant = { λ n. (n.start < 20) × IsAscii (drop n.start n.buffer) };
 }
 
-// Returns the digit of a value, in lower case.
+// Returns the ASCII digit of a value below 16, in lower case.
 #[inline(always)]
 fn glyph(value: u8) -> u8
     requires { value < 16 }
@@ -72,7 +72,7 @@ impl Numeral {
         }
     }
 
-    // Formats the number. It is inlined so that the divisor is a constant.
+    // Formats the number in this base. It is inlined so that the divisor is a constant.
     #[inline(always)]
     fn in_base(number: u64, base: u64) -> Numeral
         requires low { 10 ≤ base }

@@ -1,6 +1,6 @@
 -- What clauses see of a reader whose turn has come.
 use Rattle.tiny_http_threads.specs.declared.held_reader.HeldReader.{HeldReader}
 
--- what it reads from
+-- the inner reader of a reader whose turn has come
 abbrev pub held_item : {I : Type 0} → {R : Type 0} → HeldReader I R → I
 held_item r = r.turn.item.value

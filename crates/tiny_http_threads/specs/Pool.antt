@@ -5,7 +5,8 @@ use Rattle.tiny_http_threads.specs.declared.task_pool.TheConstants.{MIN_THREADS}
 use Rattle.tiny_http_threads.specs.declared.task_pool.Offered.{Offered}
 use Rattle.tiny_http_threads.specs.declared.task_pool.Offered.TheVariants.{Queued, Start, Back}
 
--- the jobs that wait, front first; how many workers run, and how many of these are idle; whether the pool is closed
+-- What clauses see of a `PoolState`: the jobs that wait, front first; how many workers run, and how many of these are
+-- idle; whether the pool is closed.
 pub record Pool (J : Type 0) : Type 0 where
   pub jobs : List J
   pub idle : ℕ
@@ -13,17 +14,19 @@ pub record Pool (J : Type 0) : Type 0 where
   pub closed : Bool
 
 module _ {J : Type 0} where
-  -- at most as many jobs wait as workers are idle, and at most as many are idle as run
+  -- Whether a pool is sound: at most as many jobs wait as workers are idle, and at most as many workers are idle as
+  -- run.
   pub record IsSound (pool : Pool J) : Type 0 where
     pub jobs_fit : length pool.jobs ≤ pool.idle
     pub idle_fit : pool.idle ≤ pool.running
 
-  -- no job waits and no worker is idle
+  -- the pool with this number of running workers, in which no job waits and no worker is idle
   abbrev pub new_pool : ℕ → Pool J
   new_pool running = record { jobs = []; idle = 0; running = running; closed = false }
 
-  -- If more workers are idle than jobs wait, the job waits after these, or is returned if memory is refused. Otherwise
-  -- it must start on one more worker, or is returned if 2^64 - 1 run.
+  -- Whether a pool that is offered a job returns this result. `Queued`: more workers were idle than jobs waited, and
+  -- the job waits after those. `Start`: it must start on one more worker. `Back`: memory is refused, or 2^64 - 1
+  -- workers run.
   abbrev pub Offers : Pool J → J → Offered J → Pool J → Type 0
   Offers old job Queued new = (length old.jobs < old.idle) × (new ≡ record old { jobs = old.jobs ++ job ∷ [] })
   Offers old job (Start same) new = (same ≡ job)
@@ -32,29 +35,31 @@ module _ {J : Type 0} where
       × (new ≡ record old { running = old.running + 1 })
   Offers old job (Back same) new = (same ≡ job) × (old.idle ≤ length old.jobs → old.running ≡ 2 ^ 64 - 1) × (new ≡ old)
 
-  -- a worker that was to start doesn't run
+  -- whether a pool counts one running worker less, unless all workers that run are idle
   abbrev pub NotStarted : Pool J → Pool J → Type 0
   NotStarted old new = (old.idle < old.running → new ≡ record old { running = old.running - 1 })
       × (old.running ≤ old.idle → new ≡ old)
 
-  -- a worker that isn't idle takes the front job, if one waits
+  -- whether a worker that isn't idle takes the front job, if one waits
   abbrev pub TakesJob : Pool J → Option J → Pool J → Type 0
   TakesJob old None new = (old.jobs ≡ []) × (new ≡ old)
   TakesJob old (Some job) new = (old.jobs ≡ job ∷ new.jobs) × (new ≡ record old { jobs = new.jobs })
 
-  -- a worker becomes idle, if no job waits and not all that run are idle
+  -- whether a worker becomes idle; the flag is false, and nothing changes, if a job waits or all workers that run are
+  -- idle
   abbrev pub Rests : Pool J → Bool → Pool J → Type 0
   Rests old true new = (old.jobs ≡ []) × (old.idle < old.running) × (new ≡ record old { idle = old.idle + 1 })
   Rests old false new = (old.jobs ≡ [] → old.running ≤ old.idle) × (new ≡ old)
 
-  -- an idle worker takes the front job, if one waits, and is no longer idle
+  -- whether an idle worker takes the front job, if one waits, and is then no longer idle
   abbrev pub Wakes : Pool J → Option J → Pool J → Type 0
   Wakes old None new = (old.jobs ≡ []) × (new ≡ old)
   Wakes old (Some job) new = (old.jobs ≡ job ∷ new.jobs)
       × (0 < old.idle)
       × (new ≡ record old { jobs = new.jobs; idle = old.idle - 1 })
 
-  -- an idle worker ends, if no job waits, and more run than are kept or the pool is closed
+  -- whether an idle worker ends; the flag is false, and nothing changes, unless a worker is idle, no job waits, and
+  -- more workers run than are kept or the pool is closed
   abbrev pub EndsIdle : Pool J → Bool → Pool J → Type 0
   EndsIdle old true new = (0 < old.idle)
       × (old.jobs ≡ [])

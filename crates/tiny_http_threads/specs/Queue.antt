@@ -4,13 +4,13 @@ use Rattle.tiny_http_threads.specs.declared.messages_queue.Popped.{Popped}
 use Rattle.tiny_http_threads.specs.declared.messages_queue.Popped.TheVariants.{Value, Unblocked, Empty}
 
 module _ {T : Type 0} where
-  -- a pop takes the front mark and reports which it was, or that there is none
+  -- whether a pop takes the front mark and returns it, or reports that there is none
   abbrev pub Pops : List (Option T) → Popped T → List (Option T) → Type 0
   Pops old (Value x) new = old ≡ Some x ∷ new
   Pops old Unblocked new = old ≡ None ∷ new
   Pops old Empty new = (old ≡ []) × (new ≡ [])
 
-  -- what the pop of a shared queue returns
+  -- what a pop of a shared queue returns
   abbrev pub popped_value : Popped T → Option T
   popped_value (Value x) = Some x
   popped_value Unblocked = None

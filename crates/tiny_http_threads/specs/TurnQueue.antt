@@ -1,4 +1,4 @@
--- A TURN QUEUE: an item that numbers hold in turn, and the numbers whose threads wait, as they are under the lock.
+-- A TURN QUEUE, under its lock: an item that numbers hold in turn, and the numbers whose threads wait.
 use Rattle.std.specs.BTreeMap.{is_at}
 use Rattle.std.specs.Global.{Box, Global}
 use Rattle.std.specs.Map.{lookup}
@@ -13,8 +13,9 @@ use Rattle.std.specs.declared.sync.Condvar.{Condvar}
 use Rattle.tiny_http_threads.specs.declared.turn_queue.Taking.{Taking}
 use Rattle.tiny_http_threads.specs.declared.turn_queue.Taking.TheVariants.{Held, Waits as IsWaiting, Refused}
 
--- The turns, with a mark for each issued number; the numbers whose threads wait, and what wakes each; the last number
--- that was issued by `issue_unless_closed`; the counter of unfinished numbers; whether a thread waits for room.
+-- What clauses see of a `TurnQueueState`: the turns, with a mark for each issued number; the numbers whose threads
+-- wait, and what wakes each; the last number that `issue_unless_closed` issued; the counter of unfinished numbers;
+-- whether a thread waits for room.
 pub record TurnQueueView (T W C : Type 0) : Type 0 where
   pub turns : TurnsState T
   pub waiting : List (ℕ × W)
@@ -22,20 +23,20 @@ pub record TurnQueueView (T W C : Type 0) : Type 0 where
   pub counter : Option C
   pub wants_room : Bool
 
--- the number may hold the item now
+-- whether it is the turn of this number: it is open, and the first unfinished one
 abbrev pub IsItsTurn : List Mark → ℕ → Type 0
 IsItsTurn marks n = (slice_get marks n ≡ Some Open) × (n ≡ first_unfinished marks)
 
--- what wakes this number, if it waits
+-- what wakes the thread of this number, if the number waits
 abbrev pub waker : {W : Type 0} → List (ℕ × W) → ℕ → Option W
 waker waiting n = lookup (is_at (nat_cmp n)) waiting
 
--- a number that waits was issued, and its turn hasn't come
+-- Whether a turn queue is sound: each number that waits was issued, and its turn hasn't come.
 pub record IsSoundTurnQueue {T W C : Type 0} (queue : TurnQueueView T W C) : Type 0 where
   pub issued : (n : ℕ) → IsSome (waker queue.waiting n) → n < length queue.turns.marks
   pub waits : (n : ℕ) → IsSome (waker queue.waiting n) → IsItsTurn queue.turns.marks n → ⊥
 
--- the item rests, no number is issued, and everything else is empty
+-- Whether a turn queue is new: no number holds its item, none is issued, and everything else is empty.
 pub record IsNewTurnQueue {T W C : Type 0} (item : T) (queue : TurnQueueView (Box T) W C) : Type 0 where
   pub rests : option_map box_value queue.turns.resting ≡ Some item
   pub marks : queue.turns.marks ≡ []
@@ -45,24 +46,25 @@ pub record IsNewTurnQueue {T W C : Type 0} (item : T) (queue : TurnQueueView (Bo
   pub wants_room : queue.wants_room ≡ false
 
 module _ {W : Type 0} where
-  -- every other number waits as before, or doesn't
+  -- whether every other number waits as it did before, or still doesn't wait
   abbrev pub OthersStay : ℕ → List (ℕ × W) → List (ℕ × W) → Type 0
   OthersStay number old new = (n : ℕ) → n ≢ number → waker new n ≡ waker old n
 
-  -- if the item rests, the next number is woken, if it waited, and waits no more
+  -- whether a call that finishes a number wakes the next one: if no number holds the item then, the next one is woken,
+  -- if it waited, and no longer waits
   abbrev pub WakesNext : {U : Type 0} → Finishing U → ℕ → List (ℕ × W) → Option W → List (ℕ × W) → Type 0
   WakesNext Passed next old woken new = (woken ≡ waker old next) × (waker new next ≡ None) × OthersStay next old new
   WakesNext (Go item text) next old woken new = (woken ≡ None) × (new ≡ old)
   WakesNext (Strange item) next old woken new = (woken ≡ None) × (new ≡ old)
 
--- the item, if it was taken
+-- the item, if the number is held
 abbrev pub taken_item : {T : Type 0} → Taking T → Option (Box T)
 taken_item (Held item) = Some item
 taken_item (IsWaiting woken) = None
 taken_item Refused = None
 
--- A number that must wait is listed, if it isn't yet. No clause states that its thread waits on the listed condition:
--- to contracts all conditions are equal.
+-- Whether a number that must wait is listed, once. No clause states that its thread waits on the listed condition: to
+-- contracts all conditions are equal.
 abbrev pub ListsWaiter : {T : Type 0} → Taking T → ℕ → List (ℕ × Arc Condvar Global) → List (ℕ × Arc Condvar Global)
     → Type 0
 ListsWaiter (Held item) number old new = new ≡ old

@@ -1,13 +1,13 @@
-//! A reader whose turn has come.
+//! Holding a reader in its turn.
 use crate::sequential::Reading;
 pub use crate::turn_queue::Held;
 use std::sync::Wait;
 use tiny_http_turns::passing::{HeldTurn, pass_on};
 
-/// A reader whose turn has come, with what it reads from. Dropping it finishes its turn, without waiting for any other
-/// turn.
+/// A reader whose turn has come, and the inner reader that it reads from. Dropping it finishes its turn, without
+/// waiting for any other turn.
 pub struct HeldReader<I: Drop, R: Wait + Drop> {
-    /// Its turn, and what it reads from.
+    /// The number whose turn has come, and the inner reader.
     pub turn: Held<I, R>,
 }
 

@@ -21,7 +21,8 @@ pub enum Popped<T> {
     Empty,
 }
 
-/// Values and unblock marks, first in, first out. A contract sees the list of them, front first, with a mark as `None`.
+/// A first-in, first-out queue of values and unblock marks. Contracts see it as a list, front first, with `None` for a
+/// mark.
 #[derive(Drop)]
 pub struct QueueState<T> {
     marks: VecDeque<Option<T>>,
@@ -45,7 +46,7 @@ impl<T: Drop> QueueState<T> {
         }
     }
 
-    // Creates an empty queue with this capacity.
+    // Creates an empty queue with this capacity. Fails if memory is refused.
     fn with_capacity(alloc: Global, capacity: usize) -> Result<QueueState<T>, AllocError>
         ensures { IfOk result (λ queue. queue ≡ []) }
     {
@@ -54,7 +55,7 @@ impl<T: Drop> QueueState<T> {
         })
     }
 
-    /// Adds an unblock mark at the back. If memory is refused, it fails, and nothing has changed.
+    /// Adds an unblock mark at the back. Fails if memory is refused, and then changes nothing.
     pub fn unblock(&mut self) -> Result<(), AllocError>
         ensures ok { OnOk result (self.new ≡ self.old ++ (None ∷ [])) }
         ensures err { OnErr result (self.new ≡ self.old) }
@@ -70,7 +71,7 @@ impl<T: Drop> QueueState<T> {
 impl<T> QueueState<T> {
     ghost use Rattle.tiny_http_threads.specs.Queue.{Pops};
 
-    /// Adds a value at the back. If memory is refused, the error returns it, and nothing has changed.
+    /// Adds a value at the back. If memory is refused, the error hands back the value, and nothing has changed.
     pub fn push(&mut self, value: T) -> Result<(), T>
         ensures ok { OnOk result (self.new ≡ self.old ++ (Some value ∷ [])) }
         ensures err { OnErr result (self.new ≡ self.old) }
@@ -85,7 +86,7 @@ impl<T> QueueState<T> {
         }
     }
 
-    /// Takes what is at the front.
+    /// Takes the value or the mark at the front, if the queue isn't empty.
     pub fn pop(&mut self) -> Popped<T>
         ensures { Pops self.old result self.new }
     {
@@ -97,9 +98,9 @@ impl<T> QueueState<T> {
     }
 }
 
-/// A queue that threads share: a `QueueState` under a lock. Each call is one step on it, except for the pops that wait,
-/// which retry until there is something to pop. The lock is released before a waiting thread is woken. No contract here
-/// states what a call did to the queue.
+/// A queue that threads share: a `QueueState` under a lock. Each call is one step on that state, except for `clear`,
+/// and for the pops that wait, which retry until there is something to pop. The lock is released before a waiting
+/// thread is woken. No contract here states what a call did to the queue.
 #[derive(Drop)]
 pub struct MessagesQueue<T> {
     state: Mutex<QueueState<T>>,
@@ -127,8 +128,7 @@ impl<T: Drop> MessagesQueue<T> {
         Ok(())
     }
 
-    /// Removes everything from the queue, one item after another, and drops it outside the lock, until the queue is
-    /// empty.
+    /// Removes one value or mark after another until the queue is empty, and drops each outside the lock.
     pub fn clear<R: Wait>(&self, rt: &R) {
         for _ in rt.forever() {
             let found = self.state.lock(rt).pop();
@@ -139,9 +139,9 @@ impl<T: Drop> MessagesQueue<T> {
     }
 }
 
-// None of these calls can lose a value either.
+// Here, too, no call can lose a value.
 impl<T> MessagesQueue<T> {
-    /// Adds a value at the back, and wakes a waiting thread. If memory is refused, the error returns the value.
+    /// Adds a value at the back, and wakes a waiting thread. If memory is refused, the error hands back the value.
     pub fn push<R: Wait>(&self, rt: &R, value: T) -> Result<(), T>
         ensures { IfErr result (λ back. back ≡ value) }
     {
@@ -150,7 +150,7 @@ impl<T> MessagesQueue<T> {
         Ok(())
     }
 
-    /// Waits until there is something at the front, and takes it: a value, or `None` for an unblock mark.
+    /// Waits until there is something at the front, and takes it. Returns a value, or `None` for an unblock mark.
     pub fn pop<R: Wait>(&self, rt: &R) -> Option<T> {
         let mut state = self.state.lock(rt);
         for _ in rt.forever() {
@@ -162,7 +162,7 @@ impl<T> MessagesQueue<T> {
         unreachable!()
     }
 
-    /// Takes what is at the front: a value, or `None` for an unblock mark. Also `None` if the queue is empty.
+    /// Takes what is at the front. Returns a value, or `None` for an unblock mark or an empty queue.
     pub fn try_pop<R: Wait>(&self, rt: &R) -> Option<T> {
         let found = self.state.lock(rt).pop();
         popped_value(found)
@@ -191,7 +191,7 @@ impl<T> MessagesQueue<T> {
     }
 }
 
-// Converts what a pop found to its result.
+// Converts what a pop found into its result: `None` for an unblock mark or an empty queue.
 fn popped_value<T>(found: Popped<T>) -> Option<T>
     ensures { result ≡ popped_value found }
 {

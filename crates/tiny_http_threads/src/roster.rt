@@ -5,7 +5,7 @@ ghost use Rattle.tiny_http_threads.specs.Roster.{CountsIn};
 use std::sync::ledger::{Book, Ledger, Share};
 use std::sync::{Mutex, Wait};
 
-// The number of entries, and the book of what all shares count.
+// The number of entries, and the book that adds up what the shares count.
 #[derive(Drop)]
 struct Entries<L: Ledger> {
     number: u64,
@@ -14,7 +14,8 @@ struct Entries<L: Ledger> {
 }
 
 impl<L: Ledger> Entries<L> {
-    // Adds one to the number and to the share. Returns false, with nothing changed, only at 2^64 - 1.
+    // Adds one to the number and to the share, and returns true. If the number is 2^64 - 1, changes nothing and returns
+    // false.
     fn enter(&mut self, mine: &mut Share<L>) -> bool
         requires { 0 < mine.old.parts }
         ensures number { CountsIn self.old.book.total result self.new.book.total }
@@ -32,14 +33,14 @@ impl<L: Ledger> Entries<L> {
         true
     }
 
-    // Returns what all shares count together.
+    // Returns the number of entries, which is what all shares count together.
     fn count(&self) -> u64
         ensures { result ≡ self.now.book.total }
     {
         self.number
     }
 
-    // Returns the same, given all shares in one.
+    // Returns the number of entries, given the one share into which all were merged.
     fn total(&mut self, all: &mut Share<L>) -> u64
         requires { all.old.parts ≡ L.parts }
         ensures total { result ≡ all.old.amount }
@@ -68,13 +69,13 @@ impl<L: Ledger> Roster<L> {
         }
     }
 
-    /// Adds one to the number and to the caller's share, which needs a part. Returns false, with nothing changed, only
-    /// if the number is 2^64 - 1.
+    /// Adds one to the number and to the caller's share, which must have a part, and returns true. If the number is
+    /// 2^64 - 1, changes nothing and returns false.
     pub fn enter<R: Wait>(&self, rt: &R, mine: &mut Share<L>) -> bool
         requires { 0 < mine.old.parts }
         ensures amount { mine.new.amount ≡ (if result then mine.old.amount + 1 else mine.old.amount) }
         ensures parts { mine.new.parts ≡ mine.old.parts }
-        // The holder of the whole share knows the number.
+        // To a caller that holds the whole share, a false result states that the number is 2^64 - 1.
         ensures full { result ≡ false → mine.old.parts ≡ L.parts → mine.old.amount ≡ 2 ^ 64 - 1 }
     {
         self.entries.lock(rt).enter(mine)

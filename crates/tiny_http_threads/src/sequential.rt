@@ -1,7 +1,8 @@
-//! A reader or a writer that its holders use one after another, in the order in which they were created.
+//! Readers over one inner reader, and writers over one inner writer, that take turns in the order in which they were
+//! created.
 //!
-//! The methods hidden from the documentation are for a request, which manages its own turn and the end of its
-//! connection. `tiny_http` re-exports this module, and its programs need none of them.
+//! The methods hidden from the documentation are for the implementation of a request, which manages its own turn and
+//! the end of its connection. `tiny_http` re-exports this module; programs need none of these methods.
 ghost use Rattle.std.specs.Prelude.{◌≡◌, ⊤, [], length, Ok, None, IfOk, OnOk, false};
 ghost use Rattle.tiny_http_io.specs.Device.{Reads, Puts, PutsFront, HoldsNothing, next_count};
 ghost use Rattle.tiny_http_threads.specs.HeldReader.{held_item};
@@ -17,7 +18,7 @@ use tiny_http_io::device::WriteDevice;
 use tiny_http_io::outlet::Outlet;
 use tiny_http_turns::passing::{HeldTurn, pass_on};
 
-/// A builder of readers, each of which reads once those before it are dropped.
+/// A builder of readers over one inner reader. Each reader has its turn when all readers created before it are dropped.
 #[derive(Drop)]
 pub struct SequentialReaderBuilder<I, R: Wait> {
     rt: R,
@@ -26,7 +27,7 @@ pub struct SequentialReaderBuilder<I, R: Wait> {
 }
 
 impl<I: Read + Drop, R: Wait + Copy> SequentialReaderBuilder<I, R> {
-    /// Creates a builder of readers over this one. Fails if memory is refused.
+    /// Creates a builder of readers over this inner reader. Fails if memory is refused.
     pub fn new(
         rt: R,
         alloc: Global,
@@ -36,8 +37,8 @@ impl<I: Read + Drop, R: Wait + Copy> SequentialReaderBuilder<I, R> {
         Ok(SequentialReaderBuilder { rt, alloc, queue })
     }
 
-    /// Creates a builder of readers over this one, and the first reader, which has its turn. Fails if memory is
-    /// refused.
+    /// Creates a builder of readers over this inner reader, and the first reader, which has its turn. Fails if memory
+    /// is refused.
     #[doc(hidden)]
     pub fn begin(
         rt: R,
@@ -61,14 +62,14 @@ impl<I: Read + Drop, R: Wait + Copy> SequentialReaderBuilder<I, R> {
     }
 }
 
-/// A reader that reads in its turn: its first read waits until those before it are dropped. Dropping it finishes its
-/// turn, or leaves it if the turn hasn't come, without waiting for any turn.
+/// A reader that reads in its turn: its first read waits until all readers created before it are dropped. Dropping it
+/// finishes its turn, or skips the turn if it hasn't come, without waiting for any turn.
 pub struct SequentialReader<I: Read + Drop, R: Wait + Drop> {
     turn: Turn<I, R>,
 }
 
 impl<I: Read + Drop, R: Wait + Drop> SequentialReader<I, R> {
-    /// Waits for its turn, and holds it.
+    /// Waits for the turn of this reader, and returns a reader that holds it.
     #[doc(hidden)]
     pub fn into_held(self) -> HeldReader<I, R> {
         let Self { turn } = self;
@@ -79,7 +80,7 @@ impl<I: Read + Drop, R: Wait + Drop> SequentialReader<I, R> {
 }
 
 impl<I: Read + Drop, R: Wait + Drop> Read for SequentialReader<I, R> {
-    /// Waits for its turn, and reads once.
+    /// Waits for its turn, and reads once from the inner reader.
     fn read(&mut self, buf: &mut [u8]) -> io::Result<usize> {
         self.turn.hold().read(buf)
     }
@@ -95,7 +96,7 @@ impl<I: Read + Drop, R: Wait + Drop> Drop for SequentialReader<I, R> {
     }
 }
 
-/// A builder of writers, each of which writes once those before it are dropped.
+/// A builder of writers over one inner writer. Each writer has its turn when all writers created before it are dropped.
 #[derive(Drop)]
 pub struct SequentialWriterBuilder<W, R: Wait> {
     rt: R,
@@ -104,7 +105,7 @@ pub struct SequentialWriterBuilder<W, R: Wait> {
 }
 
 impl<W: Write + Drop, R: Wait + Copy> SequentialWriterBuilder<W, R> {
-    /// Creates a builder of writers over this one. Fails if memory is refused.
+    /// Creates a builder of writers over this inner writer. Fails if memory is refused.
     pub fn new(
         rt: R,
         alloc: Global,
@@ -128,7 +129,7 @@ impl<W: Write + Drop, R: Wait + Copy> SequentialWriterBuilder<W, R> {
         Ok(turn.map(|turn| SequentialWriter { turn, failures: 0 }))
     }
 
-    /// Returns whether the queue was closed, as for `next_unless_closed`.
+    /// Returns whether the queue was closed, so that `next_unless_closed` returns `None`.
     #[doc(hidden)]
     pub fn is_closed(&self) -> bool {
         self.queue.is_closed()
@@ -141,20 +142,20 @@ impl<W: Write + Drop, R: Wait + Copy> SequentialWriterBuilder<W, R> {
         self.queue.close_when_broken();
     }
 
-    /// Counts the unfinished writers in this counter from now on.
+    /// Stores the number of unfinished writers in this counter, now and whenever it changes.
     #[doc(hidden)]
     pub fn set_open(&self, open: Arc<AtomicU64>) {
         self.queue.set_open(&self.rt, open);
     }
 
-    /// Waits until fewer than `most` writers are unfinished, or none if `most` is 0.
+    /// Waits until fewer than `most` writers are unfinished, or until none is if `most` is 0.
     #[doc(hidden)]
     pub fn wait_for_room(&self, most: usize) {
         self.queue.wait_for_room(&self.rt, most);
     }
 }
 
-// Finishes a held number. If the next one was left, that one is now held, and its text is returned.
+// Finishes a held number. If the next number was left with a text, that number is now held, and its text is returned.
 fn finish_held<T: Drop, R: Wait + Drop>(held: &mut Option<Held<T, R>>) -> Option<Vec<u8>> {
     let (next, text) = held.take()?.finish()?;
     *held = Some(next);
@@ -187,7 +188,7 @@ struct Writing<W, R: Wait> {
 }
 
 impl<W: Write + Drop, R: Wait + Drop> HeldTurn<(), ()> for Writing<W, R> {
-    // States nothing, since the text is written under a lock.
+    // Clauses state nothing of it: what passes from thread to thread under a lock isn't visible to contracts.
     ghost writes = { λ _ _ _ _ _. ⊤ };
 
     ghost finishes = { λ _ _ _ _ _. ⊤ };
@@ -203,14 +204,15 @@ impl<W: Write + Drop, R: Wait + Drop> HeldTurn<(), ()> for Writing<W, R> {
     }
 }
 
-// The same for a writer whose output can be ended: it is ended after the text of the last number of a closed queue.
+// The held number of a writer whose output can be ended. The output is ended after the text of the last number of a
+// closed queue.
 #[derive(Drop)]
 struct EndingWriter<W, R: Wait> {
     held: Option<Held<W, R>>,
 }
 
 impl<W: Write + WriteDevice + Drop, R: Wait + Drop> HeldTurn<(), ()> for EndingWriter<W, R> {
-    // States nothing, since the text is written under a lock.
+    // Clauses state nothing of it: what passes from thread to thread under a lock isn't visible to contracts.
     ghost writes = { λ _ _ _ _ _. ⊤ };
 
     ghost finishes = { λ _ _ _ _ _. ⊤ };
@@ -227,7 +229,7 @@ impl<W: Write + WriteDevice + Drop, R: Wait + Drop> HeldTurn<(), ()> for EndingW
     }
 }
 
-// Writes a text and flushes it. A fault breaks the writer.
+// Writes a text and flushes it. A fault breaks the queue.
 fn write_and_flush<W: Write + Drop, R: Wait + Drop>(held: &mut Held<W, R>, text: &[u8]) {
     let written = held.item.write_all(text);
     let flushed = held.item.flush();
@@ -236,15 +238,15 @@ fn write_and_flush<W: Write + Drop, R: Wait + Drop>(held: &mut Held<W, R>, text:
     }
 }
 
-// Ends the output if the queue was closed and this number is its last.
+// Ends the output if the queue was closed and this number is the last one issued.
 fn end_if_last<W: WriteDevice + Drop, R: Wait + Drop>(held: &mut Held<W, R>) {
     if held.place.is_last() {
         held.item.end_out();
     }
 }
 
-/// A writer that writes in its turn: its first write or flush waits until those before it are dropped. Dropping it
-/// flushes and finishes its turn, or leaves it if the turn hasn't come, without waiting for any turn. As a
+/// A writer that writes in its turn: its first write or flush waits until all writers created before it are dropped.
+/// Dropping it flushes and finishes its turn, or skips the turn if it hasn't come, without waiting for any turn. As a
 /// `WriteDevice` it counts the failures of its own `write_out` and `flush_out`, and states no bytes.
 pub struct SequentialWriter<W: Write + Drop, R: Wait + Drop> {
     turn: Turn<W, R>,
@@ -252,7 +254,7 @@ pub struct SequentialWriter<W: Write + Drop, R: Wait + Drop> {
 }
 
 impl<W: Write + Drop, R: Wait + Drop> SequentialWriter<W, R> {
-    /// Returns whether its turn had come when it was created: those before it were finished.
+    /// Returns whether all writers before this one were finished when it was created.
     #[doc(hidden)]
     pub fn is_next(&self) -> bool {
         self.turn.is_next()
@@ -264,14 +266,14 @@ impl<W: Write + Drop, R: Wait + Drop> SequentialWriter<W, R> {
         self.turn.place.close_queue();
     }
 
-    /// Returns whether what is written is lost, if `close_when_broken` was called: the output broke, or was ended by
-    /// `close`.
+    /// Returns whether what is written from now on is lost: the output broke, or `close` ended it. Always false unless
+    /// `close_when_broken` was called.
     #[doc(hidden)]
     pub fn is_broken(&self) -> bool {
         self.turn.place.is_broken()
     }
 
-    // Breaks the queue if the writer met a fault.
+    // Breaks the queue if the inner writer met a fault.
     fn note<T>(&self, outcome: &io::Result<T>) {
         if outcome.is_err() {
             self.turn.place.break_queue();
@@ -284,7 +286,8 @@ impl<W: Write + Drop, R: Wait + Drop> SequentialWriter<W, R> {
         self.turn.place.is_last()
     }
 
-    /// Waits for its turn, and lends what it writes to. A fault that the caller meets there doesn't break the queue.
+    /// Waits for its turn, and returns the inner writer. A fault that the caller meets in using it doesn't break the
+    /// queue.
     #[doc(hidden)]
     pub fn hold(&mut self) -> &mut W {
         self.turn.hold()
@@ -294,7 +297,7 @@ impl<W: Write + Drop, R: Wait + Drop> SequentialWriter<W, R> {
 impl<W: Write + WriteDevice + Drop, R: Wait + Drop> SequentialWriter<W, R> {
     /// Ends its turn with a text, which is written and flushed once the turn has come. Doesn't wait for any turn. After
     /// the text of the last writer (`is_last`) `end_out` ends the output, even if the queue was closed only after this
-    /// call. It doesn't if the text is written as a `SequentialWriter` before it is dropped.
+    /// call. It doesn't if the drop of an earlier `SequentialWriter` writes the text.
     #[doc(hidden)]
     pub fn leave(self, text: Vec<u8>) {
         let Self { turn, failures: _ } = self;
@@ -308,7 +311,7 @@ impl<W: Write + WriteDevice + Drop, R: Wait + Drop> SequentialWriter<W, R> {
         }
     }
 
-    /// Ends its turn without a flush: the caller has flushed what it wrote. Doesn't wait for any turn. If it is the
+    /// Ends its turn without a flush: the caller has flushed what it wrote. Doesn't wait for any turn. If this is the
     /// last writer (`is_last`), `end_out` ends the output first.
     #[doc(hidden)]
     pub fn pass(self) {
@@ -326,10 +329,9 @@ impl<W: Write + WriteDevice + Drop, R: Wait + Drop> SequentialWriter<W, R> {
 }
 
 impl<W: WriteDevice + Drop, R: Wait + Drop> SequentialWriter<Outlet<W>, R> {
-    /// Waits for its turn, flushes, and ends the output: the writer's end follows what was written, and what a later
-    /// writer of its connection writes is lost. No further request is read from the connection. This ends a raw
-    /// response that states no length (RFC 9112, section 6.3). The error is that of the flush; the output ends even
-    /// then.
+    /// Waits for its turn, flushes, and ends the output: the end comes after what was written, and what a later writer
+    /// of the connection writes is lost. No further request is read from the connection. This ends a raw response that
+    /// states no length (RFC 9112, section 6.3). Fails with the error of the flush; the output ends even then.
     pub fn close(self) -> io::Result<()> {
         let mut writer = self;
         writer.close_queue();
@@ -341,9 +343,9 @@ impl<W: WriteDevice + Drop, R: Wait + Drop> SequentialWriter<Outlet<W>, R> {
         sent
     }
 
-    /// Ends the connection after what was sent, if `close_when_broken` was called and the output has ended: `end_out`
-    /// ends the writer, and `next_unless_closed` creates no more writers. Waits for its turn, if `close_when_broken`
-    /// was called.
+    /// Ends the connection after what was sent if the output has ended: `end_out` ends the inner writer, and
+    /// `next_unless_closed` creates no more writers. Waits for its turn. Does nothing, and doesn't wait, unless
+    /// `close_when_broken` was called.
     #[doc(hidden)]
     pub fn close_if_broken(&mut self) {
         if !self.turn.place.closes_when_broken() {
@@ -357,14 +359,14 @@ impl<W: WriteDevice + Drop, R: Wait + Drop> SequentialWriter<Outlet<W>, R> {
 }
 
 impl<W: Write + Drop, R: Wait + Drop> Write for SequentialWriter<W, R> {
-    /// Waits for its turn, and writes once.
+    /// Waits for its turn, and writes once to the inner writer.
     fn write(&mut self, buf: &[u8]) -> io::Result<usize> {
         let written = self.turn.hold().write(buf);
         self.note(&written);
         written
     }
 
-    /// Waits for its turn, and flushes.
+    /// Waits for its turn, and flushes the inner writer.
     fn flush(&mut self) -> io::Result<()> {
         let flushed = self.turn.hold().flush();
         self.note(&flushed);
@@ -389,7 +391,8 @@ impl<W: Write + Drop, R: Wait + Drop> WriteDevice for SequentialWriter<W, R> {
         self.failures
     }
 
-    /// Waits for its turn, and writes once. If `buf` isn't empty and no byte is taken, the error is `WriteZero`.
+    /// Waits for its turn, and writes once to the inner writer. Fails with `WriteZero` if `buf` isn't empty and no byte
+    /// is taken.
     fn write_out(&mut self, buf: &[u8]) -> Result<usize, io::Error> {
         let written = match self.turn.hold().write(buf) {
             Ok(0) if !buf.is_empty() => Err(ErrorKind::WriteZero.into()),
@@ -402,7 +405,7 @@ impl<W: Write + Drop, R: Wait + Drop> WriteDevice for SequentialWriter<W, R> {
         written
     }
 
-    /// Waits for its turn, and flushes.
+    /// Waits for its turn, and flushes the inner writer.
     fn flush_out(&mut self) -> Result<(), io::Error> {
         let flushed = self.turn.hold().flush();
         if flushed.is_err() {

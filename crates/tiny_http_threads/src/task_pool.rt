@@ -1,4 +1,4 @@
-//! A pool of workers that run jobs, as many as there is work for.
+//! A pool of worker threads that grows and shrinks with the work.
 ghost use Rattle.std.specs.Prelude.{◌≡◌, ◌⊎◌, IfErr, IfSome};
 ghost use Rattle.std.specs.IoError.{error_kind};
 
@@ -12,10 +12,10 @@ use std::thread::Threads;
 use std::time::{Clock, Duration};
 use std::{io, thread};
 
-/// The number of workers that a pool keeps even if they are idle (as tiny_http).
+/// The number of workers that a pool keeps even if they are idle (as in tiny_http).
 pub const MIN_THREADS: usize = 4;
 
-/// How long any other worker may be idle before it ends, in milliseconds (as tiny_http).
+/// How long any other worker may be idle before it ends, in milliseconds (as in tiny_http).
 pub const IDLE_MILLIS: u64 = 5000;
 
 /// A job for a worker.
@@ -35,8 +35,9 @@ pub enum Offered<J> {
     Back(J),
 }
 
-/// The jobs that wait for a worker, how many workers run, how many of them are idle, and whether the pool is closed. At
-/// most as many jobs wait as workers are idle, and at most as many workers are idle as run. A contract sees a `Pool`.
+/// The state of a pool: the jobs that wait for a worker, how many workers run, how many of them are idle, and whether
+/// the pool is closed. At most as many jobs wait as workers are idle, and at most as many workers are idle as run.
+/// Contracts see it as a `Pool`.
 #[derive(Drop)]
 pub struct PoolState<J> {
     jobs: VecDeque<J>,
@@ -74,7 +75,8 @@ impl<J> PoolState<J> {
     }
 
     /// Offers a job. If more workers are idle than jobs wait, the job waits, or is returned if memory is refused.
-    /// Otherwise it must start on a new worker, which counts as running from now on, or is returned if 2^64 - 1 run.
+    /// Otherwise the job must start on a new worker, which counts as running from now on; if 2^64 - 1 workers run, the
+    /// job is returned.
     pub fn offer(&mut self, job: J) -> Offered<J>
         ensures sound { IsSound self.new }
         ensures offers { Offers self.old job result self.new }
@@ -92,8 +94,8 @@ impl<J> PoolState<J> {
         Offered::Start(job)
     }
 
-    /// Counts one running worker less: the one that was to start couldn't be created. Nothing changes if all that run
-    /// are idle.
+    /// Counts one running worker less, since the worker that `offer` counted couldn't be started. Changes nothing if
+    /// all workers that run are idle.
     pub fn not_started(&mut self)
         ensures sound { IsSound self.new }
         ensures not_started { NotStarted self.old self.new }
@@ -111,7 +113,8 @@ impl<J> PoolState<J> {
         self.jobs.pop_front()
     }
 
-    /// Counts one more idle worker. Returns false, with nothing changed, if a job waits or all that run are idle.
+    /// Counts one more idle worker. Returns false, with nothing changed, if a job waits or all workers that run are
+    /// idle.
     pub fn rest(&mut self) -> bool
         ensures sound { IsSound self.new }
         ensures rests { Rests self.old result self.new }
@@ -134,8 +137,8 @@ impl<J> PoolState<J> {
         Some(job)
     }
 
-    /// Ends an idle worker. Returns false, with nothing changed, if none is idle, if a job waits, or if at most
-    /// `MIN_THREADS` run and the pool isn't closed.
+    /// Counts an idle worker as ended. Returns false, with nothing changed, if no worker is idle, if a job waits, or if
+    /// at most `MIN_THREADS` workers run and the pool isn't closed.
     pub fn give_up(&mut self) -> bool
         ensures sound { IsSound self.new }
         ensures gives_up { EndsIdle self.old result self.new }
@@ -181,7 +184,7 @@ struct Sharing<J> {
 }
 
 impl<J: Job + Drop> Sharing<J> {
-    // Runs the first job, and then one after another until the worker must end.
+    // Runs `first`, if there is one, and then one job after another until the worker must end.
     fn work<R: Wait + Clock>(&self, rt: &R, first: Option<J>) {
         if let Some(mut job) = first {
             job.run();
@@ -201,7 +204,8 @@ impl<J: Job + Drop> Sharing<J> {
             return Some(job);
         }
         if !state.rest() {
-            // Unreachable: this worker isn't idle, so fewer are idle than run. A worker that isn't counted ends.
+            // Unreachable: this worker isn't idle, so fewer workers are idle than run. A worker that isn't counted
+            // ends.
             return None;
         }
         for _ in rt.forever() {
@@ -220,7 +224,8 @@ impl<J: Job + Drop> Sharing<J> {
         unreachable!()
     }
 
-    // Waits to be woken; for at most 5,000 ms if more workers run than are kept. Returns whether that time is over.
+    // Waits to be woken, for at most 5,000 ms if more than `MIN_THREADS` workers run. Returns whether that time is
+    // over.
     fn wait<'a, R: Wait + Clock>(
         &self,
         rt: &R,
@@ -235,7 +240,7 @@ impl<J: Job + Drop> Sharing<J> {
     }
 }
 
-// Works, beginning with this job; or returns the job if its worker was refused.
+// Runs jobs, beginning with this one; or returns the job if the thread for its worker couldn't be created.
 fn work_unless<J: Job + Drop, R: Wait + Clock + Drop>(
     rt: R,
     is_refused: Arc<AtomicBool>,
@@ -251,9 +256,9 @@ fn work_unless<J: Job + Drop, R: Wait + Clock + Drop>(
     None
 }
 
-/// A pool of workers that run jobs: four, and one more for each job for which no idle worker is left. A worker above
-/// the four ends once it was idle for 5,000 ms. Dropping the pool closes it: its workers run the waiting jobs, and end.
-/// No contract here states what a call did to the pool.
+/// A pool of workers that run jobs: four, and one more for each job for which no idle worker is left. A worker beyond
+/// the four ends once it has been idle for 5,000 ms. Dropping the pool closes it: its workers run the waiting jobs, and
+/// end. No contract here states what a call did to the pool.
 pub struct TaskPool<J: Drop, R: Wait + Drop> {
     rt: R,
     sharing: Arc<Sharing<J>>,
@@ -263,8 +268,8 @@ impl<J: Job + Drop + Send + 'static, R: Threads + Wait + Clock + Copy + Send + '
     J,
     R,
 > {
-    /// Starts four workers. The error is `OutOfMemory`, or `WouldBlock` if a thread couldn't be created; the pool is
-    /// then closed, so that the workers that were started end.
+    /// Starts four workers. Fails with `OutOfMemory` if memory is refused, or with `WouldBlock` if a thread can't be
+    /// created; the pool is then closed, so that the workers that were started end.
     pub fn new(rt: R, alloc: Global) -> io::Result<TaskPool<J, R>>
         ensures { IfErr result (λ e. (error_kind e ≡ ErrorKind.OutOfMemory) ⊎ (error_kind e ≡ ErrorKind.WouldBlock)) }
     {
@@ -285,7 +290,7 @@ impl<J: Job + Drop + Send + 'static, R: Threads + Wait + Clock + Copy + Send + '
         Ok(pool)
     }
 
-    /// Runs a job on a worker, idle or new. If memory or a thread is refused, the error returns the job.
+    /// Runs a job on a worker, idle or new. If memory or a thread is refused, the error hands back the job.
     pub fn spawn(&self, rt: &R, alloc: Global, job: J) -> Result<(), J>
         ensures { IfErr result (λ back. back ≡ job) }
     {
@@ -306,8 +311,8 @@ impl<J: Job + Drop + Send + 'static, R: Threads + Wait + Clock + Copy + Send + '
         }
     }
 
-    // Starts a worker with a job. If no thread can be created, its closure is returned, which holds the job: called
-    // with the mark set, it returns the job instead of running it.
+    // Starts a worker with a job. If no thread can be created, `thread::spawn` hands back the closure, which holds the
+    // job: called with the mark set, it returns the job instead of running it.
     fn start(&self, rt: R, alloc: Global, job: J) -> Result<(), J>
         ensures { IfErr result (λ back. back ≡ job) }
     {

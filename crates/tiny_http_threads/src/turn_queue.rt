@@ -1,4 +1,4 @@
-//! An item that numbers hold in turn, under a lock, and the threads that wait for their turns.
+//! Turns at using an item: the numbers issued to threads, and the threads that wait for their turns.
 ghost use Rattle.std.specs.BTreeMap.{get};
 ghost use Rattle.std.specs.Ordering.{nat_cmp};
 ghost use Rattle.std.specs.Prelude.{◌≡◌, ◌≢◌, ℕ, ◌+◌, ◌-◌, ◌<◌, ◌↔◌, max, true, false, Some, None, IfOk, OnOk, OnErr};
@@ -15,10 +15,10 @@ use std::sync::{Arc, Condvar, Mutex, Wait};
 use std::thread;
 use tiny_http_turns::turns::{Finishing, Leaving, Turns};
 
-// The state of a number whose turn a thread requests.
+// The result of requesting the turn of a number.
 #[derive(Drop)]
 enum Taking<T> {
-    // The turn has come, and the number is held.
+    // The turn has come: the number is held, with the item.
     Held(Box<T>),
     // The number waits, and its thread must wait on this condition.
     Waits(Arc<Condvar>),
@@ -26,8 +26,8 @@ enum Taking<T> {
     Refused,
 }
 
-// The turns, and the numbers whose threads wait: each was issued, and its turn hasn't come. A contract sees a
-// `TurnQueueView`.
+// The state of a turn queue, under its lock: the turns, and the numbers whose threads wait. Each of those was issued,
+// and its turn hasn't come. Contracts see it as a `TurnQueueView`.
 #[derive(Drop)]
 struct TurnQueueState<T> {
     turns: Turns<Box<T>>,
@@ -39,7 +39,7 @@ struct TurnQueueState<T> {
     open: Option<Arc<AtomicU64>>,
     // The condition that wakes the thread of each waiting number.
     waiters: BTreeMap<u64, Arc<Condvar>>,
-    // A thread waits until a number is finished.
+    // Whether a thread waits until a number is finished.
     wants_room: bool,
 }
 
@@ -71,7 +71,7 @@ impl<T> Model for TurnQueueState<T> {
 }
 
 // Lists a number as waiting, and returns the condition that wakes its thread. No clause states that it is the listed
-// condition, since to contracts all conditions are equal. If memory is refused, it fails, and nothing has changed.
+// condition, since to contracts all conditions are equal. Fails if memory is refused, and then changes nothing.
 fn list_waiter(
     waiters: &mut BTreeMap<u64, Arc<Condvar>>,
     alloc: Global,
@@ -91,7 +91,7 @@ fn list_waiter(
     Ok(theirs)
 }
 
-// Removes the condition that wakes the thread of this number, if it waits. It then waits no more.
+// Removes this number from those that wait, and returns the condition that wakes its thread, if it waited.
 fn take_waiter(waiters: &mut BTreeMap<u64, Arc<Condvar>>, number: u64) -> Option<Arc<Condvar>>
     ensures woken { result ≡ get nat_cmp waiters.old number }
     ensures gone { get nat_cmp waiters.new number ≡ None }
@@ -143,14 +143,14 @@ impl<T: Drop> TurnQueueState<T> {
         self.turns.first_unfinished() == number
     }
 
-    // Returns how many numbers were issued and aren't finished.
+    // Returns the number of unfinished numbers: those issued and not finished yet.
     fn open(&self) -> u64
         ensures { result ≡ length self.now.turns.marks - first_unfinished self.now.turns.marks }
     {
         self.issued.saturating_sub(self.turns.first_unfinished())
     }
 
-    // Returns whether fewer than `most` numbers are unfinished, or none if `most` is 0.
+    // Returns whether fewer than `most` numbers are unfinished, or whether none is if `most` is 0.
     fn has_room(&self, most: usize) -> bool
         ensures { IsTrue result ↔ (length self.now.turns.marks - first_unfinished self.now.turns.marks < max most 1) }
     {
@@ -164,7 +164,7 @@ impl<T: Drop> TurnQueueState<T> {
         }
     }
 
-    // Counts unfinished numbers in this counter from now on.
+    // Stores the number of unfinished numbers in this counter, now and whenever it changes.
     fn set_open(&mut self, counter: Arc<AtomicU64>)
         ensures { self.new ≡ record self.old { counter = Some counter } }
     {
@@ -193,7 +193,7 @@ impl<T: Drop> TurnQueueState<T> {
         self.wants_room = true;
     }
 
-    // Returns whether to wake a thread because a number is finished.
+    // Returns whether a thread waits until a number is finished, and clears that mark: the caller wakes the thread.
     fn gives_room(&mut self) -> bool
         ensures wanted { result ≡ self.old.wants_room }
         ensures room { self.new ≡ record self.old { wants_room = false } }
@@ -203,7 +203,8 @@ impl<T: Drop> TurnQueueState<T> {
         wants_room
     }
 
-    // Holds the number if its turn has come, as `Turns` does. Otherwise the number waits.
+    // Holds the number if its turn has come, as `Turns` does. Otherwise lists the number as waiting. Refuses if memory
+    // for the wait is refused or the number was never issued.
     fn take(&mut self, alloc: Global, number: u64) -> Taking<T>
         ensures marks { self.new.turns.marks ≡ marks_after_step (Take number) self.old.turns.marks }
         ensures item { TakesTurn (turn_answer (Take number) self.old.turns.marks) self.old.turns.resting
@@ -234,8 +235,8 @@ impl<T: Drop> TurnQueueState<T> {
         self.turns.leave(number, text)
     }
 
-    // Finishes a held number, as `Turns` does. If the item then rests, returns the condition that wakes the thread of
-    // the next turn, whose number waits no more.
+    // Finishes a held number, as `Turns` does. If no number then holds the item, also returns the condition that wakes
+    // the thread of the next turn, whose number no longer waits.
     fn finish(&mut self, number: u64, item: Box<T>) -> (Finishing<Box<T>>, Option<Arc<Condvar>>)
         ensures marks { self.new.turns.marks ≡ marks_after_step (Finish number) self.old.turns.marks }
         ensures item { Finishes (turn_answer (Finish number) self.old.turns.marks) item self.old.turns.resting
@@ -255,7 +256,7 @@ impl<T: Drop> TurnQueueState<T> {
     }
 }
 
-// Creates the turn queue of these turns, on which no thread waits.
+// Creates a turn queue with this state. Fails if memory is refused.
 fn share<T: Drop>(
     alloc: Global,
     state: TurnQueueState<T>,
@@ -271,23 +272,23 @@ fn share<T: Drop>(
 }
 
 /// An item that threads use one at a time, in the order of the numbers issued to them. A number may be left with a
-/// text, which whoever then holds the item writes in its turn. The item and the texts are moved out, so no I/O is done
-/// under the lock.
+/// text: the thread that holds the item when the turn of that number comes writes the text. The item and the texts are
+/// moved out, so no I/O is done under the lock.
 #[derive(Drop)]
 pub(crate) struct TurnQueue<T> {
     state: Mutex<TurnQueueState<T>>,
-    // A thread that wants room waits on this.
+    // The condition on which a thread waits until a number is finished.
     finished: Condvar,
-    // Set only under the lock.
+    // Whether the queue was closed. Set only under the lock.
     is_closed: AtomicBool,
     // Whether the queue closes when its item breaks.
     closes_when_broken: AtomicBool,
-    // The queue was closed because its item broke: what numbers do with the item now is lost.
+    // Whether the queue was closed because its item broke: what numbers do with the item from then on is lost.
     is_broken: AtomicBool,
 }
 
 impl<T: Drop> TurnQueue<T> {
-    /// Creates the queue before any number is issued. Fails if memory is refused.
+    /// Creates a queue of which no number is issued yet. Fails if memory is refused.
     pub fn new(alloc: Global, item: T) -> Result<Arc<TurnQueue<T>>, AllocError> {
         share(alloc, TurnQueueState::new(alloc, item)?)
     }
@@ -311,12 +312,12 @@ impl<T: Drop> TurnQueue<T> {
         Ok(Some((number, state.is_first(number))))
     }
 
-    /// Counts the issued, unfinished numbers in this counter from now on.
+    /// Stores the number of issued and unfinished numbers in this counter, now and whenever it changes.
     pub fn set_open<R: Wait>(&self, rt: &R, open: Arc<AtomicU64>) {
         self.state.lock(rt).set_open(open);
     }
 
-    /// Waits until fewer than `most` numbers are unfinished, or none if `most` is 0.
+    /// Waits until fewer than `most` numbers are unfinished, or until none is if `most` is 0.
     pub fn wait_for_room<R: Wait>(&self, rt: &R, most: usize) {
         let mut state = self.state.lock(rt);
         for _ in rt.forever() {
@@ -338,8 +339,8 @@ impl<T: Drop> TurnQueue<T> {
         self.closes_when_broken.store(true, Ordering::SeqCst);
     }
 
-    /// Leaves a number with a text, which is written in its turn. If its turn has come, holds it instead, and returns
-    /// the item and the text. Doesn't wait for any turn.
+    /// Leaves a number with a text, which is written in the turn of the number. If that turn has come, holds the number
+    /// instead, and returns the item and the text. Doesn't wait for any turn.
     pub fn leave<R: Wait>(&self, rt: &R, number: u64, text: Vec<u8>) -> Option<(Box<T>, Vec<u8>)>
         ensures { IfSome result (λ held. held.1 ≡ text) }
     {
@@ -350,8 +351,8 @@ impl<T: Drop> TurnQueue<T> {
         }
     }
 
-    /// Finishes a held number. If the next one was left, that one is now held, and the same item and its text are
-    /// returned. Otherwise wakes the thread that waits for the next turn, if there is one.
+    /// Finishes a held number. If the next number was left with a text, that number is now held, and the same item and
+    /// the text are returned. Otherwise wakes the thread that waits for the next turn, if there is one.
     pub fn finish<R: Wait>(&self, rt: &R, number: u64, item: Box<T>) -> Option<(Box<T>, Vec<u8>)>
         ensures { IfSome result (λ next. next.0 ≡ item) }
     {
@@ -393,7 +394,7 @@ impl<T: Drop, R: Wait + Drop> Place<T, R> {
         self.queue.closes_when_broken.load(Ordering::SeqCst)
     }
 
-    /// Closes the queue, whose item is broken, if `close_when_broken` was called.
+    /// Closes the queue because its item is broken, if `close_when_broken` was called.
     pub fn break_queue(&self) {
         if self.closes_when_broken() {
             self.queue.is_broken.store(true, Ordering::SeqCst);
@@ -415,10 +416,10 @@ impl<T: Drop, R: Wait + Drop> Place<T, R> {
 /// A number of a turn queue, and the item while the number is held.
 #[derive(Drop)]
 pub(crate) struct Turn<T, R: Wait> {
-    /// Its number, in its queue.
+    /// The number, in its queue.
     pub place: Place<T, R>,
     alloc: Global,
-    // Whether its turn had come when the number was issued.
+    // Whether the turn of the number had come when it was issued.
     is_next: bool,
     // The item, while the number is held.
     item: Option<Box<T>>,
@@ -456,18 +457,18 @@ impl<T: Drop, R: Wait + Drop> Turn<T, R> {
         }))
     }
 
-    /// Returns the allocator that it was created with.
+    /// Returns the allocator with which the turn was created.
     pub fn alloc(&self) -> Global {
         self.alloc
     }
 
-    /// Returns whether its turn had come when the number was issued, so that it needn't wait.
+    /// Returns whether the turn of the number had come when it was issued, so that its holder needn't wait.
     pub fn is_next(&self) -> bool {
         self.is_next
     }
 
-    // Waits for the turn unless it is held, and holds it. If memory for the wait is refused, it retries until it
-    // succeeds.
+    // Waits for the turn, unless the number is held already, and holds the number. If memory for the wait is refused,
+    // retries until it succeeds.
     fn wait(&mut self)
         ensures { IsSome self.new.item }
     {
@@ -493,8 +494,8 @@ impl<T: Drop, R: Wait + Drop> Turn<T, R> {
         unreachable!()
     }
 
-    /// Waits for the turn unless it is held, and lends the item. If memory for the wait is refused, it retries until it
-    /// succeeds.
+    /// Waits for the turn, unless the number is held already, and returns the item. If memory for the wait is refused,
+    /// retries until it succeeds.
     pub fn hold(&mut self) -> &mut T {
         self.wait();
         match &mut self.item {
@@ -503,7 +504,7 @@ impl<T: Drop, R: Wait + Drop> Turn<T, R> {
         }
     }
 
-    /// Waits for the turn unless it is held, and holds it.
+    /// Waits for the turn, unless the number is held already, and returns the held number with the item.
     pub fn into_held(self) -> Held<T, R> {
         let mut turn = self;
         turn.wait();
@@ -519,8 +520,8 @@ impl<T: Drop, R: Wait + Drop> Turn<T, R> {
         }
     }
 
-    /// Leaves the number with this text. If its turn has come, holds it instead, and returns the text. Doesn't wait for
-    /// any turn.
+    /// Leaves the number with this text. If its turn has come, holds the number instead, and returns it with the text.
+    /// Doesn't wait for any turn.
     pub fn leave(self, text: Vec<u8>) -> Option<(Held<T, R>, Vec<u8>)>
         ensures { IfSome result (λ held. held.1 ≡ text) }
     {
@@ -538,7 +539,7 @@ impl<T: Drop, R: Wait + Drop> Turn<T, R> {
     }
 }
 
-/// A held number, and the item.
+/// A number whose turn has come, and the item, which only its holder uses.
 #[derive(Drop)]
 pub struct Held<T, R: Wait> {
     /// The item.
@@ -547,7 +548,7 @@ pub struct Held<T, R: Wait> {
 }
 
 impl<T: Drop, R: Wait + Drop> Held<T, R> {
-    /// Creates a new turn queue of this item, and holds its first number. Fails if memory is refused.
+    /// Creates a turn queue of this item, and holds its first number. Fails if memory is refused.
     pub(crate) fn first(rt: R, alloc: Global, item: T) -> Result<Held<T, R>, AllocError>
         ensures { IfOk result (λ held. held.item.value ≡ item) }
     {
@@ -561,13 +562,13 @@ impl<T: Drop, R: Wait + Drop> Held<T, R> {
         Ok(Held { item, place })
     }
 
-    /// Returns another handle of its queue. Fails if none is left.
+    /// Returns another handle to its queue. Fails if 2^63 - 1 handles exist.
     pub(crate) fn queue(&self) -> Result<Arc<TurnQueue<T>>, AllocError> {
         Ok(Arc::try_clone(&self.place.queue)?)
     }
 
-    /// Finishes the number. If the next one was left, that one is now held, and is returned with the same item and its
-    /// text.
+    /// Finishes the number. If the next number was left with a text, that number is now held, and is returned with the
+    /// same item and the text.
     pub fn finish(self) -> Option<(Held<T, R>, Vec<u8>)>
         ensures { IfSome result (λ next. next.0.item ≡ self.item) }
     {

@@ -1,11 +1,11 @@
 -- Values under consecutive numbers. Leading numbers without a value are only counted.
 use Rattle.std.specs.Prelude.{ℕ, List, [], ◌∷◌, ◌++◌, replicate, Option, Some, None, ⊤}
 
--- `passed` numbers without a value, then these entries
+-- the entries of `passed` numbers without a value, then the entries `kept`
 abbrev pub with_passed : {T : Type 0} → ℕ → List (Option T) → List (Option T)
 with_passed passed kept = replicate passed None ++ kept
 
--- the first entry, if there is one, has a value
+-- whether the first entry, if there is one, has a value
 abbrev pub BeginsWithValue : {T : Type 0} → List (Option T) → Type 0
 BeginsWithValue [] = ⊤
 BeginsWithValue (None ∷ kept) = ⊥

@@ -2,7 +2,7 @@
 use Rattle.std.specs.Prelude.{◌≡◌, ℕ, zero, suc, ◌^◌, ◌⊎◌, List, Option, Some, None}
 use Rattle.std.specs.Global.{Vec}
 
--- a held number, the numbers, and the output
+-- a held number, what keeps the numbers, and the output
 pub record Holds (T N O : Type 0) : Type 0 where
   pub turn : T
   pub numbers : N
@@ -11,24 +11,25 @@ pub record Holds (T N O : Type 0) : Type 0 where
 abbrev pub holds : {T N O : Type 0} → T → N → O → Holds T N O
 holds turn numbers output = record { turn = turn; numbers = numbers; output = output }
 
--- relations of a trait: writing a text in a turn, and finishing a number
+-- the type of relations between the states before and after a text is written in a turn
 abbrev pub Writes : Type 0 → Type 0 → Type 1
 Writes T O = T → O → List ℕ → T → O → Type 0
 
+-- the type of relations between the states before and after a number is finished
 abbrev pub FinishesNumber : Type 0 → Type 0 → Type 1
 FinishesNumber T N = T → N → Option (Vec ℕ) → T → N → Type 0
 
--- a text is written, and the numbers stay the same
+-- whether a text was written, and the numbers stayed the same
 abbrev pub WritesText : {T N O : Type 0} → Writes T O → Holds T N O → List ℕ → Holds T N O → Type 0
 WritesText writes here text there =
     writes here.turn here.output text there.turn there.output × (there.numbers ≡ here.numbers)
 
--- a number is finished, and nothing is written
+-- whether a number was finished, and nothing was written
 abbrev pub FinishesOne : {T N O : Type 0} → FinishesNumber T N → Holds T N O → Option (Vec ℕ) → Holds T N O → Type 0
 FinishesOne finishes here left there =
     finishes here.turn here.numbers left there.turn there.numbers × (there.output ≡ here.output)
 
--- this text is written, then those that were left for the next n numbers
+-- whether this text was written, then those that were left for the next n numbers
 abbrev pub WritesTexts : {T N O : Type 0} → Writes T O → FinishesNumber T N → ℕ → Holds T N O → List ℕ → Holds T N O
     → Type 0
 WritesTexts writes finishes zero here text there = WritesText writes here text there
@@ -38,8 +39,8 @@ WritesTexts {T = T} {N = N} {O = O} writes finishes (suc n) here text there =
     × FinishesOne finishes held (Some left) next
     × WritesText writes next left.items there
 
--- A TURN IS PASSED ON with this text and those that waited directly after it, up to the first number without a text.
--- After 2^64 numbers it goes no further.
+-- A TURN IS PASSED ON with this text and the texts that waited directly after it, up to the first number without a
+-- text. After 2^64 numbers the turn goes no further.
 pub record PassesOn {T N O : Type 0} (writes : Writes T O) (finishes : FinishesNumber T N) (here : Holds T N O)
     (text : List ℕ) (there : Holds T N O) : Type 0 where
   pub passed : ℕ

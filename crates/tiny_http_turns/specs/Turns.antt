@@ -19,16 +19,16 @@ mark_of IsOpen = Open
 mark_of IsHeld = Held
 mark_of (IsLeft text) = Left text.items
 
--- `turn` finished numbers, then those of these entries
+-- the marks of `turn` finished numbers, then those of these entries
 abbrev pub marks_of : ℕ → List Entry → List Mark
 marks_of turn entries = replicate turn Finished ++ map mark_of entries
 
--- the marks of all numbers, and the item if no number holds it
+-- What clauses see of a `Turns`: the marks of all numbers, and the item if no number holds it.
 pub record TurnsState (T : Type 0) : Type 0 where
   pub marks : List Mark
   pub resting : Option T
 
--- the first unfinished number, or the next to be issued
+-- the first unfinished number, or the next number to be issued if all are finished
 abbrev pub first_unfinished : List Mark → ℕ
 first_unfinished [] = 0
 first_unfinished (Open ∷ marks) = 0
@@ -36,7 +36,7 @@ first_unfinished (Held ∷ marks) = 0
 first_unfinished (Left text ∷ marks) = 0
 first_unfinished (Finished ∷ marks) = suc (first_unfinished marks)
 
--- each number is open, or a text was left for it
+-- whether each number is open, or a text was left for it
 abbrev pub AreOpenOrLeft : List Mark → Type 0
 AreOpenOrLeft [] = Unit {0}
 AreOpenOrLeft (Open ∷ marks) = AreOpenOrLeft marks
@@ -44,7 +44,7 @@ AreOpenOrLeft (Held ∷ marks) = ⊥
 AreOpenOrLeft (Left text ∷ marks) = AreOpenOrLeft marks
 AreOpenOrLeft (Finished ∷ marks) = ⊥
 
--- finished numbers come first; of the others only the first may be held, and no text waits for it
+-- whether finished numbers come first, of the others only the first may be held, and no text waits for that one
 abbrev pub AreInShape : List Mark → Type 0
 AreInShape [] = Unit {0}
 AreInShape (Open ∷ marks) = AreOpenOrLeft marks
@@ -52,7 +52,7 @@ AreInShape (Held ∷ marks) = AreOpenOrLeft marks
 AreInShape (Left text ∷ marks) = ⊥
 AreInShape (Finished ∷ marks) = AreInShape marks
 
--- some number is held
+-- whether some number is held
 abbrev pub is_any_held : List Mark → Bool
 is_any_held [] = false
 is_any_held (Open ∷ marks) = is_any_held marks
@@ -60,12 +60,12 @@ is_any_held (Held ∷ marks) = true
 is_any_held (Left text ∷ marks) = is_any_held marks
 is_any_held (Finished ∷ marks) = is_any_held marks
 
--- the marks have their shape, and the item is stored here exactly if no number is held
+-- whether the marks are in shape, and the item is stored exactly if no number is held
 pub record IsInOrder {T : Type 0} (turns : TurnsState T) : Type 0 where
   pub shape : AreInShape turns.marks
   pub rests : is_some turns.resting ≡ not (is_any_held turns.marks)
 
--- the step of a call
+-- a call of `Turns`, as a step
 pub data TurnStep : Type 0 where
   Issue : TurnStep
   Take : (number : ℕ) → TurnStep
@@ -77,22 +77,24 @@ pub data TurnStep : Type 0 where
 pub data TurnAnswer : Type 0 where
   -- the number was issued
   Issued : (number : ℕ) → TurnAnswer
-  -- the number is held now; was held and is open now; or is finished now
+  -- the number is held now
   Taken : TurnAnswer
+  -- the number was held and is open now
   Opened : TurnAnswer
+  -- the number is finished now, and no text was left for the next one
   Passed : TurnAnswer
   -- the text waits for the number's turn
   Waits : TurnAnswer
   -- the number, for which this text was left, is held now
   Goes : (number : ℕ) → (text : List ℕ) → TurnAnswer
-  -- the number is in another state, its turn hasn't come, or it was never issued; nothing has changed
+  -- the number isn't in the right state, its turn hasn't come, or it was never issued; nothing has changed
   Strange : TurnAnswer
 
 -- what a step reports, and the marks after it
 abbrev pub TurnOutcome : Type 0
 TurnOutcome = TurnAnswer × List Mark
 
--- an open number is held if all before it are finished
+-- the outcome of `Take`: an open number is held if all numbers before it are finished
 abbrev pub take_at : Option Mark → ℕ → List Mark → TurnOutcome
 take_at None k marks = (Strange, marks)
 take_at (Some Open) k marks = if k == first_unfinished marks then (Taken, slice_set marks k Held) else (Strange, marks)
@@ -100,7 +102,7 @@ take_at (Some Held) k marks = (Strange, marks)
 take_at (Some (Left text)) k marks = (Strange, marks)
 take_at (Some Finished) k marks = (Strange, marks)
 
--- a held number is open again
+-- the outcome of `PutBack`: a held number is open again
 abbrev pub put_back_at : Option Mark → ℕ → List Mark → TurnOutcome
 put_back_at None k marks = (Strange, marks)
 put_back_at (Some Open) k marks = (Strange, marks)
@@ -108,7 +110,7 @@ put_back_at (Some Held) k marks = (Opened, slice_set marks k Open)
 put_back_at (Some (Left text)) k marks = (Strange, marks)
 put_back_at (Some Finished) k marks = (Strange, marks)
 
--- when its turn comes, a number for which a text was left is held, and the text comes out
+-- the outcome when the turn comes to number k: if a text was left for it, it is held, and the text comes out
 abbrev pub pass_to : Option Mark → ℕ → List Mark → TurnOutcome
 pass_to None k marks = (Passed, marks)
 pass_to (Some Open) k marks = (Passed, marks)
@@ -116,13 +118,13 @@ pass_to (Some Held) k marks = (Passed, marks)
 pass_to (Some (Left text)) k marks = (Goes k text, slice_set marks k Held)
 pass_to (Some Finished) k marks = (Passed, marks)
 
--- the returned text is the one that this step reports
+-- whether the returned text is the one that this step reports for number `at`
 abbrev pub ReportsPass : TurnAnswer → ℕ → Option (Vec ℕ) → Type 0
 ReportsPass (Goes number text) at (Some with) = (number ≡ at) × (with.items ≡ text)
 ReportsPass Passed at None = Unit {0}
 ReportsPass _ at result = ⊥
 
--- a held number is finished, and the turn passes to the next
+-- the outcome of `Finish`: a held number is finished, and the turn passes to the next number
 abbrev pub finish_at : Option Mark → ℕ → List Mark → TurnOutcome
 finish_at None k marks = (Strange, marks)
 finish_at (Some Open) k marks = (Strange, marks)
@@ -130,7 +132,7 @@ finish_at (Some Held) k marks = pass_to (slice_get marks (suc k)) (suc k) (slice
 finish_at (Some (Left text)) k marks = (Strange, marks)
 finish_at (Some Finished) k marks = (Strange, marks)
 
--- a text is left for an open number, or the number is held if its turn has come
+-- the outcome of `Leave`: a text is left for an open number, or the number is held if its turn has come
 abbrev pub leave_at : Option Mark → ℕ → List ℕ → List Mark → TurnOutcome
 leave_at None k text marks = (Strange, marks)
 leave_at (Some Open) k text marks =
@@ -140,7 +142,7 @@ leave_at (Some Held) k text marks = (Strange, marks)
 leave_at (Some (Left was)) k text marks = (Strange, marks)
 leave_at (Some Finished) k text marks = (Strange, marks)
 
--- what a step reports and changes
+-- the outcome of a step: what it reports, and the marks after it
 abbrev pub turn_outcome : TurnStep → List Mark → TurnOutcome
 turn_outcome Issue marks = (Issued (length marks), marks ++ Open ∷ [])
 turn_outcome (Take k) marks = take_at (slice_get marks k) k marks

@@ -1,4 +1,4 @@
--- What the calls of `Turns` return and change, by its steps.
+-- What the calls of `Turns` return and change, in terms of the steps of the turn machine.
 use Rattle.std.specs.Global.{Vec}
 use Rattle.std.specs.Prelude.{◌≡◌, ℕ, [], Option, Some, None, IsSome, Result, Ok, Err}
 use Rattle.tiny_http_turns.specs.Turns.{TurnsState, TurnAnswer, Taken, Opened, Passed, Waits, Goes, Strange}
@@ -10,37 +10,37 @@ use Rattle.tiny_http_turns.specs.declared.turns.Leaving.TheVariants.{Left as IsL
 use Rattle.tiny_http_turns.specs.declared.turns.Leaving.TheVariants.{Strange as LeaveStrange}
 
 module _ {T : Type 0} where
-  -- no number is issued, and the item is stored here
+  -- the state of a new `Turns`: no number is issued, and the item is stored
   abbrev pub new_turns : T → TurnsState T
   new_turns item = record { marks = []; resting = Some item }
 
-  -- the item is taken out exactly if this call holds the number
+  -- whether `take` returned the item if it holds the number now, and otherwise changed nothing
   abbrev pub TakesTurn : TurnAnswer → Option T → Option T → Option T → Type 0
   TakesTurn Taken old result new = (result ≡ old) × IsSome result × (new ≡ None)
   TakesTurn Strange old result new = (result ≡ None) × (new ≡ old)
   TakesTurn _ old result new = ⊥
 
-  -- the item is stored here exactly if the number is open again; otherwise it is returned
+  -- whether `put_back` stored the item if the number is open again, and otherwise returned it and changed nothing
   abbrev pub PutsBack : {U : Type 0} → TurnAnswer → T → Option T → Result U T → Option T → Type 0
   PutsBack Opened item old (Ok done) new = new ≡ Some item
   PutsBack Strange item old (Err back) new = (back ≡ item) × (new ≡ old)
   PutsBack _ item old result new = ⊥
 
-  -- the item is stored here, passes to the next number with its text, or is returned
+  -- whether `finish` stored the item, returned it with the text left for the next number, or returned it alone
   abbrev pub Finishes : TurnAnswer → T → Option T → Finishing T → Option T → Type 0
   Finishes Passed item old IsPassed new = new ≡ Some item
   Finishes (Goes number text) item old (FinishGo on with) new = (on ≡ item) × (with.items ≡ text) × (new ≡ None)
   Finishes Strange item old (FinishStrange back) new = (back ≡ item) × (new ≡ old)
   Finishes _ item old result new = ⊥
 
-  -- the text waits, is returned with the item if the turn has come, or is returned alone
+  -- whether `leave` kept the text, returned it with the item if the turn has come, or returned it alone
   abbrev pub LeavesTurn : TurnAnswer → Option T → Leaving T → Option T → Type 0
   LeavesTurn Waits old IsLeft new = new ≡ old
   LeavesTurn (Goes number text) old (LeaveGo item back) new = (old ≡ Some item) × (back.items ≡ text) × (new ≡ None)
   LeavesTurn Strange old (LeaveStrange back) new = new ≡ old
   LeavesTurn _ old result new = ⊥
 
-  -- a returned text is the one that was given
+  -- whether a returned text is the one that was given
   abbrev pub GivesBack : Leaving T → Vec ℕ → Type 0
   GivesBack IsLeft given = Unit {0}
   GivesBack (LeaveGo item back) given = back ≡ given

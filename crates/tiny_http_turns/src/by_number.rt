@@ -43,7 +43,7 @@ impl<T: Drop> ByNumber<T> {
         }
     }
 
-    /// Returns how many numbers there are.
+    /// Returns the number of entries, including those without a value.
     pub fn len(&self) -> u64
         ensures { result ≡ length self.now }
     {
@@ -63,8 +63,8 @@ impl<T: Drop> ByNumber<T> {
         }
     }
 
-    /// Adds an entry under the next number. An error changes nothing: `Exhausted` if, and only if, there are 2^64 - 1
-    /// numbers; `Memory` if memory is refused.
+    /// Adds an entry under the next number. Fails with `Exhausted` if there are 2^64 - 1 numbers, and only then; with
+    /// `Memory` if memory is refused. A call that fails changes nothing.
     #[inline(always)]
     pub fn push(&mut self, value: Option<T>) -> Result<(), TurnsError>
         ensures ok { OnOk result (self.new ≡ self.old ++ (value ∷ [])) }
@@ -83,7 +83,7 @@ impl<T: Drop> ByNumber<T> {
         Ok(())
     }
 
-    /// Removes the last number and returns its entry.
+    /// Removes the last number and returns its entry, or `None` if there are no numbers.
     pub fn pop(&mut self) -> Option<Option<T>>
         ensures last { self.old ≡ self.new ++ option_to_list result }
         ensures none { IfNone result (self.old ≡ []) }
@@ -95,8 +95,8 @@ impl<T: Drop> ByNumber<T> {
         Some(None)
     }
 
-    /// Replaces the value under a number and returns the old one. If there is none nothing changes, and the new value
-    /// is dropped.
+    /// Replaces the value under a number and returns the old value. If the number has no value, it returns `None`,
+    /// nothing changes, and the new value is dropped.
     #[inline(always)]
     pub fn replace(&mut self, number: u64, value: Option<T>) -> Option<T>
         ensures some { IfSome result (λ was. (slice_get self.old number ≡ Some (Some was))
@@ -110,7 +110,7 @@ impl<T: Drop> ByNumber<T> {
     }
 }
 
-// Replaces the value at this index and returns the old one. If there is none nothing changes.
+// Replaces the value at this index and returns the old value. If there is none, it returns `None` and nothing changes.
 #[inline(always)]
 fn exchange<T: Drop>(kept: &mut VecDeque<Option<T>>, at: usize, value: Option<T>) -> Option<T>
     ensures some { IfSome result (λ was. (slice_get kept.old.items at ≡ Some (Some was))
@@ -124,7 +124,7 @@ fn exchange<T: Drop>(kept: &mut VecDeque<Option<T>>, at: usize, value: Option<T>
     }
 }
 
-// Drops leading entries without a value and counts them.
+// Drops leading entries without a value and counts them in `passed`.
 #[inline(always)]
 fn pass_empty<T: Drop>(kept: &mut VecDeque<Option<T>>, passed: &mut u64)
     requires bound { passed.old + length kept.old.items < 2 ^ 64 }

@@ -1,15 +1,16 @@
-//! Passing a turn on: the text of the held number is written before the number is finished, then the texts that wait
+//! Passing a turn on: the text of the held number is written before that number is finished, then the texts that wait
 //! directly after it, in order.
 ghost use Rattle.std.specs.Prelude.{ℕ, List, Option};
 ghost use Rattle.std.specs.Global.{Vec as Bytes};
 ghost use Rattle.tiny_http_turns.specs.Passing.{holds, PassesOn};
 
-/// A held number, in whose turn texts are written. `N` holds the numbers, and `O` is the output; both are borrowed.
+/// A held number in whose turn texts are written. `N` keeps the numbers, and `O` is the output; calls borrow both.
 pub trait HeldTurn<N, O> {
-    /// This text was written in the turn.
+    /// Whether this text was written in the turn.
     ghost writes: { Self → O → List ℕ → Self → O → Type 0 };
 
-    /// The number was finished. If a text was left for the next number, that number is held now, and this is the text.
+    /// Whether the number was finished. If a text was left for the next number, that number is held now, and this is
+    /// the text.
     ghost finishes: { Self → N → Option (Bytes ℕ) → Self → N → Type 0 };
 
     /// Writes a text in the turn. Faults are not reported.
@@ -21,8 +22,8 @@ pub trait HeldTurn<N, O> {
         ensures { finishes self.old numbers.old result self.new numbers.new };
 }
 
-/// Writes the text of a held number and finishes the number, then each number directly after it for which a text was
-/// left. It takes no memory. It stops after 2^64 numbers.
+/// Writes the text of a held number and finishes that number, then does the same for each number directly after it for
+/// which a text was left. It allocates nothing. It stops after 2^64 numbers.
 pub fn pass_on<N, O, T: HeldTurn<N, O>>(
     turn: &mut T,
     numbers: &mut N,

@@ -1,4 +1,4 @@
-//! Turns: numbers that hold one item in order.
+//! Turns: consecutive numbers hold one item in order.
 ghost use Rattle.std.specs.Prelude.{◌≡◌, ◌+◌, ◌-◌, ◌^◌, ◌<◌, ◌↔◌, length, map, IfOk, OnOk, OnErr, IsSome, IsTrue};
 ghost use Rattle.std.specs.Prelude.{slice_get, slice_set, Some};
 ghost use Rattle.tiny_http_turns.specs.Turns.{Issue, Take, PutBack, Finish, Leave, Issued, Open, Held};
@@ -14,7 +14,7 @@ use thiserror::Error;
 /// The reason why no number is issued.
 #[derive(Clone, Copy, Debug, PartialEq, Eq, Error)]
 pub enum TurnsError {
-    /// Memory for its entry was refused.
+    /// Memory for the number's entry was refused.
     #[error("out of memory")]
     Memory,
     /// 2^64 - 1 numbers were issued.
@@ -27,8 +27,8 @@ pub enum TurnsError {
 pub enum Finishing<T> {
     /// The number is finished. The item is stored until the next number takes it.
     Passed,
-    /// The number is finished, and the next one, for which a text was left, is held. The text is to be written with the
-    /// item before that number is finished.
+    /// The number is finished, and the next number, for which a text was left, is held. The caller writes the text with
+    /// the item before it finishes that next number.
     Go(T, Vec<u8>),
     /// The number isn't held. The item is returned, and nothing has changed.
     Strange(T),
@@ -37,10 +37,10 @@ pub enum Finishing<T> {
 /// The result of leaving a text for a number's turn.
 #[derive(Drop)]
 pub enum Leaving<T> {
-    /// The text waits for the number's turn. Whoever finishes the previous turn gets it.
+    /// The text waits for the number's turn. The call that finishes the previous number returns it.
     Left,
-    /// The number's turn has come, and it is held. The text is to be written with the item before the number is
-    /// finished.
+    /// The number's turn has come, and the number is held. The caller writes the text with the item before it finishes
+    /// the number.
     Go(T, Vec<u8>),
     /// The number isn't open. The text is returned, and nothing has changed.
     Strange(Vec<u8>),
@@ -49,22 +49,22 @@ pub enum Leaving<T> {
 // The state of an unfinished number.
 #[derive(Drop)]
 enum Entry {
-    // It waits for its turn, or may take the item.
+    // The number waits for its turn, or its turn has come and it may take the item.
     Open,
-    // It holds the item.
+    // The number holds the item.
     Held,
-    // This text waits. Whoever finishes the previous turn holds the number then and gets the text.
+    // This text waits. The call that finishes the previous number holds this number and returns the text.
     Left(Vec<u8>),
 }
 
-/// An item, such as the output of a connection, that numbers from 0 on hold in order, each once all earlier ones are
-/// finished.
+/// An item, such as the output of a connection, that is held in the order of issued numbers: each number may hold it
+/// once all earlier numbers are finished.
 ///
-/// No call blocks, and only `issue` takes memory. Finished numbers take none. A contract sees a mark for each number,
+/// No call blocks, and only `issue` allocates. Finished numbers take no memory. A contract sees a mark for each number,
 /// and the item while no number holds it.
 #[derive(Drop)]
 pub struct Turns<T> {
-    // The numbers from `turn` on; all before it are finished.
+    // The entries of the numbers from `turn` on. All numbers before `turn` are finished.
     entries: VecDeque<Entry>,
     turn: u64,
     resting: Option<T>,
@@ -98,8 +98,8 @@ impl<T: Drop> Turns<T> {
         }
     }
 
-    /// Issues the next number, from 0. An error changes nothing: `Exhausted` if, and only if, 2^64 - 1 numbers were
-    /// issued; `Memory` if memory for the entry is refused.
+    /// Issues the next number, starting from 0. Fails with `Exhausted` if 2^64 - 1 numbers were issued, and only then;
+    /// with `Memory` if memory for the entry is refused. A call that fails changes nothing.
     pub fn issue(&mut self) -> Result<u64, TurnsError>
         ensures in_order { IsInOrder self.new }
         ensures number { IfOk result (λ n. turn_answer Issue self.old.marks ≡ Issued n) }
@@ -118,8 +118,8 @@ impl<T: Drop> Turns<T> {
         }
     }
 
-    /// Holds the number and returns the item, if the number is open and the first unfinished one. Otherwise returns
-    /// `None`, and nothing has changed.
+    /// Holds the number and returns the item, if the number is open and is the first unfinished one. Otherwise it
+    /// returns `None` and changes nothing.
     pub fn take(&mut self, number: u64) -> Option<T>
         ensures in_order { IsInOrder self.new }
         ensures marks { self.new.marks ≡ marks_after_step (Take number) self.old.marks }
@@ -135,7 +135,7 @@ impl<T: Drop> Turns<T> {
         }
     }
 
-    /// Reopens a held number and stores the item. For any other number it returns the item, and nothing has changed.
+    /// Reopens a held number and stores the item. For any other number it returns the item and changes nothing.
     pub fn put_back(&mut self, number: u64, item: T) -> Result<(), T>
         ensures in_order { IsInOrder self.new }
         ensures marks { self.new.marks ≡ marks_after_step (PutBack number) self.old.marks }
@@ -157,7 +157,8 @@ impl<T: Drop> Turns<T> {
         self.turn
     }
 
-    /// Finishes a held number. If a text was left for the next one, holds that number and returns the text.
+    /// Finishes a held number. If a text was left for the next number, holds the next number and returns the text with
+    /// the item; otherwise stores the item. For any other number it returns the item and changes nothing.
     pub fn finish(&mut self, number: u64, item: T) -> Finishing<T>
         ensures in_order { IsInOrder self.new }
         ensures marks { self.new.marks ≡ marks_after_step (Finish number) self.old.marks }
@@ -180,7 +181,8 @@ impl<T: Drop> Turns<T> {
         }
     }
 
-    /// Leaves a text for an open number; if its turn has come, holds it instead and returns the text with the item.
+    /// Leaves a text for an open number. If the number's turn has come, holds the number instead and returns the text
+    /// with the item. For any other number it returns the text and changes nothing.
     pub fn leave(&mut self, number: u64, text: Vec<u8>) -> Leaving<T>
         ensures in_order { IsInOrder self.new }
         ensures marks { self.new.marks ≡ marks_after_step (Leave number text.items) self.old.marks }
@@ -244,7 +246,7 @@ fn set_entry(entries: &mut VecDeque<Entry>, at: usize, entry: Entry)
     }
 }
 
-// Holds the first unfinished number and returns its text, if one was left for it.
+// Holds the first unfinished number and returns the text that was left for it, if there is one.
 fn hold_left(entries: &mut VecDeque<Entry>) -> Option<Vec<u8>>
     ensures marks { let old = map mark_of entries.old.items in
         map mark_of entries.new.items ≡ (pass_to (slice_get old 0) 0 old).1 }

@@ -9,11 +9,11 @@ use Rattle.tiny_http_head.specs.declared.common.Header.{Header}
 use Rattle.tiny_http_body.specs.Framing.{value_of}
 use Rattle.tiny_http_request.specs.Request.{asks_for}
 
--- the header has this name
+-- whether a header has this name
 abbrev pub has_name : List ℕ → Header → Bool
 has_name name header = same_name header.field name
 
--- the head asks for a WebSocket by this key, its only one
+-- Whether a head asks for a WebSocket with this key, the only one in the head.
 pub record AsksForWebSocket (head : Head) (key : List ℕ) : Type 0 where
   pub method : head.method ≡ Get
   pub in_version : head.version ≡ version 1 1

@@ -21,14 +21,14 @@ use websocket::handshake::server::accept_key;
 /// The result of a handshake.
 #[derive(Drop)]
 pub enum Handshake<R: ReadDevice + Drop, W: WriteDevice + Drop, Rt: Wait + Drop> {
-    /// The connection is a WebSocket now. This stream reads and writes its frames.
+    /// The connection is a WebSocket now. The stream reads and writes the frames of the WebSocket.
     Accepted(CustomStream<Body<R, Rt>, SequentialWriter<Outlet<W>, Rt>>),
     /// The request doesn't ask for a WebSocket, its body isn't whole, or the limit of upgraded connections is reached.
-    /// The request can be answered, as by `refusal`.
+    /// The request can be answered, as with the response of `refusal`.
     Refused(RefusedUpgrade<R, W, Rt>),
 }
 
-// Counts the headers of this name.
+// Returns the number of headers with this name.
 fn count_named(headers: &[Header], name: &str) -> usize
     ensures { result ≡ count_by (has_name name.now) headers.now }
 {
@@ -38,10 +38,11 @@ fn count_named(headers: &[Header], name: &str) -> usize
         .count()
 }
 
-/// Returns the key that accepts a request for a WebSocket: the value of `Sec-WebSocket-Accept` (RFC 6455, section
-/// 4.2.2). `None` for any other request. A request for a WebSocket is a `GET` in version 1.1 that asks for an upgrade
-/// to `websocket` (`Request::is_upgrade`, and the list of its `Upgrade` headers), whose `Sec-WebSocket-Version` is 13,
-/// and whose one `Sec-WebSocket-Key` is valid (RFC 6455, sections 4.2.1 and 11.3.1).
+/// Returns the key that accepts a request for a WebSocket, which is the value of `Sec-WebSocket-Accept` (RFC 6455,
+/// section 4.2.2), or `None` for any other request. A request for a WebSocket is a `GET` in version 1.1 that asks for
+/// an upgrade to `websocket` (`Request::is_upgrade`, and the list of its `Upgrade` headers), whose
+/// `Sec-WebSocket-Version` is 13, and which has exactly one `Sec-WebSocket-Key`, a valid one (RFC 6455, sections 4.2.1
+/// and 11.3.1).
 pub fn accepting_key<R: ReadDevice + Drop, W: WriteDevice + Drop, Rt: Wait + Drop>(
     request: &Request<R, W, Rt>,
 ) -> Option<[u8; 28]>
@@ -63,8 +64,9 @@ pub fn accepting_key<R: ReadDevice + Drop, W: WriteDevice + Drop, Rt: Wait + Dro
     accept_key(key.as_bytes()).ok()
 }
 
-/// Upgrades a request for a WebSocket: sends the 101, dated `now`, in its turn. It returns any other request, and any
-/// request if the limit of upgraded connections is reached. Fails if memory is refused; then the request is dropped.
+/// Upgrades a request for a WebSocket: sends the 101, dated `now`, in the request's turn. Returns `Refused`, with the
+/// request, if the request isn't for a WebSocket, its body isn't whole, or the limit of upgraded connections is
+/// reached. Fails if memory is refused; then the request is dropped.
 pub fn accept<R: ReadDevice + Drop, W: WriteDevice + Drop, Rt: Wait + Drop>(
     alloc: Global,
     request: Request<R, W, Rt>,
@@ -85,8 +87,8 @@ pub fn accept<R: ReadDevice + Drop, W: WriteDevice + Drop, Rt: Wait + Drop>(
     }
 }
 
-/// Returns the response to a refused request: a 503 with its phrase as text if the limit of upgraded connections is
-/// reached, else that of `upgrade_required`. Fails if memory is refused.
+/// Returns the response to a refused request: a 503 with its reason phrase as text if the limit of upgraded connections
+/// is reached, otherwise the response of `upgrade_required`. Fails if memory is refused.
 pub fn refusal(alloc: Global, error: UpgradeError) -> io::Result<Response<Cursor<Vec<u8>>>>
     ensures full { error ≡ UpgradeError.TooMany → IfOk result (λ r. r.answer.status ≡ 503) }
     ensures other { error ≢ UpgradeError.TooMany → IfOk result (λ r. r.answer.status ≡ 426) }
@@ -97,9 +99,9 @@ pub fn refusal(alloc: Global, error: UpgradeError) -> io::Result<Response<Cursor
     upgrade_required(alloc)
 }
 
-/// Returns the response to a request that isn't for a WebSocket of version 13: a 426 with its phrase as text that
-/// states the version (RFC 6455, section 4.4) and offers the upgrade (RFC 9110, section 15.5.22). Only a response under
-/// `Standard` prints the offer. Fails if memory is refused.
+/// Returns the response to a request that isn't for a WebSocket of version 13: a 426 with its reason phrase as text.
+/// The response states the version (RFC 6455, section 4.4) and offers the upgrade (RFC 9110, section 15.5.22); the
+/// offer is printed only under `Standard`. Fails if memory is refused.
 pub fn upgrade_required(alloc: Global) -> io::Result<Response<Cursor<Vec<u8>>>>
     ensures { IfOk result (λ r. r.answer.status ≡ 426) }
 {

@@ -50,7 +50,7 @@ impl Field {
         }
     }
 
-    /// Returns whether the bytes are a field line.
+    /// Returns whether the bytes so far are a field line.
     pub(crate) fn is_whole(self) -> bool
         ensures { result ≡ is_whole_field self }
     {

@@ -55,7 +55,8 @@ pub(crate) struct ChunkLine {
     pub(crate) said: Said,
 }
 
-// The bytes of a line so far: the meaning of those before a final CR, and whether there is one.
+// The state after the bytes of a line so far: the meaning of the bytes before a final CR, and whether there is such a
+// CR.
 #[derive(Clone, Copy, Drop)]
 struct Scan {
     said: Said,
@@ -93,12 +94,13 @@ impl Scan {
     }
 }
 
-/// Consumes the next byte. If there is none, returns the kind that reports the reader's stop.
+/// Consumes and returns the next byte. If there is none, fails with `UnexpectedEof` at the reader's end, or with the
+/// kind of the reader's fault.
 pub(crate) fn next_byte<R: ReadDevice>(reader: &mut R) -> Result<u8, ErrorKind>
     ensures byte { IfOk result (λ b. R.feed reader.old ≡ prepended (b ∷ []) (R.feed reader.new)) }
     ensures cut { IfErr result (λ kind. CutBy kind (R.feed reader.old)) }
     ensures again { OnErr result (R.feed reader.new ≡ R.feed reader.old) }
-    // The reader isn't asked for a second end or fault.
+    // The reader reports an end or a fault only if this call fails, and then at most one.
     ensures stop_count { R.stop_count reader.new ≤ R.stop_count reader.old + fault_count result }
 {
     let mut buf = [0u8];
@@ -109,7 +111,7 @@ pub(crate) fn next_byte<R: ReadDevice>(reader: &mut R) -> Result<u8, ErrorKind>
     }
 }
 
-// Returns whether a byte that doesn't end the line is malformed: by the standard an LF is.
+// Returns whether a byte that doesn't end the line is malformed: by the standard, an LF is.
 fn breaks_line(rules: ChunkRules, b: u8) -> bool
     ensures { result ≡ breaks_line rules b }
 {
@@ -119,9 +121,9 @@ fn breaks_line(rules: ChunkRules, b: u8) -> bool
     }
 }
 
-/// Consumes the next line and its CR LF, which begins after at most `LONGEST_LINE` bytes. If none does, `LONGEST_LINE`
-/// + 2 bytes are `InvalidData`; with fewer the reader's stop is reported. By the standard an LF without a CR before it
-/// is `InvalidData` as soon as it was read.
+/// Consumes the next line, of at most `LONGEST_LINE` bytes, and its CR LF. Fails with `InvalidData` once `LONGEST_LINE`
+/// + 2 bytes came without a CR LF, and as `next_byte` does if the reader stops before. By the standard it also fails
+/// with `InvalidData` as soon as an LF without a CR before it is read.
 pub(crate) fn next_line<R: ReadDevice>(
     reader: &mut R,
     rules: ChunkRules,

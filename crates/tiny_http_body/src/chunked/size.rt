@@ -9,15 +9,15 @@ use httparse::is_header_value_token;
 /// The state after the bytes of a line so far.
 #[derive(Clone, Copy, Drop)]
 pub(crate) enum Size {
-    /// Only blanks.
+    /// Only blanks: bytes 9 and 32.
     Blank,
-    /// Blanks, then digits: their value and how many there are.
+    /// Blanks, then digits: the value and the number of the digits.
     Digits(u64, u8),
     /// Blanks, digits with this value, and blanks.
     Behind(u64),
-    /// The same, then a `;`.
+    /// Blanks, digits with this value, perhaps blanks, and then a `;` and any bytes.
     Extension(u64),
-    /// No size, whatever follows.
+    /// Not a chunk size, whatever follows.
     Wrong,
 }
 
@@ -86,7 +86,7 @@ impl Size {
         }
     }
 
-    // Returns whether the standard allows the byte here: a digit first, and no control byte except tab.
+    // Returns whether the standard allows the byte here: no blank before the digits, and no control byte except tab.
     fn may_be_followed_by(self, b: u8) -> bool
         ensures { result ≡ may_follow self b }
     {
@@ -111,7 +111,7 @@ impl Size {
         }
     }
 
-    /// Returns the size, if the line ends here.
+    /// Returns the chunk size that the line gives if it ends here.
     pub(crate) fn value(self) -> Option<u64>
         ensures { result ≡ size_value self }
     {
