@@ -50,11 +50,7 @@ const BAD: &[(&str, usize, &str)] = &[
         4,
         "the step before has a reply already",
     ),
-    (
-        "case a\n  done\n",
-        2,
-        "no step comes before this reply",
-    ),
+    ("case a\n  done\n", 2, "no step comes before this reply"),
     ("case a\nasks\n", 2, "no such line"),
     ("case a\n#\n ask\n", 3, "no such line"),
     ("case a\nrespond 0 200 gzip\n", 2, "no such line"),
@@ -69,11 +65,7 @@ const BAD: &[(&str, usize, &str)] = &[
         2,
         "a writer's room is a number and a kind",
     ),
-    (
-        "case a\ntakes +5 Other\n",
-        2,
-        "a number is missing",
-    ),
+    ("case a\ntakes +5 Other\n", 2, "a number is missing"),
     ("case a\nclient \\q\n", 2, "a backslash begins no escape"),
     ("case a\nclient \\x4\n", 2, "a backslash begins no escape"),
     (
@@ -81,11 +73,7 @@ const BAD: &[(&str, usize, &str)] = &[
         2,
         "a repeated piece is \\{COUNT TEXT}",
     ),
-    (
-        "case a\n+ data x\n",
-        2,
-        "no answer comes before this part",
-    ),
+    ("case a\n+ data x\n", 2, "no answer comes before this part"),
     (
         "case a\nanswer 0\n",
         2,
