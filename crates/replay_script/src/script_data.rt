@@ -19,7 +19,7 @@ pub enum ScriptData {
 #[derive(Drop)]
 pub struct Given {
     canned: Canned,
-    // The bytes are in memory.
+    // Bytes in memory are fewer than 2^63.
     ghost few: { length canned.bytes < 2 ^ 63 },
 }
 

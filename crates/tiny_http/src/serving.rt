@@ -28,8 +28,8 @@ pub trait Handler<R, Q> {
     ///
     /// What this call writes, up to 16,384 bytes, may be held until it has returned, and so may responses to earlier
     /// requests of the connection. If a handler does more after its response, if the response's data come slowly, or if
-    /// the handler waits for something else from this client, it hands the request to another thread and returns; or it
-    /// takes a raw writer and flushes that.
+    /// the handler waits for something else from this client, it should hand the request to another thread and return,
+    /// or take a raw writer and flush that.
     fn handle(&self, rt: &R, alloc: Global, request: Q) -> io::Result<()>;
 }
 

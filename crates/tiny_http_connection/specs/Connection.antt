@@ -88,7 +88,7 @@ response_context_of closes r =
       persistence = persistence_of r.framing.by_standard closes;
     }
 
--- What a request that awaits its response had so far, apart from its body: the date on which it was handed out, that of
+-- What was done for a request, apart from its body and its response: the date on which it was handed out, the date of
 -- its 100, if one was sent, whether a 100 is still owed, and whether a response asked to close the connection.
 pub record HandedOut : Type 0 where
   pub date : HttpDate
@@ -96,14 +96,14 @@ pub record HandedOut : Type 0 where
   pub owed : Bool
   pub closes : Bool
 
--- the slot of a request that awaits its response, with the number of its body's bytes that were given out, and whether
--- the body's end or fault was reported
+-- the slot of a request that was handed out as `h` states and awaits its response, with the number of body bytes that
+-- were given out, and whether the body's end or fault was reported
 abbrev pub open_slot : HandedOut → Request → ℕ → Bool → Slot
 open_slot h r given end_reported =
     record (new_slot h.date (Asks r))
     { continued = h.continued; owed = h.owed; closes = h.closes; given = given; end_reported = end_reported }
 
--- the slot of a request that awaited its response, after it was dropped
+-- the slot of a request that was handed out as `h` states, after it was dropped
 abbrev pub dropped : HandedOut → Request → ℕ → Bool → Slot
 dropped h r given end_reported =
     finished_as (closes_now r h.closes h.owed given end_reported) (open_slot h r given end_reported) ByServer
@@ -165,24 +165,24 @@ pub record IsUpgraded (s : Slot) (body : UnreadBody) : Type 0 where
   pub written : List ℕ
   pub stage : opened.stage ≡ Upgraded protocol response date written false
 
--- whether this is the slot of a number that isn't finished, and of which this is kept
+-- whether this is the slot of an unfinished number of which this is kept
 abbrev pub KeepsUnfinished : Slot → Unfinished → Type 0
 KeepsUnfinished s (still.Waiting w) = IsWaiting s w
 KeepsUnfinished s still.Raw = IsRaw s
 KeepsUnfinished s (still.Upgraded body) = IsUpgraded s body
 
--- Whether this is the slot of a number that is finished.
+-- Whether this is the slot of a number that is finished, with its body given up.
 pub record IsDone (s : Slot) : Type 0 where
   pub finished : is_finished s ≡ true
   pub given_up : s.given_up ≡ true
 
--- Whether this is the slot of a number whose text waits for its turn.
+-- Whether this is the slot of a finished number whose text, the whole segment, waits for its turn.
 pub record IsLeft (s : Slot) (text : List ℕ) : Type 0 where
   pub done : IsDone s
   pub whole : is_slot_broken s ≡ false
   pub same : segment s ≡ text
 
--- whether a slot is that of a number with this mark, of which this is kept
+-- whether this is the slot of a number with this mark, of which this is kept
 abbrev pub IsKept : Slot → Mark → Option Unfinished → Type 0
 IsKept s Open (Some u) = KeepsUnfinished s u
 IsKept s (Left text) None = IsLeft s text
@@ -194,7 +194,7 @@ AreKept [] [] [] = Unit {0}
 AreKept (s ∷ slots) (m ∷ marks) (w ∷ requests) = IsKept s m w × AreKept slots marks requests
 AreKept _ _ _ = ⊥
 
--- whether nothing was sent under a number, or all of it is left for its turn
+-- whether nothing was sent under a number: if it is finished, all of its text is left for its turn
 abbrev pub HasSentNothing : Slot → Type 0
 HasSentNothing s =
     (s.continued ≡ None) × (is_finished s ≡ false → (stage_text s.closes s.item s.date s.stage).bytes ≡ [])
@@ -285,9 +285,9 @@ abbrev pub PlaceIn : Feed → Profile → Bool → Option Feed → List Item →
 PlaceIn client p past feed rest =
     PlaceAt p past feed rest × (past ≡ false → BeginsBehindAt p feed rest → BeginsMore p client)
 
--- Where the next head is read, while the requests haven't ended: after the last body. No head is read after the last
--- one, or after a chunked body that was given up before its end. The input state says whether the position is within
--- the last body.
+-- Where the next head is read, while the requests haven't ended: after the last body. No further head is read after the
+-- last head, or after a chunked body that was given up before its end. The input state says whether the position is
+-- within the last body.
 pub record NextHead (client : Feed) (k : Kept) (last : Option Slot) (rest : List Item) : Type 0 where
   pub is_last : is_past_last k.input_state ≡ is_last_slot last
   pub within : is_in_body k.input_state ≡ (not (is_last_slot last) && is_streaming_body (last_body k.requests))

@@ -135,8 +135,8 @@ abbrev pub GathersAt : HttpDate → ResponseValue → Option Slot → Type 0
 GathersAt date response None = ⊥
 GathersAt date response (Some s) = GathersFor date response s s.item
 
--- whether `found` may hold in a step: memory for response data isn't found only in a Respond that has to read its data
--- whole
+-- whether `found` may have this value in a step: memory for response data may be missing only in a Respond that has to
+-- read its data whole
 abbrev pub MayLack : Bool → HttpDate → Reached → StepValue → Type 0
 MayLack true date old step = Unit {0}
 MayLack false date old (Respond k response) = GathersAt date response (slice_get old.slots k)

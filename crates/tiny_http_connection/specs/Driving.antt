@@ -66,7 +66,7 @@ pub record HasDone {R W : Type 0} (p : Profile) (client : Feed) (before : Sink) 
       → (at.reached.asking_ended ≡ true)
       × (at.reached.rest ≡ [] → BeginsBehind p (Some client.bytes) client.stop items)
 
--- a response with what its data state in place of its data
+-- a response with the bytes that its data state, if any, in place of the data
 abbrev pub stated_response : {D : Type 0} → (D → Option Feed) → ResponseState D → ResponseState (Option Feed)
 stated_response feed r = record { answer = r.answer; data_reader = feed r.data_reader }
 
@@ -171,8 +171,8 @@ ends_behind false end = end
 ends_behind true None = Some because.LastRequest
 ends_behind true (Some why) = Some why
 
--- Whether the requests end after the step's number, if the step was done or refused and `ends` holds; else whether they
--- go on or have ended as before.
+-- How a step ends the requests: if it was done or refused and `ends` holds, they end after the step's number; otherwise
+-- they go on, or have ended, as before.
 abbrev pub EndsBehind : {R W : Type 0} → Bool → ConnectionState R W → ConnectionState R W → ReplyValue → Type 0
 EndsBehind ends old new NotYet = new.end ≡ old.end
 EndsBehind ends old new NoSuch = new.end ≡ old.end
@@ -183,8 +183,8 @@ abbrev pub UpgradeEnds : {R W : Type 0} → ℕ → ConnectionState R W → Conn
 UpgradeEnds k old new Refused = new.end ≡ ends_behind (is_last_once_finished_at (slice_get old.requests k)) old.end
 UpgradeEnds k old new reply = EndsBehind (is_last_with_stream_at (slice_get old.requests k)) old new reply
 
--- how a Respond ends the requests, by its request or since its response asks to close the connection; a refused
--- response asks for nothing
+-- how a Respond ends the requests, because of its request or because its response asks to close the connection; a
+-- refused response asks for nothing
 abbrev pub RespondEnds : {R W : Type 0} → ℕ → Bool → ConnectionState R W → ConnectionState R W → ReplyValue → Type 0
 RespondEnds k closes old new Refused =
     new.end ≡ ends_behind (is_last_once_finished_at (slice_get old.requests k)) old.end
@@ -352,8 +352,8 @@ abbrev pub given_count : ReplyValue → ℕ
 given_count (Given bytes) = length bytes
 given_count _ = 0
 
--- whether, by its reply, a Read of n bytes leaves a body that ends as it has to: if at least one byte was asked for and
--- none was given, the body's end was met; and a fault is final
+-- Whether the body that a Read of n bytes leaves fits the reply: if n is at least 1 and no byte was given, the body is
+-- at its end; a fault is final.
 abbrev pub ClosesBody : ℕ → ReplyValue → UnreadBody → Type 0
 ClosesBody n (Given []) body = 0 < n → is_whole body ≡ true
 ClosesBody n (Fault kind) body = body ≡ Over (Faults kind)
@@ -437,7 +437,7 @@ ReportsFault old new now (step.Respond k r) kind =
     × (new.outlet.ended ≡ true)
     × IsHonest (output_of old.outlet) (output_of new.outlet) r.answer r.data_reader (printing_in context now) kind
 
--- Whether the response's own text was sent on whole, after all that the writer had taken. It need have been only if the
+-- Whether the response's own text was sent on whole, after all that the writer had taken. This is required only if the
 -- data state fewer than 2^63 bytes, the writer could still send, and it states what it took.
 abbrev pub AnswerIsSentOn : {R W : Type 0} → ConnectionState R W → ConnectionState R W → HttpDate → ℕ
     → ResponseState (Option Feed) → Type 0
@@ -481,8 +481,8 @@ abbrev pub StepMeets : {R W : Type 0} → (R → ℕ) → Step (Option Feed) →
 StepMeets stop_count (step.Read k n) old new reply = ReadMeets stop_count old new k reply
 StepMeets stop_count _ old new reply = ⊤
 
--- WHETHER A STEP REPORTS A FAILURE OF THE WRITER, whose failure count rose. A Write and a Flush report it, and so does
--- a Respond, by `RespondReports`. The other steps don't.
+-- WHETHER A STEP REPORTS A FAILURE OF THE WRITER, by which the writer's failure count rose. A Write and a Flush report
+-- it, and so does a Respond, by `RespondReports`. The other steps don't.
 abbrev pub StepReports : {R W : Type 0} → ConnectionState R W → ConnectionState R W → HttpDate → Step (Option Feed)
     → ReplyValue → Type 0
 StepReports old new now (step.Write k bytes) reply = ReportsOfWriter (output_of old.outlet) (output_of new.outlet) reply

@@ -5,9 +5,9 @@ use Rattle.tiny_http_io.specs.Device.{Feed, whole_feed}
 use Rattle.tiny_http_body.specs.Body.{Remaining}
 use Rattle.tiny_http_connection.specs.Steps.{ReplyValue, Given, Fault}
 
--- Whether a Read of n bytes may have this reply, with what is left of the body before it and after it. `Given`: the
--- next n bytes, or all if fewer are left, and none only if n is 0 or only the end is left. `Fault`: only the fault is
--- left. Any other reply takes nothing.
+-- Whether a Read of n bytes may have this reply, where `left` and `next` are what is left of the body before and after
+-- it. `Given`: the next n bytes, or all if fewer are left, and none only if n is 0 or only the end is left. `Fault`:
+-- only the fault is left. Any other reply takes nothing.
 abbrev pub ReadsNext : ℕ → Feed → ReplyValue → Feed → Type 0
 ReadsNext n left (Given bytes) next =
     (bytes ≡ take n left.bytes)

@@ -163,8 +163,9 @@ ends_asking ends o = record o { asking_ended = o.asking_ended || ends }
 abbrev pub ends_with_stream : Request → Bool → ℕ → Bool → Bool
 ends_with_stream r owed given end_reported = holds_next_head r || ends_when_finished r owed given end_reported
 
--- What was reached, after a response that asks to close the connection if `closes` holds: no further head is read, and
--- the response to the last number that was reached says that the connection closes, unless it was already made.
+-- What was reached, once a response was made that asks to close the connection, if `closes` holds: no further head is
+-- read, and the response to the last number that was reached says that the connection closes, unless it was already
+-- made.
 abbrev pub asked_to_close : Bool → Reached → Reached
 asked_to_close closes old =
     if closes then record old { slots = with_last closing_slot old.slots; asking_ended = true } else old

@@ -172,7 +172,7 @@ abbrev pub GivesUpIfKept : {R : Type 0} → Option UnreadBody → SourceState R 
 GivesUpIfKept None old new = new ≡ old
 GivesUpIfKept (Some b) old new = GivesUp b old new
 
--- what is kept of a number, with this body in place of its own, if a body is kept
+-- what is kept of a number, with `b` as its body if a body is kept
 abbrev pub number_with_body : UnreadBody → Unfinished → Unfinished
 number_with_body b (still.Waiting w) = still.Waiting (record w { body = b })
 number_with_body b still.Raw = still.Raw
@@ -208,8 +208,8 @@ pub record RefusesHead {W : Type 0} (p : Pending) (o : OutletState W) (text : Li
 abbrev pub WritesHeld : {W : Type 0} → HeldNumber → OutletState W → List ℕ → HeldNumber → OutletState W → Type 0
 WritesHeld k o text l u = (l ≡ k) × SendsQuietlyOn o u text × FailsOnce o u × KeepsSent o u
 
--- whether a held number was followed, once it was finished, by a number that had been left with this text and is now
--- held; for `None`, by no such number
+-- What follows a held number once it is finished: the next number, which had been left with this text and is now held,
+-- or, for `None`, no such number.
 abbrev pub NextHeld : HeldNumber → Finishing (Unit {0}) → Option (Vec ℕ) → HeldNumber → Type 0
 NextHeld k r None l = ((u : Unit {0}) (next : Vec ℕ) → r ≡ Go u next → ⊥)
 NextHeld k r (Some text) l = ((u : Unit {0}) × (r ≡ Go u text)) × (l.0 ≡ k.0 + 1) × (l.0 < 2 ^ 64)

@@ -29,8 +29,8 @@ IsConversationOf client sink stated p reader writer steps done =
     → IsConversation p feed (sink writer) dated (map seen done.replies.items)
     (sink done.outlet.writer) done.outlet.held done.outlet.ended done.source.feed
 
--- whether a connection is one before its first step, under this profile, over a reader that states the feed `client`
--- and a writer that states `before`
+-- Whether a connection is new: before its first step, under this profile, over a reader that states the feed `client`
+-- and a writer that states `before`.
 pub record IsNew {R W : Type 0} (p : Profile) (reader : R) (client : Option Feed) (writer : W) (before : Sink)
     (c : ConnectionState R W) : Type 0 where
   pub profile : c.profile ≡ p

@@ -86,12 +86,12 @@ all_sent [] [] sent = sent
 all_sent (t ∷ steps) (r ∷ replies) sent = all_sent steps replies (all_sent_after t.step (seen r) sent)
 all_sent _ _ sent = false
 
--- the reply to a call that sent a response with this result
+-- the reply to a call that sent a response and returned this result
 abbrev pub reply_to : {T : Type 0} → Result T Error → ReplyValue
 reply_to (Ok x) = Done
 reply_to (Err e) = fault_reply (error_kind e)
 
--- the reply to a write or a flush by a raw writer with this result
+-- the reply to a write or a flush under a raw writer or a stream, which returned this result
 abbrev pub write_reply : {T : Type 0} → Result T Error → ReplyValue
 write_reply (Ok x) = Done
 write_reply (Err e) = Fault (error_kind e)

@@ -17,8 +17,8 @@ pub data Stage : Type 0 where
   Unanswered : Stage
   -- it was answered with this response on this date; `found`: memory was found for data that are read whole first
   Answered : (response : ResponseValue) (date : HttpDate) (found : Bool) → Stage
-  -- the server answers it: a refused head, or a request that was dropped, as one is whose response or upgrade is
-  -- refused
+  -- the server answers it: it is a refused head, or a request that was dropped, such as one whose response or upgrade
+  -- was refused
   ByServer : Stage
   -- its raw writer was taken: the bytes that were written, and whether the writer has ended
   Raw : (written : List ℕ) (closed : Bool) → Stage

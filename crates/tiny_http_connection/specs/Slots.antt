@@ -156,7 +156,7 @@ refuses_upgrade r s protocol response =
     (upgrade_check r.framing.by_standard (asks_protocol r protocol) protocol response.answer.status
     (is_body_whole r s))
 
--- the request with all that follows it as its body, as the stream of its upgrade reads it
+-- the request with all that follows it as its body, which the stream of its upgrade reads
 abbrev pub as_stream : Request → Request
 as_stream r =
     record r { framing = record r.framing { form = Rest; is_last = true }; body = r.behind; behind = whole_feed [] }

@@ -215,7 +215,7 @@ impl<R: ReadDevice, W: WriteDevice> Connection<R, W> {
         Connection::new_with(alloc, Profile::Lenient, reader, writer)
     }
 
-    /// Returns a connection under this profile. The connection theorem requires what it does for `new`.
+    /// Returns a connection under this profile. The connection theorem makes the same requirements as for `new`.
     pub fn new_with(alloc: Global, profile: Profile, reader: R, writer: W) -> Connection<R, W>
         ensures profile { result.profile ≡ profile }
         ensures begins { (client : Feed)
@@ -341,7 +341,7 @@ impl<R: ReadDevice, W: WriteDevice> Connection<R, W> {
     }
 
     /// Reads the body of the request of this number, until it has read `count` bytes or no more follow, and returns
-    /// them with `Given`. They are none once the body has ended. The call sends nothing, and so takes no date.
+    /// them in `Given`, which is empty once the body has ended. The call sends nothing, and so takes no date.
     ///
     /// Returns `Fault` if the body is cut or broken, as does each later read. Returns `NoSuch` if this number neither
     /// awaits its response nor was upgraded, and while its 100 is owed. Returns `Memory` if memory for `count` bytes is

@@ -341,7 +341,7 @@ impl Pending {
         }
     }
 
-    /// Holds this number if it is open and its turn has come, and returns whether it did.
+    /// Holds this number if it is open and its turn has come, and returns whether it is held now.
     pub fn hold(&mut self, number: u64) -> bool
         ensures held { IsTrue result ↔ ((slice_get self.old.turns.marks number ≡ Some Open)
             × (number ≡ first_unfinished self.old.turns.marks)) }

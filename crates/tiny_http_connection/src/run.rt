@@ -44,9 +44,9 @@ fn room_for(alloc: Global, count: usize) -> Result<Vec<Reply>, AllocError>
 }
 
 /// Takes a connection under `Lenient` through the steps, with one reply per step. If the reader, the writer and the
-/// data state their bytes, it hands out exactly the requests that the grammar finds in the client's bytes. The reads of
-/// each body give that body's bytes, and report its end only after them. The output is one segment for each request or
-/// refused head, in order, whole up to the first fault.
+/// data state their bytes, the connection hands out exactly the requests that the grammar finds in the client's bytes.
+/// The reads of each body give that body's bytes, and report its end only after them. The output is one segment for
+/// each request or refused head, in order, whole up to the first fault.
 ///
 /// Fails if memory for the replies is refused.
 pub fn run<R: ReadDevice + Drop, W: WriteDevice + Drop, D: ReadDevice + Drop>(
@@ -67,9 +67,9 @@ pub fn run<R: ReadDevice + Drop, W: WriteDevice + Drop, D: ReadDevice + Drop>(
 }
 
 /// Takes a connection under this profile through the steps, with one reply per step. If the reader, the writer and the
-/// data state their bytes, it hands out exactly the requests that the grammar finds in the client's bytes. The reads of
-/// each body give that body's bytes, and report its end only after them. The output is one segment for each request or
-/// refused head, in order, whole up to the first fault.
+/// data state their bytes, the connection hands out exactly the requests that the grammar finds in the client's bytes.
+/// The reads of each body give that body's bytes, and report its end only after them. The output is one segment for
+/// each request or refused head, in order, whole up to the first fault.
 ///
 /// Fails if memory for the replies is refused.
 pub fn run_with<R: ReadDevice + Drop, W: WriteDevice + Drop, D: ReadDevice + Drop>(

@@ -23,8 +23,8 @@ use Rattle.tiny_http_client.specs.ClientAnswer.{ClientAnswer, ReadsAnswers}
 use Rattle.tiny_http_client.specs.ClientText.{stated_length, received_answer}
 use Rattle.tiny_http_client.specs.SentTexts.{SentText, methods, AreIn}
 
--- The method by which a client reads a number's text: that of the request; for a refused head GET, and for the 505 to a
--- HEAD, HEAD.
+-- The method with which a client reads a number's text: the method of the request, or GET for a refused head, but HEAD
+-- for the 505 to a HEAD.
 abbrev pub counts_as : Item → Method
 counts_as (Asks r) = r.message.method
 counts_as (Refuses refusal manner no_body last) = if no_body then Head else Get

@@ -195,7 +195,7 @@ pub fn the_end_has_a_reason()
 /// that is sent. It skips a 100 before the response. After the last response nothing remains, or an unfinished prefix
 /// of the next number's text.
 pub fn conversation_is_read()
-    // All that was sent and is held, however the writer failed, is the responses of the first numbers, and what
+    // However the writer failed, all that was sent and is held is the responses of the first numbers, then what
     // remains.
     ensures output { (p : Profile) (feed : Feed) (before after : Sink) (steps : List TimedValue)
         (replies : List ReplyValue) (held out : List ℕ) (ended : Bool) (unread : Option Feed)
@@ -268,7 +268,7 @@ pub fn steps_can_be_read()
 /// The client theorem with its premise on the numbers that were reached. It is stronger than `conversation_is_read`:
 /// steps with the reply `NotYet` or `NoSuch` are unrestricted.
 pub fn slots_are_read()
-    // All that was sent and is held, however the writer failed, is the responses of the first numbers, and what
+    // However the writer failed, all that was sent and is held is the responses of the first numbers, then what
     // remains.
     ensures output { (p : Profile) (feed : Feed) (before after : Sink) (steps : List TimedValue)
         (replies : List ReplyValue) (held out : List ℕ) (ended : Bool) (unread : Option Feed)

@@ -2,6 +2,6 @@
 use Rattle.tiny_http_body.specs.declared.streamed.StreamedForm.{StreamedForm}
 use Rattle.tiny_http_request.specs.declared.streamed_body.StreamedBody.{StreamedBody}
 
--- how a body that grows while it is sent is sent
+-- how a streamed body is sent
 abbrev pub form_of : {W : Type 0} → {Rt : Type 0} → StreamedBody W Rt → StreamedForm
 form_of b = b.body.form

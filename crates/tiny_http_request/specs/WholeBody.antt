@@ -28,8 +28,8 @@ error_by _ _ e = Io e
 abbrev pub fault_error : Form → Error → BodyError
 fault_error form e = error_by form (error_kind e) e
 
--- Why reading a body on ended, whatever its form. `TooLong`: more bytes than the limit, of an unknown length. `Cut`:
--- the bytes of a known length ended early. `Io`: a fault was reported. `Memory` is unrestricted.
+-- Why reading a body on ended, whatever its form. `TooLong`: a body of unknown length has more bytes than the limit.
+-- `Cut`: the bytes of a body of a known length ended early. `Io`: a fault was reported. `Memory` is unrestricted.
 abbrev pub FailsReading : UnreadBody → UnreadBody → BodyError → Type 0
 FailsReading old new TooLong = (bytes_left old ≡ None) × ((kind : ErrorKind) → body_stop old ≡ Some (Fault kind) → ⊥)
 FailsReading old new Cut = (is_streaming old ≡ true) × IsBodyOver new

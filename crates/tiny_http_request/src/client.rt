@@ -254,8 +254,8 @@ impl<R: ReadDevice + Drop, W: WriteDevice + Drop, Rt: Wait + Copy> ClientConnect
     ///
     /// It returns `None` too once a response that was made by `with_close` was sent; a call that waits for the client
     /// then returns when the client sends a head or ends. The client of a socket sees end of file after the last
-    /// response, as `Request::respond` says. Refused heads are answered in their turn, but the call doesn't wait for
-    /// it, and end the requests; but after a head with a version above 1.1 the next head is read, unless that head
+    /// response, as `Request::respond` says. Refused heads are answered in their turn, for which the call doesn't wait.
+    /// They end the requests, but after a head with a version above 1.1 the next head is read, unless the refused head
     /// names an upgrade or its body is chunked.
     pub fn next(&mut self, now: HttpDate) -> Result<Option<Request<R, W, Rt>>, AllocError>
         ensures over { IsOver self.old → (result ≡ Ok None) × IsOver self.new }

@@ -433,9 +433,9 @@ impl<R: ReadDevice + Drop, W: WriteDevice + Drop, Rt: Wait + Drop> Request<R, W,
     /// finished. The response's data are dropped, and no length is stated. The client gets the head with the first
     /// flush, or once 8192 bytes have been written.
     ///
-    /// The body is sent in chunks (RFC 9112, section 7.1). To a client of version 1.0 or lower it is sent as it is, and
-    /// ends with the connection (section 6.3): no further request is handed out, and responses to those that were are
-    /// lost. The body isn't sent if none is allowed (`HEAD`, or a code without content): if `StreamedBody::form` is
+    /// The body is sent in chunks (RFC 9112, section 7.1). For a request of version 1.0 or lower it is sent as it is,
+    /// and ends with the connection (section 6.3): no further request is handed out, and responses to those that were
+    /// are lost. The body isn't sent if none is allowed (`HEAD`, or a code without content): if `StreamedBody::form` is
     /// `Absent`, call `finish` at once, since no call would report that the client has disconnected.
     ///
     /// Fails with `InvalidInput` if `respond` would refuse the status code; then the request is dropped. Fails with the
