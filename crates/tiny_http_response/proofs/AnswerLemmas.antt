@@ -38,11 +38,11 @@ unfolding answer_head_text status_line
 head-alone version status upgrade headers listed date framing e = cc
 
 -- a head, by what the printing functions pass on
-pub head-some : (head : ResponseHead) (upgrade : Option (List ℕ)) (framing : FramingHeader) (rest : List ℕ) → response_head_text head upgrade framing ++ rest ≡ [] → ⊥
-head-some head upgrade framing rest e = head-some (status_version head.persistence head.version) head.status.0 upgrade head.headers.now (response_head_listed head upgrade) head.date framing rest e
+pub response_head-some : (head : ResponseHead) (upgrade : Option (List ℕ)) (framing : FramingHeader) (rest : List ℕ) → response_head_text head upgrade framing ++ rest ≡ [] → ⊥
+response_head-some head upgrade framing rest e = head-some (status_version head.persistence head.version) head.status.0 upgrade head.headers.now (response_head_listed head upgrade) head.date framing rest e
 
-pub head-alone : (head : ResponseHead) (upgrade : Option (List ℕ)) (framing : FramingHeader) → response_head_text head upgrade framing ≡ [] → ⊥
-head-alone head upgrade framing e = head-alone (status_version head.persistence head.version) head.status.0 upgrade head.headers.now (response_head_listed head upgrade) head.date framing e
+pub response_head-alone : (head : ResponseHead) (upgrade : Option (List ℕ)) (framing : FramingHeader) → response_head_text head upgrade framing ≡ [] → ⊥
+response_head-alone head upgrade framing e = head-alone (status_version head.persistence head.version) head.status.0 upgrade head.headers.now (response_head_listed head upgrade) head.date framing e
 
 -- an upgrade
 pub Answered-upgrade : {T : Type 0} (o : Option Feed) (a b : Sink) (r : Result T Error) (ans : Answer) (p : Printing) (protocol : List ℕ) → p.upgrade ≡ Some protocol → PrintsText a b r (if list_all is_ascii protocol then whole (head_text_of ans (record p { upgrade = Some protocol }) Neither) else nothing_sent InvalidInput) → IfSome o (λ f. length f.bytes < 2 ^ 63 → PrintsAnswer a b r ans f p)

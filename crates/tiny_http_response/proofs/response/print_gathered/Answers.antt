@@ -3,7 +3,7 @@ use Rattle.std.proofs.lemmas.Result.{err_from_is_err_and}
 use Rattle.tiny_http_response.specs.ResponseHead.{response_head_text}
 use Rattle.tiny_http_response.specs.declared.coding.FramingHeader.TheVariants.{ContentLength}
 use Rattle.tiny_http_body.proofs.DeviceFaults.{SameFaults-none, Puts-uses}
-use Rattle.tiny_http_response.proofs.AnswerLemmas.{head-some, Gathered-fault, Gathered-printed}
+use Rattle.tiny_http_response.proofs.AnswerLemmas.{response_head-some, Gathered-fault, Gathered-printed}
 use Rattle.tiny_http_response.proofs.response.print_gathered.Goals as goal
 
 pub returns-in_err-bytes-clause-text : goal.returns-in_err-bytes-clause-text
@@ -12,7 +12,7 @@ returns-in_err-bytes-clause-text g c =
     rw (p.1, p.2) (Gathered-fault _ _ c.in_err-bytes.field-0.0 (λ f. response_head_text c.args.head.now None (ContentLength (length f.bytes))) c.args.withheld c.in_err-bytes.ensures.gathers)
 
 pub returns-clause-text : goal.returns-clause-text
-returns-clause-text g c = Gathered-printed _ _ _ _ _ _ (λ n. response_head_text c.args.head.now None (ContentLength n)) c.args.withheld (λ k. head-some c.args.head.now None (ContentLength k)) c.as_slice.ensures.value c.in_ok-bytes.ensures.gathers c.print_bytes.ensures
+returns-clause-text g c = Gathered-printed _ _ _ _ _ _ (λ n. response_head_text c.args.head.now None (ContentLength n)) c.args.withheld (λ k. response_head-some c.args.head.now None (ContentLength k)) c.as_slice.ensures.value c.in_ok-bytes.ensures.gathers c.print_bytes.ensures
 
 pub returns-in_err-bytes-clause-uses : goal.returns-in_err-bytes-clause-uses
 returns-in_err-bytes-clause-uses g c =
