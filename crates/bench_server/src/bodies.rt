@@ -1,9 +1,9 @@
-//! Reads the bodies of requests and sends long ones, without limits and under `Lenient`, as the Rust crate does. With
-//! `recv` four threads receive requests; with `serve` each connection's worker answers its own.
+//! Reads the bodies of requests and sends long bodies, without limits and under `Lenient`, as the Rust crate does. With
+//! `recv` four threads receive requests; with `serve` each connection's worker answers that connection's requests.
 //!
-//! A `PUT` or a `POST` is answered by the length of its body. `GET /identity` sends the bytes that the file had at the
-//! start, from memory, and `GET /chunked` the same in chunks; `GET /file` and `GET /file/chunked` send the file itself.
-//! Any other request is answered 404.
+//! A `PUT` or a `POST` is answered with the length of its body. `GET /identity` sends the bytes that the file had at
+//! the start, from memory, and `GET /chunked` sends them in chunks; `GET /file` and `GET /file/chunked` send the file
+//! itself in these two ways. Any other request is answered with 404.
 use crate::BenchFault;
 use std::alloc::{AllocError, Global};
 use std::fs::{File, Files};
@@ -17,12 +17,12 @@ use tiny_http::response::Response;
 use tiny_http::server::{Server, ServerRequest, ServerRuntime, current_date};
 use tiny_http::serving::Handler;
 
-// Bytes that one read of a body asks for.
+// Number of bytes that one read of a body asks for.
 const PIECE: usize = 8192;
 
-/// Opens a file to be sent. Any runtime with files does.
+/// A runtime that can open a file to be sent. Any runtime with files can.
 pub trait DataFiles {
-    /// Opens the file of this name. The system's error if it can't.
+    /// Opens the file of this name. Fails with the system's error.
     fn open_data(&self, name: &str) -> io::Result<File>;
 }
 
@@ -46,7 +46,7 @@ fn length_of<D: ReadDevice>(body: &mut D) -> io::Result<u64> {
     Err(ErrorKind::Other.into())
 }
 
-// Whether a body ended before its `Content-Length`, which under `Lenient` is not an error.
+// Returns whether a body ended before its `Content-Length`, which reads do not report as an error under `Lenient`.
 fn is_cut(length: Option<usize>, count: u64) -> bool {
     match length {
         Some(length) => count < length as u64,
@@ -54,7 +54,7 @@ fn is_cut(length: Option<usize>, count: u64) -> bool {
     }
 }
 
-// Answers a request by the length of its body. Fails if the body is cut or broken.
+// Answers a request with the length of its body. Fails if the body is cut or broken.
 fn answer_length<R: Clock + Wait + Drop>(
     rt: &R,
     alloc: Global,
@@ -69,7 +69,7 @@ fn answer_length<R: Clock + Wait + Drop>(
     request.respond(response, current_date(rt))
 }
 
-/// A file to send, and its bytes.
+/// A file to send: its name, and the bytes that it had at the start.
 #[derive(Drop)]
 pub struct Data {
     pub name: String,
@@ -77,7 +77,7 @@ pub struct Data {
 }
 
 impl Data {
-    // Sends the bytes in memory, in chunks if there are at least `threshold`.
+    // Answers a request with the bytes in memory, in chunks if there are at least `threshold` bytes.
     fn answer_from_memory<R: Clock + Wait + Drop>(
         &self,
         rt: &R,
@@ -92,7 +92,7 @@ impl Data {
         request.respond(response, current_date(rt))
     }
 
-    // Sends the file, in chunks if it has at least `threshold` bytes.
+    // Answers a request with the file, in chunks if it has at least `threshold` bytes.
     fn answer_from_file<R: DataFiles + Clock + Wait + Drop>(
         &self,
         rt: &R,
@@ -107,8 +107,7 @@ impl Data {
 }
 
 impl<R: DataFiles + Clock + Wait + Drop> Handler<R, ServerRequest<R>> for Data {
-    /// Answers the request. Drops one whose body is cut or broken, or for whose response memory or the file is
-    /// refused.
+    /// Answers a request. Drops it if its body is cut or broken, if memory is refused, or if the file can't be opened.
     fn handle(&self, rt: &R, alloc: Global, request: ServerRequest<R>) -> io::Result<()> {
         match (request.method(), request.url()) {
             (Method::Put | Method::Post, _) => answer_length(rt, alloc, request),
@@ -166,7 +165,8 @@ fn answer_by_four<R: ServerRuntime + DataFiles + Sync>(
     );
 }
 
-/// Listens at the address, prints it, and serves by `how`: `recv` or `serve`. Any other word is a usage error.
+/// Listens on the address, prints it, and serves with `recv` or `serve`, as `how` names it. Any other word is a usage
+/// error.
 pub fn serve_bodies<R: ServerRuntime + DataFiles + Sync, O: Write>(
     rt: R,
     alloc: Global,

@@ -1,10 +1,12 @@
-//! The server of the benchmarks and of the trials by hand, on an open port.
+//! The server for benchmarks, and for trials by hand on an open port.
 //!
-//! `bench_server [--lenient|--strict|--standard] ADDRESS` answers every request by `hello world`, by a handler: each
-//! connection's worker answers that connection's requests. Heads are read under the profile that is named, by default
-//! `Standard`, and clients have the default limits. Once a minute, and when it stops, it prints what it has counted;
-//! it serves on if nobody reads that. A line `stop` on standard input stops it: it waits for what is open, for at most
-//! 10 seconds. `bench_server --bodies recv|serve ADDRESS FILE` reads bodies and sends long ones (`bodies`).
+//! `bench_server [--lenient|--strict|--standard] ADDRESS` answers every request with `hello world`, through a handler:
+//! each connection's worker answers that connection's requests. Heads are read under the named profile, by default
+//! `Standard`, and clients have the default limits. Once a minute, and when it stops, the server prints its counts; it
+//! keeps serving if nobody reads them. A line `stop` on standard input stops it; it waits at most 10 seconds for what
+//! is open.
+//!
+//! `bench_server --bodies recv|serve ADDRESS FILE` reads bodies and sends long bodies (module `bodies`).
 #![tactic(auto)]
 
 ghost use Rattle.std.specs.Prelude.{◌≡◌};
@@ -28,22 +30,23 @@ use tiny_http::server::{
 use tiny_http::serving::Handler;
 use tiny_http::{ConfigListenAddr, Limits, Profile};
 
-// Seconds between two lines of what was counted.
+// Seconds between two lines of counts.
 const REPORT_SECS: u64 = 60;
 
-// Seconds that a stop waits for what is open.
+// Maximum number of seconds that a stop waits for what is open.
 const STOP_SECS: u64 = 10;
 
-// Tenths of a second that the end waits for the last line, which nobody may read.
+// Maximum number of tenths of a second that the program waits for its last line to be printed, since perhaps nobody
+// reads it.
 const PRINT_TENTHS: u32 = 30;
 
 /// Why the program can't serve, or stopped serving.
 #[derive(Debug, Drop, Error)]
 pub enum BenchFault {
-    /// The arguments aren't those of the usage.
+    /// The arguments don't match the usage.
     #[error("usage: bench_server [--lenient|--strict|--standard] ADDRESS | --bodies recv|serve ADDRESS FILE")]
     Usage,
-    /// It can't listen there.
+    /// The server can't listen on the address.
     #[error("cannot listen: {0}")]
     CannotListen(ServerError),
     /// Serving failed.
@@ -84,12 +87,12 @@ impl From<AllocError> for BenchFault {
     }
 }
 
-// Answers every request by `hello world`.
+// A handler that answers every request with `hello world`.
 #[derive(Drop)]
 struct Hello;
 
 impl<R: Wait + Clock + Drop> Handler<R, ServerRequest<R>> for Hello {
-    /// Answers the request, or drops it if memory for the response is refused.
+    /// Answers a request, or drops it if memory for the response is refused.
     fn handle(&self, rt: &R, alloc: Global, request: ServerRequest<R>) -> io::Result<()> {
         let text = String::from_str(alloc, "hello world")?;
         let response = Response::from_string(alloc, text)?;
@@ -97,7 +100,7 @@ impl<R: Wait + Clock + Drop> Handler<R, ServerRequest<R>> for Hello {
     }
 }
 
-// Parses the name of a profile.
+// Parses the option that names a profile.
 fn profile_of(word: &str) -> Option<Profile> {
     match word {
         "--lenient" => Some(Profile::Lenient),
@@ -107,7 +110,7 @@ fn profile_of(word: &str) -> Option<Profile> {
     }
 }
 
-// Parses the profile, by default `Standard`, and the address.
+// Parses the arguments: the profile, by default `Standard`, and the address.
 fn asked(words: &[String]) -> Result<(Profile, &str), BenchFault> {
     match words {
         [address] => Ok((Profile::Standard, address.as_str())),
@@ -119,7 +122,7 @@ fn asked(words: &[String]) -> Result<(Profile, &str), BenchFault> {
     }
 }
 
-// Listens at the address of the arguments.
+// Creates a server that listens on the address in the arguments, under the profile that they name.
 fn listen<R: ServerRuntime>(
     rt: R,
     alloc: Global,
@@ -132,7 +135,7 @@ fn listen<R: ServerRuntime>(
     Ok(Arc::new(alloc, server).map_err(|_| AllocError)?)
 }
 
-// Stops the server once a line `stop` comes. Returns if the input ends before.
+// Stops the server once a line `stop` arrives. Returns without stopping it if the input ends or fails before.
 fn stop_when_told<R: ServerRuntime, I: BufRead + Drop>(
     rt: &R,
     alloc: Global,
@@ -152,23 +155,23 @@ fn stop_when_told<R: ServerRuntime, I: BufRead + Drop>(
     }
 }
 
-// Prints what the server has counted.
+// Prints the server's counts.
 fn print_counts<R: ServerRuntime, O: Write>(server: &Server<R>, out: &mut O) {
     let counts = server.counts();
     let _ = writeln!(out, "{counts}");
     let _ = out.flush();
 }
 
-// How far serving and reporting have come.
+// Whether serving and reporting have ended.
 #[derive(Drop)]
 struct Progress {
-    // Serving has ended.
+    // Whether serving has ended.
     has_ended: AtomicBool,
-    // The last line was printed.
+    // Whether the last line has been printed.
     has_printed: AtomicBool,
 }
 
-// Prints where the server listens, then once a minute what it has counted, and once more when it has ended.
+// Prints where the server listens, then its counts once a minute, and once more when serving has ended.
 fn report_progress<R: ServerRuntime, O: Write>(
     rt: &R,
     server: &Server<R>,
@@ -193,7 +196,8 @@ fn report_progress<R: ServerRuntime, O: Write>(
     progress.has_printed.store(true, Ordering::SeqCst);
 }
 
-// Waits for the last line, at most `PRINT_TENTHS`: the thread that prints may block for ever if nobody reads.
+// Waits until the last line is printed, for at most `PRINT_TENTHS`: the thread that prints may block forever if nobody
+// reads.
 fn wait_for_report<R: Wait + Clock>(rt: &R, progress: &Progress) {
     for _ in 0..PRINT_TENTHS {
         if progress.has_printed.load(Ordering::SeqCst) {
@@ -210,8 +214,8 @@ fn answer_all<R: ServerRuntime>(alloc: Global, server: &Server<R>) -> Result<(),
     Ok(())
 }
 
-// Listens at the address of the arguments, and answers all requests. Another thread prints. Input and output are
-// type parameters, since a thread can't take a bound whose associated type isn't `Send`.
+// Listens on the address in the arguments, and answers all requests. Two more threads read the input and print. Input
+// and output are type parameters, since a thread can't take a bound whose associated type isn't `Send`.
 fn serve<R, I, O>(
     rt: R,
     alloc: Global,
@@ -250,7 +254,7 @@ where
     served
 }
 
-// Reports an error by a line, and returns the exit status: 2 for a usage error, 1 for what the system refused.
+// Reports an error on one line, and returns the exit status: 2 for a usage error, 1 for any other error.
 fn report<E: Write>(fault: &BenchFault, err: &mut E) -> u8 {
     let _ = writeln!(err, "bench_server: {fault}");
     if matches!(fault, BenchFault::Usage) {
@@ -259,10 +263,10 @@ fn report<E: Write>(fault: &BenchFault, err: &mut E) -> u8 {
     1
 }
 
-/// Listens at the address of the arguments, and answers every request by `hello world` until a line `stop` comes on
-/// `input`. Another thread prints on `out` where it listens and what is counted. Returns the exit status: 0; 2 if the
-/// arguments aren't `[--lenient|--strict|--standard] ADDRESS`; 1 if it can't listen there or serving fails. A line on
-/// `err` reports the error.
+/// Listens on the address in the arguments, and answers every request with `hello world` until a line `stop` arrives on
+/// `input`. Another thread prints on `out` where the server listens, and its counts. Returns the exit status: 0; 2 if
+/// the arguments aren't `[--lenient|--strict|--standard] ADDRESS`; 1 if the server can't listen or serving fails, or if
+/// memory is refused. A line on `err` reports the error.
 pub fn serve_hello<R, I, O, E: Write>(
     rt: R,
     alloc: Global,
@@ -282,7 +286,7 @@ where
     }
 }
 
-// Returns the command line, the program's name first. An argument that isn't UTF-8 is a usage error.
+// Returns the words of the command line, the program's name first. An argument that isn't UTF-8 is a usage error.
 fn words<R: Env + AllocGlobal>(rt: &R) -> Result<Vec<String>, BenchFault> {
     match env::args(rt) {
         Ok(words) => Ok(words.collect(rt.alloc())?),
@@ -291,7 +295,7 @@ fn words<R: Env + AllocGlobal>(rt: &R) -> Result<Vec<String>, BenchFault> {
     }
 }
 
-// Reads the file whose bytes are sent.
+// Reads the file that is sent.
 fn read_data(rt: HostRuntime, alloc: Global, name: &str) -> Result<Data, BenchFault> {
     let bytes = fs::read(&rt, name)?;
     let name = String::from_str(alloc, name)?;

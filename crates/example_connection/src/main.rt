@@ -1,5 +1,6 @@
-//! Drives a `Connection` without threads: requests come on standard input, responses leave on standard output. A `GET`
-//! is answered by its path and a `POST` by its body; any other request is dropped, which answers it by an empty 500.
+//! Drives a `Connection` without threads: it reads requests from standard input, and writes responses to standard
+//! output. A `GET` is answered with its path, and a `POST` with its body; any other request is dropped, which answers
+//! it with an empty 500.
 #![tactic(auto)]
 
 use httpdate::HttpDate;
@@ -11,13 +12,14 @@ use tiny_http_wire::common::{Method, StatusCode};
 use tiny_http_wire::device::{Metered, ReadDevice, WriteDevice};
 use tiny_http_wire::response::Response;
 
-// Bytes that one read asks for.
+// Number of bytes that one read asks for.
 const PIECE: u16 = 1024;
 
-// Reads that a body may take: two that give bytes, and one that finds the end. So a body has at most 2,048 bytes.
+// Maximum number of reads for a body: two that return bytes, and one that finds the end. So a body has at most 2,048
+// bytes.
 const PIECES: u16 = 3;
 
-// Reads the whole body of a request, or none of it if that takes too many reads.
+// Reads the whole body of a request. Returns `None` if that takes more than `PIECES` reads.
 fn read_body<R: ReadDevice + Drop, W: WriteDevice + Drop>(
     alloc: Global,
     connection: &mut Connection<R, W>,
@@ -39,7 +41,7 @@ fn read_body<R: ReadDevice + Drop, W: WriteDevice + Drop>(
     Ok(None)
 }
 
-// Answers a request by its path.
+// Answers a request with its path.
 fn answer_path<R: ReadDevice + Drop, W: WriteDevice + Drop>(
     alloc: Global,
     connection: &mut Connection<R, W>,
@@ -54,7 +56,7 @@ fn answer_path<R: ReadDevice + Drop, W: WriteDevice + Drop>(
     }
 }
 
-// Answers a request by its body, or by 413 if that is too long. A client that expects a 100 is sent one first.
+// Answers a request with its body, or with 413 if the body is too long. A client that expects a 100 gets it first.
 fn echo<R: ReadDevice + Drop, W: WriteDevice + Drop>(
     alloc: Global,
     connection: &mut Connection<R, W>,
@@ -72,7 +74,7 @@ fn echo<R: ReadDevice + Drop, W: WriteDevice + Drop>(
     }
 }
 
-// Answers the requests of a client until it has no more.
+// Answers the requests of a client until there are no more.
 fn serve<R: ReadDevice + Drop, W: WriteDevice + Drop>(
     alloc: Global,
     reader: R,
@@ -99,7 +101,7 @@ fn serve<R: ReadDevice + Drop, W: WriteDevice + Drop>(
 }
 
 fn main(rt: HostRuntime) -> io::Result<()> {
-    // Seconds since the beginning of 1970: Wed, 04 May 1983 11:17:00 GMT.
+    // Wed, 04 May 1983 11:17:00 GMT, in seconds since the beginning of 1970.
     let Ok(now) = HttpDate::from_unix_secs(420_895_020) else {
         return Err(ErrorKind::InvalidInput.into());
     };

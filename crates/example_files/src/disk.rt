@@ -1,11 +1,11 @@
-//! What serving a folder needs of the system: a trait of its own, since code that is generic over `Files` can't be
-//! shared among threads.
+//! What serving a folder needs from the system, as a separate trait: code that is generic over `Files` can't be shared
+//! by threads.
 use std::alloc::{AllocGlobal, Global};
 use std::fs::{File, Files, OpenFile};
 use std::time::SystemTime;
 use std::{fs, io};
 
-/// What a path names.
+/// The kind of what a path names.
 #[derive(Clone, Copy, Debug, PartialEq, Eq)]
 pub(crate) enum Kind {
     File,
@@ -17,13 +17,13 @@ pub(crate) trait Disk {
     /// Opens a file, and returns it with its modification time.
     fn open_file(&self, path: &str) -> io::Result<(File, SystemTime)>;
 
-    /// Returns what an existing path names.
+    /// Returns the kind of what a path names. Fails if nothing has this path.
     fn kind_of(&self, path: &str) -> io::Result<Kind>;
 
-    /// Returns the path with its links resolved, if it is UTF-8.
+    /// Returns the canonical path, with links resolved, or `None` if it isn't UTF-8.
     fn real_path(&self, alloc: Global, path: &str) -> io::Result<Option<String>>;
 
-    /// Returns the names in a folder that are UTF-8.
+    /// Returns the names in a folder that are UTF-8, sorted.
     fn names_in(&self, alloc: Global, path: &str) -> io::Result<Vec<String>>;
 }
 

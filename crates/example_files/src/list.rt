@@ -3,7 +3,7 @@ use percent_encoding::{NON_ALPHANUMERIC, utf8_percent_encode};
 use std::alloc::Global;
 use std::io;
 
-// Writes a name, escaped for HTML.
+// Appends a name, escaped for HTML.
 fn push_escaped(html: &mut String, name: &str) -> io::Result<()> {
     for c in name.chars() {
         match c {
@@ -15,11 +15,11 @@ fn push_escaped(html: &mut String, name: &str) -> io::Result<()> {
     Ok(())
 }
 
-/// Returns a list of names, each a link.
+/// Returns an HTML page that lists these names, each as a link.
 pub(crate) fn list_of(alloc: Global, names: &[String]) -> io::Result<String> {
     let mut html = String::from_str(alloc, "<!doctype html>\n<ul>\n")?;
     for name in names {
-        // With `./` before it, a name with a colon isn't taken for a scheme.
+        // The link is relative to the folder. With `./` first, no part of a name is taken for a scheme.
         html.push_str("<li><a href=\"./")?;
         utf8_percent_encode(name.as_str(), NON_ALPHANUMERIC).append_to(&mut html)?;
         html.push_str("\">")?;

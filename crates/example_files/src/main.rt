@@ -1,8 +1,9 @@
 //! Serves the files of a folder: `example_files ADDRESS FOLDER`.
 //!
-//! It takes `GET` and `HEAD`. A folder is answered by its `index.html`, or by a list of its files. What can't be read,
-//! or is neither a file nor a folder, is a 404. A file that shrinks while it is sent ends its connection, since its
-//! length was sent. If memory is refused, the request is dropped, which answers it by an empty 500.
+//! It accepts `GET` and `HEAD`. A request for a folder is answered with its `index.html`, or a list of its files. A
+//! request for what can't be read, or is neither a file nor a folder, is answered with 404. A file that shrinks while
+//! it is sent ends its connection, since its length has already been sent. If memory is refused, the request is
+//! dropped, which answers it with an empty 500.
 //!
 //! The program shows a path that stays within the folder (`below_folder`), a file of any length that isn't sent in
 //! chunks (`with_chunked_threshold`), a 304 without content (`contentless`), and headers added by `with`.
@@ -30,13 +31,13 @@ use tiny_http_files::dates::is_not_modified;
 use tiny_http_files::paths::below_folder;
 use tiny_http_files::types::type_of;
 
-/// The served folder, by its real path.
+/// The folder that is served, by its canonical path.
 #[derive(Drop)]
 struct Folder {
     path: String,
 }
 
-// Answers by a status code and its reason phrase.
+// Answers a request with this status code, and with its reason phrase as the text.
 fn send_status<R: ReadDevice + Drop, W: WriteDevice + Drop, Rt: Clock + Wait + Drop>(
     rt: &Rt,
     alloc: Global,
@@ -46,7 +47,7 @@ fn send_status<R: ReadDevice + Drop, W: WriteDevice + Drop, Rt: Clock + Wait + D
     request.respond(Response::status(alloc, StatusCode(code))?, current_date(rt))
 }
 
-// Sends a file, or a 304 if the client has it already.
+// Sends a file, a 304 if the client has it already, or a 404 if it can't be opened.
 fn send_file<R: ReadDevice + Drop, W: WriteDevice + Drop, Rt: Disk + Clock + Wait + Drop>(
     rt: &Rt,
     alloc: Global,
@@ -61,13 +62,13 @@ fn send_file<R: ReadDevice + Drop, W: WriteDevice + Drop, Rt: Disk + Clock + Wai
     let modified = HttpDate::try_from(modified).unwrap_or(now);
     let modified = if modified > now { now } else { modified };
     let date = format!(in alloc; "{modified}")?;
-    // `If-Modified-Since` is ignored beside `If-None-Match` (RFC 9110, section 13.1.3).
+    // `If-Modified-Since` is ignored if there is an `If-None-Match` (RFC 9110, section 13.1.3).
     let has_tags = request.header("If-None-Match").is_some();
     if !has_tags && is_not_modified(request.header("If-Modified-Since"), modified) {
         let answer = Response::contentless(alloc, StatusCode(304));
         return request.respond(answer.with(alloc, "Last-Modified", date.as_str())?, now);
     }
-    // With its length, never in chunks.
+    // The file is sent with its length, and never in chunks.
     let answer = Response::from_file(alloc, file)
         .with_chunked_threshold(usize::MAX)
         .with(alloc, "Content-Type", type_of(path))?
@@ -75,7 +76,7 @@ fn send_file<R: ReadDevice + Drop, W: WriteDevice + Drop, Rt: Disk + Clock + Wai
     request.respond(answer, now)
 }
 
-// Sends the listing of a folder.
+// Sends the listing of a folder, or a 404 if the folder can't be read.
 fn send_list<R: ReadDevice + Drop, W: WriteDevice + Drop, Rt: Disk + Clock + Wait + Drop>(
     rt: &Rt,
     alloc: Global,
@@ -92,7 +93,7 @@ fn send_list<R: ReadDevice + Drop, W: WriteDevice + Drop, Rt: Disk + Clock + Wai
 }
 
 impl Folder {
-    // Returns the real path of what the request's path names, if it is in the folder.
+    // Returns the canonical path of what a request's path names, or `None` if that is not in the folder.
     fn find<Rt: Disk>(&self, rt: &Rt, alloc: Global, path: &str) -> io::Result<Option<String>> {
         let Ok(decoded) = percent_decode_str(path).decode_utf8(alloc) else {
             return Ok(None);
@@ -113,7 +114,7 @@ impl<R: ReadDevice + Drop, W: WriteDevice + Drop, Rt: Disk + Clock + Wait + Drop
     Rt,
     Request<R, W, Rt>,
 > for Folder {
-    /// Answers by a file, an index or a listing.
+    /// Answers a request with a file, an index or a listing.
     fn handle(&self, rt: &Rt, alloc: Global, request: Request<R, W, Rt>) -> io::Result<()> {
         if !matches!(request.method(), Method::Get | Method::Head) {
             let answer = Response::status(alloc, StatusCode(405))?;
@@ -125,11 +126,12 @@ impl<R: ReadDevice + Drop, W: WriteDevice + Drop, Rt: Disk + Clock + Wait + Drop
         match rt.kind_of(found.as_str()) {
             Ok(Kind::Folder) => {}
             Ok(Kind::File) => return send_file(rt, alloc, request, found.as_str()),
-            // Opening a pipe may block for ever.
+            // Opening a pipe may block forever.
             _ => return send_status(rt, alloc, request, 404),
         }
         if !request.path().ends_with('/') {
-            // Relative to the last segment: a target that begins with two slashes would name a host.
+            // The location is relative to the last segment. If it were the whole path and began with two slashes, it
+            // would name a host.
             let Some((_, part)) = request.path().rsplit_once('/') else {
                 return send_status(rt, alloc, request, 404);
             };
@@ -146,7 +148,7 @@ impl<R: ReadDevice + Drop, W: WriteDevice + Drop, Rt: Disk + Clock + Wait + Drop
     }
 }
 
-// Listens at this address, and serves the folder.
+// Listens on this address, prints it, and serves the folder.
 fn serve<Rt: Host + Disk, O: Write>(
     rt: Rt,
     alloc: Global,
@@ -162,7 +164,7 @@ fn serve<Rt: Host + Disk, O: Write>(
     let server = Server::with(rt, alloc, config, Profile::Standard, Limits::new())?;
     writeln!(out, "listening on {}", server.server_addr())?;
     out.flush()?;
-    // `serve`, and not `serve_by`: a few slow clients would block a fixed number of threads.
+    // `serve` rather than `serve_by`: a few slow clients would block a fixed number of threads.
     server.serve(alloc, &handler)
 }
 

@@ -6,19 +6,19 @@ use std::net::{Net, TcpStream};
 use std::time::{Clock, Duration, Instant};
 use tiny_http_client::answer_head::{AnswerHead, read_answer_head};
 
-/// Bytes that are forwarded at once.
+/// Maximum number of bytes that are forwarded at a time.
 pub(crate) const PIECE: usize = 8192;
 
-// Maximum length in bytes of a response's head, with the interim heads before it.
+// Maximum length in bytes of a response's head, including the interim heads before it.
 const LONGEST_HEADS: usize = 65_536;
 
-// Seconds after which a backend that neither takes bytes nor responds has timed out.
+// Seconds after which a backend that neither accepts bytes nor responds has timed out.
 const PATIENCE: u64 = 10;
 
-// Milliseconds that a write waits before it looks for the response.
+// Milliseconds that a write waits for the backend before it looks for the response again.
 const WRITE_WAIT: u64 = 250;
 
-/// Reads a response's body: first what came with its head, then the connection.
+/// A reader of a response's body: first of the bytes that arrived with the head, then of the connection.
 pub(crate) type Rest = Chain<Cursor<Vec<u8>>, TcpStream>;
 
 /// A connection to the backend. It looks for the response before each write.
@@ -27,14 +27,14 @@ pub(crate) struct Backend<'a, Rt: Clock> {
     rt: &'a Rt,
     alloc: Global,
     stream: TcpStream,
-    // The bytes that came, without interim heads.
+    // The bytes that have arrived after the heads that were read.
     front: Vec<u8>,
-    // Bytes of interim heads that came.
+    // Total length in bytes of the heads that were read.
     passed: usize,
     head: Option<AnswerHead>,
 }
 
-// Returns the position after the first empty line.
+// Returns the position after the empty line that ends a head, or `None` if there is no such line yet.
 fn end_of_head(bytes: &[u8]) -> Option<usize> {
     let mut line_is_empty = false;
     for (at, byte) in bytes.iter().enumerate() {
@@ -48,7 +48,7 @@ fn end_of_head(bytes: &[u8]) -> Option<usize> {
     None
 }
 
-// Returns the bytes of a head, those from 128 on percent-encoded, as `Standard` hands out a request's target.
+// Returns a head with its bytes from 128 on percent-encoded, as `Standard` encodes those of a request's target.
 fn encoded(alloc: Global, head: &[u8]) -> io::Result<Vec<u8>> {
     let mut bytes = Vec::new(alloc);
     for byte in head {
@@ -78,12 +78,13 @@ impl<'a, Rt: Net<Stream = TcpStream> + Clock> Backend<'a, Rt> {
 }
 
 impl<Rt: Clock> Backend<'_, Rt> {
-    /// Whether the response's head has come.
+    /// Returns whether the response's head has arrived.
     pub(crate) fn is_answered(&self) -> bool {
         self.head.is_some()
     }
 
-    // Returns the first head if it has come whole, and its length in bytes.
+    // Returns the next head and its length in bytes, or `None` if the head is incomplete. Fails with `InvalidData` if
+    // it is malformed.
     fn next_head(&self) -> io::Result<Option<(AnswerHead, usize)>> {
         let front = self.front.as_slice();
         if let Ok(found) = read_answer_head(self.alloc, front) {
@@ -99,7 +100,8 @@ impl<Rt: Clock> Backend<'_, Rt> {
         }
     }
 
-    // Reads the heads that have come whole, up to the first that isn't interim.
+    // Reads the complete heads that have arrived, up to the first that isn't interim. Fails with `InvalidData` if a
+    // head is malformed or a 101, or if the heads are too long.
     fn read_heads(&mut self) -> io::Result<()> {
         for _ in 0..LONGEST_HEADS {
             let Some((head, length)) = self.next_head()? else {
@@ -124,7 +126,7 @@ impl<Rt: Clock> Backend<'_, Rt> {
         Ok(())
     }
 
-    // Reads once, then the heads that are whole. Returns the number of bytes read.
+    // Reads once from the connection, and takes the heads that are complete by then. Returns the number of bytes read.
     fn receive(&mut self) -> io::Result<usize> {
         let mut piece = [0u8; PIECE];
         let mut stream = &self.stream;
@@ -137,7 +139,7 @@ impl<Rt: Clock> Backend<'_, Rt> {
         Ok(count)
     }
 
-    // Reads what has come, up to the response's head, without waiting.
+    // Reads what has arrived, up to the response's head, without waiting.
     fn look(&mut self) -> io::Result<()> {
         self.stream.set_nonblocking(true)?;
         let mut looked = Ok(1);
@@ -154,7 +156,7 @@ impl<Rt: Clock> Backend<'_, Rt> {
         }
     }
 
-    // Waits for the response's head, at most ten seconds.
+    // Waits for the response's head, for at most ten seconds.
     fn wait(&mut self) -> io::Result<()> {
         let begun = Instant::now(self.rt)?;
         let patience = Duration::from_secs(PATIENCE);
@@ -176,7 +178,7 @@ impl<Rt: Clock> Backend<'_, Rt> {
         Err(ErrorKind::TimedOut.into())
     }
 
-    /// Returns the response's head and the reader of its body.
+    /// Waits for the response's head. Returns the head and a reader of the body.
     pub(crate) fn into_answer(mut self) -> io::Result<(AnswerHead, Rest)> {
         self.wait()?;
         self.stream
@@ -194,7 +196,7 @@ impl<Rt: Clock> Backend<'_, Rt> {
     }
 }
 
-// Whether a call that failed by this error may be repeated.
+// Returns whether a call that failed with this kind of error may be repeated.
 fn is_wait(kind: ErrorKind) -> bool {
     matches!(
         kind,
@@ -203,8 +205,8 @@ fn is_wait(kind: ErrorKind) -> bool {
 }
 
 impl<Rt: Clock> Write for Backend<'_, Rt> {
-    /// Looks for the response, and writes once. Fails with `BrokenPipe` if the response has come, since the backend
-    /// needs no more, and with `TimedOut` if the backend takes nothing for ten seconds.
+    /// Looks for the response, and writes once. Fails with `BrokenPipe` if the response has arrived, since the backend
+    /// needs no more bytes, and with `TimedOut` if the backend accepts nothing for ten seconds.
     fn write(&mut self, buf: &[u8]) -> io::Result<usize> {
         for _ in 0..PATIENCE * 1_000 / WRITE_WAIT {
             self.look()?;

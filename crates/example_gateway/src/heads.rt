@@ -1,4 +1,4 @@
-//! What is forwarded of the heads of requests and responses.
+//! The parts of the heads of requests and responses that are forwarded, and the headers that the gateway adds.
 use std::alloc::Global;
 use std::io;
 use std::io::{ErrorKind, Write};
@@ -8,7 +8,7 @@ use tiny_http::{Header, HeaderField, Request, Response};
 use tiny_http_client::answer_head::AnswerHead;
 use tiny_http_standard_head::lists::has_element;
 
-// The headers that apply to one connection only, and those that the gateway writes itself.
+// The headers that apply to one connection only, and those that the gateway replaces with its own.
 const HOP: [&str; 9] = [
     "Connection",
     "Content-Length",
@@ -21,7 +21,7 @@ const HOP: [&str; 9] = [
     "Upgrade",
 ];
 
-// Whether a header has this name, with `_` equal to `-`, since a backend may not tell them apart.
+// Returns whether a header has this name, where `_` counts as `-`, since a backend may not distinguish them.
 fn is_like(field: &HeaderField, name: &str) -> bool {
     let field = field.as_str().as_str();
     let mut pairs = field.bytes().zip(name.bytes());
@@ -31,7 +31,7 @@ fn is_like(field: &HeaderField, name: &str) -> bool {
         })
 }
 
-// Whether a header isn't forwarded: it is one of `HOP`, or `Connection` names it. The host always is.
+// Returns whether a header isn't forwarded: it is one of `HOP`, or `Connection` names it. `Host` is always forwarded.
 fn is_hop(header: &Header, headers: &[Header]) -> bool {
     if header.field.equiv("Host") {
         return false;
@@ -40,7 +40,8 @@ fn is_hop(header: &Header, headers: &[Header]) -> bool {
         || has_element(headers, "Connection", header.field.as_str().as_str())
 }
 
-// Returns the host in a target in absolute form, which takes precedence over `Host` (RFC 9112, section 3.2.2).
+// Returns the host of a target in absolute form, or `None` for another form. This host takes precedence over `Host`
+// (RFC 9112, section 3.2.2).
 fn host_in(target: &str) -> Option<&str> {
     let (scheme, rest) = target.split_once("://")?;
     if scheme.is_empty() || !scheme.bytes().all(|b| b.is_ascii_alphanumeric()) {
@@ -53,8 +54,8 @@ fn host_in(target: &str) -> Option<&str> {
 // The name of this gateway in `Via`.
 const NAME: &str = "tiny-http-gateway";
 
-// Adds the headers that a gateway writes: the host, the client's address, and the route of the request (RFC 9110,
-// sections 7.2 and 7.6.3).
+// Adds the headers that the gateway writes itself: the host, the client's address, and the route of the request (RFC
+// 9110, sections 7.2 and 7.6.3).
 fn add_own<R: ReadDevice + Drop, W: WriteDevice + Drop, Rt: Wait + Drop>(
     head: &mut String,
     request: &Request<R, W, Rt>,
@@ -76,7 +77,8 @@ fn add_own<R: ReadDevice + Drop, W: WriteDevice + Drop, Rt: Wait + Drop>(
     Ok(())
 }
 
-/// Returns the head for the backend. Its host is the client's, or the backend's address if the client names none.
+/// Returns the head with which a request is forwarded to the backend. Its host is the one that the client names, or the
+/// backend's address if the client names none.
 pub(crate) fn head_of<R: ReadDevice + Drop, W: WriteDevice + Drop, Rt: Wait + Drop>(
     alloc: Global,
     request: &Request<R, W, Rt>,
@@ -113,7 +115,7 @@ pub(crate) enum Ending {
     Close,
 }
 
-/// Returns how the body after these headers ends, or `None` if they conflict or aren't understood.
+/// Returns how the body after these headers ends, or `None` if the headers conflict or aren't understood.
 pub(crate) fn ending_of(headers: &[Header]) -> Option<Ending> {
     let mut codings = headers
         .iter()
@@ -140,7 +142,7 @@ pub(crate) fn ending_of(headers: &[Header]) -> Option<Ending> {
     Some(ending)
 }
 
-/// Returns a response with the backend's headers, over these data.
+/// Returns a response with the backend's status code and forwarded headers, and with these data.
 pub(crate) fn answer_with<D: Drop>(
     head: AnswerHead,
     data: D,

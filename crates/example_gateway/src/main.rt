@@ -1,12 +1,13 @@
-//! Forwards each request to another HTTP server, and its response back: `example_gateway ADDRESS BACKEND`.
+//! Forwards requests to another HTTP server, and its responses to the clients: `example_gateway ADDRESS BACKEND`.
 //!
-//! A request that can't be forwarded, or a response that isn't understood, is answered 502; a backend that takes or
-//! gives nothing for ten seconds 504; `CONNECT` 501. A response that comes before the whole request was sent is
-//! forwarded too (module `backend`). Each message is framed anew, so a body is never taken for the next request. The
-//! headers of one connection, and those that its `Connection` names, aren't forwarded (RFC 9110, section 7.6.1).
+//! The client gets a 502 if its request can't be forwarded or the response isn't understood, a 504 if the backend
+//! accepts nothing for ten seconds or doesn't respond within ten seconds, and a 501 for `CONNECT`. A response that
+//! arrives before the whole request has been sent is forwarded too (module `backend`). Each message is framed anew, so
+//! a body is never taken for the next request. Headers that apply to one connection, and those that `Connection` names,
+//! aren't forwarded (RFC 9110, section 7.6.1).
 //!
-//! The program shows a head that is read beside its body (`parts`), the head of a response (`read_answer_head`), a
-//! body of known length (`Response::of`), and one that is sent as it comes (`respond_streaming`).
+//! The program shows a head that is lent beside its body (`parts`), the head of a response (`read_answer_head`), a body
+//! of known length (`Response::of`), and a body that is sent as it arrives (`respond_streaming`).
 #![tactic(auto)]
 
 mod backend;
@@ -35,7 +36,7 @@ struct Gateway {
     backend: String,
 }
 
-// Forwards all that a reader gives, piece by piece.
+// Copies all that a reader returns to a writer, and flushes after each piece.
 fn pipe<F: Read, T: Write>(from: &mut F, to: &mut T) -> io::Result<()> {
     let mut piece = [0u8; PIECE];
     for _ in 0..u64::MAX {
@@ -49,7 +50,7 @@ fn pipe<F: Read, T: Write>(from: &mut F, to: &mut T) -> io::Result<()> {
     Ok(())
 }
 
-// Sends the backend a request and its body. Under `Standard` a cut body is an error.
+// Sends a request's head and body to the backend. Fails if the body is cut, which is an error under `Standard`.
 fn send_request<R: ReadDevice + Drop, W: WriteDevice + Drop, Rt: Clock + Wait + Drop>(
     rt: &Rt,
     backend: &mut Backend<'_, Rt>,
@@ -67,7 +68,7 @@ fn send_request<R: ReadDevice + Drop, W: WriteDevice + Drop, Rt: Clock + Wait + 
     pipe(body, backend)
 }
 
-// Forwards a response of unknown length as it comes. One without content is finished at once.
+// Forwards a response of unknown length as it arrives. A response without content is finished at once.
 fn stream<D: Read + Drop, R, W, Rt>(
     rt: &Rt,
     alloc: Global,
@@ -92,7 +93,8 @@ where
 }
 
 impl Gateway {
-    // Sends the request, and reads the head of the response, which may come before the whole request was sent.
+    // Sends a request, and reads the head of the response, which may arrive before the whole request has been sent.
+    // Returns the head, how the body ends, and the body's reader.
     fn ask<R: ReadDevice + Drop, W: WriteDevice + Drop, Rt>(
         &self,
         rt: &Rt,
@@ -122,7 +124,7 @@ where
     W: WriteDevice + Drop,
     Rt: Net<Stream = TcpStream> + Clock + Wait + Drop,
 {
-    /// Answers by the backend's response.
+    /// Answers a request with the backend's response.
     fn handle(&self, rt: &Rt, alloc: Global, request: Request<R, W, Rt>) -> io::Result<()> {
         let mut request = request;
         if request.method() == &Method::Connect {
@@ -148,7 +150,7 @@ where
     }
 }
 
-// Listens at this address, and serves the gateway.
+// Listens on this address, prints it, and serves the gateway.
 fn serve<Rt: Host, O: Write>(
     rt: Rt,
     alloc: Global,

@@ -1,4 +1,4 @@
-//! Answers each request by its path: `example_quick_start ADDRESS`.
+//! Answers each request with its path: `example_quick_start ADDRESS`.
 #![tactic(auto)]
 
 #[cfg(test)]
@@ -14,7 +14,7 @@ use tiny_http::{
     current_date,
 };
 
-/// Answers a request by its path. The request may come from a server or from a test.
+/// A handler that answers a request with its path. The request may come from a server or a test.
 #[derive(Drop)]
 struct ByPath;
 

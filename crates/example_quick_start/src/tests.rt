@@ -1,4 +1,4 @@
-//! Tests of the handler.
+//! Test of the handler.
 use crate::ByPath;
 use std::test::Fail;
 use tiny_http::answer::read_answer;

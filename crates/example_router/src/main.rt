@@ -1,10 +1,12 @@
-//! Notes in memory, as JSON: `example_router ADDRESS`.
+//! Serves notes, kept in memory, as JSON: `example_router ADDRESS`.
 //!
-//! `GET /notes` lists them, `POST /notes` adds one from `{"text": ..}`, and `GET` and `DELETE` of `/notes/{id}` read
-//! and remove one. `GET /events` sends them as server-sent events. The program shows routes by `matchit`, JSON by
-//! `serde_json`, state shared by threads, a body read whole (`read_body`), a body that grows while it is sent
-//! (`respond_streaming`), and a handler of any `Request`. Errors of a request are reported as JSON. If memory is
-//! refused, or reading the body fails otherwise, the request is dropped, which answers it by an empty 500.
+//! `GET /notes` lists the notes, `POST /notes` adds a note from `{"text": ..}`, and `GET` and `DELETE` of `/notes/{id}`
+//! return and remove a note. `GET /events` sends the notes as server-sent events. Errors in a request are reported as
+//! JSON. If memory is refused, or reading the body fails otherwise, the request is dropped, which answers it with an
+//! empty 500.
+//!
+//! The program shows routes with `matchit`, JSON with `serde_json`, state shared by threads, a body read whole
+//! (`read_body`), a body that grows while it is sent (`respond_streaming`), and a handler of any `Request`.
 #![tactic(auto)]
 
 mod notes;
@@ -25,7 +27,7 @@ use tiny_http::{
 const MOST: usize = 1 << 16;
 
 impl Notebook {
-    // Sends the notes as server-sent events. The lock isn't held while the client is waited for.
+    // Sends the notes as server-sent events. The lock isn't held while a write waits for the client.
     fn send_events<R: ReadDevice + Drop, W: WriteDevice + Drop, Rt: Clock + Wait + Drop>(
         &self,
         rt: &Rt,
@@ -37,7 +39,7 @@ impl Notebook {
         let head = head.with(alloc, "Content-Type", "text/event-stream")?;
         let mut body = request.respond_streaming(head, current_date(rt))?;
         for value in values.iter() {
-            // `serde_json` writes no line ends, so each note is one event.
+            // `serde_json` writes no line breaks, so each note is one event.
             write!(body, "data: {value}\n\n")?;
             body.flush()?;
         }
@@ -49,7 +51,7 @@ impl<R: ReadDevice + Drop, W: WriteDevice + Drop, Rt: Clock + Wait + Drop> Handl
     Rt,
     Request<R, W, Rt>,
 > for Notebook {
-    /// Answers from the notebook.
+    /// Answers a request for the notes or the events.
     fn handle(&self, rt: &Rt, alloc: Global, request: Request<R, W, Rt>) -> io::Result<()> {
         let mut request = request;
         let is_read = matches!(request.method(), Method::Get | Method::Head);
@@ -66,7 +68,7 @@ impl<R: ReadDevice + Drop, W: WriteDevice + Drop, Rt: Clock + Wait + Drop> Handl
     }
 }
 
-// Listens at this address, and serves the notebook.
+// Listens on this address, prints it, and serves the notebook.
 fn serve<Rt: Host, O: Write>(rt: Rt, alloc: Global, address: &str, out: &mut O) -> io::Result<()> {
     let Ok(notebook) = Notebook::new(alloc) else {
         return Err(ErrorKind::OutOfMemory.into());
@@ -76,7 +78,7 @@ fn serve<Rt: Host, O: Write>(rt: Rt, alloc: Global, address: &str, out: &mut O) 
     };
     let addr = ConfigListenAddr::from_socket_addrs(&rt, alloc, address)?;
     let config = ServerConfig { addr, ssl: None };
-    // Under `Standard` a body that is refused unread ends its connection.
+    // Under `Standard` a body that is refused as too long ends its connection.
     let server = Server::with(rt, alloc, config, Profile::Standard, Limits::new())?;
     writeln!(out, "listening on {}", server.server_addr())?;
     out.flush()?;

@@ -1,4 +1,4 @@
-//! The notes, and the responses about them.
+//! The notes, and the responses to requests for them.
 use matchit::{InsertError, Router};
 use serde_json::{Value, json};
 use std::alloc::Global;
@@ -11,43 +11,43 @@ use tiny_http::{Method, Response, StatusCode};
 // Maximum number of notes.
 const MOST_NOTES: usize = 1000;
 
-/// The responses of this program, whose data are bytes in memory.
+/// A response of this program, whose data are bytes in memory.
 pub(crate) type Answer = Response<Cursor<Vec<u8>>>;
 
-/// What a path names.
+/// What a path names: all notes, or one note.
 #[derive(Clone, Copy, Debug, PartialEq, Eq)]
 enum Route {
     Notes,
     Note,
 }
 
-/// The notes, by their numbers.
+/// The notes by number, and the number of the last note that was added.
 #[derive(Drop)]
 struct Notes {
     last: u64,
     by_id: BTreeMap<u64, String>,
 }
 
-/// Answers requests for notes.
+/// A notebook that threads share, and the routes to its notes.
 #[derive(Drop)]
 pub(crate) struct Notebook {
     routes: Router<Route>,
     notes: Mutex<Notes>,
 }
 
-// A response of JSON.
+// Returns a response with this status code, whose data are this value as JSON.
 fn json_answer(alloc: Global, status: u16, value: &Value) -> io::Result<Answer> {
     let answer = Response::from_data(alloc, value.to_string(alloc)?.into_bytes());
     let answer = answer.with(alloc, "Content-Type", "application/json")?;
     Ok(answer.with_status_code(StatusCode(status)))
 }
 
-/// A response of JSON that names an error.
+/// Returns a response with this status code, whose JSON names an error.
 pub(crate) fn fault(alloc: Global, status: u16, word: &str) -> io::Result<Answer> {
     json_answer(alloc, status, &json!(in alloc; {"error": word})?)
 }
 
-// The 405 of a path that allows only these methods.
+// Returns the 405 response for a path that allows only these methods.
 fn not_allowed(alloc: Global, methods: &str) -> io::Result<Answer> {
     let answer = fault(alloc, 405, "method not allowed")?;
     Ok(answer.with(alloc, "Allow", methods)?)
@@ -79,7 +79,8 @@ impl Notebook {
         Ok(values)
     }
 
-    // Adds the note of a body.
+    // Adds the note in a body. Returns the response: the note, 400 if the body is invalid, or 507 if there are too many
+    // notes.
     fn add<Rt: Wait>(&self, rt: &Rt, alloc: Global, body: &[u8]) -> io::Result<Answer> {
         let value = match Value::from_slice(alloc, body) {
             Ok(value) => value,
@@ -99,7 +100,7 @@ impl Notebook {
         json_answer(alloc, 201, &json!(in alloc; {"id": id, "text": text})?)
     }
 
-    // Answers a request for the list.
+    // Returns the response to a request for all notes, or one that adds a note.
     fn answer_notes<Rt: Wait>(
         &self,
         rt: &Rt,
@@ -117,7 +118,7 @@ impl Notebook {
         }
     }
 
-    // Answers a request for one note.
+    // Returns the response to a request for one note, or one that removes it.
     fn answer_note<Rt: Wait>(
         &self,
         rt: &Rt,

@@ -1,12 +1,13 @@
-//! Sends recorded responses to recorded requests, for the tests of HTTP clients: `example_test_server ADDRESS FOLDER`.
+//! Answers recorded requests with recorded responses, for tests of HTTP clients: `example_test_server ADDRESS FOLDER`.
 //!
 //! The folder has pairs of files: `NAME.request` with the bytes that a client sends, and `NAME.response` with the bytes
-//! that it gets, which needn't be HTTP. A request matches by method, target and body. Each response is sent once, in
-//! the order of the names. An unknown request is answered 501; one whose body can't be read, or is longer than 2^20
-//! bytes, 413. `GET /unused` lists the names that are left. All requests are read under `Standard`.
+//! that the client gets, which needn't be HTTP. A request matches a recorded one if method, target and body are equal.
+//! Each response is sent once, in the order of the names. An unknown request is answered with 501, and a request whose
+//! body can't be read, or is longer than 2^20 bytes, with 413. `GET /unused` lists the names of responses not yet sent.
+//! All requests are read under `Standard`.
 //!
-//! The program shows requests read from bytes (`ClientConnection`), raw responses (`into_writer`), and a response
-//! without a length, which ends with its connection (`close`), as does one that `read_answer` can't read whole.
+//! The program shows requests read from bytes (`ClientConnection`), raw responses (`into_writer`), and a response whose
+//! end is that of its connection (`close`), since it has no length or `read_answer` can't read it whole.
 #![tactic(auto)]
 
 use std::alloc::{AllocGlobal, Global};
@@ -30,7 +31,7 @@ const THREADS: usize = 4;
 // Maximum length of a body in bytes.
 const MOST: usize = 1 << 20;
 
-/// What a request is matched by.
+/// The parts of a request by which it is matched.
 #[derive(Drop, PartialEq, Eq)]
 struct Asked {
     method: Method,
@@ -38,7 +39,7 @@ struct Asked {
     body: Vec<u8>,
 }
 
-/// A recorded request and its response.
+/// A recorded request, its response, and whether the response has been sent.
 #[derive(Drop)]
 struct Exchange {
     name: String,
@@ -53,7 +54,7 @@ struct Recorded {
     exchanges: Mutex<Vec<Exchange>>,
 }
 
-// Returns what a request is matched by.
+// Reads a request's body, and returns the parts by which the request is matched.
 fn asked_of<R: ReadDevice + Drop, W: WriteDevice + Drop, Rt: Clock + Wait + Drop>(
     rt: &Rt,
     alloc: Global,
@@ -118,7 +119,7 @@ fn read_folder<Rt: Files + AllocGlobal + Clock + Wait + Copy>(
 }
 
 impl Recorded {
-    // Returns the next response to this request, if one is left.
+    // Returns the first response to this request that has not been sent, if any, and marks it as sent.
     fn take<Rt: Wait>(&self, rt: &Rt, asked: &Asked) -> io::Result<Option<Vec<u8>>> {
         for exchange in self.exchanges.lock(rt).as_mut_slice() {
             if !exchange.is_used && exchange.asked == *asked {
@@ -130,7 +131,7 @@ impl Recorded {
         Ok(None)
     }
 
-    // Returns the names of the exchanges that are left.
+    // Returns the names of the exchanges whose responses have not been sent, one a line.
     fn unused<Rt: Wait>(&self, rt: &Rt, alloc: Global) -> io::Result<String> {
         let mut text = String::new(alloc);
         for exchange in self.exchanges.lock(rt).as_slice() {
@@ -147,7 +148,7 @@ impl<R: ReadDevice + Drop, W: WriteDevice + Drop, Rt: Clock + Wait + Drop> Handl
     Rt,
     Request<R, W, Rt>,
 > for Recorded {
-    /// Sends the recorded response.
+    /// Sends the recorded response to a request, the names for `GET /unused`, or an error.
     fn handle(&self, rt: &Rt, alloc: Global, request: Request<R, W, Rt>) -> io::Result<()> {
         let mut request = request;
         let asked = match asked_of(rt, alloc, &mut request) {
@@ -162,7 +163,7 @@ impl<R: ReadDevice + Drop, W: WriteDevice + Drop, Rt: Clock + Wait + Drop> Handl
             let is_whole = matches!(read, Ok(Some((_, length))) if length == answer.len());
             let mut writer = request.into_writer();
             writer.write_all(answer.as_slice())?;
-            // Without a length the response ends with its connection.
+            // A response that isn't whole by itself ends with its connection.
             return if is_whole {
                 writer.flush()
             } else {
@@ -177,7 +178,7 @@ impl<R: ReadDevice + Drop, W: WriteDevice + Drop, Rt: Clock + Wait + Drop> Handl
     }
 }
 
-// Listens at this address, and sends the recorded responses.
+// Listens on this address, prints it, and sends the recorded responses.
 fn serve<Rt: Host, O: Write>(
     rt: Rt,
     alloc: Global,

@@ -1,6 +1,7 @@
-//! Sends each WebSocket message back: `example_websocket_echo ADDRESS`. Any other request is answered 426.
+//! Sends each WebSocket message back: `example_websocket_echo ADDRESS`. Any other request is answered with 426, and a
+//! request above the limit of upgraded connections with 503.
 //!
-//! The program shows an upgrade by `tiny_http_websocket`, frames by `tungstenite`, and `serve`, which gives each
+//! The program shows an upgrade with `tiny_http_websocket`, frames with `tungstenite`, and `serve`, which gives each
 //! connection a thread: an open WebSocket keeps its thread.
 #![tactic(auto)]
 
@@ -21,8 +22,8 @@ use tungstenite::{
 // Maximum length of a message in bytes.
 const MOST: usize = 1 << 20;
 
-// Returns the Close code for an error of the client (RFC 6455, sections 7.1.7 and 7.4.1): a frame that breaks the
-// protocol, a text that isn't UTF-8, or a message that is too long. `None` for any other error.
+// Returns the close code for an error of the client (RFC 6455, sections 7.1.7 and 7.4.1): a frame that breaks the
+// protocol, a text that isn't UTF-8, or a message that is too long. Returns `None` for any other error.
 fn close_code(fault: &Error) -> Option<CloseCode> {
     match fault {
         Error::Protocol(_) => Some(CloseCode::Protocol),
@@ -32,7 +33,7 @@ fn close_code(fault: &Error) -> Option<CloseCode> {
     }
 }
 
-// Sends each message back until the client closes.
+// Sends each message back until the WebSocket is closed.
 fn send_back<S: Read + Write + Drop>(socket: &mut WebSocket<S, NoMask>) -> Result<(), Error> {
     for _ in 0..u64::MAX {
         match socket.read() {
@@ -61,7 +62,7 @@ fn talk<S: Read + Write + Drop>(alloc: Global, stream: S) -> Result<(), Error> {
     Err(fault)
 }
 
-/// Echoes the messages of each WebSocket.
+/// A handler that echoes the messages of each WebSocket.
 #[derive(Drop)]
 struct Echo;
 
@@ -69,7 +70,8 @@ impl<R: ReadDevice + Drop, W: WriteDevice + Drop, Rt: Clock + Wait + Drop> Handl
     Rt,
     Request<R, W, Rt>,
 > for Echo {
-    /// Echoes until the client closes. A broken WebSocket is not an error.
+    /// Accepts a WebSocket, and echoes its messages until it is closed, or refuses the request. A broken WebSocket is
+    /// not an error.
     fn handle(&self, rt: &Rt, alloc: Global, request: Request<R, W, Rt>) -> io::Result<()> {
         match accept(alloc, request, current_date(rt))? {
             Handshake::Accepted(stream) => {
@@ -84,7 +86,7 @@ impl<R: ReadDevice + Drop, W: WriteDevice + Drop, Rt: Clock + Wait + Drop> Handl
     }
 }
 
-// Listens at this address, and echoes until the server ends.
+// Listens on this address, prints it, and echoes until the server ends.
 fn serve<Rt: Host, O: Write>(rt: Rt, alloc: Global, address: &str, out: &mut O) -> io::Result<()> {
     let Ok(handler) = Arc::new(alloc, Echo) else {
         return Err(ErrorKind::OutOfMemory.into());

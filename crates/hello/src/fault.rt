@@ -7,7 +7,7 @@ use std::fmt;
 #[derive(Clone, Copy, Debug, PartialEq, Eq)]
 pub(crate) enum HelloFault<'a> {
     Usage,
-    /// It can't listen at this address.
+    /// The program can't listen on this address.
     CannotListen(&'a str),
     OutOfMemory,
 }
@@ -15,7 +15,7 @@ pub(crate) enum HelloFault<'a> {
 impl HelloFault<'_> {
     ghost use Rattle.hello.specs.HelloFault.{exit_status};
 
-    /// Returns the exit status: 2 for a usage error, 1 for what the system refused.
+    /// Returns the exit status of this error: 2 for a usage error, 1 for any other error.
     pub(crate) fn status(&self) -> u8
         ensures { result ≡ exit_status self.now }
     {

@@ -1,4 +1,4 @@
-//! Answers every request by `hello world`: `hello ADDRESS`.
+//! Answers every request with `hello world`: `hello ADDRESS`.
 #![tactic(auto)]
 
 ghost use Rattle.std.specs.Prelude.{◌≡◌, ◌≤◌, ◌<◌, ◌⊎◌, length};
@@ -22,23 +22,23 @@ use tiny_http::response::Response;
 use tiny_http::server::{Host, Server, ServerRequest, current_date};
 use tiny_http::serving::Handler;
 
-/// Answers every request by the same text.
+/// A handler that answers every request with the same text.
 struct HelloWorld;
 
 impl<R: Clock + Wait + Drop> Handler<R, ServerRequest<R>> for HelloWorld {
-    /// Drops a request if memory for its response is refused. A disconnected client is not an error.
+    /// Answers a request, or drops it if memory for the response is refused. A disconnected client is not an error.
     fn handle(&self, rt: &R, alloc: Global, request: ServerRequest<R>) -> io::Result<()> {
         let text = String::from_str(alloc, "hello world")?;
         request.respond(Response::from_string(alloc, text)?, current_date(rt))
     }
 }
 
-// Answers all requests of a server on four threads. An error of accepting only ends it.
+// Answers all requests of a server on four threads. Returns if accepting connections fails, and ignores the error.
 fn answer_all<R: Host>(alloc: Global, server: &Server<R>) {
     let _ = server.serve_by(alloc, 4, &HelloWorld);
 }
 
-// Listens at the address of the one argument, and answers all requests.
+// Listens on the address in the only argument, prints it, and answers all requests.
 fn hello<'a, R: Host, O: Write>(
     rt: R,
     alloc: Global,
@@ -59,7 +59,7 @@ fn hello<'a, R: Host, O: Write>(
     Ok(())
 }
 
-// Reports an error by a line, and returns its exit status.
+// Reports an error on one line, and returns its exit status.
 fn report<E: Write>(fault: &HelloFault<'_>, err: &mut E) -> u8
     ensures { result ≡ exit_status fault.now }
 {
@@ -67,9 +67,9 @@ fn report<E: Write>(fault: &HelloFault<'_>, err: &mut E) -> u8
     fault.status()
 }
 
-/// Listens at the address of the one argument, prints it on `out`, and answers every request by `hello world` until
-/// there are no more. Returns the exit status: 0; 2 if there isn't one argument; 1 if it can't listen there. A line on
-/// `err` reports the error.
+/// Listens on the address in the only argument, prints it on `out`, and answers every request with `hello world` until
+/// there are no more. Returns the exit status: 0; 2 if there isn't exactly one argument; 1 if it can't listen on the
+/// address. A line on `err` reports the error.
 pub fn hello_on<R: Host, O: Write, E: Write>(
     rt: R,
     alloc: Global,
@@ -83,7 +83,7 @@ pub fn hello_on<R: Host, O: Write, E: Write>(
     }
 }
 
-// Returns the command line, the program's name first. An argument that isn't UTF-8 is a usage error.
+// Returns the words of the command line, the program's name first. An argument that isn't UTF-8 is a usage error.
 fn words<R: Env + AllocGlobal>(rt: &R) -> Result<Vec<String>, HelloFault<'static>> {
     match env::args(rt) {
         Ok(words) => match words.collect(rt.alloc()) {

@@ -2,12 +2,12 @@
 use std::fmt::Debug;
 use std::process::Abort;
 
-/// Asserts that the two are equal.
+/// Asserts that both values are equal.
 pub fn assert_same<T: PartialEq + Debug + Drop>(rt: &impl Abort, found: T, wanted: T) {
     assert_eq!(rt; found, wanted);
 }
 
-/// Asserts a condition, described by these words.
+/// Asserts that `holds` is true. A failure prints `words`.
 pub fn assert_holds(rt: &impl Abort, words: &str, holds: bool) {
     assert!(rt; holds, "not so: {words}");
 }

@@ -8,12 +8,12 @@ use std::process::Abort;
 use std::thread;
 use tiny_http::server::{Server, ServerRuntime};
 
-// What `hello` needs of the system, and `Abort` to fail a test.
+// A runtime with what `hello` needs, which can abort a test that fails.
 trait Host: ServerRuntime + Sync + Abort {}
 
 impl<R: ServerRuntime + Sync + Abort> Host for R {}
 
-// Returns what a client of the server gets, then unblocks one thread.
+// Sends a request to the server, reads the response, and unblocks one thread. Returns the response.
 fn ask_and_end<R: Host>(rt: &R, alloc: Global, server: &Server<R>) -> Vec<u8> {
     let addr = server.server_addr().to_ip().expect(rt, "an address of TCP");
     let mut client = TcpStream::connect(rt, addr).expect(rt, "a client");
@@ -26,7 +26,7 @@ fn ask_and_end<R: Host>(rt: &R, alloc: Global, server: &Server<R>) -> Vec<u8> {
     answer
 }
 
-// Four threads answer a client, and one `unblock` ends them all.
+// Asserts that four threads answer a client, and that one `unblock` ends them all.
 fn assert_four_answer<R: Host>(rt: &R, alloc: Global) {
     let server = Server::http(*rt, alloc, "127.0.0.1:0").expect(rt, "a server");
     let (answer, ()) = thread::join(
@@ -52,7 +52,7 @@ fn four_answer_and_end(rt: HostRuntime) {
     assert_four_answer(&rt, rt.alloc());
 }
 
-// Arguments of a command line.
+// Returns these words as the arguments of a command line.
 fn strings_of(rt: &impl Abort, alloc: Global, words: &[&str]) -> Vec<String> {
     let mut strings = Vec::new(alloc);
     for word in words {
@@ -62,10 +62,10 @@ fn strings_of(rt: &impl Abort, alloc: Global, words: &[&str]) -> Vec<String> {
     strings
 }
 
-// Arguments of a command line, the error line and the exit status.
+// The arguments of a command line, the error line and the exit status.
 type Refused = (&'static [&'static str], &'static str, u8);
 
-// These arguments are refused, and nothing else is written.
+// Asserts that these arguments are refused, and that nothing is written but the error line.
 fn assert_refused<R: Host>(rt: &R, alloc: Global, row: Refused) {
     let (words, line, status) = row;
     let given = strings_of(rt, alloc, words);

@@ -1,4 +1,4 @@
--- What a replay of a script gives, and what is written of it.
+-- The replies and the output of a replay of a script, and what is written of them.
 use Rattle.std.specs.Prelude.{◌≡◌, ℕ, Bool, Option, Some, List, ◌++◌}
 use Rattle.std.specs.List.{flat_map}
 use Rattle.std.specs.Io.KnownBytes.{Appends}
@@ -9,8 +9,8 @@ use Rattle.tiny_http_core.specs.Conversation.{IsFresh, IsConversation}
 use Rattle.replay_script.specs.Reply.{reply_line}
 use Rattle.replay_script.specs.Script.{IsScript}
 
--- The client sends these bytes and ends: under this profile the steps have these replies, and this is the output, all
--- of it taken or held.
+-- A run of `steps` under profile `p`, over a client that sends the bytes `client` and ends: `replies` are the replies
+-- to the steps, no call on the writer fails, and `output` is what the writer took, followed by what is still held.
 pub record HasRun (p : Profile) (client : List ℕ) (steps : List TimedValue) (replies : List ReplyValue)
     (output : List ℕ) : Type 0 where
   pub before : Sink
@@ -25,12 +25,13 @@ pub record HasRun (p : Profile) (client : List ℕ) (steps : List TimedValue) (r
   pub took : after.taken ≡ Some taken
   pub output_is : output ≡ taken ++ held
 
--- a replay of a script over a client's bytes, under a profile, has these replies and this output
+-- whether a replay of this script over these bytes of a client, under this profile, has these replies and this output
 abbrev pub IsReplay : Profile → List ℕ → List ℕ → List ReplyValue → List ℕ → Type 0
 IsReplay p client script replies output =
     (steps : List TimedValue) × IsScript script steps × HasRun p client steps replies output
 
--- Of such a replay one writer's known bytes grow by the output, and the other's by the lines of the replies.
+-- What a replay of `script`, over the bytes `client` under profile `p`, writes to two writers: the known bytes of the
+-- first grow by the output, and those of the second by a line for each reply.
 pub record WritesReplay (p : Profile) (client script : List ℕ)
     (out_old out_new err_old err_new : Option (List ℕ)) : Type 0 where
   pub replies : List ReplyValue

@@ -1,15 +1,15 @@
-//! Why a run can't be made or reported, as one line and an exit status.
+//! Why a script can't be run, or its result can't be written, as one line and an exit status.
 ghost use Rattle.std.specs.Prelude.{◌≡◌, ◌<◌, ◌≤◌};
 
 use std::fmt;
 
-/// Why a run can't be made or reported.
+/// Why a script can't be run, or its result can't be written.
 #[derive(Clone, Copy, Debug, PartialEq, Eq)]
 pub(crate) enum ReplayFault<'a> {
     Usage,
-    /// It can't read the file of this name.
+    /// The file of this name can't be read.
     CannotRead(&'a str),
-    /// The script's first invalid line, counted from 1 over all lines.
+    /// The script has an invalid line. This is the number of the first such line, counted from 1 over all lines.
     BadLine(usize),
     OutOfMemory,
     CannotWrite,
@@ -18,7 +18,8 @@ pub(crate) enum ReplayFault<'a> {
 impl ReplayFault<'_> {
     ghost use Rattle.replay.specs.ReplayFault.{exit_status};
 
-    /// Returns the exit status: 2 for a usage error, 1 for what the system refused.
+    /// Returns the exit status of this error: 2 if the arguments, a file or the script can't be used, 1 if memory is
+    /// refused or writing fails.
     pub(crate) fn status(&self) -> u8
         ensures value { result ≡ exit_status self.now }
         ensures some { 0 < result }

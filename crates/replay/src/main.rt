@@ -1,7 +1,7 @@
 //! Runs the steps of a script over a client's bytes: `replay [--strict | --standard] BYTES SCRIPT`. The connection's
-//! output goes to standard output, and a line for each step's reply to standard error. `--strict` and `--standard`
-//! name the profile under which heads are read. `replay_script` reads the script, and `run_with` of `tiny_http_core`
-//! runs it.
+//! output goes to standard output, and a line for the reply to each step to standard error. `--strict` and `--standard`
+//! name the profile under which heads are read, by default `Lenient`. `replay_script` reads the script, and `run_with`
+//! of `tiny_http_core` runs its steps.
 #![tactic(auto)]
 
 ghost use Rattle.std.specs.Prelude.{◌≡◌, ◌<◌, ◌≤◌, ◌⊎◌, ℕ, ◌++◌, map, Err, IsErrAnd, IfOk, IfErr, OnOk};
@@ -32,7 +32,7 @@ use tiny_http_core::driver::{Reply, Timed, run_with};
 use tiny_http_core::framing::Profile;
 use tiny_http_wire::device::{Budget, Canned, WriteDevice};
 
-/// What a run left: the writer with what it took, the bytes held back, and the replies of the steps.
+/// The result of a run: the writer with the bytes that it took, the bytes still held, and the replies to the steps.
 #[derive(Drop)]
 struct Replayed {
     writer: Budget,
@@ -40,7 +40,7 @@ struct Replayed {
     replies: Vec<Reply>,
 }
 
-// Runs the steps over the client's bytes, which then end. The writer is in memory, so it fails only if memory is
+// Runs the steps over a client that sends these bytes and ends. The writer is in memory, so it fails only if memory is
 // refused.
 fn run_steps(
     alloc: Global,
@@ -92,7 +92,7 @@ fn write_outcome<O: Write, E: Write>(
     err.flush()
 }
 
-// Runs a script, and writes its output and replies.
+// Runs a script. Writes the output to `out`, and a line for each reply to `err`.
 fn replay<O: Write, E: Write>(
     alloc: Global,
     profile: Profile,
@@ -121,7 +121,7 @@ fn replay<O: Write, E: Write>(
     }
 }
 
-// Reports an error by a line, and returns its exit status.
+// Reports an error on one line, and returns its exit status, or that of `CannotWrite` if the line can't be written.
 fn report<E: Write>(fault: &ReplayFault<'_>, err: &mut E) -> u8
     ensures some { 0 < result }
     ensures bound { result ≤ 2 }
@@ -133,9 +133,9 @@ fn report<E: Write>(fault: &ReplayFault<'_>, err: &mut E) -> u8
     }
 }
 
-/// Runs the steps of a script over a client's bytes, whose heads are read under this profile. Writes the output to
-/// `out`, then a line for each reply to `err`, and returns the exit status: 0, or that of an error, which a line on
-/// `err` reports. A script with an invalid line isn't run.
+/// Runs the steps of a script over a client's bytes, and reads heads under this profile. Writes the output to `out`,
+/// then a line for each reply to `err`. Returns the exit status: 0, or that of an error, which a line on `err` reports.
+/// A script with an invalid line isn't run.
 pub fn replay_on<O: Write, E: Write>(
     alloc: Global,
     profile: Profile,
@@ -157,8 +157,8 @@ pub fn replay_on<O: Write, E: Write>(
     }
 }
 
-// Reads a whole file. If the system knows its length, room for it and one byte more is taken at once, so that the end
-// of the file is found without growing.
+// Reads a whole file. If the system knows its length, the buffer is created with room for one byte more, so that the
+// end of the file is found without growing the buffer.
 fn read_whole<R: Files + AllocGlobal>(rt: &R, name: &str) -> io::Result<Vec<u8>> {
     let mut file = fs::open(rt, name)?;
     let length = file.metadata().map_or(0, |of| of.len());
@@ -210,7 +210,7 @@ fn read_call<'a, R: Files + AllocGlobal>(
     Ok((profile, bytes, script))
 }
 
-// Returns the command line, the program's name first. An argument that isn't UTF-8 is a usage error.
+// Returns the words of the command line, the program's name first. An argument that isn't UTF-8 is a usage error.
 fn words<R: Env + AllocGlobal>(rt: &R) -> Result<Vec<String>, ReplayFault<'static>> {
     match env::args(rt) {
         Ok(words) => match words.collect(rt.alloc()) {
@@ -222,7 +222,7 @@ fn words<R: Env + AllocGlobal>(rt: &R) -> Result<Vec<String>, ReplayFault<'stati
     }
 }
 
-// Runs the script over the bytes that the command line names, and returns the exit status.
+// Runs the script that the command line names over the client's bytes that it names, and returns the exit status.
 fn run_call<R: Env + Files + AllocGlobal, O: Write, E: Write>(
     rt: &R,
     out: &mut O,

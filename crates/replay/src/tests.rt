@@ -25,7 +25,7 @@ fn replayed(alloc: Global, bytes: &str, script: &[u8]) -> Result<Trial, AllocErr
     Ok(Trial { status, out, err })
 }
 
-// Asserts that the script is refused at this line, and nothing is run.
+// Asserts that a script is refused at this line, and that nothing is run.
 fn assert_bad(
     rt: &impl Abort,
     alloc: Global,
@@ -40,7 +40,7 @@ fn assert_bad(
     Ok(())
 }
 
-// Asserts the output of a script and the lines of its replies.
+// Asserts the output of a script and the lines of its replies, and that its exit status is 0.
 fn assert_good(
     rt: &impl Abort,
     alloc: Global,
@@ -80,7 +80,7 @@ fn bytes_are_printed_in_hexadecimal(rt: HostRuntime) -> Result<(), Fail> {
     Ok(())
 }
 
-// A script without a step, and replies of each form.
+// Tries scripts without a step, and a script with several kinds of replies.
 #[test]
 fn replies_are_written(rt: HostRuntime) -> Result<(), Fail> {
     let two = "GET /a HTTP/1.1\r\n\r\nPOST /b HTTP/1.1\r\nContent-Length: 5\r\n\r\nhello";
@@ -364,7 +364,7 @@ fn the_profile_is_named_first(rt: HostRuntime) -> Result<(), Fail> {
     Ok(())
 }
 
-// A head with two lengths: `Lenient` takes one of them, `Strict` answers 400.
+// A head has two lengths: `Lenient` takes the first, and `Strict` answers with 400.
 #[test]
 fn the_profile_decides(rt: HostRuntime) -> Result<(), Fail> {
     let alloc = rt.alloc();

@@ -1,4 +1,4 @@
-//! Reads responses and bodies.
+//! Reads responses, and decodes chunked bodies.
 use crate::findings::{add, add_kind, add_shown, add_some};
 use crate::row::{Finding, Input};
 use std::alloc::{AllocError, Global};
@@ -8,7 +8,7 @@ use tiny_http_wire::chunked::{ChunkRules, Decoder};
 use tiny_http_wire::common::{Header, Method};
 use tiny_http_wire::device::{ByPieces, Canned, ReadDevice, Stop};
 
-// Adds the headers of a response, and then their count and the length of all values.
+// Adds the headers of a response, and then their count and the total length of their values.
 fn add_headers(alloc: Global, to: &mut Vec<Finding>, headers: &[Header]) -> Result<(), AllocError> {
     let mut size: usize = 0;
     for header in headers {
@@ -34,7 +34,8 @@ fn add_answer(
     add_some(alloc, to, "body", answer.body.as_slice())
 }
 
-// Reads one response. Returns how many bytes it takes up, if it is valid.
+// Reads one response, and adds it or why there is none. Returns how many bytes it takes up, if it is complete and
+// valid.
 fn read_one(
     alloc: Global,
     method: &Method,
@@ -54,8 +55,8 @@ fn read_one(
     Ok(None)
 }
 
-/// Reads successive responses to requests with these methods, up to the first that is invalid or incomplete. Adds them,
-/// and the remaining bytes.
+/// Reads successive responses to requests with these methods, up to the first that is invalid or incomplete. Adds the
+/// responses and the remaining bytes.
 pub fn read_answers(
     alloc: Global,
     methods: &[Method],
@@ -90,10 +91,10 @@ pub fn read_head_alone(
     }
 }
 
-// Maximum number of reads before data end.
+// Number of reads after which data that have not ended count as endless.
 const MOST_READS: u64 = 1_000_000;
 
-/// Reads the remaining bytes. Returns them and how they end, or no end after `MOST_READS` reads.
+/// Reads the remaining bytes. Returns them and how they end, or `None` if they have not ended after `MOST_READS` reads.
 pub fn drain<R: ReadDevice>(
     alloc: Global,
     reader: &mut R,
@@ -129,7 +130,7 @@ fn is_over(
     Ok(data.is_empty() && found == stop)
 }
 
-// Returns whether two further reads end with `stop`.
+// Returns whether each of two further reads returns no byte and ends with `stop`.
 fn is_settled(
     alloc: Global,
     decoder: &mut Decoder<ByPieces<Canned>>,
@@ -163,7 +164,7 @@ pub fn data_of(alloc: Global, input: &Input) -> Result<Canned, AllocError> {
     Ok(Canned::new(input.bytes.as_slice().to_vec(alloc)?, input.stop))
 }
 
-/// Decodes a body with these rules from a reader that returns at most `piece` bytes a call. Adds the data, how they
+/// Decodes a body under these rules, from a reader that returns at most `piece` bytes a call. Adds the data, how they
 /// end, and what is left in the reader.
 pub fn decode(
     alloc: Global,

@@ -1,4 +1,5 @@
-//! Makes successive calls on a connection, and on requests that are read without one.
+//! Makes successive calls on a connection, and serves a client with `example_greeter`. The module `exchanging` uses
+//! some functions of this one.
 use crate::deeds::{Deed, WatchedAnswer};
 use crate::devices::{Below, Client, Taker, Watched};
 use crate::findings::{add, add_shown};
@@ -26,7 +27,7 @@ pub fn step_of(alloc: Global, line: &str) -> Result<Option<Step<ScriptData>>, Al
     }
 }
 
-/// Builds a 200 that borrows its data. With a content length it is not sent in chunks.
+/// Builds a 200 response that borrows its data. If a length is given, the response is not sent in chunks.
 pub fn lent(alloc: Global, data: &mut Watched, length: Option<usize>) -> Response<&mut Watched> {
     let answer = Response::empty(alloc, StatusCode(200)).with_data(data, length);
     match length {
@@ -37,13 +38,13 @@ pub fn lent(alloc: Global, data: &mut Watched, length: Option<usize>) -> Respons
 
 type Connected = Connection<Client, Below>;
 
-// Adds a reply.
+// Adds the reply to a step.
 fn add_line(alloc: Global, to: &mut Vec<Finding>, reply: &Reply) -> Result<(), AllocError> {
     let line = reply_line(alloc, reply)?;
     add_reply(alloc, to, line.as_slice())
 }
 
-// Responds to a request with watched data.
+// Responds to a request. Adds the reply, and how much of the response's data was read.
 fn answer(
     alloc: Global,
     connection: &mut Connected,
@@ -57,7 +58,7 @@ fn answer(
     add(alloc, to, "reads", data.reads().as_bytes())
 }
 
-// Upgrades a request by a response with watched data.
+// Upgrades a request. Adds the reply, and how much of the response's data was read.
 fn upgrade(
     alloc: Global,
     connection: &mut Connected,
@@ -71,7 +72,7 @@ fn upgrade(
     add(alloc, to, "reads", data.reads().as_bytes())
 }
 
-// Runs a step.
+// Runs the step that a line of a script names, and adds its reply.
 fn do_step(
     alloc: Global,
     connection: &mut Connected,
@@ -119,7 +120,7 @@ impl Callee for Connected {
     }
 }
 
-// Adds the number of calls of the client, and what the writer has flushed.
+// Adds the number of reads from the client, and what the outlet's writer has flushed.
 fn add_progress(
     alloc: Global,
     source: Source<Client>,
@@ -132,7 +133,7 @@ fn add_progress(
     add(alloc, to, "sent", taker.sent())
 }
 
-// Adds what is left in a source, what an outlet has buffered, and what its writer accepted.
+// Adds what is left in a source, what an outlet has buffered, and what the outlet's writer accepted.
 fn add_parts(
     alloc: Global,
     mut source: Source<Client>,
@@ -143,8 +144,8 @@ fn add_parts(
     add_outlet(alloc, outlet, to)
 }
 
-/// Adds the results of the last call, the number of calls of the client, and what the writer has flushed. If `is_past`,
-/// adds what is left instead.
+/// Adds the results of the last call, the number of reads from the client, and what the writer has flushed. If
+/// `is_past`, adds instead what is left in the source and the outlet, and what the writer accepted.
 pub fn add_outcome(
     alloc: Global,
     last: Result<Vec<Finding>, AllocError>,
@@ -161,7 +162,7 @@ pub fn add_outcome(
     add_progress(alloc, source, outlet, to)
 }
 
-/// Makes successive calls. Returns the results of the last one.
+/// Makes successive calls. Returns the results of the last call.
 pub fn call_each<C: Callee>(
     alloc: Global,
     callee: &mut C,
@@ -175,8 +176,9 @@ pub fn call_each<C: Callee>(
     Ok(last)
 }
 
-// Makes the first `count` calls on a new connection. Adds the results of the last one, the number of calls of the
-// client, and what the writer has flushed. If there are fewer calls, adds what is left instead.
+// Makes the first `count` calls on a new connection. Adds the results of the last call, the number of reads from the
+// client, and what the writer has flushed. If there are fewer than `count` calls, adds instead what is left in the
+// source and the outlet.
 fn call_front(
     alloc: Global,
     profile: Profile,
@@ -194,9 +196,9 @@ fn call_front(
     add_outcome(alloc, last, (source, outlet), count > deeds.len(), to)
 }
 
-/// Makes calls on a connection. Adds the results of each, with the number of calls of the client and what is flushed up
-/// to it, and finally what is left. A connection does not expose its reader and writer, so each call is repeated on a
-/// new connection, after those before it.
+/// Makes calls on a connection. Adds the results of each, with the number of reads from the client and what is flushed
+/// by then, and finally what is left in the source and the outlet. A connection does not expose its reader and writer,
+/// so for each call a new connection repeats the earlier calls first.
 pub fn call_connections(
     alloc: Global,
     profile: Profile,
@@ -210,7 +212,7 @@ pub fn call_connections(
     Ok(())
 }
 
-// Adds the reply with which a greeter ended.
+// Adds the last reply that a greeter got, or `none`.
 fn add_last(alloc: Global, last: Option<&Reply>, to: &mut Vec<Finding>) -> Result<(), AllocError> {
     match last {
         Some(reply) => add_line(alloc, to, reply),
@@ -218,7 +220,8 @@ fn add_last(alloc: Global, last: Option<&Reply>, to: &mut Vec<Finding>) -> Resul
     }
 }
 
-/// Adds what the greeter sends to a client, over a reader and over bytes.
+/// Serves a client with the greeter, over a reader and again over bytes in memory. Adds the last reply and the output
+/// of each run.
 pub fn greet(
     alloc: Global,
     input: &Input,

@@ -1,4 +1,4 @@
-//! Parses the successive calls of a row: `+ NAME WORDS`, by the names of the calls.
+//! Parses the successive calls of a row. The line of a call is `+ NAME WORDS`.
 use crate::row::Subject;
 use crate::words::{number, split, text};
 use replay_script::line::{ScriptLine, text_in};
@@ -8,28 +8,28 @@ use test_data_files::fault::LineFault;
 use test_data_files::kinds::kind_of;
 use test_data_files::text::text_of;
 
-/// A 200 whose data record how they are read.
+/// A 200 response whose data record how much of them is read.
 #[derive(Drop)]
 pub struct WatchedAnswer {
     /// The number of the request.
     pub number: u64,
-    /// The stated content length, if any.
+    /// The stated length of the data, if any.
     pub length: Option<usize>,
     pub data: Vec<u8>,
     /// The error at the end of the data, if any.
     pub fault: Option<ErrorKind>,
 }
 
-/// A call on a value.
+/// One of the successive calls that a row makes on a value.
 #[derive(Drop)]
 pub enum Deed {
     /// `read_line` of a source.
     ReadLine,
-    /// `read_line_within` with its limit.
+    /// `read_line_within` with this limit.
     ReadLineWithin(usize),
-    /// `skip`.
+    /// `skip` of this many bytes.
     Skip(usize),
-    /// `take_exactly`.
+    /// `take_exactly` of this many bytes.
     TakeExactly(usize),
     /// `read` of a source, into a buffer of this size.
     Read(usize),
@@ -57,23 +57,23 @@ pub enum Deed {
     Abandon,
     /// `issue` of turns.
     Issue,
-    /// `take`.
+    /// `take` with this number.
     Take(u64),
-    /// `put_back` with an item.
+    /// `put_back` with this number and item.
     PutBack(u64, u8),
-    /// `finish` with an item.
+    /// `finish` with this number and item.
     Finish(u64, u8),
-    /// `leave` with a text.
+    /// `leave` with this number and text.
     Leave(u64, Vec<u8>),
     /// `issue`, `take` and `finish`, this many times.
     Pass(u64),
-    /// The call that a line of a script names.
+    /// The step that this line of a script names.
     Script(String),
     /// `read_body` of the request with this number, into a buffer of this size.
     ReadBody(u64, usize),
-    /// Responds to a request.
+    /// Responds to a request with data that record how much of them is read.
     Answer(WatchedAnswer),
-    /// Upgrades the request with this number to this protocol, by a 200 whose data are watched.
+    /// Upgrades the request with this number to this protocol, with a 200 whose data record how much of them is read.
     Upgrade(u64, String),
     /// `give_up` of the request with this number.
     GiveUp(u64),
@@ -85,7 +85,7 @@ pub enum Deed {
 
 const NO_CALL: LineFault = LineFault::Bad("the row's value has no such call");
 
-// Parses a number, and returns the words after it.
+// Parses a number. Returns it and the words after it.
 fn number_before(words: &str) -> Result<(u64, &str), LineFault> {
     let (digits, rest) = split(words);
     Ok((number(digits)? as u64, rest))
@@ -100,7 +100,7 @@ fn number_and_item(words: &str) -> Result<(u64, u8), LineFault> {
     }
 }
 
-// Parses a call of a reader.
+// Parses a call on a reader.
 fn reading(name: &str, words: &str) -> Result<Deed, LineFault> {
     match name {
         "read_line" if words.is_empty() => Ok(Deed::ReadLine),
@@ -114,7 +114,7 @@ fn reading(name: &str, words: &str) -> Result<Deed, LineFault> {
     }
 }
 
-// Parses a call of a writer.
+// Parses a call on a writer.
 fn writing(alloc: Global, name: &str, words: &str) -> Result<Deed, LineFault> {
     let bytes = text_of(alloc, words)?;
     match name {
@@ -131,7 +131,7 @@ fn writing(alloc: Global, name: &str, words: &str) -> Result<Deed, LineFault> {
     }
 }
 
-// Parses a call of a stream: of its reader or its writer.
+// Parses a call on a stream: one that reads or one that writes.
 fn streaming(alloc: Global, name: &str, words: &str) -> Result<Deed, LineFault> {
     match name {
         "Read::read" | "read_in" => reading(name, words),
@@ -139,7 +139,7 @@ fn streaming(alloc: Global, name: &str, words: &str) -> Result<Deed, LineFault> 
     }
 }
 
-// Parses a call of turns.
+// Parses a call on turns.
 fn turning(alloc: Global, name: &str, words: &str) -> Result<Deed, LineFault> {
     match name {
         "issue" => Ok(Deed::Issue),
@@ -181,7 +181,7 @@ fn answer_in(alloc: Global, words: &str) -> Result<Deed, LineFault> {
     }))
 }
 
-// Parses a line of a script that has a reply.
+// Parses a line of a script. Fails if it is blank, sets the date, or is no line of a script: such a line has no reply.
 fn script_in(alloc: Global, part: &str) -> Result<Deed, LineFault> {
     let line = text(alloc, part)?;
     match text_in(line.as_str()) {
@@ -190,7 +190,7 @@ fn script_in(alloc: Global, part: &str) -> Result<Deed, LineFault> {
     }
 }
 
-// Parses a call of a connection, or of a request read without one.
+// Parses a call on a connection, or on a request that is read without a connection.
 fn conversing(alloc: Global, part: &str) -> Result<Deed, LineFault> {
     let (name, words) = split(part);
     match name {
@@ -210,7 +210,7 @@ fn conversing(alloc: Global, part: &str) -> Result<Deed, LineFault> {
     }
 }
 
-/// Parses a call on this kind of value.
+/// Parses a call on a value of this kind. Fails if such a value has no such call.
 pub fn deed_in(alloc: Global, subject: Subject, part: &str) -> Result<Deed, LineFault> {
     let (name, words) = split(part);
     match subject {

@@ -1,4 +1,4 @@
-//! Readers and writers for successive calls, which record how they are called.
+//! The readers and writers that rows use. They record how they are called.
 use crate::row::{Failing, Input};
 use std::alloc::{AllocError, Global};
 use std::io;
@@ -6,12 +6,13 @@ use std::io::{ErrorKind, Write};
 use test_case_files::devices::Trier;
 use tiny_http_wire::device::{Canned, Metered, ReadDevice, copy_front};
 
-/// A client's bytes as they arrive: piece by piece, at most `most` bytes a call.
+/// A reader of a client's bytes. It returns them piece by piece, at most `most` bytes a call.
 #[derive(Drop)]
 pub struct Client {
     pieces: Vec<Vec<u8>>,
-    // Index of the current piece, and how many of its bytes have been returned.
+    // Index of the current piece.
     place: usize,
+    // Number of bytes of the current piece that have been returned.
     given: usize,
     most: usize,
     stop: Option<ErrorKind>,
@@ -44,7 +45,7 @@ impl Client {
         })
     }
 
-    /// Returns the number of calls, except those with an empty buffer.
+    /// Returns the number of reads so far, not counting those into an empty buffer.
     pub fn calls(&self) -> u64 {
         self.calls
     }
@@ -111,7 +112,7 @@ impl Taker {
         }
     }
 
-    /// Returns the inner writer, which records what it accepted, its failures, and the calls after one.
+    /// Returns the inner writer, which records what it accepted, its failures, and the calls after the first failure.
     pub fn trier(&self) -> &Trier {
         &self.trier
     }
@@ -143,13 +144,13 @@ impl Write for Taker {
     }
 }
 
-/// The writer below an outlet.
+/// The writer of an outlet or a stream.
 pub type Below = Metered<Taker>;
 
-// Maximum number of bytes of data that are read in one piece.
+// Maximum number of bytes that a response reads from its data at a time.
 const PIECE: u64 = 8_192;
 
-/// Data that record how much of them is read.
+/// The data of a response, which record how much of them is read.
 #[derive(Drop)]
 pub struct Watched {
     inner: Canned,
@@ -158,7 +159,7 @@ pub struct Watched {
 }
 
 impl Watched {
-    /// Creates data with these bytes, which then end or fail.
+    /// Creates data with these bytes, after which they end or fail.
     pub fn new(
         alloc: Global,
         bytes: &[u8],
@@ -171,7 +172,7 @@ impl Watched {
         })
     }
 
-    /// Returns how much was read: no call was made, at most one piece was returned, or more.
+    /// Returns how much was read: `nothing` if no read was made, `a piece` if at most 8,192 bytes were read, or `more`.
     pub fn reads(&self) -> &'static str {
         if self.calls == 0 {
             "nothing"

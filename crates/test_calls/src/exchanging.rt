@@ -39,13 +39,13 @@ fn handed(alloc: Global, place: usize, exchange: &Exchange) -> Result<Vec<u8>, A
     )
 }
 
-// Writes and flushes a text.
+// Writes and flushes a text, ignoring errors.
 fn send(outlet: &mut Outlet<Below>, text: &[u8]) {
     drop(outlet.write(text));
     drop(outlet.flush());
 }
 
-// Sends the error response of a refused head. Formats whether the connection ends.
+// Sends the error response to a refused head. Formats the refusal, and whether the connection ends.
 fn refused(
     alloc: Global,
     outlet: &mut Outlet<Below>,
@@ -59,7 +59,7 @@ fn refused(
     }
 }
 
-// Reads the next head.
+// Reads the next head. Formats the request, the refusal, or why the requests end.
 fn ask(alloc: Global, talk: &mut Talk) -> Result<Vec<u8>, AllocError> {
     let source = &mut talk.source;
     let read = match talk.profile {
@@ -83,7 +83,7 @@ fn ask(alloc: Global, talk: &mut Talk) -> Result<Vec<u8>, AllocError> {
     }
 }
 
-// Reads once from a body.
+// Reads once from a body, into a buffer of `room` bytes. Formats the bytes or the error.
 fn read_once(
     alloc: Global,
     (exchange, source): (&mut Exchange, &mut Source<Client>),
@@ -97,7 +97,8 @@ fn read_once(
     }
 }
 
-// Reads a body until `count` bytes are read, or none follow. Formats the bytes, or the error if there are none.
+// Reads a body until `count` bytes are read, or the body ends or fails. Formats the bytes, or the error if there are no
+// bytes.
 fn read_up_to(
     alloc: Global,
     (exchange, source): (&mut Exchange, &mut Source<Client>),
@@ -125,7 +126,7 @@ fn upgraded(alloc: Global, outcome: Result<(), UpgradeError>) -> Result<Vec<u8>,
     }
 }
 
-// Runs a step on a request.
+// Runs a step on a request. Formats the reply.
 fn do_step(
     alloc: Global,
     (exchange, source): (&mut Exchange, &mut Source<Client>),
@@ -155,7 +156,7 @@ fn do_step(
     }
 }
 
-// Responds to a request with watched data.
+// Responds to a request. Adds the reply, and how much of the response's data was read.
 fn answer(
     alloc: Global,
     (exchange, outlet): (&mut Exchange, &mut Outlet<Below>),
@@ -170,7 +171,7 @@ fn answer(
     add(alloc, to, "reads", data.reads().as_bytes())
 }
 
-// Upgrades a request by a response with watched data.
+// Upgrades a request. Adds the reply, and how much of the response's data was read.
 fn upgrade(
     alloc: Global,
     (exchange, outlet): (&mut Exchange, &mut Outlet<Below>),
@@ -185,7 +186,7 @@ fn upgrade(
     add(alloc, to, "reads", data.reads().as_bytes())
 }
 
-// Returns the request with this index, and the source and the outlet.
+// Returns the request with this index, the source and the outlet; or `None` if there is no such request.
 fn parts_of(
     talk: &mut Talk,
     number: u64,
@@ -197,7 +198,8 @@ fn parts_of(
 
 const NO_REQUEST: &str = "no such request";
 
-// Returns the index of the request that a step applies to, or `None` if no such request has this step.
+// Returns the index of the request that a step applies to, or `None` if the step is not one of a request read without a
+// driver.
 fn place_in(step: &Step<ScriptData>) -> Option<u64> {
     match step {
         Step::AsReader(number)
@@ -209,7 +211,7 @@ fn place_in(step: &Step<ScriptData>) -> Option<u64> {
     }
 }
 
-// Runs the step that a line of a script names.
+// Runs the step that a line of a script names. Formats the reply.
 fn do_line(alloc: Global, talk: &mut Talk, line: &str) -> Result<Vec<u8>, AllocError> {
     let Some(step) = step_of(alloc, line)? else {
         return unfit(alloc);
@@ -273,8 +275,9 @@ impl Callee for Talk {
     }
 }
 
-// Makes the first `count` calls on new requests. Adds the results of the last one, the number of calls of the client,
-// and what the writer has flushed. If there are fewer calls, adds what is left instead.
+// Makes the first `count` calls with a new source and outlet. Adds the results of the last call, the number of reads
+// from the client, and what the writer has flushed. If there are fewer than `count` calls, adds instead what is left in
+// the source and the outlet.
 fn call_front(
     alloc: Global,
     profile: Profile,
@@ -294,8 +297,8 @@ fn call_front(
     add_outcome(alloc, last, (source, outlet), count > deeds.len(), to)
 }
 
-/// Makes calls on requests that are read without a driver. Adds the results of each, with the number of calls of the
-/// client and what is flushed up to it, and finally what is left.
+/// Makes calls on requests that are read without a driver. Adds the results of each call, with the number of reads from
+/// the client and what is flushed by then, and finally what is left in the source and the outlet.
 pub fn call_exchanges(
     alloc: Global,
     profile: Profile,

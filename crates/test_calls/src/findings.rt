@@ -4,7 +4,7 @@ use std::alloc::{AllocError, Global};
 use std::fmt::Display;
 use std::io::ErrorKind;
 
-/// Adds a result with these bytes.
+/// Adds a result of kind `word`, with these bytes as its text.
 pub fn add(
     alloc: Global,
     to: &mut Vec<Finding>,
@@ -16,7 +16,7 @@ pub fn add(
     Ok(())
 }
 
-/// Adds a result with these bytes, if there are any.
+/// Adds a result of kind `word`, with these bytes as its text, unless there are no bytes.
 pub fn add_some(
     alloc: Global,
     to: &mut Vec<Finding>,
@@ -29,7 +29,7 @@ pub fn add_some(
     add(alloc, to, word, bytes)
 }
 
-/// Adds a value as it is displayed.
+/// Adds a result of kind `word`, with the displayed value as its text.
 pub fn add_shown<T: Display>(
     alloc: Global,
     to: &mut Vec<Finding>,
@@ -40,7 +40,7 @@ pub fn add_shown<T: Display>(
     add(alloc, to, word, text.as_bytes())
 }
 
-/// Adds an error kind.
+/// Adds a result of kind `word`, with the name of this error kind as its text.
 pub fn add_kind(
     alloc: Global,
     to: &mut Vec<Finding>,

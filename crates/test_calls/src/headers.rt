@@ -8,13 +8,13 @@ use tiny_http_wire::response::Response;
 
 const STATUS: StatusCode = StatusCode(404);
 
-// The length of the data before a header is added.
+// The stated length of the data before headers are added.
 const LENGTH: usize = 3;
 
 // The default chunked threshold of a response.
 const THRESHOLD: usize = 32768;
 
-// Creates a response without headers.
+// Creates a response without headers, to which headers are added.
 fn start(alloc: Global) -> Response<io::Empty> {
     Response::empty(alloc, STATUS).with_data(io::empty(), Some(LENGTH))
 }
@@ -48,7 +48,7 @@ fn copies(alloc: Global, headers: &[Header]) -> Result<Vec<Header>, AllocError> 
     Ok(list)
 }
 
-// Creates a response with the headers `front` as its own and `behind` as additional ones.
+// Creates a response with `Response::new`, which gets `front` as its headers and `behind` as its additional headers.
 fn made(
     alloc: Global,
     (front, behind): (&[Header], &[Header]),
@@ -66,7 +66,8 @@ fn made(
     }
 }
 
-// Returns the headers of a response, and the length of its data.
+// Returns the headers of a response and the length of its data, and `changed` if its status or its chunked threshold
+// has changed.
 fn found_of(alloc: Global, answer: &Response<io::Empty>) -> Result<Vec<Finding>, AllocError> {
     let mut found = Vec::new(alloc);
     for header in answer.headers() {
@@ -81,7 +82,7 @@ fn found_of(alloc: Global, answer: &Response<io::Empty>) -> Result<Vec<Finding>,
     Ok(found)
 }
 
-// Returns whether the results are equal.
+// Returns whether both lists of results are equal.
 fn is_same(found: &[Finding], other: &[Finding]) -> bool {
     found.len() == other.len()
         && found
@@ -90,12 +91,13 @@ fn is_same(found: &[Finding], other: &[Finding]) -> bool {
             .all(|(one, two)| one.word == two.word && one.text == two.text)
 }
 
-// Returns whether a response leads to these results.
+// Returns whether `found_of` returns these results for a response.
 fn has(alloc: Global, answer: &Response<io::Empty>, found: &[Finding]) -> Result<bool, AllocError> {
     Ok(is_same(found_of(alloc, answer)?.as_slice(), found))
 }
 
-// Returns whether every split of the headers into a response's own and additional ones leads to these results.
+// Returns whether `Response::new` leads to these results, however the headers are split into headers and additional
+// headers.
 fn is_made_so(alloc: Global, headers: &[Header], found: &[Finding]) -> Result<bool, AllocError> {
     for count in 0..headers.len() {
         let parts = headers.split_at(count);
@@ -106,8 +108,9 @@ fn is_made_so(alloc: Global, headers: &[Header], found: &[Finding]) -> Result<bo
     has(alloc, &made(alloc, (headers, &[]))?, found)
 }
 
-/// Adds what a response has after these headers are added. The other ways to add them, and a copy, must lead to the
-/// same.
+/// Adds the results of adding these headers to a response: the headers and the data length that it then has. A copy of
+/// the response, and responses that get these headers in other ways, must lead to the same results; otherwise adds
+/// `changed`.
 pub fn add_to_answer(
     alloc: Global,
     headers: &[Header],

@@ -1,5 +1,5 @@
-//! Makes the calls of rows in files, and compares their results with those that the rows state: `test_calls FILE..`.
-//! docs/CASES.md describes the files.
+//! Makes the calls that the rows of files describe, and compares the results with those that the rows state:
+//! `test_calls FILE..`. docs/CASES.md describes the files.
 #![tactic(auto)]
 
 mod bodies;
@@ -31,7 +31,7 @@ use std::process::ExitCode;
 use test_data_files::fault::FilesFault;
 use test_data_files::program::{Checker, NamedFile, run_program};
 
-// Makes the calls of rows.
+// The checker of this program, which tries the rows of all files.
 #[derive(Drop)]
 struct Calls;
 

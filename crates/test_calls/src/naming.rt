@@ -21,7 +21,7 @@ const TEXT_CALLS: [(&str, TextCall); 8] = [
     ("Method::from_str", TextCall::MethodFromStr),
 ];
 
-// Returns the call of this name whose only input is a text.
+// Returns the call of this name, if its only input is a text.
 fn text_call(name: &str) -> Option<TextCall> {
     for (known, call) in &TEXT_CALLS {
         if *known == name {
@@ -40,7 +40,7 @@ fn method(alloc: Global, name: &str) -> Result<Method, LineFault> {
     }
 }
 
-// Parses one or more methods with spaces between them.
+// Parses one or more methods, separated by single spaces.
 fn methods(alloc: Global, words: &str) -> Result<Vec<Method>, LineFault> {
     let mut list = Vec::new(alloc);
     for word in words.split(' ') {
@@ -80,7 +80,7 @@ fn validated(alloc: Global, words: &str) -> Result<Call, LineFault> {
     Ok(Call::Validate(version(version_word)?, method(alloc, name)?))
 }
 
-// Parses the rules of a decoder; the default is the lenient ones.
+// Parses the rules of a decoder, which are lenient if there are no words.
 fn chunk_rules(words: &str) -> Result<ChunkRules, LineFault> {
     match words {
         "" => Ok(ChunkRules::Lenient),
@@ -89,7 +89,7 @@ fn chunk_rules(words: &str) -> Result<ChunkRules, LineFault> {
     }
 }
 
-// Parses a profile; the default is the lenient one.
+// Parses a profile, which is lenient if there are no words.
 fn profile(words: &str) -> Result<Profile, LineFault> {
     match words {
         "" => Ok(Profile::Lenient),
@@ -112,7 +112,7 @@ fn upgrade_error(name: &str) -> Result<UpgradeError, LineFault> {
     }
 }
 
-// Returns the error of turns of this name.
+// Returns the `TurnsError` of this name.
 fn turns_error(name: &str) -> Result<TurnsError, LineFault> {
     match name {
         "Memory" => Ok(TurnsError::Memory),
@@ -121,7 +121,7 @@ fn turns_error(name: &str) -> Result<TurnsError, LineFault> {
     }
 }
 
-// Returns the call of this name that has no words.
+// Returns the call of this name, if it takes no words.
 fn bare_call(name: &str) -> Option<Call> {
     match name {
         "read_answer_head" => Some(Call::AnswerHead),
@@ -142,7 +142,7 @@ fn bare_call(name: &str) -> Option<Call> {
     }
 }
 
-// Parses the words of the call of this name.
+// Parses the words of the call of this name, which takes words.
 fn worded_call(alloc: Global, name: &str, words: &str) -> Result<Call, LineFault> {
     match name {
         "Decoder" => Ok(Call::Decoder(chunk_rules(words)?)),

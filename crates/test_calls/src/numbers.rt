@@ -1,4 +1,4 @@
-//! Makes successive calls on turns, and keeps values under numbers.
+//! Makes successive calls on turns, and stores numbers in a `ByNumber`.
 use crate::deeds::Deed;
 use crate::findings::add_shown;
 use crate::replies::{add_reply, done, unfit, word};
@@ -10,7 +10,7 @@ use tiny_http_turns::by_number::ByNumber;
 // The item of a row's turns.
 const ITEM: u8 = 7;
 
-// Formats an issued number.
+// Formats the result of issuing a number.
 fn issued(alloc: Global, outcome: Result<u64, TurnsError>) -> Result<Vec<u8>, AllocError> {
     match outcome {
         Ok(number) => Ok(format!(in alloc; "number {number}")?.into_bytes()),
@@ -18,7 +18,7 @@ fn issued(alloc: Global, outcome: Result<u64, TurnsError>) -> Result<Vec<u8>, Al
     }
 }
 
-// Formats an item, if there is one.
+// Formats an item, or that there is none.
 fn item_line(alloc: Global, item: Option<u8>) -> Result<Vec<u8>, AllocError> {
     match item {
         Some(item) => Ok(format!(in alloc; "item {item}")?.into_bytes()),
@@ -26,7 +26,7 @@ fn item_line(alloc: Global, item: Option<u8>) -> Result<Vec<u8>, AllocError> {
     }
 }
 
-// Formats an item and a text that may go.
+// Formats the item and the text of a `Go`.
 fn going(alloc: Global, item: u8, text: &[u8]) -> Result<Vec<u8>, AllocError> {
     let mut line = format!(in alloc; "go {item} ")?.into_bytes();
     line.extend_from_slice(text)?;
@@ -55,7 +55,7 @@ fn left(alloc: Global, leaving: Leaving<u8>) -> Result<Vec<u8>, AllocError> {
     }
 }
 
-// Takes the next number and its turn, and finishes it. Returns the number if the turn passed.
+// Issues the next number, takes its item, and finishes it. Returns the number if its turn passed.
 fn pass_one(turns: &mut Turns<u8>) -> Option<u64> {
     let number = turns.issue().ok()?;
     let item = turns.take(number)?;
@@ -65,7 +65,8 @@ fn pass_one(turns: &mut Turns<u8>) -> Option<u64> {
     }
 }
 
-// Passes `count` turns, and checks that their numbers count up from 0.
+// Issues, takes and finishes `count` numbers, which must count up from 0. Formats `passed`, or the first number whose
+// turn did not pass.
 fn pass(alloc: Global, turns: &mut Turns<u8>, count: u64) -> Result<Vec<u8>, AllocError> {
     for wanted in 0..count {
         if pass_one(turns) != Some(wanted) {
@@ -75,7 +76,7 @@ fn pass(alloc: Global, turns: &mut Turns<u8>, count: u64) -> Result<Vec<u8>, All
     word(alloc, "passed")
 }
 
-// Makes a call on turns. Formats the result.
+// Makes a call on turns, and formats the result.
 fn call_turn(alloc: Global, turns: &mut Turns<u8>, deed: &Deed) -> Result<Vec<u8>, AllocError> {
     match deed {
         Deed::Issue => issued(alloc, turns.issue()),
@@ -94,7 +95,7 @@ fn call_turn(alloc: Global, turns: &mut Turns<u8>, deed: &Deed) -> Result<Vec<u8
     }
 }
 
-/// Adds the results of calls on turns, and the item if no turn holds it.
+/// Makes calls on turns. Adds their results, and finally the item, unless a number holds it.
 pub fn call_turns(alloc: Global, input: &Input, to: &mut Vec<Finding>) -> Result<(), AllocError> {
     let mut turns = Turns::new(alloc, ITEM);
     for deed in &input.deeds {
@@ -107,7 +108,7 @@ pub fn call_turns(alloc: Global, input: &Input, to: &mut Vec<Finding>) -> Result
     }
 }
 
-/// Keeps `count` numbers, each under itself. Adds how many there are, and what is kept under the last one.
+/// Stores each number below `count` under itself in a `ByNumber`. Adds the length, and the value under the last number.
 pub fn keep_numbers(alloc: Global, count: u64, to: &mut Vec<Finding>) -> Result<(), AllocError> {
     let mut kept = ByNumber::new(alloc);
     for number in 0..count {

@@ -19,7 +19,7 @@ fn wrote(alloc: Global, outcome: io::Result<usize>) -> Result<Vec<u8>, AllocErro
     }
 }
 
-// Makes a call of std's trait. Formats the result.
+// Makes a call through std's `Write`. Formats the result.
 fn write_by_std<W: Write>(
     alloc: Global,
     writer: &mut W,
@@ -51,7 +51,7 @@ fn call_outlet(
     }
 }
 
-/// Adds the results of calls on an outlet, what it has buffered then, and what its writer accepted.
+/// Makes calls on an outlet. Adds their results, what the outlet has buffered after them, and what its writer accepted.
 pub fn call_outlets(alloc: Global, input: &Input, to: &mut Vec<Finding>) -> Result<(), AllocError> {
     let mut outlet = Outlet::new(Metered::new(Taker::new(alloc, input)));
     for deed in &input.deeds {
@@ -75,7 +75,7 @@ fn call_stream(
     }
 }
 
-/// Adds the results of calls on a stream, what is left in its reader, and what its writer accepted.
+/// Makes calls on a stream. Adds their results, what is left in its reader after them, and what its writer accepted.
 pub fn call_streams(
     alloc: Global,
     input: &Input,

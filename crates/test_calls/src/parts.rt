@@ -1,4 +1,4 @@
-//! Parses the input of a call part by part.
+//! Parses the input of a call, part by part.
 use crate::deeds::deed_in;
 use crate::row::{Call, Failing, Input, Rooms};
 use crate::words::{add_series, header, header_line, number, numbers, split, text, version};
@@ -33,7 +33,7 @@ pub fn empty_input(alloc: Global) -> Input {
     }
 }
 
-// Returns the parts that a call accepts.
+// Returns the names of the parts that a call accepts.
 fn parts_of(call: &Call) -> &'static [&'static str] {
     match call {
         Call::Answers(_) | Call::AnswerHead => &["data", "series"],
@@ -77,7 +77,7 @@ fn parts_of(call: &Call) -> &'static [&'static str] {
 
 const TWICE: LineFault = LineFault::Bad("the row says so already");
 
-// Sets a value. Fails if it is set already.
+// Sets an optional value. Fails if the value is set already.
 fn put<T: Drop>(slot: &mut Option<T>, value: T) -> Result<(), LineFault> {
     if slot.is_some() {
         return Err(TWICE);
@@ -86,7 +86,7 @@ fn put<T: Drop>(slot: &mut Option<T>, value: T) -> Result<(), LineFault> {
     Ok(())
 }
 
-// Sets a flag, which has no words. Fails if it is set already.
+// Sets a flag. Fails if the flag is set already, or if words follow its name.
 fn mark(slot: &mut bool, words: &str) -> Result<(), LineFault> {
     if !words.is_empty() {
         return Err(LineFault::Bad("this part takes no words"));
@@ -106,7 +106,7 @@ fn kind(name: &str) -> Result<ErrorKind, LineFault> {
     }
 }
 
-// Parses a writer's room and its error kind.
+// Parses how many bytes a writer accepts, and the kind of the error with which it then fails.
 fn room(words: &str) -> Result<Room, LineFault> {
     let (digits, name) = split(words);
     Ok(Room {
@@ -115,7 +115,7 @@ fn room(words: &str) -> Result<Room, LineFault> {
     })
 }
 
-// Parses the rooms of several writers.
+// Parses how many bytes each of several writers accepts: numbers, or `each`.
 fn rooms(alloc: Global, words: &str) -> Result<Rooms, LineFault> {
     if words == "each" {
         return Ok(Rooms::Each);
@@ -163,7 +163,7 @@ fn add_of_request(
     }
 }
 
-// Adds a part that determines how to write.
+// Adds a part that determines how the data are written.
 fn add_of_writing(
     alloc: Global,
     input: &mut Input,
@@ -178,7 +178,7 @@ fn add_of_writing(
     }
 }
 
-// Parses the call that fails, and its error kind.
+// Parses the number of the call that fails, and the kind of its error.
 fn failing(words: &str) -> Result<Failing, LineFault> {
     let (digits, name) = split(words);
     Ok(Failing {
@@ -187,7 +187,7 @@ fn failing(words: &str) -> Result<Failing, LineFault> {
     })
 }
 
-// Adds a number of equal pieces.
+// Adds equal pieces. The words are the number of pieces and the text of each.
 fn add_pieces(alloc: Global, words: &str, pieces: &mut Vec<Vec<u8>>) -> Result<(), LineFault> {
     let (count, piece) = split(words);
     let piece = text_of(alloc, piece)?;
@@ -199,7 +199,7 @@ fn add_pieces(alloc: Global, words: &str, pieces: &mut Vec<Vec<u8>>) -> Result<(
     Ok(())
 }
 
-// Adds a part that determines how the calls of a reader or a writer proceed.
+// Adds a part that determines what calls on a reader or a writer return.
 fn add_of_devices(
     alloc: Global,
     input: &mut Input,
@@ -214,7 +214,7 @@ fn add_of_devices(
     }
 }
 
-// Adds one of the successive calls of a row.
+// Adds one of the successive calls of a row. Fails if the row's call makes none.
 fn add_deed(alloc: Global, call: &Call, input: &mut Input, part: &str) -> Result<(), LineFault> {
     let Call::Each(subject) = call else {
         return Err(LineFault::Bad("the call takes no such part"));
@@ -224,7 +224,7 @@ fn add_deed(alloc: Global, call: &Call, input: &mut Input, part: &str) -> Result
     Ok(())
 }
 
-/// Adds a line to the input of a call.
+/// Adds a part to the input of a call. A part that the call does not accept by name is one of its successive calls.
 pub fn add_part(
     alloc: Global,
     call: &Call,

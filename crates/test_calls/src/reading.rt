@@ -17,7 +17,7 @@ pub struct RowFile<'a> {
 
 const NO_ROW: LineFault = LineFault::Bad("no row has begun");
 
-// Begins a row with its first line. Fails if the row before states no result.
+// Begins a row with its first line. Fails if the previous row states no result.
 fn begin(alloc: Global, rows: &mut Vec<Row>, line: usize, text: &str) -> Result<(), LineFault> {
     if rows.last().is_some_and(|row| row.wanted.is_empty()) {
         return Err(LineFault::Bad("the row before has no result"));
@@ -32,8 +32,8 @@ fn begin(alloc: Global, rows: &mut Vec<Row>, line: usize, text: &str) -> Result<
     Ok(())
 }
 
-// Adds a part of the input of the last row's call. Of successive calls, each precedes its results; otherwise the input
-// precedes all results.
+// Adds a part to the input of the last row's call. Fails if a result precedes the part, unless the row makes successive
+// calls.
 fn add_to_input(alloc: Global, rows: &mut Vec<Row>, part: &str) -> Result<(), LineFault> {
     let Some(row) = rows.last_mut() else {
         return Err(NO_ROW);
@@ -44,7 +44,8 @@ fn add_to_input(alloc: Global, rows: &mut Vec<Row>, part: &str) -> Result<(), Li
     add_part(alloc, &row.call, &mut row.input, part)
 }
 
-// Appends to the text of the last result.
+// Appends to the text of the last result. Fails if there is no result, or if the text of the last one takes only one
+// line.
 fn go_on(
     alloc: Global,
     wanted: &mut Vec<Finding>,
@@ -79,7 +80,7 @@ fn add_wanted(alloc: Global, wanted: &mut Vec<Finding>, text: &str) -> Result<()
     Ok(())
 }
 
-// Reads one line: a comment, the start of a row, or a line of the current one.
+// Reads one line: a comment, the first line of a row, or a further line of the current row.
 fn read_line(
     alloc: Global,
     rows: &mut Vec<Row>,
@@ -101,7 +102,7 @@ fn read_line(
     }
 }
 
-// Reads the rows of a file. Fails at the first invalid line, or if there is no row.
+// Reads the rows of a file. Fails at the first invalid line, if there is no row, or if the last row states no result.
 fn file_of<'a>(alloc: Global, file: &NamedFile<'a>) -> Result<RowFile<'a>, FilesFault<'a>> {
     let name = file.name;
     let mut rows = Vec::new(alloc);
@@ -122,7 +123,8 @@ fn file_of<'a>(alloc: Global, file: &NamedFile<'a>) -> Result<RowFile<'a>, Files
     }
 }
 
-/// Reads the rows of these files. Fails at the first invalid line.
+/// Reads the rows of these files. Fails at the first invalid line, or if a file has no row or its last row states no
+/// result.
 pub fn files_of<'a>(
     alloc: Global,
     files: &[NamedFile<'a>],

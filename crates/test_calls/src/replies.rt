@@ -16,7 +16,7 @@ pub fn add_reply(alloc: Global, to: &mut Vec<Finding>, reply: &[u8]) -> Result<(
     add(alloc, to, "reply", reply)
 }
 
-/// Formats a reply of one word.
+/// Formats a fixed reply.
 pub fn word(alloc: Global, word: &str) -> Result<Vec<u8>, AllocError> {
     word.as_bytes().to_vec(alloc)
 }
@@ -26,7 +26,7 @@ pub fn done(alloc: Global) -> Result<Vec<u8>, AllocError> {
     word(alloc, "done")
 }
 
-/// Formats the result of a call that the value does not have.
+/// Formats the reply to a call that the value does not have.
 pub fn unfit(alloc: Global) -> Result<Vec<u8>, AllocError> {
     word(alloc, "no such call")
 }
@@ -71,8 +71,8 @@ fn add_sizes(alloc: Global, sizes: &[usize], to: &mut Vec<Finding>) -> Result<()
     add(alloc, to, "sizes", text.as_bytes())
 }
 
-/// Adds what a writer accepted and in which writes, the failures that the layer above reports, and the number of calls
-/// after a failure.
+/// Adds what a writer accepted, the length of each write, the number of failures, and the number of calls after the
+/// first failure.
 pub fn add_taken(
     alloc: Global,
     failures: u64,

@@ -47,7 +47,7 @@ pub struct Choice {
 pub enum Subject {
     /// A `Source`.
     Source,
-    /// An `EqualReader` over N bytes of a source.
+    /// An `EqualReader` over this many bytes of a source.
     EqualReader(usize),
     /// A `FusedReader`.
     FusedReader,
@@ -55,44 +55,44 @@ pub enum Subject {
     Outlet,
     /// A `CustomStream`.
     CustomStream,
-    /// `Turns` whose item is 7.
+    /// `Turns` over the item 7.
     Turns,
-    /// A source, an outlet, and each `Exchange` that is read under this profile.
+    /// A source, an outlet, and the requests that are read from the source under this profile, each an `Exchange`.
     Exchange(Profile),
     /// A `Connection` under this profile.
     Connection(Profile),
 }
 
-/// A call, and the words of its row's first line.
+/// A call, with its arguments in the first line of its row.
 #[derive(Drop)]
 pub enum Call {
-    /// Reads a text.
+    /// Makes this call, whose only input is this text.
     Text(TextCall, String),
-    /// Reads successive responses to requests with these methods by `read_answer`.
+    /// Reads, with `read_answer`, successive responses to requests with these methods.
     Answers(Vec<Method>),
-    /// Reads the head of a response by `read_answer_head`.
+    /// Reads the head of a response with `read_answer_head`.
     AnswerHead,
-    /// Reads a chunked body by a `Decoder` with these rules.
+    /// Decodes a chunked body with a `Decoder` under these rules.
     Decoder(ChunkRules),
-    /// Writes bytes as one chunk by `put_chunk`.
+    /// Writes bytes as one chunk with `put_chunk`.
     PutChunk,
-    /// Writes data in chunks by `put_chunked`.
+    /// Writes data in chunks with `put_chunked`.
     PutChunked,
-    /// Passes bytes to an `Encoder`, a number at a time; once for each of these numbers.
+    /// Passes bytes to an `Encoder` in pieces. The call is tried with each of these piece sizes.
     Encoder(Vec<usize>),
-    /// Returns the transfer coding that a request asks for, by `asked_coding`.
+    /// Returns, with `asked_coding`, the transfer coding that a request asks for.
     AskedCoding,
-    /// Chooses the transfer coding of a response by `choose`.
+    /// Chooses the transfer coding of a response with `choose`.
     Choose(Choice),
-    /// Prints a response with this status by `raw_print`.
+    /// Prints a response with this status code, using `raw_print`.
     RawPrint(StatusCode),
-    /// Adds headers to a response by `add_header`, by `with_header`, and as the response is created.
+    /// Adds headers to a response in three ways: with `add_header`, with `with_header`, and with `Response::new`.
     AddHeader,
-    /// Returns the reason phrase of a status by `default_reason_phrase`.
+    /// Returns the `default_reason_phrase` of this status code.
     Phrase(StatusCode),
-    /// Displays a version.
+    /// Displays this version.
     Version(HTTPVersion),
-    /// Formats a number in both bases by `Numeral`.
+    /// Formats this number in decimal and in hexadecimal with `Numeral`.
     Numeral(u64),
     /// Parses a request line under the standard profile.
     StandardRequestLine,
@@ -102,23 +102,23 @@ pub enum Call {
     Host,
     /// Validates a head with this version and method under the standard profile.
     Validate(HTTPVersion, Method),
-    /// Reads the head at the start of bytes under the standard profile. It may have at most this many bytes.
+    /// Reads the head at the start of the input under the standard profile. The head may have at most this many bytes.
     ReadHead(usize),
-    /// Prints a response with this status under the standard profile by `print`.
+    /// Prints a response with this status code under the standard profile, using `print`.
     Print(StatusCode),
-    /// Makes successive calls on a value.
+    /// Makes successive calls on a value of this kind.
     Each(Subject),
-    /// Serves a client by `example_greeter`.
+    /// Serves a client with `example_greeter`.
     Greeter,
-    /// Keeps N numbers in a `ByNumber`.
+    /// Stores this many numbers in a `ByNumber`.
     ByNumber(u64),
-    /// Displays an upgrade error.
+    /// Displays this `UpgradeError`.
     UpgradeError(UpgradeError),
-    /// Displays an error of turns.
+    /// Displays this `TurnsError`.
     TurnsError(TurnsError),
 }
 
-/// The call of a reader or a writer that fails.
+/// The call at which a reader or a writer fails, and its error.
 #[derive(Clone, Copy, Debug, PartialEq, Eq)]
 pub struct Failing {
     /// The number of the call, counted from 1.
@@ -126,12 +126,12 @@ pub struct Failing {
     pub kind: ErrorKind,
 }
 
-/// Writers with too little room.
+/// Writers with too little room for the output. The call is tried with each of them.
 #[derive(Drop)]
 pub enum Rooms {
-    /// Those that accept these numbers of bytes.
+    /// A writer for each of these numbers, which accepts that many bytes.
     These(Vec<usize>),
-    /// Every one that accepts fewer bytes than there are.
+    /// A writer for each number below the length of the output, which accepts that many bytes.
     Each,
 }
 
@@ -139,39 +139,40 @@ pub enum Rooms {
 #[derive(Drop)]
 pub struct Input {
     pub bytes: Vec<u8>,
-    /// The error of the bytes' reader, instead of an end.
+    /// The error that the reader reports after the bytes, or `None` if it reports their end.
     pub stop: Option<ErrorKind>,
     /// The headers of a response.
     pub headers: Vec<Header>,
-    /// The stated content length of a response.
+    /// The stated length of a response's data, if any.
     pub length: Option<usize>,
-    /// The body size from which a response is sent in chunks.
+    /// The length of data from which a response is sent in chunks, if it is not the default.
     pub threshold: Option<usize>,
-    /// The version of a request.
+    /// The version of a request, if it is not 1.1.
     pub version: Option<HTTPVersion>,
     /// The headers of a request.
     pub request: Vec<Header>,
-    /// The protocol of an upgrade.
+    /// The protocol of an upgrade, if the response is one.
     pub upgrade: Option<String>,
     /// Whether the body of a response is withheld.
     pub is_withheld: bool,
     /// Whether a flush and an empty write follow each write.
     pub has_flushes: bool,
-    /// Whether the body is left without its end.
+    /// Whether the encoder is dropped before it finishes the body.
     pub is_open: bool,
-    /// Where the writer fails, unless it accepts everything.
+    /// How many bytes the writer accepts, and the error with which it then fails. If absent, the writer accepts
+    /// everything.
     pub room: Option<Room>,
-    /// Further writers with too little room with which the call is tried.
+    /// Writers with too little room, with which the call is tried too.
     pub rooms: Option<Rooms>,
-    /// What further calls of the reader return, one piece a call.
+    /// The client's bytes after `bytes`. A call on the reader returns bytes of one piece only.
     pub pieces: Vec<Vec<u8>>,
-    /// The call of the reader that fails.
+    /// The call on the reader that fails, if one does.
     pub failing_read: Option<Failing>,
-    /// The call of the writer that fails.
+    /// The call on the writer that fails, if one does.
     pub failing_write: Option<Failing>,
-    /// Whether the writer accepts no bytes, without an error.
+    /// Whether each write accepts no byte and returns `Ok(0)`.
     pub is_stuck: bool,
-    /// The successive calls.
+    /// The successive calls on a value.
     pub deeds: Vec<Deed>,
 }
 
@@ -185,7 +186,7 @@ pub struct Finding {
 /// A call, its input, and the expected results.
 #[derive(Drop)]
 pub struct Row {
-    /// The number of its first line, counted from 1.
+    /// The number of the row's first line in its file, counted from 1.
     pub line: usize,
     pub call: Call,
     pub input: Input,
@@ -231,7 +232,7 @@ const STATED: [&str; 34] = [
     "value",
 ];
 
-// The kinds of results that are compared only if the row states one.
+// The kinds of results that are compared only if the row states a result of that kind.
 const ASKED: [&str; 10] = [
     "called", "header", "headers", "left", "reads", "rest", "sent", "sizes", "taken", "version",
 ];
@@ -239,7 +240,7 @@ const ASKED: [&str; 10] = [
 // The kinds of results whose text may take several lines.
 const LONG: [&str; 6] = ["body", "data", "held", "left", "output", "rest"];
 
-// Returns the word of `words` that equals `word`.
+// Returns the entry of `words` that equals `word`, or `None` if no entry does.
 fn known(words: &[&'static str], word: &str) -> Option<&'static str> {
     for known in words {
         if *known == word {
@@ -254,12 +255,12 @@ pub fn word_of(text: &str) -> Option<&'static str> {
     known(&STATED, text).or(known(&ASKED, text))
 }
 
-/// Returns whether a result of this kind is compared only if the row states one.
+/// Returns whether results of this kind are compared only if the row states such a result.
 pub fn is_asked(word: &str) -> bool {
     known(&ASKED, word).is_some()
 }
 
-/// Returns whether the text of such a result may take several lines.
+/// Returns whether the text of a result of this kind may take several lines.
 pub fn is_long(word: &str) -> bool {
     known(&LONG, word).is_some()
 }

@@ -1,4 +1,4 @@
-//! Makes successive calls on readers: sources, parts of them, and readers that stay at their end.
+//! Makes successive calls on sources, on parts of sources, and on fused readers.
 use crate::bodies::drain;
 use crate::deeds::Deed;
 use crate::devices::Client;
@@ -33,7 +33,7 @@ fn read_reply(
     }
 }
 
-/// Reads from a reader through the trait of std or the device's own method. Formats the result.
+/// Reads from a reader through `Read` or `ReadDevice`. Formats the result.
 pub fn read_by<R: ReadDevice + Read>(
     alloc: Global,
     reader: &mut R,
@@ -98,8 +98,8 @@ fn call_source(
     }
 }
 
-// Makes the first `count` calls on a new source. Adds the result of the last one, and the number of calls of the
-// client. If there are fewer calls, adds what is left in the source instead.
+// Makes the first `count` calls on a new source. Adds the result of the last call, and the number of reads from the
+// client. If there are fewer than `count` calls, adds instead what is left in the source.
 fn call_front(
     alloc: Global,
     input: &Input,
@@ -119,8 +119,8 @@ fn call_front(
     add_shown(alloc, to, "called", &calls)
 }
 
-/// Makes calls on a source. Adds the result of each, with the number of calls of the client up to it, and finally what
-/// is left. A source does not expose its client, so each call is repeated on a new source, after those before it.
+/// Makes calls on a source. Adds the result of each, with the number of reads from the client by then, and finally what
+/// is left. A source does not expose its client, so for each call a new source repeats the earlier calls first.
 pub fn call_sources(
     alloc: Global,
     input: &Input,
@@ -133,7 +133,7 @@ pub fn call_sources(
     Ok(())
 }
 
-// Reads from a part of a source, and adds the results. The part is dropped.
+// Reads from a part of a source, adds the results, and drops the part.
 fn read_part(
     alloc: Global,
     source: &mut Source<Client>,
@@ -148,7 +148,7 @@ fn read_part(
     Ok(())
 }
 
-// Adds what is left in a source after a part of it that is finished unread.
+// Finishes an unread part of a new source. Adds what is left in the source.
 fn finish_part(
     alloc: Global,
     input: &Input,
@@ -161,8 +161,8 @@ fn finish_part(
     add(alloc, to, "left", left.as_slice())
 }
 
-/// Adds the results of reads from a part of a source, what is left in the source after this part is dropped, and what
-/// is left after a part that is finished unread.
+/// Reads from a part of a source. Adds the results, what is left in the source after the part is dropped, and what is
+/// left in a new source after an unread part of it is finished.
 pub fn read_parts(
     alloc: Global,
     input: &Input,
@@ -175,7 +175,8 @@ pub fn read_parts(
     finish_part(alloc, input, (size, most), to)
 }
 
-/// Adds the results of reads from a fused reader, and whether it still has its inner reader.
+/// Reads from a fused reader. Adds the results, and then the number of reads from its inner reader, or `ended` if the
+/// fused reader has dropped the inner reader.
 pub fn read_fused(
     alloc: Global,
     input: &Input,

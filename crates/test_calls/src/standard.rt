@@ -1,4 +1,4 @@
-//! Makes calls that read a head under the standard profile.
+//! Makes calls that parse or validate a head, or a part of one, under the standard profile.
 use crate::findings::{add, add_shown};
 use crate::row::Finding;
 use std::alloc::{AllocError, Global};
@@ -8,7 +8,7 @@ use tiny_http_standard_head::lines::{parse_field_line, parse_request_line};
 use tiny_http_standard_head::validation::{HeadSummary, validate};
 use tiny_http_wire::common::{HTTPVersion, Header, Method};
 
-/// Parses a request line.
+/// Parses a request line, and adds its parts, or that it is refused.
 pub fn read_request_line(
     alloc: Global,
     line: &[u8],
@@ -22,7 +22,7 @@ pub fn read_request_line(
     add_shown(alloc, to, "version", &version)
 }
 
-/// Parses a field line.
+/// Parses a field line, and adds its name and value, or that it is refused.
 pub fn read_field_line(
     alloc: Global,
     line: &[u8],
@@ -89,8 +89,9 @@ pub fn validate_head(
     }
 }
 
-/// Reads the head at the start of a client's bytes, of at most `limit` bytes. Adds a complete head, with its length and
-/// summary; the status with which it is refused; or that it is incomplete, and whether it has begun.
+/// Reads the head at the start of a client's bytes, which may have at most `limit` bytes. Adds a complete head, with
+/// its length and summary; or the status with which the head is refused; or that the head is incomplete, and whether it
+/// has begun.
 pub fn read_first_head(
     alloc: Global,
     limit: usize,

@@ -9,12 +9,12 @@ use tiny_http_wire::grammar::{parse_content_length, parse_header_line, parse_req
 use tiny_http_wire::header_value::{parse_element, parse_header_value};
 use tiny_http_wire::number::Numeral;
 
-// Adds that nothing was read.
+// Adds that the text was refused.
 fn add_refused(alloc: Global, to: &mut Vec<Finding>) -> Result<(), AllocError> {
     add(alloc, to, "refused", b"")
 }
 
-// Adds that the text was refused.
+// Adds that the text was refused. Fails if memory was refused instead.
 fn add_fault(alloc: Global, to: &mut Vec<Finding>, fault: ParseError) -> Result<(), AllocError> {
     match fault {
         ParseError::Refused => add_refused(alloc, to),
@@ -33,7 +33,7 @@ fn add_element(
     add(alloc, to, "element", text.as_bytes())
 }
 
-// Adds the elements of a header value.
+// Parses a header value, and adds its elements.
 fn read_header_value(alloc: Global, text: &str, to: &mut Vec<Finding>) -> Result<(), AllocError> {
     let elements = parse_header_value(alloc, text)?;
     for element in elements.as_slice() {
@@ -49,7 +49,7 @@ fn add_header(alloc: Global, to: &mut Vec<Finding>, header: &Header) -> Result<(
     add(alloc, to, "value", header.value.as_str().as_bytes())
 }
 
-// Parses a header line.
+// Parses a header line, and adds its name and value, or that it is refused.
 fn read_header_line(alloc: Global, text: &str, to: &mut Vec<Finding>) -> Result<(), AllocError> {
     let line = text.as_bytes();
     if !are_ascii(line) {
@@ -61,7 +61,7 @@ fn read_header_line(alloc: Global, text: &str, to: &mut Vec<Finding>) -> Result<
     }
 }
 
-// Parses a request line.
+// Parses a request line, and adds its parts, or that it is refused.
 fn read_request_line(alloc: Global, text: &str, to: &mut Vec<Finding>) -> Result<(), AllocError> {
     let line = text.as_bytes();
     if !are_ascii(line) {
@@ -75,7 +75,7 @@ fn read_request_line(alloc: Global, text: &str, to: &mut Vec<Finding>) -> Result
     add_shown(alloc, to, "version", &version)
 }
 
-// Parses a content length.
+// Parses a content length, and adds it, or that it is refused.
 fn read_length(alloc: Global, text: &str, to: &mut Vec<Finding>) -> Result<(), AllocError> {
     match parse_content_length(text) {
         Some(length) => add_shown(alloc, to, "length", &length),
@@ -83,7 +83,7 @@ fn read_length(alloc: Global, text: &str, to: &mut Vec<Finding>) -> Result<(), A
     }
 }
 
-// Parses a header.
+// Parses a header, and adds its name and value, or that it is refused.
 fn read_header(alloc: Global, text: &str, to: &mut Vec<Finding>) -> Result<(), AllocError> {
     match Header::from_str(alloc, text) {
         Ok(header) => add_header(alloc, to, &header),
@@ -91,7 +91,7 @@ fn read_header(alloc: Global, text: &str, to: &mut Vec<Finding>) -> Result<(), A
     }
 }
 
-// Parses the name of a header.
+// Parses the name of a header, and adds it, or that it is refused.
 fn read_field(alloc: Global, text: &str, to: &mut Vec<Finding>) -> Result<(), AllocError> {
     match HeaderField::from_str(alloc, text) {
         Ok(field) => add(alloc, to, "name", field.as_str().as_str().as_bytes()),
@@ -99,7 +99,7 @@ fn read_field(alloc: Global, text: &str, to: &mut Vec<Finding>) -> Result<(), Al
     }
 }
 
-// Adds a method, and whether it is a nonstandard one.
+// Adds the name of a method, as `method` or `nonstandard`.
 fn add_method(alloc: Global, to: &mut Vec<Finding>, method: &Method) -> Result<(), AllocError> {
     let word = match method {
         Method::NonStandard(_) => "nonstandard",
@@ -108,7 +108,7 @@ fn add_method(alloc: Global, to: &mut Vec<Finding>, method: &Method) -> Result<(
     add(alloc, to, word, method.as_str().as_bytes())
 }
 
-// Parses a method.
+// Parses a method, and adds its name, or that it is refused.
 fn read_method(alloc: Global, text: &str, to: &mut Vec<Finding>) -> Result<(), AllocError> {
     match Method::from_str(alloc, text) {
         Ok(method) => add_method(alloc, to, &method),
@@ -154,7 +154,7 @@ pub fn ask(alloc: Global, request: &[Header], to: &mut Vec<Finding>) -> Result<(
     add_coding(alloc, to, asked_coding(request))
 }
 
-/// Adds the chosen transfer coding.
+/// Adds the transfer coding that `choose` returns for this input.
 pub fn choose_by(alloc: Global, choice: Choice, to: &mut Vec<Finding>) -> Result<(), AllocError> {
     let Choice {
         version,
@@ -182,7 +182,7 @@ pub fn show(alloc: Global, version: HTTPVersion, to: &mut Vec<Finding>) -> Resul
     add_shown(alloc, to, "version", &version)
 }
 
-/// Adds a number in both bases.
+/// Adds a number in decimal and in hexadecimal.
 pub fn write_number(alloc: Global, number: u64, to: &mut Vec<Finding>) -> Result<(), AllocError> {
     add(alloc, to, "decimal", Numeral::decimal(number).as_bytes())?;
     add(

@@ -1,4 +1,4 @@
-//! Tries the calls of rows, and reports those that differ.
+//! Tries the call of each row in several ways, and reports the rows whose results differ from those stated.
 use crate::bodies::{decode, read_answers, read_head_alone};
 use crate::conversing::{call_connections, greet};
 use crate::exchanging::call_exchanges;
@@ -24,13 +24,14 @@ use test_data_files::text::shown;
 /// One way to try a call.
 #[derive(Clone, Copy, Debug, PartialEq, Eq)]
 struct Trial {
-    // Maximum number of bytes that a call of a reader returns, or that are written at a time.
+    // Maximum number of bytes that a read returns, or that are passed to one write. 0 means no limit.
     piece: usize,
-    // Where the writer fails, unless it accepts everything.
+    // How many bytes the writer accepts in this trial, and the error with which it then fails, if the trial limits it.
     room: Option<Room>,
 }
 
-/// The difference of a row: the trial, the result found, and the expected one.
+/// A difference between the results of a trial and those that the row states: how the call was tried, the result that
+/// was found, and the one that was expected.
 #[derive(Drop)]
 struct Difference {
     how: String,
@@ -38,7 +39,7 @@ struct Difference {
     wanted: String,
 }
 
-// Makes successive calls on a value.
+// Makes the successive calls of a row on a new value of this kind, and adds their results.
 fn make_each(
     alloc: Global,
     subject: Subject,
@@ -58,7 +59,7 @@ fn make_each(
     }
 }
 
-// Makes the call of a row.
+// Makes the call of a row once, and adds its results.
 fn make_call(
     alloc: Global,
     row: &Row,
@@ -100,12 +101,12 @@ fn make_call(
     }
 }
 
-// Returns whether a result must agree with the row.
+// Returns whether a result is compared with the row: always, or only if the row states a result of its kind.
 fn counts(finding: &Finding, wanted: &[Finding]) -> bool {
     !is_asked(finding.word) || wanted.iter().any(|want| want.word == finding.word)
 }
 
-// Returns whether the results are equal.
+// Returns whether both results are equal, or both absent.
 fn is_same(found: Option<&Finding>, want: Option<&Finding>) -> bool {
     match (found, want) {
         (Some(found), Some(want)) => found.word == want.word && found.text == want.text,
@@ -114,7 +115,7 @@ fn is_same(found: Option<&Finding>, want: Option<&Finding>) -> bool {
     }
 }
 
-// Returns the first pair of a result and an expected one that differ.
+// Returns the first result and expected result that differ, of which one may be absent; or `None` if all agree.
 fn first_pair<'a>(
     found: &'a [Finding],
     wanted: &'a [Finding],
@@ -135,7 +136,7 @@ fn first_pair<'a>(
     }
 }
 
-// Formats a result as its line in a file.
+// Formats a result as `[KIND TEXT]`, or an absent one as `nothing`.
 fn line_of(alloc: Global, finding: Option<&Finding>) -> Result<String, AllocError> {
     let Some(finding) = finding else {
         return String::from_str(alloc, "nothing");
@@ -161,7 +162,7 @@ fn how(alloc: Global, trial: Trial) -> Result<String, AllocError> {
     }
 }
 
-// Tries a call once.
+// Tries a call once. Returns the first difference from `wanted`.
 fn try_once(
     alloc: Global,
     row: &Row,
@@ -180,7 +181,7 @@ fn try_once(
     }))
 }
 
-// Tries a call with each number of bytes at a time.
+// Tries a call with each piece size that applies to it. Returns the first difference.
 fn try_pieces(alloc: Global, row: &Row) -> Result<Option<Difference>, AllocError> {
     let pieces = match &row.call {
         Call::Decoder(_) | Call::Greeter => PIECES.as_slice(),
@@ -200,7 +201,7 @@ fn try_pieces(alloc: Global, row: &Row) -> Result<Option<Difference>, AllocError
     Ok(None)
 }
 
-// Returns the expected output of a row.
+// Returns the expected output of a row, which is empty if the row states none.
 fn output_of(row: &Row) -> &[u8] {
     for want in &row.wanted {
         if want.word == "output" {
@@ -210,8 +211,8 @@ fn output_of(row: &Row) -> &[u8] {
     b""
 }
 
-// Tries a call with a writer that accepts `bytes` bytes and then fails. It must get that prefix of the output, and no
-// call after the failure.
+// Tries a call with a writer that accepts `bytes` bytes and then fails. The writer must get that prefix of the output,
+// and no call after the failure. Returns the first difference.
 fn try_room(alloc: Global, row: &Row, bytes: usize) -> Result<Option<Difference>, AllocError> {
     let output = output_of(row);
     let mut wanted = Vec::new(alloc);
@@ -240,7 +241,7 @@ fn rooms_of(alloc: Global, row: &Row) -> Result<Vec<usize>, AllocError> {
     }
 }
 
-// Tries a call with each additional writer of its row.
+// Tries a call with each additional writer of its row. Returns the first difference.
 fn try_rooms(alloc: Global, row: &Row) -> Result<Option<Difference>, AllocError> {
     for bytes in rooms_of(alloc, row)? {
         if let Some(difference) = try_room(alloc, row, bytes)? {
@@ -250,7 +251,7 @@ fn try_rooms(alloc: Global, row: &Row) -> Result<Option<Difference>, AllocError>
     Ok(None)
 }
 
-// Tries a call in all ways of its row. Returns the first difference.
+// Tries the call of a row with each piece size and each additional writer. Returns the first difference.
 fn try_row(alloc: Global, row: &Row) -> Result<Option<Difference>, AllocError> {
     match try_pieces(alloc, row)? {
         Some(difference) => Ok(Some(difference)),
@@ -274,7 +275,7 @@ fn report<'a, O: Write>(
     }
 }
 
-// Tries the rows of a file, and prints one line for each that differs. Returns how many do.
+// Tries the rows of a file, and prints one line for each row that differs. Returns how many rows differ.
 fn try_rows<'a, O: Write>(
     alloc: Global,
     out: &mut O,
@@ -290,7 +291,8 @@ fn try_rows<'a, O: Write>(
     Ok(differing)
 }
 
-// Tries the rows of a file, and prints one line for it. Returns whether no row differed.
+// Tries the rows of a file. Prints one line for each row that differs, and one for the file. Returns whether no row
+// differed.
 fn try_file<'a, O: Write>(
     alloc: Global,
     out: &mut O,

@@ -5,7 +5,7 @@ use test_data_files::text::{number_in, text_of};
 use tiny_http_wire::coding::Coding;
 use tiny_http_wire::common::{HTTPVersion, Header, ParseError, StatusCode};
 
-/// Splits a line at its first space.
+/// Splits a line at its first space. If it has no space, the second part is empty.
 pub fn split(line: &str) -> (&str, &str) {
     match line.split_once(' ') {
         Some(parts) => parts,
@@ -13,7 +13,7 @@ pub fn split(line: &str) -> (&str, &str) {
     }
 }
 
-/// Parses a number.
+/// Parses a decimal number.
 pub fn number(word: &str) -> Result<usize, LineFault> {
     match number_in(word) {
         Some(number) => Ok(number),
@@ -21,7 +21,7 @@ pub fn number(word: &str) -> Result<usize, LineFault> {
     }
 }
 
-/// Parses one or more numbers with spaces between them.
+/// Parses one or more numbers, separated by single spaces.
 pub fn numbers(alloc: Global, words: &str) -> Result<Vec<usize>, LineFault> {
     let mut list = Vec::new(alloc);
     for word in words.split(' ') {
@@ -39,7 +39,7 @@ pub fn number_or_none(word: &str) -> Result<Option<usize>, LineFault> {
     Ok(Some(number(word)?))
 }
 
-/// Parses a status.
+/// Parses a status code: a number below 65536.
 pub fn status(word: &str) -> Result<StatusCode, LineFault> {
     match u16::try_from(number(word)?) {
         Ok(status) => Ok(StatusCode(status)),
@@ -47,7 +47,7 @@ pub fn status(word: &str) -> Result<StatusCode, LineFault> {
     }
 }
 
-/// Parses a version: two numbers below 256 with a point between them.
+/// Parses a version: two numbers below 256, separated by a dot.
 pub fn version(word: &str) -> Result<HTTPVersion, LineFault> {
     let (major, minor) = word.split_once('.').unwrap_or((word, ""));
     match (u8::try_from(number(major)?), u8::try_from(number(minor)?)) {
@@ -66,7 +66,7 @@ pub fn coding(word: &str) -> Result<Option<Coding>, LineFault> {
     }
 }
 
-/// Replaces the escapes of a text.
+/// Decodes the escapes of a text. Fails if the result is not UTF-8.
 pub fn text(alloc: Global, words: &str) -> Result<String, LineFault> {
     match String::from_utf8(text_of(alloc, words)?) {
         Ok(text) => Ok(text),
@@ -74,7 +74,7 @@ pub fn text(alloc: Global, words: &str) -> Result<String, LineFault> {
     }
 }
 
-/// Parses a header as its line is read.
+/// Parses a header with `Header::from_str`, which reads a field line.
 pub fn header_line(alloc: Global, words: &str) -> Result<Header, LineFault> {
     let line = text(alloc, words)?;
     match Header::from_str(alloc, line.as_str()) {
@@ -84,7 +84,7 @@ pub fn header_line(alloc: Global, words: &str) -> Result<Header, LineFault> {
     }
 }
 
-/// Parses a header with `: ` between its name and value.
+/// Parses a header of the form `NAME: VALUE`. Fails if the header is not ASCII.
 pub fn header(alloc: Global, words: &str) -> Result<Header, LineFault> {
     let line = text(alloc, words)?;
     let Some((name, value)) = line.as_str().split_once(": ") else {
@@ -97,7 +97,7 @@ pub fn header(alloc: Global, words: &str) -> Result<Header, LineFault> {
     }
 }
 
-/// Adds bytes of the series 0, 1, .. 250, 0, 1, ..: the words are the first position and the count.
+/// Appends bytes of the series 0, 1, .. 250, 0, 1, .. The words are the position of the first byte and the count.
 pub fn add_series(words: &str, to: &mut Vec<u8>) -> Result<(), LineFault> {
     let (from, count) = split(words);
     let (from, count) = (number(from)?, number(count)?);

@@ -1,4 +1,4 @@
-//! Writes responses and bodies.
+//! Prints responses, and writes bodies in chunks.
 use crate::bodies::{add_left, data_of};
 use crate::devices::Watched;
 use crate::findings::{add, add_kind, add_shown, add_some};
@@ -16,7 +16,7 @@ use tiny_http_wire::encoder::Encoder;
 use tiny_http_wire::response::Response;
 use tiny_http_wire::response_context::{Persistence, ResponseContext};
 
-// Creates a writer with this room, or without a limit.
+// Creates a writer with this room, or without a limit if there is none.
 fn writer_of(alloc: Global, room: Option<Room>) -> Metered<Trier> {
     match room {
         Some(room) => Metered::new(Trier::with_room(alloc, room.bytes, room.fault)),
@@ -37,7 +37,7 @@ fn add_count(
     add_shown(alloc, to, word, &count)
 }
 
-// Adds what was written, the reported error, the number of failures, and the number of calls after one.
+// Adds what was written, the reported error, the number of failures, and the number of calls after the first failure.
 fn add_written(
     alloc: Global,
     to: &mut Vec<Finding>,
@@ -54,7 +54,7 @@ fn add_written(
     add_count(alloc, to, "later", writer.later())
 }
 
-/// Writes bytes as one chunk, and adds the results. No bytes give no result.
+/// Writes bytes as one chunk, and adds the results. If there are no bytes, does nothing.
 pub fn write_chunk(alloc: Global, input: &Input, to: &mut Vec<Finding>) -> Result<(), AllocError> {
     let bytes = input.bytes.as_slice();
     if bytes.is_empty() {
@@ -78,7 +78,7 @@ pub fn write_chunked(
     add_written(alloc, to, writer, outcome)
 }
 
-// Writes a piece. If `has_flushes`, flushes and writes an empty piece.
+// Writes a piece. If `has_flushes`, then flushes and writes an empty piece.
 fn write_piece<W: Write>(writer: &mut W, piece: &[u8], has_flushes: bool) -> io::Result<()> {
     writer.write_all(piece)?;
     if has_flushes {
@@ -125,7 +125,7 @@ pub fn encode(
     add_written(alloc, to, writer, outcome)
 }
 
-// Builds a response with this status and these data. Its headers are added one by one.
+// Builds a response with this status code, these data, and the headers and the threshold of a row.
 fn answer<'a, D>(
     alloc: Global,
     status: StatusCode,
@@ -144,7 +144,7 @@ fn answer<'a, D>(
     }
 }
 
-// Prints a response.
+// Prints a response to the request that a row states, with `raw_print`.
 fn print_to(
     alloc: Global,
     answer: Response<&mut Canned>,
@@ -166,7 +166,7 @@ fn print_to(
     )
 }
 
-/// Prints a response. Adds the results, and what is left of its data.
+/// Prints a response with `raw_print`. Adds the results, and what is left of its data.
 pub fn print(
     alloc: Global,
     status: StatusCode,
@@ -189,7 +189,7 @@ const BY_THE_STANDARD: ResponseContext = ResponseContext {
     persistence: Some(Persistence::Persistent),
 };
 
-/// Prints a response under the standard profile. Adds the results, and how much is read of its data.
+/// Prints a response under the standard profile. Adds the results, and how much of its data is read.
 pub fn print_by_standard(
     alloc: Global,
     status: StatusCode,

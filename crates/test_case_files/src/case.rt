@@ -3,7 +3,7 @@ use std::io::ErrorKind;
 use tiny_http_core::framing::Profile;
 use tiny_http_wire::ascii::AsciiString;
 
-/// How many bytes a writer accepts, and the error kind of its failure after them.
+/// The number of bytes that a writer accepts, and the kind of the error with which it then fails.
 #[derive(Clone, Copy, Debug, PartialEq, Eq)]
 pub struct Room {
     pub bytes: usize,
@@ -16,7 +16,7 @@ pub struct Answer {
     /// The number of the request.
     pub number: u64,
     pub status: u16,
-    /// The header lines, without their line ends.
+    /// The header lines, without line breaks.
     pub headers: Vec<String>,
     /// The stated content length, if any.
     pub length: Option<usize>,
@@ -27,7 +27,7 @@ pub struct Answer {
     /// The protocols offered for an upgrade, if any.
     pub offer: Option<AsciiString>,
     pub data: Vec<u8>,
-    /// The error at the end of the data, if any.
+    /// The error that ends the data, if any.
     pub fault: Option<ErrorKind>,
 }
 
@@ -36,7 +36,7 @@ pub struct Answer {
 pub enum Deed {
     /// A line of a script: a step or a date.
     Script(String),
-    /// Responds to a request.
+    /// A response to a request.
     Answer(Answer),
 }
 
@@ -94,13 +94,13 @@ pub struct Case {
     pub profile: Profile,
     /// The bytes that the client sends.
     pub client: Vec<u8>,
-    /// The reader's error after these bytes, instead of an end.
+    /// The reader's error after the client's bytes. If it is `None`, the reader reports the end of input there.
     pub stop: Option<ErrorKind>,
-    /// Where the writer fails, unless it accepts everything.
+    /// How many bytes the writer accepts before it fails, or `None` if it accepts everything.
     pub room: Option<Room>,
     /// Whether the case is never tried with the client's bytes cut short.
     pub is_uncut: bool,
-    /// Number of the client's first bytes that are replaced by every value in turn.
+    /// Number of the client's first bytes that are replaced with every value in turn.
     pub varied: Option<usize>,
     pub steps: Vec<CaseStep>,
     /// The bytes that are sent, and then those still buffered.

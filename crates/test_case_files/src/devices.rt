@@ -10,12 +10,13 @@ pub type Reader = FailsAt<ByPieces<Canned>>;
 /// The piece sizes with which each case is tried: the maximum number of bytes that a call of the reader returns.
 pub const PIECES: [usize; 4] = [1, 2, 1023, 1024];
 
-/// A writer in memory. It fails once its room is used up, or in one of its calls; writes and flushes count alike.
+/// A writer in memory that fails once its room is used up, or in one of its calls. Both writes and flushes count as
+/// calls.
 #[derive(Drop)]
 pub struct Trier {
     taken: Vec<u8>,
     room: usize,
-    // Number of calls up to and including the one that fails; 0 after that call.
+    // Number of calls still to come up to and including the one that fails; 0 after that call.
     calls: u64,
     kind: ErrorKind,
     failures: u64,
@@ -35,7 +36,8 @@ impl Trier {
         }
     }
 
-    /// Creates a writer whose call number `call`, counted from 1, fails with `kind`. It accepts everything else.
+    /// Creates a writer whose call number `call`, counted from 1, fails with `kind`. Every other write accepts all
+    /// bytes.
     pub fn failing_at(alloc: Global, call: u64, kind: ErrorKind) -> Trier {
         Trier {
             taken: Vec::new(alloc),

@@ -15,7 +15,7 @@ const NO_HEADER: LineFault = LineFault::Bad("no such header line");
 
 const NO_NUMBER: LineFault = LineFault::Bad("a number is missing");
 
-// Begins a case called `name`, which must be one word and not yet used.
+// Begins a case called `name`. Fails if the name is not one word, or if an earlier case has it.
 fn begin(alloc: Global, cases: &mut Vec<Case>, name: &str) -> Result<(), LineFault> {
     if name.is_empty() || name.contains(' ') {
         return Err(LineFault::Bad("a case has a name of one word"));
@@ -60,7 +60,7 @@ fn lack_of(cases: &[Case]) -> Option<&'static str> {
     None
 }
 
-// Parses the room of a writer and the error kind after it.
+// Parses a writer's room: a number of bytes, and the kind of the error after them.
 fn room_in(words: &str) -> Result<Room, LineFault> {
     let Some((digits, name)) = words.split_once(' ') else {
         return Err(LineFault::Bad("a writer's room is a number and a kind"));
@@ -74,7 +74,8 @@ fn room_in(words: &str) -> Result<Room, LineFault> {
     }
 }
 
-// Adds a step without a reply. Fails if the step before has none.
+// Adds a step, whose reply comes in a later line unless the step is a date. Fails if the step before it has no reply
+// yet.
 fn add_step(case: &mut Case, deed: Deed, reply: Vec<u8>, is_date: bool) -> Result<(), LineFault> {
     if let Some(step) = case.steps.last()
         && !step.is_answered
@@ -90,7 +91,7 @@ fn add_step(case: &mut Case, deed: Deed, reply: Vec<u8>, is_date: bool) -> Resul
     Ok(())
 }
 
-// Parses the number and the status of an answer.
+// Parses the request number and the status of an answer.
 fn answer_in(alloc: Global, words: &str) -> Result<Answer, LineFault> {
     let Some((number, status)) = words.split_once(' ') else {
         return Err(LineFault::Bad("an answer has a number and a status"));
@@ -114,7 +115,7 @@ fn answer_in(alloc: Global, words: &str) -> Result<Answer, LineFault> {
     })
 }
 
-// Parses a line of a script, replacing its escapes. Returns whether it is a date.
+// Parses a line of a script. Returns the line with its escapes replaced, and whether it is a date.
 fn script_in(alloc: Global, text: &str) -> Result<(String, bool), LineFault> {
     let Ok(line) = String::from_utf8(text_of(alloc, text)?) else {
         return Err(LineFault::Bad("a step is UTF-8"));
@@ -126,7 +127,7 @@ fn script_in(alloc: Global, text: &str) -> Result<(String, bool), LineFault> {
     }
 }
 
-// Parses a header line, which must be valid.
+// Returns a header line with its escapes replaced. Fails if the line is not a valid header line.
 fn header_in(alloc: Global, text: &str) -> Result<String, LineFault> {
     let Ok(line) = String::from_utf8(text_of(alloc, text)?) else {
         return Err(NO_HEADER);
@@ -138,7 +139,8 @@ fn header_in(alloc: Global, text: &str) -> Result<String, LineFault> {
     }
 }
 
-// Adds a part to an answer. Fails if the part is unknown or is stated already.
+// Adds a part to an answer. Fails if the part is unknown, or if the answer has it already; only `data` and `header` may
+// be repeated.
 fn add_part(alloc: Global, answer: &mut Answer, text: &str) -> Result<(), LineFault> {
     let (word, words) = text.split_once(' ').unwrap_or((text, ""));
     match word {
@@ -171,7 +173,8 @@ fn add_part(alloc: Global, answer: &mut Answer, text: &str) -> Result<(), LineFa
     Ok(())
 }
 
-// Returns the answer to which a part belongs: that of the last step, if this has no reply yet.
+// Returns the answer to which a part belongs: that of the last step. Fails if the last step isn't an answer, or has a
+// reply already.
 fn open_answer(case: &mut Case) -> Result<&mut Answer, LineFault> {
     if let Some(step) = case.steps.last_mut()
         && !step.is_answered
@@ -182,7 +185,7 @@ fn open_answer(case: &mut Case) -> Result<&mut Answer, LineFault> {
     Err(LineFault::Bad("no answer comes before this part"))
 }
 
-// Adds the reply of the last step.
+// Adds the reply to the last step. Fails if there is no step, or if the last one has a reply already.
 fn add_reply(alloc: Global, case: &mut Case, text: &str) -> Result<(), LineFault> {
     let Some(step) = case.steps.last_mut() else {
         return Err(LineFault::Bad("no step comes before this reply"));
@@ -239,7 +242,7 @@ fn add_line(alloc: Global, case: &mut Case, text: &str) -> Result<(), LineFault>
     Ok(())
 }
 
-// Reads one line: a comment, the start of a case, or a line of the current one.
+// Reads one line: a comment, the start of a case, or a line of the current case.
 fn read_line(alloc: Global, cases: &mut Vec<Case>, line: &[u8]) -> Result<(), LineFault> {
     let Some(text) = line_text(line)? else {
         return Ok(());

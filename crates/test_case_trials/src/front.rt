@@ -1,4 +1,4 @@
-//! Checks trials in which the client's bytes are cut short or one of them is changed.
+//! Checks trials in which the client's bytes are cut short, or one of these bytes is changed.
 use crate::outcome::{Difference, Outcome, count_differs, differing, output_differs};
 use std::alloc::{AllocError, Global};
 use std::io::ErrorKind;
@@ -7,7 +7,7 @@ use test_plain_reading::lenient::plain_lines;
 use test_plain_reading::standard::standard_lines;
 use tiny_http_core::framing::Profile;
 
-// Returns the reply lines of the requests that a trial returned.
+// Returns those reply lines of a trial that report a request.
 fn handed_in<'a>(alloc: Global, outcome: &'a Outcome) -> Result<Vec<&'a [u8]>, AllocError> {
     let mut handed = Vec::new(alloc);
     for reply in &outcome.replies {
@@ -18,7 +18,7 @@ fn handed_in<'a>(alloc: Global, outcome: &'a Outcome) -> Result<Vec<&'a [u8]>, A
     Ok(handed)
 }
 
-// Returns the reply lines of the requests that a case returns.
+// Returns those reply lines of a case that report a request.
 fn handed_of<'a>(alloc: Global, case: &'a Case) -> Result<Vec<&'a [u8]>, AllocError> {
     let mut handed = Vec::new(alloc);
     for step in &case.steps {
@@ -31,7 +31,8 @@ fn handed_of<'a>(alloc: Global, case: &'a Case) -> Result<Vec<&'a [u8]>, AllocEr
     Ok(handed)
 }
 
-// Returns the first request that differs from the expected one at its position.
+// Returns the difference at the first request in `found` that is not the one at the same position in `wanted`. Requests
+// that are missing in `found` are no difference.
 fn handed_differ(
     alloc: Global,
     found: &[&[u8]],
@@ -47,7 +48,7 @@ fn handed_differ(
     Ok(None)
 }
 
-// Returns the number of the request that a step reads, as its line states it.
+// Returns the request number in the line of a `read` step, or `None` for any other step.
 fn read_number(step: &CaseStep) -> Option<&str> {
     match &step.deed {
         Deed::Script(line) => {
@@ -58,12 +59,13 @@ fn read_number(step: &CaseStep) -> Option<&str> {
     }
 }
 
-// Returns the bytes of a `given` reply.
+// Returns the bytes in a `given` reply, or none for any other reply.
 fn given_in(reply: &[u8]) -> &[u8] {
     reply.strip_prefix(b"given ").unwrap_or_default()
 }
 
-// Returns what the reads of the request with this number returned in the trial, and what they return in the case.
+// Returns all bytes that reads of the request with this number returned in the trial, and all that they return in the
+// case.
 fn given_of(
     alloc: Global,
     case: &Case,
@@ -82,7 +84,8 @@ fn given_of(
     Ok((found, wanted))
 }
 
-// Returns the first request whose reads returned something that is not a prefix of what they return in the case.
+// Returns the difference at the first request whose reads returned, in the trial, bytes that are not a prefix of those
+// that they return in the case.
 fn given_differs(
     alloc: Global,
     case: &Case,
@@ -98,8 +101,8 @@ fn given_differs(
     Ok(None)
 }
 
-// Returns the first reply that differs, unless it belongs to an `ask` or a `read`: only these read from the client. A
-// missing reply is a difference, too.
+// Returns a difference if the number of replies differs, or if the first reply that differs belongs to a step other
+// than `ask` and `read`, the only steps that read from the client.
 fn first_reply_differs(
     alloc: Global,
     case: &Case,
@@ -124,13 +127,13 @@ fn first_reply_differs(
     Ok(None)
 }
 
-// Returns whether the rest of an output is empty or begins with a response, so that the responses before it are
+// Returns whether the rest of an output is empty or begins with a response. If so, the responses before it are
 // complete.
 fn is_answer_or_none(rest: &[u8]) -> bool {
     rest.is_empty() || rest.starts_with(b"HTTP/")
 }
 
-// Returns whether a case sends only complete responses: no request is upgraded or gives its raw writer away.
+// Returns whether a case sends only complete responses: no request is upgraded or turned into its raw writer.
 fn has_whole_answers(case: &Case) -> bool {
     case.steps.iter().all(|step| match &step.deed {
         Deed::Script(line) => !line.starts_with("writer ") && !line.starts_with("upgrade "),
@@ -138,7 +141,7 @@ fn has_whole_answers(case: &Case) -> bool {
     })
 }
 
-// Returns a difference if the output ends within a response of the case.
+// Returns a difference if a case sends only complete responses, and the output ends within one of them.
 fn answer_is_cut(
     alloc: Global,
     case: &Case,
@@ -152,10 +155,11 @@ fn answer_is_cut(
     differing(alloc, what, output, case.output.as_slice())
 }
 
-// Length of a date.
+// Length of the date in a Date field line.
 const DATE: usize = 29;
 
-// Returns the output before a final 408. Under the standard profile that response also has `Connection: close`.
+// Returns the output before a 408 response at its end, or `None` if it doesn't end with one. Under the standard profile
+// that response also has `Connection: close`.
 fn before_408(profile: Profile, output: &[u8]) -> Option<&[u8]> {
     let dated = output.strip_suffix(b"\r\nContent-Length: 0\r\n\r\n")?;
     let front = match profile {
@@ -166,8 +170,8 @@ fn before_408(profile: Profile, output: &[u8]) -> Option<&[u8]> {
     dated.strip_suffix(b"HTTP/1.1 408 Request Timeout\r\nServer: tiny-http (Rust)\r\nDate: ")
 }
 
-// Returns the output without a final 408, if the bytes were cut by a timeout, which may cause one, and the case has
-// none there.
+// Returns the output without a 408 response at its end if a timeout cut the client's bytes, which may cause such a
+// response, and the output is not a prefix of the case's. Otherwise returns the whole output.
 fn without_408<'a>(case: &Case, output: &'a [u8], stop: Option<ErrorKind>) -> &'a [u8] {
     if stop != Some(ErrorKind::TimedOut) || case.output.starts_with(output) {
         return output;
@@ -177,7 +181,7 @@ fn without_408<'a>(case: &Case, output: &'a [u8], stop: Option<ErrorKind>) -> &'
 
 const CLOSE: &[u8] = b"Connection: close\r\n";
 
-// Returns the position of the last `Connection: close` field line of an output.
+// Returns the position of the last `Connection: close` field line in an output.
 fn last_close(output: &[u8]) -> Option<usize> {
     (0..output.len()).rev().find(|place| output
         .get(*place..)
@@ -185,8 +189,9 @@ fn last_close(output: &[u8]) -> Option<usize> {
         .starts_with(CLOSE))
 }
 
-// Returns the output without the `Connection: close` of its last response. Under the standard profile a cut body adds
-// this field, which the case does not have there. Returns `None` if the output is a prefix of the case's.
+// Returns the output without its last `Connection: close` field line. Under the standard profile, a cut body adds this
+// field line to the last response, and the case doesn't have it there. Returns `None` if the output remains as it is:
+// under another profile, without such a field line, or if it is a prefix of the case's.
 fn without_close(alloc: Global, case: &Case, output: &[u8]) -> Result<Option<Vec<u8>>, AllocError> {
     if case.profile != Profile::Standard || case.output.starts_with(output) {
         return Ok(None);
@@ -201,11 +206,11 @@ fn without_close(alloc: Global, case: &Case, output: &[u8]) -> Result<Option<Vec
     Ok(Some(front))
 }
 
-/// Returns the first difference of a trial from its case, whose client's bytes were cut short at an end or, if `stop`
-/// is set, a reader error. The requests must be the first ones of the case, and what their bodies return a prefix of
-/// what they return there. The first reply that differs belongs to an `ask` or a `read`. The output consists of
-/// complete responses and is a prefix of the case's. After a timeout a 408 may follow it, and under the standard
-/// profile its last response may have `Connection: close`. The writer does not fail.
+/// Returns the first difference of a trial from its case, if the client's bytes were cut short by an end of input or,
+/// if `stop` is set, by a reader error. The requests must be the first ones of the case, and what their bodies return
+/// must be a prefix of what they return in the case. The first reply that differs must belong to an `ask` or a `read`.
+/// The output must be a prefix of the case's, and consist of complete responses. After a timeout, a 408 may follow it,
+/// and under the standard profile its last response may have `Connection: close`. No call of the writer may fail.
 pub fn cut_difference(
     alloc: Global,
     case: &Case,
@@ -235,8 +240,9 @@ pub fn cut_difference(
     count_differs(alloc, "failures", outcome.failures, 0)
 }
 
-/// Returns the first difference between the requests read from these bytes and those that a plain reading finds under
-/// the case's profile. There is no plain reading for the strict profile, and no case under it has its bytes changed.
+/// Returns the first difference between the requests of a trial, whose client sent the bytes `client`, and those that a
+/// plain reading of these bytes finds under the case's profile. There is no plain reading for the strict profile, and
+/// no case under it has its bytes changed.
 pub fn plain_difference(
     alloc: Global,
     case: &Case,

@@ -1,4 +1,4 @@
-//! The outcome of a trial, and its differences from the case.
+//! The outcome of a trial, and its differences from the case or from another outcome.
 use std::alloc::{AllocError, Global};
 use test_case_files::case::{Case, CaseStep};
 use test_data_files::text::shown;
@@ -12,15 +12,15 @@ pub struct Outcome {
     pub output: Vec<u8>,
     /// Whether a call of the writer failed.
     pub has_failed: bool,
-    /// Number of counted failures.
+    /// Number of failures of the writer that were counted.
     pub failures: u64,
-    /// Number of calls of the writer after one that failed.
+    /// Number of calls of the writer after the first failure.
     pub later: u64,
-    /// Why no further request comes, if known.
+    /// Why no further request comes after the steps, or `None` if this is not known.
     pub end: Option<Vec<u8>>,
 }
 
-/// The first difference of an outcome: what differs, the value found, and the expected one.
+/// A difference between an outcome and the expected one: what differs, the value found, and the expected value.
 #[derive(Drop)]
 pub struct Difference {
     pub what: String,
@@ -28,7 +28,7 @@ pub struct Difference {
     pub wanted: String,
 }
 
-/// Builds a difference of byte strings.
+/// Builds the difference between two byte strings.
 pub fn differing(
     alloc: Global,
     what: String,
@@ -42,8 +42,8 @@ pub fn differing(
     }))
 }
 
-// Returns whether a failed writer explains this reply. The output had ended, so the response's data were not read and
-// their error did not occur.
+// Returns whether a failed writer explains why the reply to a response is `done` and not the error of its data: the
+// output had ended, so the data were not read, and the error did not occur.
 fn is_unmet(step: &CaseStep, found: &[u8]) -> bool {
     step.is_answer() && found == b"done".as_slice() && step.reply.starts_with(b"fault ")
 }
@@ -53,8 +53,8 @@ fn is_reported(step: &CaseStep, found: &[u8]) -> bool {
     step.may_report() && found == b"fault Interrupted".as_slice()
 }
 
-// Returns the first reply that differs, of the steps that have replies. If a call failed by injection, one reply may
-// report that.
+// Returns the first difference between the replies of a trial and those of its case. If a call failed by injection
+// (`is_failing`), one reply may report that failure.
 fn replies_differ(
     alloc: Global,
     case: &Case,
@@ -89,7 +89,7 @@ fn replies_differ(
     }
 }
 
-/// Returns a difference unless the counts are equal.
+/// Returns the difference between two counts, or `None` if they are equal.
 pub fn count_differs(
     alloc: Global,
     what: &str,
@@ -106,7 +106,8 @@ pub fn count_differs(
     }))
 }
 
-// Returns the index of the first byte that differs.
+// Returns the index of the first byte that differs, or the length of the shorter byte string if it is a prefix of the
+// other.
 fn first_place(found: &[u8], wanted: &[u8]) -> usize {
     found
         .iter()
@@ -115,8 +116,8 @@ fn first_place(found: &[u8], wanted: &[u8]) -> usize {
         .unwrap_or(found.len().min(wanted.len()))
 }
 
-/// Returns a difference unless the outputs are equal or, if `is_front`, `found` is a prefix. It shows both from the
-/// first byte that differs.
+/// Returns a difference unless the outputs are equal or, if `is_front`, `found` is a prefix of `wanted`. The difference
+/// shows both outputs from the first byte that differs.
 pub fn output_differs(
     alloc: Global,
     found: &[u8],
@@ -133,7 +134,7 @@ pub fn output_differs(
     differing(alloc, what, found, wanted)
 }
 
-// Returns the first reply that differs from another outcome's.
+// Returns the first difference between the replies of two outcomes.
 fn reply_differs(
     alloc: Global,
     found: &Outcome,
@@ -151,7 +152,7 @@ fn reply_differs(
     count_differs(alloc, "replies", count as u64, whole as u64)
 }
 
-// Returns why no further request comes, or nothing if it is not known.
+// Returns why no further request comes, or no bytes if this is not known.
 fn end_known(outcome: &Outcome) -> &[u8] {
     match &outcome.end {
         Some(end) => end.as_slice(),
@@ -159,7 +160,7 @@ fn end_known(outcome: &Outcome) -> &[u8] {
     }
 }
 
-/// Returns the first difference from another outcome: in a reply, the output, the count of failures, or the end.
+/// Returns the first difference between two outcomes: in a reply, the output, the number of failures, or the end.
 pub fn outcomes_differ(
     alloc: Global,
     found: &Outcome,
@@ -184,7 +185,7 @@ pub fn outcomes_differ(
     differing(alloc, what, end, other)
 }
 
-// Returns a difference if the case states why no further request comes, and the known reason is another one.
+// Returns a difference if the case states why no further request comes, and the outcome has another reason.
 fn end_differs(
     alloc: Global,
     case: &Case,
@@ -200,9 +201,10 @@ fn end_differs(
     differing(alloc, what, found.as_slice(), wanted.as_slice())
 }
 
-/// Returns the first difference of a trial's outcome from its case, if any. If a writer's call failed by injection, the
-/// output may be a prefix of the case's, and exactly one failure is counted. One reply may then report it, and errors
-/// of data that were not read may be missing. After a failure the writer is never called again.
+/// Returns the first difference of a trial's outcome from its case, if any. If a call of the writer failed by
+/// injection, the output may be a prefix of the case's, one reply may report the failure, and errors of data that were
+/// not read may be missing. Exactly one failure must then be counted. The writer must never be called again after a
+/// failure.
 pub fn first_difference(
     alloc: Global,
     case: &Case,

@@ -7,7 +7,7 @@ use tiny_http_core::driver::Reply;
 use tiny_http_core::exchange::EndOfRequests;
 use tiny_http_wire::common::{HTTPVersion, Header, Method};
 
-// Appends the content length of a head, or `-`.
+// Appends the content length of a head, or `-` if it has none.
 fn add_length(line: &mut String, length: Option<usize>) -> Result<(), AllocError> {
     match length {
         Some(length) => write!(line, " {length}"),
@@ -15,7 +15,8 @@ fn add_length(line: &mut String, length: Option<usize>) -> Result<(), AllocError
     }
 }
 
-/// Formats a request with this number: the line of a script, and then each header in brackets.
+/// Formats the reply that returns the request with this number: the line of a script, and then each header field in
+/// brackets.
 pub fn handed_line(
     alloc: Global,
     (number, method): (&str, &Method),
@@ -33,12 +34,12 @@ pub fn handed_line(
     Ok(line.into_bytes())
 }
 
-/// Formats an error of this kind.
+/// Formats a reply that reports an error of this kind.
 pub fn fault_line(alloc: Global, kind: ErrorKind) -> Result<Vec<u8>, AllocError> {
     Ok(format!(in alloc; "fault {kind:?}")?.into_bytes())
 }
 
-/// Formats the bytes that a read returned.
+/// Formats the reply to a read that returned these bytes.
 pub fn given_line(alloc: Global, bytes: &[u8]) -> Result<Vec<u8>, AllocError> {
     let mut line = b"given".to_vec(alloc)?;
     if !bytes.is_empty() {
@@ -48,7 +49,7 @@ pub fn given_line(alloc: Global, bytes: &[u8]) -> Result<Vec<u8>, AllocError> {
     Ok(line)
 }
 
-/// Formats a reply of `run`.
+/// Formats a reply of `run_with`.
 pub fn reply_line(alloc: Global, reply: &Reply) -> Result<Vec<u8>, AllocError> {
     match reply {
         Reply::Handed(number, head) => {
@@ -69,7 +70,7 @@ pub fn reply_line(alloc: Global, reply: &Reply) -> Result<Vec<u8>, AllocError> {
     }
 }
 
-/// Formats why no further request comes, or `open` if one may.
+/// Formats the reason why no further request comes, or `open` if one may come.
 pub fn end_words(alloc: Global, end: Option<EndOfRequests>) -> Result<Vec<u8>, AllocError> {
     let words = match end {
         None => "open",

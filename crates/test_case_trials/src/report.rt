@@ -49,7 +49,7 @@ pub fn files_of<'a>(
     Ok(all)
 }
 
-/// The number of cases, runs and differing runs.
+/// The numbers of cases that were tried, of runs, and of runs that differ.
 #[derive(Clone, Copy, Debug, PartialEq, Eq)]
 pub struct Tally {
     pub cases: u64,
@@ -59,13 +59,13 @@ pub struct Tally {
     pub cuts: u64,
     /// Runs in which one call of the reader failed.
     pub faults: u64,
-    /// Runs with one of the client's bytes replaced.
+    /// Runs with one of the client's bytes changed.
     pub changes: u64,
     pub differing: u64,
 }
 
 impl Tally {
-    // Counts a run.
+    // Counts a run of this trial.
     fn count(&mut self, trial: Trial) {
         let count = match trial.harm {
             None | Some(Harm::Call(_)) => &mut self.runs,
@@ -77,11 +77,11 @@ impl Tally {
     }
 }
 
-// Maximum number of writer calls that are made to fail.
+// Maximum number of a case's writer calls that are made to fail, each in a run of its own.
 const MOST_CALLS: u64 = 10_000;
 
-// Returns the difference of a trial's outcome. A reader error is final: it must have the same effect as a cut at that
-// point.
+// Returns the first difference of a trial's outcome, if any. A reader error is final: if a reader fails once, the
+// outcome must be the same as if the client's bytes were cut there by that error.
 fn difference_of<'a, F: Runner>(
     (alloc, runner): (Global, &mut F),
     case: &Case,
@@ -144,7 +144,8 @@ fn try_once<'a, F: Runner, O: Write>(
     Ok(outcome.has_failed)
 }
 
-// Tries a case with each call of the writer failing, until none fails.
+// Tries a case once for each call of the writer, which is made to fail. Ends with a run in which no call fails, since
+// the writer isn't called as often. A case with more than `MOST_CALLS` calls counts as one that differs.
 fn try_failing<'a, F: Runner, O: Write>(
     (alloc, runner): (Global, &mut F),
     out: &mut O,
@@ -169,14 +170,14 @@ fn try_failing<'a, F: Runner, O: Write>(
     }
 }
 
-// Returns whether to cut a client's bytes after `count` of them: at every position, but only at some in the middle of a
-// long input.
+// Returns whether to cut a client's `length` bytes after `count` of them: at the first 1,200 and the last 50 positions,
+// and at each multiple of 997 in between.
 fn is_cut_at(count: usize, length: usize) -> bool {
     count < 1200 || length.saturating_sub(count) <= 50 || count % 997 == 0
 }
 
-// Tries a case with the client's bytes cut short at an end, at a timeout, and at the other error kinds in turn; and
-// with the reader failing once there.
+// Tries a case with the client's bytes cut short at each position that `is_cut_at` selects: by an end of input, by a
+// timeout, and by one of all error kinds, which take turns. Also tries it there with a reader that fails once.
 fn try_cuts<'a, F: Runner, O: Write>(
     (alloc, runner): (Global, &mut F),
     out: &mut O,
@@ -197,7 +198,7 @@ fn try_cuts<'a, F: Runner, O: Write>(
     Ok(())
 }
 
-// Tries a case with each of its first bytes replaced by every value.
+// Tries a case with each of the client's first `varied` bytes replaced with every value in turn.
 fn try_bytes<'a, F: Runner, O: Write>(
     (alloc, runner): (Global, &mut F),
     out: &mut O,
@@ -213,8 +214,8 @@ fn try_bytes<'a, F: Runner, O: Write>(
     Ok(())
 }
 
-// Tries a case with each reader. Also makes each call of the writer fail, unless the case determines how its writer
-// fails.
+// Tries a case with each reader. Also makes each call of the writer fail in turn, unless the case determines how its
+// writer fails.
 fn try_whole<'a, F: Runner, O: Write>(
     (alloc, runner): (Global, &mut F),
     out: &mut O,
@@ -231,7 +232,9 @@ fn try_whole<'a, F: Runner, O: Write>(
     }
 }
 
-// Tries a case with the client's complete bytes and, if these lead to the expected outcome, with changed ones.
+// Tries a case with the client's complete bytes. If no run differs, and the case doesn't determine how its writer
+// fails, also tries it with the client's bytes cut short, unless the case excludes that, and, if the runner knows the
+// requests' numbers, with one of the bytes changed.
 fn try_case<'a, F: Runner, O: Write>(
     (alloc, runner): (Global, &mut F),
     out: &mut O,
@@ -313,8 +316,8 @@ pub fn try_file<'a, F: Runner, O: Write>(
     Ok(places)
 }
 
-/// Tries the cases of all files in the first way. Those that did not differ are tried in the other ways, too, where a
-/// case with a wrong reply might wait forever. Returns whether no run differed.
+/// Tries the cases of all files in the first way, and then in the other ways. Cases that differ in the first way are
+/// left out in the others, where a case with a wrong reply might wait forever. Returns whether no run differed.
 pub fn try_files<'a, F: Runner, G: Runner, O: Write>(
     alloc: Global,
     (first, others): (&mut F, &mut [G]),

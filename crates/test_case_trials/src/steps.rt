@@ -23,7 +23,7 @@ impl From<AllocError> for StepsFault {
     }
 }
 
-// Adds a header to a response.
+// Adds the header field of a header line to a response.
 fn with_header(
     alloc: Global,
     response: Response<ScriptData>,
@@ -38,7 +38,8 @@ fn with_header(
     }
 }
 
-/// Builds the response of an answer: its data and content length, and then its headers, each added to those before.
+/// Builds the response that an answer describes. Sets its data and content length first, and then adds its header
+/// fields in order.
 pub fn response_of(alloc: Global, answer: &Answer) -> Result<Response<ScriptData>, StepsFault> {
     let data = ScriptData::from_bytes(answer.data.as_slice().to_vec(alloc)?, answer.fault);
     let status = StatusCode(answer.status);
@@ -58,7 +59,8 @@ pub fn response_of(alloc: Global, answer: &Answer) -> Result<Response<ScriptData
     Ok(response)
 }
 
-/// Converts a step. Returns it and the date from then on; there is no step if it is a date.
+/// Converts the action of a step. Returns the converted step, or `None` if the action only sets the date, and the date
+/// from then on.
 pub fn step_of(
     alloc: Global,
     deed: &Deed,

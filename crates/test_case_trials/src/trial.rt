@@ -13,22 +13,22 @@ pub enum Harm {
     Call(u64),
     /// Only this many of the client's bytes arrive. Then the reader fails with this kind, or reports the end.
     Cut(usize, Option<ErrorKind>),
-    /// The reader returns one byte a call. The call after this many of the client's bytes fails once, with this kind.
+    /// The reader returns one byte per call. The call after this many of the client's bytes fails once, with this kind.
     Once(usize, ErrorKind),
-    /// The client's byte at this index is replaced by this value.
+    /// The client's byte at this index is replaced with this value.
     Byte(usize, u8),
 }
 
 /// One way to try a case.
 #[derive(Clone, Copy, Debug, PartialEq, Eq)]
 pub struct Trial {
-    /// Maximum number of bytes a call of the reader returns.
+    /// Maximum number of bytes that a call of the reader returns.
     pub piece: usize,
     /// The injected fault, if any.
     pub harm: Option<Harm>,
 }
 
-/// The error kind of an injected writer failure. Much code retries a call that fails with it.
+/// The error kind of an injected writer failure. Much code retries a call that fails with this kind.
 pub const FAILING: ErrorKind = ErrorKind::Interrupted;
 
 impl Trial {

@@ -1,4 +1,4 @@
-//! Runs cases by the calls of a connection and its requests, on one thread.
+//! Runs cases with the calls of a connection and its requests, on one thread.
 use crate::holding::{Below, Connected, Holding, Input};
 use crate::shared::{Shared, TrialSocket};
 use crate::treating::treat;
@@ -12,16 +12,16 @@ use test_case_trials::trial::Trial;
 use tiny_http_request::client::ClientConnection;
 use tiny_http_socket::cork::halves;
 
-/// When responses leave.
+/// When responses are sent.
 #[derive(Clone, Copy, Debug, PartialEq, Eq)]
 pub(crate) enum Leaving {
-    /// One by one, as when a server's requests are received.
+    /// One by one, as by a server whose requests are received with `recv`.
     Alone,
-    /// Successive ones together, as when a server serves with a handler.
+    /// Successive responses together, as by a server that serves with a handler.
     Together,
 }
 
-/// Runs steps by the calls of a connection and its requests.
+/// Runs the steps of a case with the calls of a connection and its requests.
 #[derive(Drop)]
 pub(crate) struct ByRequests<R> {
     rt: R,
@@ -36,7 +36,7 @@ impl<R> ByRequests<R> {
 }
 
 impl<R: Wait + Copy> ByRequests<R> {
-    // Creates a connection over these halves.
+    // Creates a connection over this reader and this writer.
     fn connected(
         &self,
         alloc: Global,
@@ -69,13 +69,13 @@ impl<R: Wait + Copy> Runner for ByRequests<R> {
         }
     }
 
-    /// Returns false: a request does not report its number.
+    /// Returns `false`: a request does not report its number.
     fn knows_numbers(&self) -> bool {
         false
     }
 
-    /// Returns whether no step has to wait, as a single thread can't. If responses leave together, an error is reported
-    /// by a later step than in the case, so a case whose writer has a limit is left out.
+    /// Returns whether no step has to wait, since a single thread can't wait for itself. If responses are sent
+    /// together, a later step than in the case reports an error, so a case whose writer has a limit is left out.
     fn takes(&self, case: &Case) -> bool {
         if self.leaving == Leaving::Together && case.room.is_some() {
             return false;
@@ -85,7 +85,7 @@ impl<R: Wait + Copy> Runner for ByRequests<R> {
             .all(|step| step.reply.as_slice() != b"notyet".as_slice())
     }
 
-    /// Makes the call of each step, and finally sends what is buffered.
+    /// Makes the call of each step, and finally sends what is still buffered.
     fn run(&mut self, alloc: Global, case: &Case, trial: Trial) -> Result<Outcome, StepsFault> {
         let writer = Arc::new(alloc, Mutex::new(trial.writer(alloc, case)));
         let writer = writer.map_err(AllocError::from)?;

@@ -1,4 +1,4 @@
-//! Runs cases by `run_with`.
+//! Runs cases with `run_with`.
 use std::alloc::{AllocError, Global};
 use test_case_files::case::Case;
 use test_case_trials::outcome::Outcome;
@@ -9,11 +9,11 @@ use test_case_trials::trial::Trial;
 use tiny_http_core::driver::{Connection, Reply, run_with};
 use tiny_http_wire::device::{Metered, WriteDevice};
 
-/// Runs steps by `run_with`.
+/// Runs the steps of a case with `run_with`.
 #[derive(Drop)]
 pub(crate) struct ByRun;
 
-// Formats the replies.
+// Formats each reply as a line of a case.
 fn lines_of(alloc: Global, replies: &[Reply]) -> Result<Vec<Vec<u8>>, AllocError> {
     let mut lines = Vec::new(alloc);
     for reply in replies {
@@ -22,7 +22,8 @@ fn lines_of(alloc: Global, replies: &[Reply]) -> Result<Vec<Vec<u8>>, AllocError
     Ok(lines)
 }
 
-// Returns why no further request comes after the steps, if the case states it; the replies do not include it.
+// Runs the steps a second time, and returns why no further request comes after them, since the replies don't report
+// that. Returns `None`, and runs nothing, if the case doesn't state it.
 fn end_of(alloc: Global, case: &Case, trial: Trial) -> Result<Option<Vec<u8>>, StepsFault> {
     if case.end.is_none() {
         return Ok(None);
@@ -45,12 +46,12 @@ impl Runner for ByRun {
         true
     }
 
-    /// Returns true: `run_with` takes every step.
+    /// Returns `true`: `run_with` runs every step.
     fn takes(&self, _case: &Case) -> bool {
         true
     }
 
-    /// Runs the steps. The output is what the writer accepted and what is still buffered.
+    /// Runs the steps. The output is what the writer accepted, followed by what is still buffered.
     fn run(&mut self, alloc: Global, case: &Case, trial: Trial) -> Result<Outcome, StepsFault> {
         let reader = trial.reader(alloc, case)?;
         let writer = Metered::new(trial.writer(alloc, case));

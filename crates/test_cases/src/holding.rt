@@ -1,4 +1,4 @@
-//! A connection, and the requests that the program holds.
+//! A connection, and the requests, raw writers and streams that the program holds.
 use crate::shared::TrialSocket;
 use httpdate::HttpDate;
 use std::alloc::{AllocError, Global};
@@ -29,7 +29,7 @@ pub(crate) type RawWriter<R> = SequentialWriter<Outlet<Below<R>>, R>;
 /// The stream of an upgraded request.
 pub(crate) type Stream<R> = CustomStream<Body<Input<R>, R>, RawWriter<R>>;
 
-/// What is held under a number.
+/// What is held under a request's number: the request, or the raw writer or stream that it became.
 #[derive(Drop)]
 pub(crate) enum Held<R: Wait + Copy> {
     Request(Asked<R>),
@@ -37,7 +37,8 @@ pub(crate) enum Held<R: Wait + Copy> {
     Stream(Stream<R>),
 }
 
-/// What is held, its number, and whether it may have written bytes that are not sent yet.
+/// A request, raw writer or stream that is held, its number, and whether it may have written bytes that are not sent
+/// yet.
 #[derive(Drop)]
 struct Numbered<R: Wait + Copy> {
     number: u64,
@@ -45,7 +46,7 @@ struct Numbered<R: Wait + Copy> {
     has_written: bool,
 }
 
-/// A connection, and what is held of its requests.
+/// A connection, and what is held under the numbers of its requests.
 #[derive(Drop)]
 pub(crate) struct Holding<R: Wait + Copy> {
     client: Connected<R>,
@@ -54,7 +55,7 @@ pub(crate) struct Holding<R: Wait + Copy> {
 }
 
 impl<R: Wait + Copy> Holding<R> {
-    /// Creates a holding without requests. The halves of `client` share `cork`.
+    /// Creates a `Holding` without requests. The reader and the writer of `client` share `cork`.
     pub(crate) fn new(
         alloc: Global,
         client: Connected<R>,
@@ -67,14 +68,16 @@ impl<R: Wait + Copy> Holding<R> {
         }
     }
 
-    /// Returns the next request. Sends the responses that wait, unless the request's own response may leave with them.
+    /// Returns the next request. Also sends the responses that are held back, unless the response to this request may
+    /// be sent together with them.
     pub(crate) fn next(&mut self, now: HttpDate) -> Result<Option<Asked<R>>, AllocError> {
         let next = self.client.next(now);
         self.cork.send_unless_leaving();
         next
     }
 
-    /// Removes what is held under `number`. Returns it, and whether it may have written bytes that are not sent yet.
+    /// Removes what is held under `number`. Returns it, and whether it may have written bytes that are not sent yet, or
+    /// returns `None` if nothing is held there.
     pub(crate) fn take(&mut self, number: u64) -> Option<(Held<R>, bool)> {
         let place = self.items.iter().position(|item| item.number == number)?;
         let Numbered {
@@ -85,7 +88,7 @@ impl<R: Wait + Copy> Holding<R> {
         Some((held, has_written))
     }
 
-    /// Holds a request, writer or stream under `number`.
+    /// Holds a request, raw writer or stream under `number`.
     pub(crate) fn put(
         &mut self,
         number: u64,
@@ -100,7 +103,7 @@ impl<R: Wait + Copy> Holding<R> {
         self.items.push(item).map_err(AllocError::from)
     }
 
-    /// Sends what raw writers and streams have written, and the responses that wait.
+    /// Sends what raw writers and streams have written, and the responses that are held back.
     pub(crate) fn send_held(&mut self) {
         for item in self.items.iter_mut() {
             if item.has_written {

@@ -6,7 +6,7 @@ use test_case_files::devices::Trier;
 use tiny_http_socket::write_both::WriteBoth;
 use tiny_http_wire::device::{Metered, WriteDevice};
 
-/// Writes to a writer shared through a lock.
+/// A handle to a trial's writer, which is shared through a lock.
 #[derive(Drop)]
 pub(crate) struct Shared<R> {
     rt: R,
@@ -29,7 +29,8 @@ impl<R: Wait> Write for Shared<R> {
     }
 }
 
-/// The writer of a trial in place of a socket. A vectored write of two texts accepts only the first that is not empty.
+/// The writer of a trial in place of a socket. A vectored write of two byte strings writes only the first one that is
+/// not empty.
 #[derive(Drop)]
 pub(crate) struct TrialSocket<R> {
     writer: Metered<Shared<R>>,

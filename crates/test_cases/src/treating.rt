@@ -16,7 +16,7 @@ fn word(alloc: Global, word: &str) -> Result<Vec<u8>, AllocError> {
     word.as_bytes().to_vec(alloc)
 }
 
-// Formats the result of a call.
+// Formats the result of a call: `done`, or its error.
 fn line_of(alloc: Global, outcome: io::Result<()>) -> Result<Vec<u8>, AllocError> {
     match outcome {
         Ok(()) => word(alloc, "done"),
@@ -24,7 +24,7 @@ fn line_of(alloc: Global, outcome: io::Result<()>) -> Result<Vec<u8>, AllocError
     }
 }
 
-// Returns the number in the case's reply to an `ask`, as a request does not report its number.
+// Returns the request's number from the case's reply to an `ask`, since a request does not report its number.
 fn number_of(reply: &[u8]) -> Option<&str> {
     let words = reply.strip_prefix(b"handed ")?;
     let number = words.split(|byte| *byte == b' ').next()?;
@@ -129,7 +129,7 @@ fn flush<R: Wait + Copy>(alloc: Global, held: &mut Held<R>) -> Result<Vec<u8>, A
     }
 }
 
-// Upgrades a request, and holds its stream.
+// Upgrades a request, and holds its stream under `number`.
 fn upgrade<R: Wait + Copy>(
     alloc: Global,
     holding: &mut Holding<R>,
@@ -146,7 +146,7 @@ fn upgrade<R: Wait + Copy>(
     }
 }
 
-// Runs a step that consumes a request.
+// Runs a step that consumes a request. Puts the request back if no call fits the step.
 fn treat_request<R: Wait + Copy>(
     alloc: Global,
     holding: &mut Holding<R>,
@@ -178,7 +178,7 @@ fn treat_request<R: Wait + Copy>(
     }
 }
 
-// Runs a step that leaves what is held in place.
+// Runs a step that doesn't consume the request, raw writer or stream, and puts it back.
 fn treat_held<R: Wait + Copy>(
     alloc: Global,
     holding: &mut Holding<R>,
@@ -209,7 +209,7 @@ fn treat_held<R: Wait + Copy>(
     Ok(line)
 }
 
-// Returns the number of the request that a step applies to.
+// Returns the number of the request that a step applies to, or `None` for `Ask`.
 fn number_in(step: &Step<ScriptData>) -> Option<u64> {
     match step {
         Step::Ask => None,
@@ -225,8 +225,9 @@ fn number_in(step: &Step<ScriptData>) -> Option<u64> {
     }
 }
 
-/// Makes the call that a step names, and formats its result. `wanted` is the case's reply. It states the number under
-/// which to hold a request, and that no call fits a step, such as a read of a body whose client expects a 100 first.
+/// Makes the call that a step names, and formats its result. The case's reply, `wanted`, states under which number to
+/// hold the next request. If it is `nosuch`, no call is made, since none fits the step: for example, a read of a body
+/// whose client waits for a 100 first.
 pub(crate) fn treat<R: Wait + Copy>(
     alloc: Global,
     holding: &mut Holding<R>,

@@ -1,4 +1,4 @@
-//! Errors of a line and of a run over files.
+//! The errors of a line, and of a run over files.
 use crate::text::TextFault;
 use std::alloc::AllocError;
 use std::fmt;
@@ -52,7 +52,7 @@ pub enum FilesFault<'a> {
 }
 
 impl<'a> FilesFault<'a> {
-    /// Converts the error of a line to that of its file.
+    /// Converts the error of line `number` of the file `name`.
     pub fn at_line(name: &'a str, number: usize, fault: LineFault) -> FilesFault<'a> {
         match fault {
             LineFault::Bad(why) => FilesFault::BadLine(name, number, why),

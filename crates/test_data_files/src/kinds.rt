@@ -1,7 +1,7 @@
 //! The names of error kinds.
 use std::io::ErrorKind;
 
-// The error kinds that a case may name, by their names in code.
+// The error kinds that a case may name, with their names in code.
 const KINDS: [(&str, ErrorKind); 19] = [
     ("AddrInUse", ErrorKind::AddrInUse),
     ("AddrNotAvailable", ErrorKind::AddrNotAvailable),
@@ -34,7 +34,7 @@ pub fn kind_of(name: &str) -> Option<ErrorKind> {
     None
 }
 
-/// Returns the error kind at this position of a cyclic sequence of all.
+/// Returns the error kind at this position in the list of all these kinds, repeated endlessly.
 pub fn kind_at(place: usize) -> ErrorKind {
     match KINDS.get(place % KINDS.len()) {
         Some((_, kind)) => *kind,

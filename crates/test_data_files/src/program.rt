@@ -1,4 +1,4 @@
-//! The command line and the exit status of a program over files.
+//! The command line and the exit status of a program that checks files.
 use crate::fault::FilesFault;
 use std::alloc::{AllocError, Global};
 use std::io::{ErrorKind, Write};
@@ -14,7 +14,7 @@ pub struct NamedFile<'a> {
 
 /// What a program does with its files.
 pub trait Checker {
-    /// Reads all files, and then runs their content. Returns whether nothing differs.
+    /// Parses all files before it runs anything in them. Returns whether nothing differs.
     fn check<'a, O: Write>(
         &mut self,
         alloc: Global,
@@ -35,7 +35,7 @@ fn read_file<'a, R: Files + AllocGlobal>(
     }
 }
 
-// Reads the files that the words after the first one name.
+// Reads the files that the command line names after the program's name. Fails with `Usage` if it names none.
 fn read_files<'a, R: Files + AllocGlobal>(
     rt: &R,
     words: &'a [String],
@@ -51,7 +51,7 @@ fn read_files<'a, R: Files + AllocGlobal>(
     Ok(files)
 }
 
-// Returns the words of the command line, the program's name first. Fails if one is not UTF-8.
+// Returns the words of the command line, with the program's name first. Fails with `Usage` if one is not UTF-8.
 fn words<R: Env + AllocGlobal>(rt: &R) -> Result<Vec<String>, FilesFault<'static>> {
     match env::args(rt) {
         Ok(words) => Ok(words.collect(rt.alloc())?),
@@ -60,7 +60,7 @@ fn words<R: Env + AllocGlobal>(rt: &R) -> Result<Vec<String>, FilesFault<'static
     }
 }
 
-// Prints one line for an error, beginning with the program's name. Returns the exit status.
+// Prints one line for an error, which begins with the program's name. Returns the exit status.
 fn report<E: Write>(program: &str, fault: &FilesFault<'_>, err: &mut E) -> u8 {
     match writeln!(err, "{program}: {fault}") {
         Ok(()) => fault.status(),
@@ -69,8 +69,8 @@ fn report<E: Write>(program: &str, fault: &FilesFault<'_>, err: &mut E) -> u8 {
 }
 
 /// Checks the files named on the command line, and returns the exit status: 0 if nothing differs, and 3 if something
-/// does. An error prints one line to `err`. The status is then 2 for an invalid command line or an invalid file, before
-/// anything is run, and 1 if a file can't be read, memory is refused, or `out` can't be written.
+/// does. After an error, prints one line to `err`. The status is then 2 if the command line or a file is invalid, in
+/// which case nothing was run, and 1 if a file can't be read, memory is refused, or `out` can't be written.
 pub fn run_program<R: Env + Files + AllocGlobal, C: Checker, O: Write, E: Write>(
     rt: &R,
     program: &str,

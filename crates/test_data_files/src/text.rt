@@ -1,4 +1,4 @@
-//! Reads texts of cases: escapes, abbreviations, and repeated pieces.
+//! Reads the texts of cases: escapes, abbreviations, and repeated pieces.
 use std::alloc::{AllocError, Global};
 
 /// Why a text is invalid.
@@ -17,18 +17,18 @@ impl From<AllocError> for TextFault {
     }
 }
 
-// The first two field lines of every response on a connection, dated at second 420895020.
+// The first two field lines of every response on a connection, dated at Unix second 420895020.
 const SERVED: &str = "Server: tiny-http (Rust)\r\nDate: Wed, 04 May 1983 11:17:00 GMT\r\n";
 
 // The field lines of a response without a body, and the end of its head.
 const EMPTY: &str =
     "Server: tiny-http (Rust)\r\nDate: Wed, 04 May 1983 11:17:00 GMT\r\nContent-Length: 0\r\n\r\n";
 
-// The field lines of a response with a text, except for its framing.
+// The field lines of a response with a text body, except those that frame the body.
 const PLAIN: &str =
     "Server: tiny-http (Rust)\r\nDate: Wed, 04 May 1983 11:17:00 GMT\r\nContent-Type: text/plain; charset=UTF-8\r\n";
 
-// Returns what a letter after a backslash represents.
+// Returns what a letter after a backslash represents, or `None` if it begins no such escape.
 fn meaning(letter: u8) -> Option<&'static str> {
     match letter {
         b'r' => Some("\r"),
@@ -51,7 +51,7 @@ fn digit(letter: u8) -> Option<u8> {
     }
 }
 
-// Parses two hexadecimal digits. Returns their byte and the rest.
+// Parses two hexadecimal digits at the start. Returns the byte that they represent, and the rest.
 fn byte_before(digits: &[u8]) -> Option<(u8, &[u8])> {
     let (first, behind) = digits.split_first()?;
     let (second, behind) = behind.split_first()?;
@@ -61,7 +61,7 @@ fn byte_before(digits: &[u8]) -> Option<(u8, &[u8])> {
     Some((byte, behind))
 }
 
-// Adds what an escape represents. `escape` begins after the backslash. Returns the rest.
+// Adds what an escape represents, given the text after its backslash. Returns the rest after the escape.
 fn add_escape<'a>(escape: &'a [u8], to: &mut Vec<u8>) -> Result<&'a [u8], TextFault> {
     let Some((letter, behind)) = escape.split_first() else {
         return Err(TextFault::NoEscape);
@@ -97,7 +97,7 @@ fn add_plain(text: &[u8], to: &mut Vec<u8>) -> Result<(), TextFault> {
     Ok(())
 }
 
-/// Parses decimal digits without a sign. Returns `None` if the number is 2^64 or more.
+/// Parses a decimal number without a sign. Returns `None` if the text is not one, or if the number is 2^64 or more.
 pub fn number_in(digits: &str) -> Option<usize> {
     if digits.starts_with('+') {
         return None;
@@ -105,7 +105,8 @@ pub fn number_in(digits: &str) -> Option<usize> {
     digits.parse::<usize>().ok()
 }
 
-// Splits a repeated piece after its opening brace. Returns the count, the piece, and the rest after the closing brace.
+// Parses a repeated piece, given the text after its opening brace. Returns the count, the piece, and the rest after the
+// closing brace.
 fn piece_before(repeat: &[u8]) -> Option<(usize, &[u8], &[u8])> {
     let end = repeat.iter().position(|byte| *byte == b'}')?;
     let (inside, brace) = repeat.split_at_checked(end)?;
@@ -117,7 +118,7 @@ fn piece_before(repeat: &[u8]) -> Option<(usize, &[u8], &[u8])> {
     Some((count, piece, behind))
 }
 
-// Adds a repeated piece, which begins after its opening brace. Returns the rest.
+// Adds a repeated piece, given the text after its opening brace. Returns the rest after the closing brace.
 fn add_repeated<'a>(
     alloc: Global,
     repeat: &'a [u8],

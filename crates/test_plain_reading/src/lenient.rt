@@ -1,5 +1,5 @@
-//! A plain reading under the lenient profile of what a client sends: all of its bytes at once, line by line, without a
-//! buffer. The requests of connections are compared with it.
+//! A plain reading of what a client sends, under the lenient profile. It reads all bytes at once, line by line, without
+//! a buffer. The requests of connections are compared with those that it finds.
 use crate::parts::{RequestWords, SHORT, add_header, decimal};
 use std::alloc::{AllocError, Global};
 
@@ -13,12 +13,12 @@ struct PlainHead<'a> {
     behind: &'a [u8],
 }
 
-// Returns whether a letter is white space.
+// Returns whether a character is white space.
 fn is_white(letter: char) -> bool {
     matches!(letter, '\t' | '\n' | '\x0b' | '\x0c' | '\r' | ' ')
 }
 
-// Returns the first line, if it is complete and ASCII, and the bytes after it.
+// Returns the first line and the bytes after it, or `None` if the line is incomplete or not ASCII.
 fn line_of(bytes: &[u8]) -> Option<(&str, &[u8])> {
     let second = bytes.iter().skip(1);
     let place = bytes
@@ -33,7 +33,7 @@ fn line_of(bytes: &[u8]) -> Option<(&str, &[u8])> {
     Some((str::from_utf8(line).ok()?, behind))
 }
 
-// Splits a header line into name and value.
+// Splits a header line into name and value. Returns `None` if there is no colon, or if the name contains white space.
 fn header_of(line: &str) -> Option<(&str, &str)> {
     let (name, value) = line.split_once(':')?;
     if name.contains(is_white) {
@@ -42,7 +42,8 @@ fn header_of(line: &str) -> Option<(&str, &str)> {
     Some((name, value.trim_matches(is_white)))
 }
 
-// Reads the header lines. Returns them and the bytes after the empty line, or `None` if the section is invalid.
+// Reads the header lines. Returns them and the bytes after the empty line, or `None` if the header section is
+// incomplete or invalid.
 fn headers_of(
     alloc: Global,
     bytes: &[u8],
@@ -65,7 +66,7 @@ fn headers_of(
     Ok(None)
 }
 
-// Parses a request line.
+// Parses a request line. Returns `None` if a part is missing or the version is unknown.
 fn request_of(line: &str) -> Option<RequestWords<'_>> {
     let mut words = line.trim_matches(is_white).split(' ');
     let method = words.next()?;
@@ -105,7 +106,7 @@ fn number_of(value: &str) -> Option<usize> {
 }
 
 impl<'a> PlainHead<'a> {
-    // Returns the value of the first header of this name.
+    // Returns the value of the first header of this name, if there is one.
     fn value(&self, name: &str) -> Option<&'a str> {
         self.headers
             .iter()
@@ -113,7 +114,7 @@ impl<'a> PlainHead<'a> {
             .map(|header| header.1)
     }
 
-    // Returns whether the first Connection header contains `word` anywhere, in any case.
+    // Returns whether the first Connection header contains `word` anywhere, ignoring case.
     fn tells(&self, word: &str) -> bool {
         let Some(value) = self.value("Connection") else {
             return false;
@@ -126,7 +127,7 @@ impl<'a> PlainHead<'a> {
         })
     }
 
-    // Returns the content length, if it applies.
+    // Returns the content length, unless it is invalid or a Transfer-Encoding header overrides it.
     fn length(&self) -> Option<usize> {
         match self.value("Transfer-Encoding") {
             Some(_) => None,
@@ -139,7 +140,8 @@ impl<'a> PlainHead<'a> {
         self.value("Transfer-Encoding").is_some() || self.tells("upgrade")
     }
 
-    // Returns whether the request is returned or gets a 505: it expects at most a 100, and a short body is complete.
+    // Returns whether the request is returned or answered with a 505: its first Expect header asks for a 100 and
+    // nothing else, or there is none and a body of at most `SHORT` bytes is complete.
     fn is_whole(&self) -> bool {
         let length = self.length().unwrap_or(0);
         match self.value("Expect") {
@@ -148,18 +150,18 @@ impl<'a> PlainHead<'a> {
         }
     }
 
-    // Returns whether the request is returned, and does not get a 505.
+    // Returns whether the request is returned, and not answered with a 505.
     fn is_known(&self) -> bool {
         !matches!(self.request.version, "2.0" | "3.0")
     }
 
-    // Returns whether the request is the last of its connection.
+    // Returns whether the request is the last one of its connection.
     fn is_last(&self) -> bool {
         let ends = self.request.version == "1.0" && !self.tells("keep-alive");
         ends || self.tells("close") || self.tells("upgrade")
     }
 
-    // Returns the bytes after the body, which is discarded, or `None` if the connection can't continue.
+    // Returns the bytes after the body, which the server discards, or `None` if the connection can't continue.
     fn after_body(&self) -> Option<&'a [u8]> {
         if self.is_endless() {
             return None;
@@ -167,7 +169,7 @@ impl<'a> PlainHead<'a> {
         self.behind.get(self.length().unwrap_or(0)..)
     }
 
-    // Formats the request with this number.
+    // Formats the reply line of the request with this number.
     fn line(&self, alloc: Global, number: usize) -> Result<Vec<u8>, AllocError> {
         let mut line = self
             .request
@@ -179,8 +181,8 @@ impl<'a> PlainHead<'a> {
     }
 }
 
-/// Returns the lines of at most `most` requests that these bytes contain under the lenient profile, if each request is
-/// dropped before the next is received.
+/// Returns the reply lines of the first `most` requests, or fewer, that these bytes contain under the lenient profile
+/// if each request is dropped before the next is received.
 pub fn plain_lines(alloc: Global, bytes: &[u8], most: usize) -> Result<Vec<Vec<u8>>, AllocError> {
     let mut lines = Vec::new(alloc);
     let mut rest = bytes;

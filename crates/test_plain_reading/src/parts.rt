@@ -1,4 +1,4 @@
-//! Shared parts of the plain readings: the line of a request, and decimal numbers.
+//! Shared parts of the plain readings: the reply line of a request, and decimal numbers.
 use std::alloc::{AllocError, Global};
 use std::fmt::Write;
 
@@ -14,7 +14,8 @@ pub struct RequestWords<'a> {
 }
 
 impl<'a> RequestWords<'a> {
-    /// Formats the request with this number up to its headers, with their count and the stated content length.
+    /// Formats the reply line of the request with this number up to its header fields: with their count, and with the
+    /// content length, or `-` if there is none.
     pub fn line(
         &self,
         alloc: Global,
@@ -33,13 +34,13 @@ impl<'a> RequestWords<'a> {
     }
 }
 
-/// Adds a header to the line of a request.
+/// Adds a header field to the reply line of a request.
 pub fn add_header(line: &mut String, name: &str, value: &str) -> Result<(), AllocError> {
     write!(line, " [{name}: {value}]")?;
     Ok(())
 }
 
-/// Parses one or more decimal digits. Returns `None` if the number overflows.
+/// Parses one or more decimal digits. Returns `None` if the text is anything else, or if the number overflows.
 pub fn decimal(digits: &str) -> Option<usize> {
     if digits.is_empty() {
         return None;

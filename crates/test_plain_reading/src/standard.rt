@@ -1,17 +1,18 @@
-//! A plain reading under the standard profile of what a client sends: all of its bytes at once, line by line, without a
-//! buffer. The requests of connections are compared with it. It is written from docs/RULES.md, and shares no code with
-//! the server. It does not limit the length of a head, since the clients that it reads send fewer than 65,536 bytes.
+//! A plain reading of what a client sends, under the standard profile. It reads all bytes at once, line by line,
+//! without a buffer. The requests of connections are compared with those that it finds. It is written from
+//! docs/RULES.md, and shares no code with the server. It does not limit the length of a head, since the clients whose
+//! bytes it reads send fewer than 65,536 bytes.
 use crate::parts::{RequestWords, SHORT, add_header, decimal};
 use std::alloc::{AllocError, Global};
 use std::fmt::Write;
 
-// Maximum length of a counted body that is discarded unread.
+// Maximum length of a body with a content length that the server discards unread.
 const SKIPPED: usize = 65_536;
 
 // Maximum number of field lines of a head.
 const MOST_HEADERS: usize = 256;
 
-// A field name, and the field value as the server returns it.
+// A field name, and the field value as the server reports it.
 type Field<'a> = (&'a str, String);
 
 // The framing of a body.
@@ -47,13 +48,14 @@ fn is_token(text: &str) -> bool {
     !text.is_empty() && text.bytes().all(is_letter)
 }
 
-// Returns whether all letters are allowed in a host. The text may be empty.
+// Returns whether a host may contain each character of `text` without percent-encoding. The text may be empty.
 fn are_host_letters(text: &str) -> bool {
     let is_letter = |byte: u8| byte.is_ascii_alphanumeric() || b"-._~!$&'()*+,;=".contains(&byte);
     text.bytes().all(is_letter)
 }
 
-// Returns whether `text`, which follows a percent sign in a host, is two hexadecimal digits and allowed letters.
+// Returns whether `text`, which follows a percent sign in a host, is two hexadecimal digits and then only characters
+// that a host may contain without percent-encoding.
 fn is_behind_percent(text: &str) -> bool {
     let Some(digits) = text.get(..2) else {
         return false;
@@ -68,7 +70,7 @@ fn is_name(text: &str) -> bool {
     !text.is_empty() && pieces.next().is_some_and(are_host_letters) && pieces.all(is_behind_percent)
 }
 
-// Returns whether `text` may be in the brackets of a host.
+// Returns whether `text` may be the address between the brackets of a host.
 fn is_address(text: &str) -> bool {
     let is_letter = |byte: u8| byte.is_ascii_hexdigit() || matches!(byte, b':' | b'.');
     !text.is_empty() && text.bytes().all(is_letter)
@@ -95,7 +97,7 @@ fn is_host_value(value: &str) -> bool {
     value.is_empty() || is_host_with_port(value)
 }
 
-// Returns whether `target` is a host, a colon and a port.
+// Returns whether `target` is a host, a colon, and a port from 1 to 65535.
 fn is_authority(target: &str) -> bool {
     let Some((host, digits)) = target.rsplit_once(':') else {
         return false;
@@ -103,7 +105,7 @@ fn is_authority(target: &str) -> bool {
     is_host(host) && decimal(digits).is_some_and(|port| matches!(port, 1..=65535))
 }
 
-// Returns whether `target` is in absolute form.
+// Returns whether `target` is in absolute form, with the scheme `http` or `https`.
 fn is_absolute(target: &str) -> bool {
     let Some((scheme, rest)) = target.split_once("://") else {
         return false;
@@ -125,7 +127,8 @@ fn is_target(method: &str, target: &str) -> bool {
     }
 }
 
-// Returns the version as the server returns it, or `None` for other major versions than 1.
+// Returns the version as the server reports it, which is 1.1 for each later minor version, or `None` if it is not
+// HTTP/1.0 to HTTP/1.9.
 fn version_of(version: &str) -> Option<&'static str> {
     match version.strip_prefix("HTTP/1.")?.as_bytes() {
         [b'0'] => Some("1.0"),
@@ -134,7 +137,7 @@ fn version_of(version: &str) -> Option<&'static str> {
     }
 }
 
-// Parses a request line.
+// Parses a request line. Returns `None` if it is invalid.
 fn request_of(line: &[u8]) -> Option<RequestWords<'_>> {
     let mut words = str::from_utf8(line).ok()?.split(' ');
     let method = words.next()?;
@@ -175,7 +178,7 @@ fn header_of(line: &[u8]) -> Option<(&str, &[u8])> {
     Some((name, value.trim_ascii()))
 }
 
-// Formats a field value as the server returns it: each byte from 128 on becomes a percent sign and two hexadecimal
+// Formats a field value as the server reports it: each byte from 128 on becomes a percent sign and two hexadecimal
 // digits.
 fn value_of(alloc: Global, bytes: &[u8]) -> Result<String, AllocError> {
     let mut value = String::new(alloc);
@@ -190,7 +193,8 @@ fn value_of(alloc: Global, bytes: &[u8]) -> Result<String, AllocError> {
     Ok(value)
 }
 
-// Reads the field lines. Returns them and the bytes after the empty line, or `None` if the section is invalid.
+// Reads the field lines. Returns them and the bytes after the empty line, or `None` if the header section is incomplete
+// or invalid, or has more than `MOST_HEADERS` field lines.
 fn headers_of(alloc: Global, bytes: &[u8]) -> Result<Option<(Vec<Field<'_>>, &[u8])>, AllocError> {
     let mut headers = Vec::new(alloc);
     let mut rest = bytes;
@@ -233,13 +237,13 @@ fn head_of(alloc: Global, bytes: &[u8]) -> Result<Option<StandardHead<'_>>, Allo
     }))
 }
 
-// Returns whether `word` is an element of a list, in any case.
+// Returns whether `word` is an element of a list, ignoring case.
 fn is_listed(list: &str, word: &str) -> bool {
     list.split(',')
         .any(|element| element.trim_ascii().eq_ignore_ascii_case(word))
 }
 
-// Returns whether a list of expectations has no other element than `100-continue`. Empty elements are ignored.
+// Returns whether a list of expectations has no element other than `100-continue`. Empty elements are ignored.
 fn is_continue_alone(list: &str) -> bool {
     list.split(',').all(|element| {
         let element = element.trim_ascii();
@@ -247,7 +251,7 @@ fn is_continue_alone(list: &str) -> bool {
     })
 }
 
-// Returns the number that all elements of a Content-Length value state.
+// Returns the number that all elements of a Content-Length value state, or `None` if one is invalid or they differ.
 fn length_in(list: &str) -> Option<usize> {
     let mut elements = list.split(',');
     let length = decimal(elements.next()?.trim_ascii())?;
@@ -270,7 +274,7 @@ impl<'a> StandardHead<'a> {
             .count()
     }
 
-    // Returns the value of the first field of this name.
+    // Returns the value of the first field of this name, if there is one.
     fn value(&self, name: &str) -> Option<&str> {
         self.headers
             .iter()
@@ -278,13 +282,13 @@ impl<'a> StandardHead<'a> {
             .map(|header| header.1.as_str())
     }
 
-    // Returns whether a field of this name lists `word`.
+    // Returns whether a field of this name lists `word`, ignoring case.
     fn lists(&self, name: &str, word: &str) -> bool {
         self.headers.iter().any(|header| header.0.eq_ignore_ascii_case(name)
             && is_listed(header.1.as_str(), word))
     }
 
-    // Returns whether the count of Host fields is allowed, and the value is valid.
+    // Returns whether the request has a single, valid Host field, or is HTTP/1.0 and has none.
     fn has_good_host(&self) -> bool {
         match self.count("Host") {
             0 => self.is_old(),
@@ -293,13 +297,13 @@ impl<'a> StandardHead<'a> {
         }
     }
 
-    // Returns whether the request expects at most a 100.
+    // Returns whether the request expects nothing but a 100, or nothing at all.
     fn expects_a_100_alone(&self) -> bool {
         self.headers.iter().all(|header| !header.0.eq_ignore_ascii_case("Expect")
             || is_continue_alone(header.1.as_str()))
     }
 
-    // Returns the length that all Content-Length fields state, if it is the same.
+    // Returns the length that all Content-Length fields state, or `None` if one is invalid or they differ.
     fn length(&self) -> Option<usize> {
         let length = length_in(self.value("Content-Length")?)?;
         self.headers
@@ -309,7 +313,7 @@ impl<'a> StandardHead<'a> {
             .then_some(length)
     }
 
-    // Returns the framing of the body, or `None` if it is refused.
+    // Returns the framing of the body, or `None` if the request is refused because of it.
     fn body(&self) -> Option<Body> {
         match (
             self.count("Transfer-Encoding"),
@@ -327,7 +331,7 @@ impl<'a> StandardHead<'a> {
         }
     }
 
-    // Returns whether the server owes a 100.
+    // Returns whether the server owes the client a 100: the request has a body, is not HTTP/1.0, and expects one.
     fn owes_a_100(&self, body: Body) -> bool {
         let has_body = !matches!(body, Body::Nothing | Body::Length(0));
         has_body && !self.is_old() && self.lists("Expect", "100-continue")
@@ -344,14 +348,14 @@ impl<'a> StandardHead<'a> {
         self.has_good_host() && self.expects_a_100_alone() && is_there
     }
 
-    // Returns whether the head makes this the last request of its connection.
+    // Returns whether the head makes this request the last one of its connection.
     fn is_last(&self) -> bool {
         let ends = self.is_old() && !self.lists("Connection", "keep-alive");
         ends || self.lists("Connection", "close") || self.request.method == "CONNECT"
     }
 
-    // Returns the bytes after the body, where the next request begins after this one is dropped, or `None` if there is
-    // none.
+    // Returns the bytes after the body, where the next request begins once this one is dropped, or `None` if no further
+    // request can follow.
     fn after_drop(&self, body: Body) -> Option<&'a [u8]> {
         if self.is_last() || self.owes_a_100(body) {
             return None;
@@ -363,7 +367,7 @@ impl<'a> StandardHead<'a> {
         }
     }
 
-    // Formats the request with this number.
+    // Formats the reply line of the request with this number.
     fn line(&self, alloc: Global, number: usize, body: Body) -> Result<Vec<u8>, AllocError> {
         let length = match body {
             Body::Length(length) => Some(length),
@@ -379,8 +383,8 @@ impl<'a> StandardHead<'a> {
     }
 }
 
-/// Returns the lines of at most `most` requests that these bytes contain under the standard profile, if each request is
-/// dropped before the next is received.
+/// Returns the reply lines of the first `most` requests, or fewer, that these bytes contain under the standard profile
+/// if each request is dropped before the next is received.
 pub fn standard_lines(
     alloc: Global,
     bytes: &[u8],

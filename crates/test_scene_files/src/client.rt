@@ -1,4 +1,4 @@
-//! A client of a scene.
+//! The clients of scenes.
 use crate::mishap::{Mishap, demand, demand_bytes, demand_fault, differs};
 use httpdate::HttpDate;
 use std::alloc::{AllocError, Global};
@@ -16,21 +16,22 @@ const READS: u32 = 2_500;
 // Size of the read buffer.
 const PIECE: usize = 16_384;
 
-// Maximum number of sends by a client that should be cut off.
+// Maximum number of sends by a client that expects to be cut off.
 const MOST_PIECES: u32 = 4_096;
 
-// Milliseconds between two sends from which the client's thread counts as delayed.
+// A client's thread counts as delayed if at least this many milliseconds pass between two of its sends.
 const HELD_UP: u64 = 200;
 
-// Number of reads of a client that sips.
+// Number of reads by a client that sips.
 const SIPS: u32 = 100;
 
-// Start of a Date field line, and the length of the whole field line.
+// The start of a Date field line.
 const DATE: &[u8] = b"Date: ";
 
+// Length of a Date field line, without its line break.
 const DATE_LENGTH: usize = 35;
 
-// The Date field line that replaces every other in comparisons.
+// The Date field line that replaces all others before texts are compared.
 const DATED: &[u8] = b"Date: Wed, 04 May 1983 11:17:00 GMT";
 
 /// How a connection ended.
@@ -40,18 +41,18 @@ enum End {
     Failed(ErrorKind),
 }
 
-/// A client: its socket, and the bytes received but not yet checked.
+/// A client of a scene: its socket, and the bytes received but not yet checked.
 #[derive(Drop)]
 pub struct Client {
     alloc: Global,
     socket: Connection,
     came: Vec<u8>,
     end: Option<End>,
-    // The last two texts that were checked, the later one first.
+    // The last two texts that `gets` received, the later one first.
     seen: (Vec<u8>, Vec<u8>),
 }
 
-/// Copies `bytes` with the scenes' common date in place of each date.
+/// Copies `bytes`, replacing each Date field line with the one that all scenes share.
 pub fn dated(alloc: Global, bytes: &[u8]) -> Result<Vec<u8>, AllocError> {
     let mut all = Vec::new(alloc);
     let mut rest = bytes;
@@ -69,14 +70,14 @@ pub fn dated(alloc: Global, bytes: &[u8]) -> Result<Vec<u8>, AllocError> {
     Ok(all)
 }
 
-// Returns the last Date field line.
+// Returns the last Date field line in `bytes`, if there is one.
 fn last_date(bytes: &[u8]) -> Option<&[u8]> {
     bytes
         .windows(DATE_LENGTH)
         .rfind(|part| part.starts_with(DATE))
 }
 
-/// Returns the current time of the clock.
+/// Returns the current time of the clock. Fails if there is no clock.
 pub fn now_of<R: Clock>(rt: &R) -> Result<Instant, Mishap> {
     match Instant::now(rt) {
         Ok(now) => Ok(now),
@@ -84,7 +85,7 @@ pub fn now_of<R: Clock>(rt: &R) -> Result<Instant, Mishap> {
     }
 }
 
-/// Returns the milliseconds since `begun`.
+/// Returns the milliseconds since `begun`. Fails if there is no clock.
 pub fn millis_since<R: Clock>(rt: &R, begun: Instant) -> Result<u64, Mishap> {
     match begun.elapsed(rt) {
         Ok(time) => Ok(u64::try_from(time.as_millis()).unwrap_or(u64::MAX)),
@@ -92,7 +93,7 @@ pub fn millis_since<R: Clock>(rt: &R, begun: Instant) -> Result<u64, Mishap> {
     }
 }
 
-// Connects to `addr`.
+// Connects to `addr`. A read then waits for at most a millisecond, and a write for at most ten seconds.
 fn connect_to<R: Net<Listener = TcpListener, Stream = TcpStream>>(
     rt: &R,
     addr: &ListenAddr,
@@ -134,7 +135,7 @@ impl Client {
         }
     }
 
-    // Reads once, for at most a millisecond.
+    // Reads once, waiting for at most a millisecond, and keeps the bytes or how the connection ended.
     fn read_once(&mut self) -> Result<(), AllocError> {
         let mut piece = [0u8; PIECE];
         match self.socket.read_shared(&mut piece) {
@@ -148,7 +149,7 @@ impl Client {
         Ok(())
     }
 
-    // Reads until `count` bytes are held or the input ends, for at most `READS` reads.
+    // Reads until `count` bytes are held or the connection ends, at most `READS` times.
     fn read_up_to(&mut self, count: usize) -> Result<(), AllocError> {
         for _ in 0..READS {
             if self.came.len() >= count || self.end.is_some() {
@@ -174,13 +175,14 @@ impl Client {
         Ok(())
     }
 
-    /// Sends `bytes`.
+    /// Sends all of `bytes`. Fails if a write fails.
     pub fn send(&mut self, bytes: &[u8]) -> Result<(), Mishap> {
         let sent = self.write_all(bytes).err().map(|fault| fault.kind());
         demand_fault(self.alloc, None, sent)
     }
 
-    /// Sends `bytes` repeatedly, ignoring failed sends, until the connection ends.
+    /// Sends `bytes` about every `millis` milliseconds, ignoring failed sends, until a read finds that the connection
+    /// has ended. Fails if it is still open after `READS` sends.
     pub fn drip<R: Clock>(&mut self, rt: &R, bytes: &[u8], millis: u64) -> Result<(), Mishap> {
         for _ in 0..READS {
             if self.end.is_some() {
@@ -193,8 +195,9 @@ impl Client {
         demand(self.alloc, "the connection ends", self.end.is_some())
     }
 
-    // Sends `bytes` repeatedly until a send fails, at most `most` times. Returns whether a send failed, when the last
-    // send was, and the longest time between two sends.
+    // Sends `bytes` every `millis` milliseconds until a send fails, at most `most` times. Returns whether a send
+    // failed, when the last send ended, in milliseconds since `begun`, and the longest time between the ends of two
+    // successive sends, or from `begun` to the end of the first.
     fn drip_until<R: Clock>(
         &mut self,
         rt: &R,
@@ -215,10 +218,10 @@ impl Client {
         Ok((false, last, longest))
     }
 
-    /// Sends `bytes` repeatedly, even after the end of input, until a send fails. The pauses before it add up to at
-    /// most `most` milliseconds, and it comes at least `least` milliseconds after `begun`. An earlier failure is
-    /// accepted if this thread was delayed before a send, since a server that waits for the next byte may then have
-    /// timed out.
+    /// Sends `bytes` every `millis` milliseconds, even after the end of input, until a send fails. The failure must
+    /// come at least `least` milliseconds after `begun`, and before the pauses add up to more than `most` milliseconds.
+    /// An earlier failure is accepted if this thread was delayed before a send, since a server that waits for the next
+    /// byte may then have timed out.
     pub fn drip_on<R: Clock>(
         &mut self,
         rt: &R,
@@ -233,7 +236,8 @@ impl Client {
         demand(self.alloc, "no send fails before its time", is_late)
     }
 
-    /// Reads at most `count` bytes a hundred times, and discards them.
+    /// Reads at most `count` bytes after each pause of `millis` milliseconds, a hundred times or until the end of
+    /// input, and discards them.
     pub fn sip<R: Clock>(&mut self, rt: &R, count: usize, millis: u64) -> Result<(), Mishap> {
         let mut piece = vec![in self.alloc; 0u8; count]?;
         for _ in 0..SIPS {
@@ -245,7 +249,7 @@ impl Client {
         Ok(())
     }
 
-    /// Sends `bytes` repeatedly, and expects that a send fails in the end.
+    /// Sends `bytes` repeatedly until a send fails. Fails if `MOST_PIECES` sends succeed.
     pub fn is_cut_off(&mut self, bytes: &[u8]) -> Result<(), Mishap> {
         for _ in 0..MOST_PIECES {
             if self.write_all(bytes).is_err() {
@@ -255,7 +259,7 @@ impl Client {
         Err(differs(self.alloc, "a write fails", "none failed"))
     }
 
-    /// Expects `wanted` as the next bytes.
+    /// Expects `wanted` as the next bytes, once each Date field line among them is replaced as `dated` does.
     pub fn gets(&mut self, wanted: &[u8]) -> Result<(), Mishap> {
         self.read_up_to(wanted.len())?;
         let count = wanted.len().min(self.came.len());
@@ -267,7 +271,8 @@ impl Client {
         demand_bytes(self.alloc, wanted, text.as_slice())
     }
 
-    /// Expects that the last date in the last text differs from the one in the text before.
+    /// Expects that the last date in the text that `gets` received last differs from the last date in the text that it
+    /// received before that. Fails if one of these texts has no date.
     pub fn date_changed(&mut self) -> Result<(), Mishap> {
         let (last, before) = (
             last_date(self.seen.0.as_slice()),
@@ -278,7 +283,8 @@ impl Client {
         demand(self.alloc, "the date changed", last != before)
     }
 
-    /// Expects that the last date in the last text is at most `seconds` before `now`, and not after it.
+    /// Expects that the last date in the text that `gets` received last is at most `seconds` seconds before `now`, a
+    /// Unix time in seconds, and not after it.
     pub fn dated_within(&self, now: u64, seconds: u64) -> Result<(), Mishap> {
         let date = last_date(self.seen.0.as_slice()).and_then(|header| header.get(DATE.len()..));
         let Some(date) = date.and_then(|date| HttpDate::parse_ascii(date).ok()) else {
@@ -292,7 +298,8 @@ impl Client {
         )
     }
 
-    /// Expects from `least` to `most` bytes before the end.
+    /// Reads until the connection ends, at most `READS` times, and expects `least` to `most` unchecked bytes, which it
+    /// discards.
     pub fn counts(&mut self, least: usize, most: usize) -> Result<(), Mishap> {
         self.read_up_to(usize::MAX)?;
         let alloc = self.alloc;
@@ -306,13 +313,13 @@ impl Client {
         Err(Mishap::Differs { wanted, came })
     }
 
-    // Expects that all received bytes have been checked.
+    // Expects that no received bytes are left to check.
     fn demand_nothing(&self) -> Result<(), Mishap> {
         let came = dated(self.alloc, self.came.as_slice())?;
         demand_bytes(self.alloc, b"", came.as_slice())
     }
 
-    /// Expects neither a byte nor an end for `millis` milliseconds.
+    /// Expects neither bytes nor the end of the connection for `millis` milliseconds.
     pub fn is_idle<R: Clock>(&mut self, rt: &R, millis: u64) -> Result<(), Mishap> {
         let begun = now_of(rt)?;
         for _ in 0..millis {
@@ -328,7 +335,7 @@ impl Client {
         demand(self.alloc, "no end", self.end.is_none())
     }
 
-    /// Expects the end, and no byte before it.
+    /// Expects the end of input, without further bytes before it. A reset does not count as the end of input.
     pub fn is_closed(&mut self) -> Result<(), Mishap> {
         let next = self.came.len().saturating_add(1);
         self.read_up_to(next)?;
@@ -341,13 +348,13 @@ impl Client {
         Err(differs(self.alloc, "the end", came.as_str()))
     }
 
-    /// Expects that the connection ends, whatever it receives before.
+    /// Expects that the connection is closed or reset, whatever arrives before that.
     pub fn is_gone(&mut self) -> Result<(), Mishap> {
         self.read_up_to(usize::MAX)?;
         demand(self.alloc, "the connection ends", self.end.is_some())
     }
 
-    /// Shuts down the sending side.
+    /// Shuts down the sending side of the connection.
     pub fn half_close(&mut self) -> Result<(), Mishap> {
         let shut = self.socket.shutdown(Shutdown::Write);
         demand_fault(self.alloc, None, shut.err().map(|fault| fault.kind()))

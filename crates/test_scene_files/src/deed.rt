@@ -6,7 +6,7 @@ use std::io::ErrorKind;
 use test_data_files::kinds::kind_of;
 use test_data_files::text::number_in;
 
-/// A client's action, or an expectation on what it receives.
+/// An action of a client, or an expectation about what the client receives.
 #[derive(Clone, Copy)]
 pub enum ClientDeed<'a> {
     /// Connects to the server.
@@ -16,34 +16,36 @@ pub enum ClientDeed<'a> {
     /// Sends this text repeatedly until the connection ends, with this pause in milliseconds.
     Drips(&'a str, u64),
     /// Sends this text repeatedly, even after the end of input, until a send fails; the second field is the pause in
-    /// milliseconds. The failure must come when the scene's clock shows at least the first number of the pair, and the
-    /// pauses until then may add up to at most the second.
+    /// milliseconds. The failure must come once the scene's clock shows at least the first number of the pair, and
+    /// before the pauses add up to more than the second number, both in milliseconds.
     DripsOn(&'a str, u64, (u64, u64)),
-    /// Sends this text repeatedly, and expects that a send fails in the end.
+    /// Sends this text repeatedly until a send fails, and expects such a failure.
     IsCutOff(&'a str),
-    /// Reads at most this many bytes a hundred times, with this pause in milliseconds.
+    /// Reads at most this many bytes a hundred times, with this pause in milliseconds before each read.
     Sips(usize, u64),
     /// Expects this text as the next bytes.
     Gets(&'a str),
-    /// Expects that the last date in the last text differs from the one in the text before.
+    /// Expects that the last date in the text of the last `Gets` differs from the last date in the text of the `Gets`
+    /// before that.
     DateChanged,
-    /// Expects that the last date in the last text is now, or at most this many seconds ago.
+    /// Expects that the last date in the text of the last `Gets` is the current time, or at most this many seconds
+    /// earlier.
     DatedWithin(u64),
-    /// Expects from the first to the second number of bytes before the end.
+    /// Expects at least the first and at most the second number of bytes before the connection ends.
     Counts(usize, usize),
-    /// Expects neither a byte nor an end for this many milliseconds.
+    /// Expects neither bytes nor the end of the connection for this many milliseconds.
     IsIdle(u64),
-    /// Expects the end, and no byte before it.
+    /// Expects the end of input, without further bytes before it.
     IsClosed,
-    /// Expects that the connection is closed or reset, whatever it receives before.
+    /// Expects that the connection is closed or reset, whatever arrives before that.
     IsGone,
-    /// Shuts down its sending side.
+    /// Shuts down the sending side of the connection.
     HalfCloses,
-    /// Closes its socket.
+    /// Closes the client's socket.
     Leaves,
 }
 
-/// The expected result of a call that waits for a request.
+/// The expected result of a call that receives a request.
 #[derive(Clone, Copy)]
 pub enum Given<'a> {
     /// A request for this target, which the scene calls by this name.
@@ -54,7 +56,7 @@ pub enum Given<'a> {
     Fault(ErrorKind),
 }
 
-/// A call on the server, or an expectation on its state.
+/// A call on the server, or an expectation about its state.
 #[derive(Clone, Copy)]
 pub enum ServerDeed<'a> {
     /// Expects a request for this target, received in the scene's way (`Way`), and names it.
@@ -67,12 +69,12 @@ pub enum ServerDeed<'a> {
     RecvTimeout(u64, Given<'a>),
     Next(Given<'a>),
     Unblock,
-    /// Calls `stop` with this many milliseconds. The flag is true if everything is answered in time.
+    /// Calls `stop` with this many milliseconds. The flag is whether all requests are expected to be answered in time.
     Stop(u64, bool),
     Drop,
-    /// Calls `serve` with the handler, and expects that it ends with this error or without one.
+    /// Calls `serve` with the handler, and expects it to return this error or none.
     Serve(Option<ErrorKind>),
-    /// Calls `serve_by` with this many threads, with the same expectation.
+    /// Calls `serve_by` with this many threads, and expects it to return this error or none.
     ServeBy(usize, Option<ErrorKind>),
     /// Waits until this many clients are connected.
     Clients(usize),
@@ -82,31 +84,31 @@ pub enum ServerDeed<'a> {
     Count(&'a str, u64),
     /// Waits until the counter of this name has at least this value.
     CountFrom(&'a str, u64),
-    /// Expects at least this many accept errors now, from the call that returns only their count.
+    /// Expects that `accept_faults` returns at least this number now.
     AcceptFaults(u64),
-    /// Lets the handler that waits at its gate continue.
+    /// Opens the handler's gate, so that a call of the handler that waits at it continues.
     OpensGate,
     /// Expects that the file of the Unix socket exists, or that it doesn't.
     File(bool),
-    /// Links the file of the Unix socket to a second name.
+    /// Gives the file of the Unix socket a second name: a hard link.
     LinksFile,
-    /// Expects that nobody listens at the address: in time for TCP, and now for a Unix socket, through the second name
-    /// of its file.
+    /// Expects that nobody listens at the server's address. For TCP, waits until the address is free. For a Unix
+    /// socket, checks once, through the second name of its file.
     IsFree,
-    /// Creates a second server at the same address, which replaces the first. The first is dropped.
+    /// Creates a second server at the same address, which replaces the first one, and drops the first.
     IsFollowed,
-    /// Creates a second server at the same address, and expects this error.
+    /// Expects that creating a second server at the same address fails with this error.
     Rival(ErrorKind),
-    /// Creates a server with limits at a path where this file exists, and expects this error or none.
+    /// Creates a server with limits at a path where such a file exists, and expects this error or none.
     At(Found, Option<ErrorKind>),
-    /// Creates a server with TLS at another address, and expects this error message.
+    /// Expects that creating a server with TLS at another address fails with this message.
     WithTls(&'a str),
-    /// Creates a server with TLS at the same address, and expects this error.
+    /// Expects that creating a server with TLS at the same address fails with this error.
     RivalWithTls(ErrorKind),
-    /// Creates a server from this server's address, which is in use, and any free port, and expects that it listens at
-    /// another address.
+    /// Creates a server from two addresses, that of the scene's server, which is in use, and one with any free port,
+    /// and expects that the new server does not listen at the first.
     AtSecond,
-    /// Expects that the address of its Unix socket is displayed as its path.
+    /// Expects that the server's Unix address is displayed as the path of its socket.
     ShowsPath,
 }
 
@@ -135,72 +137,74 @@ pub enum Data<'a> {
     Bytes(usize),
     /// This many bytes, without a content length.
     Unsized(usize),
-    /// This text, with a content length that is greater.
+    /// This text, with this greater content length.
     Short(usize, &'a str),
 }
 
 /// Why a request is returned without an upgrade.
 #[derive(Clone, Copy)]
 pub enum Kept {
-    /// It does not ask for the protocol.
+    /// The request does not ask for the protocol.
     NotAsked,
-    /// Its body has not been read to the end.
+    /// The request's body has not been read to the end.
     UnfinishedBody,
     /// The limit of upgraded connections is reached.
     TooMany,
 }
 
-/// A call on a request, or an expectation on its parts.
+/// A call on a request, or an expectation about its properties.
 #[derive(Clone, Copy)]
 pub enum RequestDeed<'a> {
     /// Responds with this status and body, and expects this error or none.
     Respond(u16, Data<'a>, Option<ErrorKind>),
     Drop,
-    /// Expects this text as the rest of its body.
+    /// Expects this text as the rest of the request's body.
     Body(&'a str),
-    /// Expects this text as the next bytes of its body.
+    /// Expects this text as the next bytes of the request's body.
     Reads(&'a str),
-    /// Expects that reads of its body end with this error.
+    /// Expects that reading the request's body ends with this error.
     ReadFails(ErrorKind),
-    /// Expects that a read of exactly this many bytes fails with this error.
+    /// Expects that `read_exact` for this many bytes of the request's body fails with this error.
     ReadExactly(usize, ErrorKind),
-    /// Reads the whole body, of at most this many bytes.
+    /// Calls `read_body` with this limit in bytes, and expects this result.
     ReadBody(usize, Whole<'a>),
-    /// Requests the body's reader, and reads nothing.
+    /// Calls `as_reader`, and reads nothing.
     AsReader,
-    /// Expects this value of its first header field of this name, or no such field.
+    /// Expects that the request's first header field of this name has this value, or that it has no such field.
     Header(&'a str, Option<&'a str>),
-    /// Expects that its header fields of this name list this token, or that they don't.
+    /// Expects that the request's header fields of this name list this token, or that they don't.
     Lists(&'a str, &'a str, bool),
     Path(&'a str),
     Query(Option<&'a str>),
-    /// Expects that it asks for an upgrade, or that it doesn't.
+    /// Expects that the request asks for an upgrade, or that it doesn't.
     AsksUpgrade(bool),
-    /// Expects that it came over TLS, or that it didn't.
+    /// Expects that the request came over TLS, or that it didn't.
     IsSecure(bool),
     Version(&'a str),
     Length(Option<u64>),
     /// Expects this many header fields.
     Headers(u64),
-    /// Expects that it is displayed as this text.
+    /// Expects this text as the request's debug output.
     Shown(&'a str),
-    /// Borrows its head and its body together, and expects this path and this rest of the body.
+    /// Borrows the request's head and body together, and expects this path and this rest of the body.
     Lends(&'a str, &'a str),
-    /// Expects a `GET` from the client of this name, without TLS.
+    /// Expects that the request is a `GET` from the client of this name, without TLS.
     IsPlainOf(&'a str),
-    /// Takes its raw writer, and names it.
+    /// Turns the request into its raw writer, and names the writer.
     IntoWriter(&'a str),
-    /// Begins a streaming response with this status, and names it. With the flag, it closes the connection.
+    /// Begins a streaming response with this status, and names it. If the flag is set, the connection closes after the
+    /// response.
     Streams(u16, &'a str, bool),
-    /// Expects that a streaming response with this status fails to begin, with this error.
+    /// Expects that `respond_streaming` with this status fails with this error.
     StreamsNot(u16, ErrorKind),
-    /// Upgrades it to this protocol, and names the stream.
+    /// Upgrades the request to this protocol, and names the stream.
     Upgrades(&'a str, &'a str),
-    /// Upgrades it if its head asks for this protocol, and names the stream.
+    /// Upgrades the request with `try_upgrade`, which succeeds only if the head asks for this protocol, and names the
+    /// stream.
     TriesUpgrade(&'a str, &'a str),
-    /// Expects that it is not upgraded to this protocol but returned, for this reason.
+    /// Expects that `try_upgrade` to this protocol returns the request for this reason.
     KeepsUpgrade(&'a str, Kept),
-    /// Expects that its response would be lost, or that it wouldn't.
+    /// Expects that a response to the request would be lost, or that it wouldn't.
     IsLost(bool),
 }
 
@@ -241,33 +245,33 @@ pub enum Deed<'a> {
     Memory(MemoryDeed<'a>),
     Turns(TurnsDeed<'a>),
     Turn(&'a str, TurnDeed<'a>),
-    /// Uses up all file descriptors of the process but this many, or releases them again.
+    /// Uses up all but this many of the process's file descriptors, or releases them again.
     Descriptors(Option<usize>),
     /// Waits for this many milliseconds.
     Pause(u64),
     ClockStarts,
     /// Expects that less than this many milliseconds have passed since the clock started.
     ClockBelow(u64),
-    /// Expects that at least this many milliseconds have passed.
+    /// Expects that at least this many milliseconds have passed since the clock started.
     ClockAbove(u64),
-    /// Restarts the clock, and records the time that it showed as a lap.
+    /// Ends a lap: records the time since the clock started, and restarts the clock.
     ClockLap,
     /// Expects that the shortest lap took less than this many milliseconds.
     ShortestLap(u64),
-    /// Runs the indented steps below on a thread of this name.
+    /// Runs the indented steps that follow on a thread of this name.
     Beside(&'a str),
-    /// Runs the indented steps below in a pool job of this name.
+    /// Runs the indented steps that follow in a pool job of this name.
     Job(&'a str),
-    /// Expects that the thread or job ends within this many milliseconds.
+    /// Expects that the thread or job of this name ends within this many milliseconds.
     Ends(&'a str, u64),
-    /// Expects that the thread or job has not ended.
+    /// Expects that the thread or job of this name has not ended.
     Waits(&'a str),
 }
 
-/// Default time in milliseconds within which a thread must end.
+/// Time in milliseconds within which a thread or job must end if its step states none.
 const LONGEST: u64 = 10_000;
 
-// Parses a number of milliseconds.
+// Parses a decimal number, such as a number of milliseconds.
 pub(crate) fn millis_in(digits: &str) -> Option<u64> {
     Some(number_in(digits)? as u64)
 }
@@ -277,7 +281,7 @@ pub(crate) fn sides(text: &str) -> Option<(&str, &str)> {
     text.rsplit_once(" = ")
 }
 
-// Splits off a final ` = KIND`. Returns the whole text if there is none.
+// Splits off an error kind after the last ` = `. Returns the whole text and `None` if no kind is there.
 pub(crate) fn before_kind(text: &str) -> (&str, Option<ErrorKind>) {
     if let Some((front, name)) = sides(text)
         && let Some(kind) = kind_of(name)
@@ -327,7 +331,7 @@ fn client_deed<'a>(verb: &str, rest: &'a str) -> Option<ClientDeed<'a>> {
     }
 }
 
-// Parses the expected result of a call that waits for a request: `TARGET as NAME`, `nothing`, or an error kind.
+// Parses the expected result of a call that receives a request: `TARGET as NAME`, `nothing`, or an error kind.
 fn given_in(text: &str) -> Option<Given<'_>> {
     if text == "nothing" {
         return Some(Given::Nothing);
@@ -338,7 +342,7 @@ fn given_in(text: &str) -> Option<Given<'_>> {
     Some(Given::Fault(kind_of(text)?))
 }
 
-// Parses how a serving call ends: `ok`, or an error kind.
+// Parses the expected outcome of a call: `ok`, or an error kind.
 fn served_in(text: &str) -> Option<Option<ErrorKind>> {
     if text == "ok" {
         return Some(None);
@@ -346,7 +350,7 @@ fn served_in(text: &str) -> Option<Option<ErrorKind>> {
     Some(Some(kind_of(text)?))
 }
 
-// Parses a server call with an outcome after ` = `.
+// Parses a server call and its expected outcome, which the step states after ` = `.
 fn call_of_server<'a>(call: &'a str, outcome: &'a str) -> Option<ServerDeed<'a>> {
     let (verb, rest) = call.split_once(' ').unwrap_or((call, ""));
     match (verb, rest) {
@@ -433,7 +437,7 @@ fn data_in(text: &str) -> Option<Data<'_>> {
     }
 }
 
-// Splits off the status before the first space.
+// Parses the status before the first space. Returns it and the text after the space.
 fn status_in(text: &str) -> Option<(u16, &str)> {
     let (digits, rest) = text.split_once(' ')?;
     Some((u16::try_from(number_in(digits)?).ok()?, rest))
@@ -472,7 +476,7 @@ fn kept_in(word: &str) -> Option<Kept> {
     }
 }
 
-// Parses a request call with an argument, and an outcome after ` = `.
+// Parses a request call with an argument, and its expected outcome.
 fn look_at_request<'a>(verb: &str, call: &'a str, outcome: &'a str) -> Option<RequestDeed<'a>> {
     match verb {
         "read_body" => Some(RequestDeed::ReadBody(number_in(call)?, whole_in(outcome)?)),
@@ -493,7 +497,7 @@ fn look_at_request<'a>(verb: &str, call: &'a str, outcome: &'a str) -> Option<Re
     }
 }
 
-// Parses a request call without arguments.
+// Parses a request call without arguments, and its expected outcome.
 fn property_of_request<'a>(verb: &str, outcome: &'a str) -> Option<RequestDeed<'a>> {
     match verb {
         "path" => Some(RequestDeed::Path(outcome)),
@@ -571,7 +575,7 @@ fn output_deed<'a>(verb: &str, rest: &'a str) -> Option<OutputDeed<'a>> {
     }
 }
 
-// Parses `= KIND`, or nothing.
+// Parses `= KIND`, or an empty text, which means that no error is expected.
 fn fault_in(rest: &str) -> Option<Option<ErrorKind>> {
     if rest.is_empty() {
         return Some(None);
@@ -600,7 +604,7 @@ fn descriptors_deed(text: &str) -> Option<Deed<'_>> {
     }
 }
 
-// Parses a step on a thread.
+// Parses a step on a thread or a job.
 fn thread_deed<'a>(who: &'a str, verb: &str, rest: &str) -> Option<Deed<'a>> {
     match (verb, rest) {
         ("ends", "") => Some(Deed::Ends(who, LONGEST)),
@@ -610,7 +614,7 @@ fn thread_deed<'a>(who: &'a str, verb: &str, rest: &str) -> Option<Deed<'a>> {
     }
 }
 
-/// Parses a step, without its indentation. Returns `None` if the line is not a step.
+/// Parses a step from a line whose indentation has been removed. Returns `None` if the line is not a step.
 pub fn deed_in(line: &str) -> Option<Deed<'_>> {
     let (who, what) = line.split_once(' ')?;
     match who {

@@ -11,7 +11,7 @@ pub enum Popped {
     Value(u64),
     /// Any value.
     Something,
-    /// No value: an unblock mark or a timeout.
+    /// No value: an unblock mark was popped, the queue was empty, or the timeout passed.
     Nothing,
     /// A value or none.
     Anything,
@@ -26,9 +26,9 @@ pub enum QueueDeed {
     Pop(Popped),
     /// Pops until the result is not this value.
     PopPast(u64, Popped),
-    /// Pops with a timeout in milliseconds.
+    /// Pops with this timeout in milliseconds.
     PopTimeout(u64, Popped),
-    /// Pops with a timeout in milliseconds, until the result is not the second number.
+    /// Pops with this timeout in milliseconds, the first number, until the result is not the second number.
     PopTimeoutPast(u64, u64, Popped),
     TryPop(Popped),
 }
@@ -43,7 +43,7 @@ fn popped_in(text: &str) -> Option<Popped> {
     }
 }
 
-// Parses a queue call that returns a value.
+// Parses a call that pops from the queue. `popped` is the expected result.
 fn pop_in(call: &str, popped: Popped) -> Option<QueueDeed> {
     let (verb, rest) = call.split_once(' ').unwrap_or((call, ""));
     match (verb, rest) {
@@ -83,7 +83,7 @@ pub struct Parts<'a> {
     pub method: &'a str,
     pub target: &'a str,
     pub version: (u8, u8),
-    /// Further parts, each after ` + `: `https`, `from ADDRESS`, `body TEXT`, or a header field.
+    /// Further parts, separated by ` + `: `https`, `from ADDRESS`, `body TEXT`, or a header field.
     pub more: &'a str,
 }
 
@@ -92,27 +92,28 @@ pub struct Parts<'a> {
 pub enum Made<'a> {
     /// A request, which the scene calls by this name.
     Request(&'a str),
-    /// An error: the target is not ASCII.
+    /// A refusal, because the target is not ASCII.
     Refused,
     ExpectationFailed,
-    /// A body error of this kind.
+    /// An I/O error of this kind.
     Fault(ErrorKind),
 }
 
 /// A step on a connection or a request over memory.
 #[derive(Clone, Copy)]
 pub enum MemoryDeed<'a> {
-    /// Limits the writers of later requests: they accept this many bytes and then fail with this kind.
+    /// Limits the writers of all clients and requests created later: each accepts this many bytes and then fails with
+    /// this kind.
     Takes(usize, ErrorKind),
-    /// Provides this text as the client's whole input.
+    /// Creates a client that sends this text and then ends its output.
     Sends(&'a str),
-    /// Expects a next request for this target, and names it.
+    /// Expects that the next request is for this target, and names it.
     Gives(&'a str, &'a str),
     /// Expects no further request.
     GivesNothing,
-    /// Builds a request for a test.
+    /// Builds a request with `TestRequest`.
     Makes(Parts<'a>, Made<'a>),
-    /// Builds a request from its parts by `new_request`, without a client address.
+    /// Builds a request with `new_request`, without a client address.
     News(Parts<'a>, Made<'a>),
     /// Expects this text as the next bytes written.
     Gets(&'a str),
@@ -147,7 +148,7 @@ fn made_in(outcome: &str) -> Option<Made<'_>> {
     }
 }
 
-// Parses the parts of a request to build and the expected result.
+// Parses the parts of a request to build, and the expected result.
 fn making_in(text: &str) -> Option<(Parts<'_>, Made<'_>)> {
     if let Some((parts, name)) = text.rsplit_once(" as ") {
         return Some((parts_in(parts)?, Made::Request(name)));
@@ -156,7 +157,7 @@ fn making_in(text: &str) -> Option<(Parts<'_>, Made<'_>)> {
     Some((parts_in(parts)?, made_in(outcome)?))
 }
 
-/// Parses a step over memory.
+/// Parses a step on a connection or a request over memory.
 pub(crate) fn memory_deed(text: &str) -> Option<MemoryDeed<'_>> {
     let (verb, rest) = text.split_once(' ').unwrap_or((text, ""));
     match (verb, rest) {
@@ -183,20 +184,20 @@ pub(crate) fn memory_deed(text: &str) -> Option<MemoryDeed<'_>> {
     }
 }
 
-/// A step that creates or checks readers or writers that take turns.
+/// A step on a sequence of readers or writers that take turns.
 #[derive(Clone, Copy)]
 pub enum TurnsDeed<'a> {
     /// Creates a sequence of readers of this text.
     Read(&'a str),
-    /// Creates a sequence of writers to memory that accepts this many bytes.
+    /// Creates a sequence of writers that together accept this many bytes in memory.
     Write(usize),
-    /// Takes the next one and names it.
+    /// Takes the next reader or writer of the sequence, and names it.
     Next(&'a str),
-    /// Expects that this text was written.
+    /// Expects that exactly this text was written by all writers together.
     Wrote(&'a str),
 }
 
-/// Parses a step that creates or checks readers or writers that take turns.
+/// Parses a step on a sequence of readers or writers that take turns.
 pub(crate) fn turns_deed(text: &str) -> Option<TurnsDeed<'_>> {
     match text.split_once(' ').unwrap_or((text, "")) {
         ("read", text) => Some(TurnsDeed::Read(text)),
@@ -213,7 +214,7 @@ pub(crate) fn turns_deed(text: &str) -> Option<TurnsDeed<'_>> {
 pub enum TurnDeed<'a> {
     /// Expects this text from one read.
     Reads(&'a str),
-    /// Writes this text once, and expects that this many bytes are accepted.
+    /// Writes this text in one call, and expects that it accepts this many bytes.
     Writes(&'a str, usize),
     WriteFails(&'a str, ErrorKind),
     Flushes,

@@ -1,5 +1,6 @@
-//! Reads scene files, which list step by step what a server and its clients do and what each observes. Also provides
-//! the clients and the errors of a failed scene. `test_scenes` plays the scenes; docs/CASES.md describes the language.
+//! Reads scene files, which list step by step what a server and its clients do and what each of them observes. Also
+//! provides the clients of a scene and the errors of its steps. `test_scenes` plays the scenes; docs/CASES.md describes
+//! the language.
 #![tactic(auto)]
 
 pub mod client;

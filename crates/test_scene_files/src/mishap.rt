@@ -1,4 +1,4 @@
-//! Errors of a scene's steps.
+//! The errors of a scene's steps.
 use std::alloc::{AllocError, Global};
 use std::fmt;
 use std::io::ErrorKind;
@@ -53,7 +53,7 @@ pub fn differs(alloc: Global, wanted: &str, came: &str) -> Mishap {
     Mishap::Differs { wanted, came }
 }
 
-/// Fails with `words` as the expectation unless `holds`.
+/// Fails unless `holds`. The error states `words` as the expectation.
 pub fn demand(alloc: Global, words: &str, holds: bool) -> Result<(), Mishap> {
     if holds {
         return Ok(());
@@ -79,12 +79,14 @@ pub fn demand_number(alloc: Global, wanted: u64, came: u64) -> Result<(), Mishap
     Err(Mishap::Differs { wanted, came })
 }
 
-// Number of bytes shown of a long text, and how many of them precede the first difference.
+// Maximum number of bytes shown of a text.
 const SHOWN: usize = 200;
 
+// Maximum number of bytes shown of a text that precede its first difference.
 const SHOWN_BEFORE: usize = 60;
 
-// Formats part of a text, starting at `from`.
+// Formats at most `SHOWN` bytes of a text from byte `from` on. If that is not the whole text, adds its length and
+// `from`.
 fn part_shown(alloc: Global, bytes: &[u8], from: usize) -> Result<String, AllocError> {
     let part = bytes.get(from..).unwrap_or_default();
     let part = part.get(..SHOWN).unwrap_or(part);
@@ -112,7 +114,7 @@ pub fn demand_bytes(alloc: Global, wanted: &[u8], came: &[u8]) -> Result<(), Mis
     Err(Mishap::Differs { wanted, came })
 }
 
-/// Fails unless the call failed with the expected kind, or succeeded if none is expected.
+/// Fails unless a call failed with the kind `wanted`, or succeeded if `wanted` is `None`.
 pub fn demand_fault(
     alloc: Global,
     wanted: Option<ErrorKind>,

@@ -15,7 +15,7 @@ pub enum Over {
     Unix,
     /// A TCP listener that the program creates.
     Listener,
-    /// A nonblocking TCP listener.
+    /// A nonblocking TCP listener that the program creates.
     Nonblocking,
     /// A queue, without a server.
     Queue,
@@ -30,9 +30,9 @@ pub enum Over {
 /// How `server gives` receives its requests.
 #[derive(Clone, Copy, PartialEq, Eq)]
 pub enum Way {
-    /// Through `recv_timeout`.
+    /// With `recv_timeout`.
     Recv,
-    /// Through a handler of `serve` that keeps each request.
+    /// From a handler of `serve` that keeps each request.
     Handler,
 }
 
@@ -43,7 +43,7 @@ pub struct Ground {
     pub over: Over,
     /// The server's limits, if any.
     pub limits: Option<Limits>,
-    /// Whether the scene is played a second time, with a handler.
+    /// Whether the scene is played both ways: with `recv_timeout`, and then with a handler.
     pub is_both: bool,
     /// Whether no other scene runs at the same time.
     pub is_alone: bool,
@@ -58,7 +58,7 @@ pub struct Ground {
 pub struct Line {
     pub number: usize,
     pub text: String,
-    /// Whether the line is indented: a step of the thread or job above.
+    /// Whether the line is indented, that is, a step of the thread or job begun above it.
     pub is_inner: bool,
 }
 
@@ -96,7 +96,8 @@ fn set_limit(limits: &mut Limits, name: &str, number: usize) -> Option<()> {
     Some(())
 }
 
-// Applies a word after `server` or `over`: a profile, what the scene runs on, an option or a limit.
+// Applies an item of the list after `server` or `over`: a profile, what the scene runs on, an option or a limit.
+// Returns `None` if the item is invalid.
 fn add_word(ground: &mut Ground, word: &str) -> Option<()> {
     match word {
         "lenient" => ground.profile = Profile::Lenient,
@@ -133,7 +134,7 @@ fn add_word(ground: &mut Ground, word: &str) -> Option<()> {
     Some(())
 }
 
-// Parses the words after `server` or `over`.
+// Parses the list after `server` or `over`.
 fn ground_in(words: &str) -> Option<Ground> {
     let mut ground = Ground {
         profile: Profile::Lenient,
@@ -150,7 +151,7 @@ fn ground_in(words: &str) -> Option<Ground> {
     Some(ground)
 }
 
-// A scene that is being read. The ground is set once its line is read.
+// A scene that is being read. Its first line sets the ground.
 #[derive(Drop)]
 struct Begun {
     name: String,
@@ -183,7 +184,8 @@ fn add_scene(scenes: &mut Vec<Scene>, begun: Option<Begun>) -> Result<(), LineFa
     Ok(())
 }
 
-// Returns whether an indented line is allowed here: after a line `beside` or `job`, or another indented one.
+// Returns whether an indented line may follow `lines`: the last of them begins with `beside` or `job`, or is indented
+// itself.
 fn may_be_inner(lines: &[Line]) -> bool {
     lines.last().is_some_and(|line| {
         let text = line.text.as_str();
@@ -191,7 +193,7 @@ fn may_be_inner(lines: &[Line]) -> bool {
     })
 }
 
-// Adds a line to the scene being read. Its first line sets the ground.
+// Adds a line to the scene being read. The first line of a scene sets the ground.
 fn add_line(alloc: Global, begun: &mut Begun, number: usize, text: &str) -> Result<(), LineFault> {
     let words = text.strip_prefix("server ").or(text.strip_prefix("over "));
     if let Some(words) = words
@@ -227,7 +229,7 @@ fn add_line(alloc: Global, begun: &mut Begun, number: usize, text: &str) -> Resu
     Ok(())
 }
 
-// Begins a scene called `name`, which must be one word and not yet used.
+// Begins a scene called `name`. Fails if the name is not one word, or if an earlier scene has it.
 fn begin(alloc: Global, scenes: &[Scene], name: &str) -> Result<Begun, LineFault> {
     if name.is_empty() || name.contains(' ') {
         return Err(LineFault::Bad("a scene has a name of one word"));
@@ -242,7 +244,7 @@ fn begin(alloc: Global, scenes: &[Scene], name: &str) -> Result<Begun, LineFault
     })
 }
 
-// Reads one line: a comment, the start of a scene, or a step of the current one.
+// Reads one line: a comment, the start of a scene, or a line of the current scene.
 fn read_line(
     alloc: Global,
     (scenes, begun): (&mut Vec<Scene>, &mut Option<Begun>),

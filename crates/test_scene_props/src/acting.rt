@@ -1,4 +1,4 @@
-//! Runs those steps of a scene that need no server.
+//! Runs the steps of a scene that need no server.
 use crate::in_turn::{act_in_turn, act_turns};
 use crate::memory::act_memory;
 use crate::named::{get, take};
@@ -19,7 +19,7 @@ fn start_clock<R: Wait + Clock + Drop>(rt: &R, props: &mut Props<R>) -> Result<(
     Ok(())
 }
 
-// Returns when the clock was started.
+// Returns the time at which the clock was started. Fails if it wasn't.
 fn begun_in(clock: Option<Instant>) -> Result<Instant, Mishap> {
     match clock {
         Some(begun) => Ok(begun),
@@ -27,7 +27,7 @@ fn begun_in(clock: Option<Instant>) -> Result<Instant, Mishap> {
     }
 }
 
-// Returns the milliseconds since the clock was started.
+// Returns the milliseconds since the clock was started. Fails if it wasn't.
 fn clock_of<R: Wait + Clock + Drop>(rt: &R, props: &Props<R>) -> Result<u64, Mishap> {
     millis_since(rt, begun_in(props.clock)?)
 }
@@ -39,8 +39,8 @@ fn end_lap<R: Wait + Clock + Drop>(rt: &R, props: &mut Props<R>) -> Result<(), M
     start_clock(rt, props)
 }
 
-// Fails unless the elapsed time `gone` is less than `millis` (if `is_below`) or at least `millis` (otherwise). The
-// error leaves out `gone`, so that a scene that must fail prints the same each time.
+// If `is_below`, fails unless the elapsed time `gone` is less than `millis`; otherwise, fails unless it is at least
+// `millis`. The error leaves out `gone`, so that a scene that must fail always prints the same text.
 fn demand_time(alloc: Global, gone: u64, (millis, is_below): (u64, bool)) -> Result<(), Mishap> {
     if (gone < millis) == is_below {
         return Ok(());
@@ -50,7 +50,7 @@ fn demand_time(alloc: Global, gone: u64, (millis, is_below): (u64, bool)) -> Res
     Err(differs(alloc, wanted.as_str(), "not so"))
 }
 
-// Runs a step on a connected client.
+// Runs a step on the connected client called `name`.
 fn act_client<R: Wait + Clock + Drop>(
     rt: &R,
     alloc: Global,
@@ -88,7 +88,8 @@ fn act_client<R: Wait + Clock + Drop>(
     }
 }
 
-/// Runs a step on connected clients, a queue, memory, turns or the clock.
+/// Runs a step on a connected client, the queue, a connection over memory, readers or writers that take turns, or the
+/// clock, or pauses. Fails at any other step.
 pub fn act_without_server<R: Wait + Clock + Copy>(
     rt: &R,
     alloc: Global,

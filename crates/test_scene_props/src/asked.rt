@@ -25,7 +25,7 @@ pub struct Asked<D: ReadDevice + Drop, W: WriteDevice + Drop, R: Wait + Drop> {
 }
 
 impl<D: ReadDevice + Drop, W: WriteDevice + Drop, R: Wait + Drop> Asked<D, W, R> {
-    /// Creates a set without requests.
+    /// Creates a set without requests or outputs.
     pub fn none(alloc: Global) -> Asked<D, W, R> {
         Asked {
             requests: Vec::new(alloc),
@@ -33,7 +33,7 @@ impl<D: ReadDevice + Drop, W: WriteDevice + Drop, R: Wait + Drop> Asked<D, W, R>
         }
     }
 
-    /// Takes those that `lines` name.
+    /// Takes out the requests and outputs that `lines` name.
     pub fn part(&mut self, alloc: Global, lines: &[Line]) -> Result<Asked<D, W, R>, AllocError> {
         Ok(Asked {
             requests: part_of(alloc, &mut self.requests, lines)?,
@@ -41,7 +41,7 @@ impl<D: ReadDevice + Drop, W: WriteDevice + Drop, R: Wait + Drop> Asked<D, W, R>
         })
     }
 
-    /// Takes back what is left of a part.
+    /// Puts back the requests and outputs that are left in `part`.
     pub fn join(&mut self, part: Asked<D, W, R>) -> Result<(), AllocError> {
         let Asked { requests, outputs } = part;
         add_all(&mut self.requests, requests)?;

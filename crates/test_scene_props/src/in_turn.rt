@@ -1,4 +1,4 @@
-//! Readers and writers of a scene that take turns.
+//! The readers and writers of a scene that take turns.
 use crate::memory::Bounded;
 use crate::named::{add, get, take};
 use crate::props::Props;
@@ -13,7 +13,7 @@ use tiny_http_threads::sequential::{
     SequentialReader, SequentialReaderBuilder, SequentialWriter, SequentialWriterBuilder,
 };
 
-/// A builder of readers or writers that take turns.
+/// A builder of readers or writers that take turns; for writers, with the recorder to which they write.
 #[derive(Drop)]
 pub enum Turns<R: Wait + Drop> {
     Readers(SequentialReaderBuilder<Cursor<Vec<u8>>, R>),
@@ -27,20 +27,20 @@ pub enum InTurn<R: Wait + Drop> {
     Writer(SequentialWriter<Bounded<R>, R>),
 }
 
-// Creates readers of `text`.
+// Creates the builder of readers that read `text` in turn.
 fn readers_of<R: Wait + Copy>(rt: &R, alloc: Global, text: &str) -> Result<Turns<R>, Mishap> {
     let reader = Cursor::new(text_of(alloc, text)?);
     Ok(Turns::Readers(SequentialReaderBuilder::new(*rt, alloc, reader)?))
 }
 
-// Creates writers to memory that accepts `room` bytes.
+// Creates the builder of writers that together accept `room` bytes in memory.
 fn writers_of<R: Wait + Copy>(rt: &R, alloc: Global, room: usize) -> Result<Turns<R>, Mishap> {
     let recorder = Recorder::new(*rt, alloc)?;
     let writer = Bounded::new(&recorder, (room, ErrorKind::Other))?;
     Ok(Turns::Writers(SequentialWriterBuilder::new(*rt, alloc, writer)?, recorder))
 }
 
-// Returns the next reader or writer.
+// Returns the next reader or writer of the builder. Fails if there is no builder.
 fn next_of<R: Wait + Copy>(turns: &mut Option<Turns<R>>) -> Result<InTurn<R>, Mishap> {
     match turns {
         Some(Turns::Readers(readers)) => Ok(InTurn::Reader(readers.next()?)),
@@ -49,7 +49,7 @@ fn next_of<R: Wait + Copy>(turns: &mut Option<Turns<R>>) -> Result<InTurn<R>, Mi
     }
 }
 
-/// Runs a step that creates or checks readers or writers.
+/// Runs a step on the sequence of readers or writers that take turns.
 pub fn act_turns<R: Wait + Copy>(
     rt: &R,
     alloc: Global,
@@ -79,7 +79,7 @@ pub fn act_turns<R: Wait + Copy>(
     }
 }
 
-// Reads once, and expects `text`.
+// Reads once, with room for as many bytes as `text` has, and expects `text`.
 fn read_once<R: Wait + Drop>(
     alloc: Global,
     in_turn: &mut InTurn<R>,
@@ -99,7 +99,7 @@ fn read_once<R: Wait + Drop>(
     }
 }
 
-// Writes `text` once, and expects that this many bytes are accepted, or this error.
+// Writes `text` in one call, and expects `wanted`: the number of bytes that the call accepts, or the kind of its error.
 fn write_once<R: Wait + Drop>(
     alloc: Global,
     in_turn: &mut InTurn<R>,

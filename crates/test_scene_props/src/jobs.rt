@@ -1,4 +1,4 @@
-//! Pool jobs that play steps on a queue, and the failures of steps that run beside others.
+//! The pool jobs of a scene, which play steps on its queue, and the failures of steps.
 use crate::queue::act_queue;
 use std::alloc::{AllocError, Global};
 use std::sync::atomic::{AtomicBool, Ordering};
@@ -19,7 +19,7 @@ pub struct Failure {
     pub mishap: Mishap,
 }
 
-/// Creates a failure at `line`.
+/// Creates a failure at `line`. If memory is refused, the failure does not hold the line's text.
 pub fn failure_at(alloc: Global, line: &Line, mishap: Mishap) -> Failure {
     let text = match String::from_str(alloc, line.text.as_str()) {
         Ok(text) => text,
@@ -46,7 +46,7 @@ pub fn copies_of(alloc: Global, lines: &[Line]) -> Result<Vec<Line>, AllocError>
     Ok(copies)
 }
 
-/// Returns the indented lines at the start.
+/// Returns the indented lines at the start of `lines`.
 pub fn inner_lines(lines: &[Line]) -> &[Line] {
     let count = lines.iter().position(|line| !line.is_inner);
     lines
@@ -54,7 +54,7 @@ pub fn inner_lines(lines: &[Line]) -> &[Line] {
         .unwrap_or_default()
 }
 
-/// A pool job that plays steps on the queue.
+/// A pool job that plays steps on a scene's queue.
 #[derive(Drop)]
 pub struct QueueJob<R: Wait + Clock + Drop> {
     rt: R,
@@ -62,14 +62,14 @@ pub struct QueueJob<R: Wait + Clock + Drop> {
     queue: Arc<MessagesQueue<u64>>,
     lines: Vec<Line>,
     has_ended: Arc<AtomicBool>,
-    /// Receives the failure, or `None`, when the job is done.
+    /// Receives the job's failure, or `None` if no step failed, when the job is done.
     pub done: Arc<MessagesQueue<Option<Failure>>>,
 }
 
 /// The pool of a scene, which runs `QueueJob`s.
 pub type Pool<R> = TaskPool<QueueJob<R>, R>;
 
-// Plays steps on the queue. Returns the step that failed, if any.
+// Plays steps on the queue until one fails. Returns that failure, if any.
 fn play_queue<R: Wait + Clock>(
     rt: &R,
     alloc: Global,
@@ -89,7 +89,7 @@ fn play_queue<R: Wait + Clock>(
 }
 
 impl<R: Wait + Clock + Drop> Job for QueueJob<R> {
-    /// Plays the steps, and pushes the failure.
+    /// Plays the steps, sets `has_ended`, and pushes the failure, or `None` if no step failed, to `done`.
     fn run(&mut self) {
         let lines = self.lines.as_slice();
         let failure = play_queue(&self.rt, self.alloc, &self.queue, lines);
@@ -98,7 +98,7 @@ impl<R: Wait + Clock + Drop> Job for QueueJob<R> {
     }
 }
 
-/// Creates a job that plays `lines` on `queue`, and sets `has_ended` at the end.
+/// Creates a job that plays `lines` on `queue` and then sets `has_ended`. Fails if there is no queue.
 pub fn job_of<R: Wait + Clock + Copy>(
     rt: &R,
     alloc: Global,
@@ -121,7 +121,7 @@ pub fn job_of<R: Wait + Clock + Copy>(
     })
 }
 
-/// Creates the pool of a scene, if the scene runs on one.
+/// Creates the pool of a scene, or returns `None` if the scene doesn't run on a pool.
 pub fn pool_of<R: Wait + Clock + Threads + Copy + Send + 'static>(
     rt: &R,
     alloc: Global,

@@ -1,6 +1,7 @@
-//! The props of scenes, which are everything but servers: clients, a clock, requests over memory, a queue, a pool and
-//! its jobs, and readers and writers that take turns. Also runs steps on requests of any source. `test_scenes` adds the
-//! servers and plays scenes. docs/CASES.md describes the language.
+//! The props of scenes, that is, everything that scenes use except servers: clients, a clock, requests over memory, a
+//! queue, a pool and its jobs, and readers and writers that take turns. Also runs steps on requests, whatever
+//! connection they came from. `test_scenes` adds the servers and plays the scenes. docs/CASES.md describes the
+//! language.
 #![tactic(auto)]
 
 pub mod acting;

@@ -58,15 +58,16 @@ impl<R: Wait + Drop> Write for Bounded<R> {
     }
 }
 
-/// The reader and the writer of a request over memory.
+/// The reader of a request over memory.
 pub type MemoryReader = Cursor<Vec<u8>>;
 
+/// The writer of a request over memory.
 pub type MemoryWriter<R> = Metered<Bounded<R>>;
 
 /// The requests over memory, and their outputs.
 pub type Remembered<R> = Asked<MemoryReader, MemoryWriter<R>, R>;
 
-/// A client over memory, and what was written to it.
+/// A client over memory, and the bytes written in response to its requests and to requests that the scene builds.
 #[derive(Drop)]
 pub struct Memory<R: Wait + Drop> {
     client: Option<ClientConnection<MemoryReader, MemoryWriter<R>, R>>,
@@ -77,7 +78,7 @@ pub struct Memory<R: Wait + Drop> {
 }
 
 impl<R: Wait + Copy> Memory<R> {
-    /// Creates a memory to which nothing has been sent or written.
+    /// Creates a `Memory` without a client, to which nothing has been written.
     pub fn new(rt: &R, alloc: Global) -> Result<Memory<R>, Mishap> {
         Ok(Memory {
             client: None,
@@ -87,7 +88,7 @@ impl<R: Wait + Copy> Memory<R> {
         })
     }
 
-    // Creates a writer into this memory, with its current bound.
+    // Creates a writer to `written`, with the current bound.
     fn writer(&self) -> Result<MemoryWriter<R>, Mishap> {
         Ok(Metered::new(Bounded::new(&self.written, self.bound)?))
     }
@@ -100,7 +101,7 @@ impl<R: Wait + Copy> Memory<R> {
         Ok(())
     }
 
-    // Expects `wanted` as the next bytes written.
+    // Expects `wanted` as the next bytes written, with each Date field line replaced as `dated` does.
     fn gets(&mut self, alloc: Global, wanted: &[u8]) -> Result<(), Mishap> {
         let written = self.written.bytes()?;
         let rest = written.get(self.seen..).unwrap_or_default();
@@ -113,7 +114,7 @@ impl<R: Wait + Copy> Memory<R> {
 
 type MemoryRequest<R> = Request<MemoryReader, MemoryWriter<R>, R>;
 
-// Returns the next request of the client.
+// Returns the client's next request, or `None` if there is no further one. Fails if there is no client.
 fn next_of<R: Wait + Clock + Copy>(
     rt: &R,
     memory: &mut Memory<R>,
@@ -124,7 +125,7 @@ fn next_of<R: Wait + Clock + Copy>(
     }
 }
 
-// Adds one of the further parts of a request.
+// Adds a further part to a request: `https`, a body, a client address or a header field.
 fn with_part(alloc: Global, request: TestRequest, part: &str) -> Result<TestRequest, Mishap> {
     if part == "https" {
         return Ok(request.with_https());
@@ -175,7 +176,8 @@ fn request_of(alloc: Global, parts: Parts<'_>) -> Result<Option<TestRequest>, Mi
     Ok(Some(request))
 }
 
-// Compares the result of building a request with the expected one, and names the request.
+// Compares the result of building a request with the expected one. If the request was built as expected, adds it under
+// its name.
 fn take_made<R: Wait + Clock + Copy>(
     alloc: Global,
     props: &mut Props<R>,
@@ -195,7 +197,7 @@ fn take_made<R: Wait + Clock + Copy>(
     }
 }
 
-// Builds a request for a test.
+// Builds a request with `TestRequest`, and compares the result with the expected one.
 fn make<R: Wait + Clock + Copy>(
     rt: &R,
     alloc: Global,
@@ -212,7 +214,7 @@ fn make<R: Wait + Clock + Copy>(
     take_made(alloc, props, made, wanted)
 }
 
-// Collects the headers and the body among the further parts of a request.
+// Returns the header fields and the body among the further parts of a request.
 fn headers_and_body(alloc: Global, more: &str) -> Result<(Vec<Header>, Vec<u8>), Mishap> {
     let (mut headers, mut body) = (Vec::new(alloc), Vec::new(alloc));
     for part in more.split(" + ").filter(|part| !part.is_empty()) {
@@ -228,7 +230,7 @@ fn headers_and_body(alloc: Global, more: &str) -> Result<(Vec<Header>, Vec<u8>),
     Ok((headers, body))
 }
 
-// Builds a request from its parts by `new_request`, without a client address.
+// Builds a request with `new_request`, without a client address, and compares the result with the expected one.
 fn make_new<R: Wait + Clock + Copy>(
     rt: &R,
     alloc: Global,
@@ -274,7 +276,7 @@ fn give<R: Wait + Clock + Copy>(
     add(alloc, &mut props.remembered.requests, name, request)
 }
 
-/// Runs a step over memory.
+/// Runs a step on the client over memory, or builds a request over memory.
 pub fn act_memory<R: Wait + Clock + Copy>(
     rt: &R,
     alloc: Global,

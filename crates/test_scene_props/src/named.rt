@@ -11,12 +11,12 @@ pub struct Named<T> {
     pub value: T,
 }
 
-// Returns the index of a name, the last one if there are several.
+// Returns the index of the value called `name`: the last one if there are several, or `None` if there is none.
 fn place_of<T>(all: &[Named<T>], name: &str) -> Option<usize> {
     all.iter().rposition(|named| named.name.as_str() == name)
 }
 
-/// Adds a value under a name.
+/// Adds a value called `name`, which hides earlier values of that name.
 pub fn add<T: Drop>(
     alloc: Global,
     all: &mut Vec<Named<T>>,
@@ -30,7 +30,7 @@ pub fn add<T: Drop>(
     }
 }
 
-/// Removes the value of this name, and returns it.
+/// Removes and returns the last value called `name`. Fails if there is none.
 pub fn take<T: Drop>(all: &mut Vec<Named<T>>, name: &str) -> Result<T, Mishap> {
     let place = place_of(all.as_slice(), name).unwrap_or(usize::MAX);
     if place >= all.len() {
@@ -40,7 +40,7 @@ pub fn take<T: Drop>(all: &mut Vec<Named<T>>, name: &str) -> Result<T, Mishap> {
     Ok(value)
 }
 
-/// Returns the value of this name.
+/// Returns the last value called `name`. Fails if there is none.
 pub fn get<'a, T>(all: &'a mut Vec<Named<T>>, name: &str) -> Result<&'a mut T, Mishap> {
     let place = place_of(all.as_slice(), name).unwrap_or(usize::MAX);
     match all.get_mut(place) {
@@ -49,7 +49,7 @@ pub fn get<'a, T>(all: &'a mut Vec<Named<T>>, name: &str) -> Result<&'a mut T, M
     }
 }
 
-/// Returns whether one of the lines contains this name as a word.
+/// Returns whether one of the lines contains `name` as a word.
 pub fn is_named(lines: &[Line], name: &str) -> bool {
     lines.iter().any(|line| {
         let text = line.text.as_str();
@@ -57,7 +57,7 @@ pub fn is_named(lines: &[Line], name: &str) -> bool {
     })
 }
 
-/// Takes those that `lines` name.
+/// Takes out the values that `lines` name.
 pub fn part_of<T: Drop>(
     alloc: Global,
     all: &mut Vec<Named<T>>,
@@ -84,7 +84,7 @@ pub fn add_all<T: Drop>(all: &mut Vec<Named<T>>, more: Vec<Named<T>>) -> Result<
     Ok(())
 }
 
-/// Returns whether a value has this name.
+/// Returns whether a value is called `name`.
 pub fn has<T>(all: &[Named<T>], name: &str) -> bool {
     place_of(all, name).is_some()
 }

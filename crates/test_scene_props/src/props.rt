@@ -14,7 +14,7 @@ use tiny_http_threads::messages_queue::MessagesQueue;
 // Initial capacity of a scene's queue.
 const QUEUE_ROOM: usize = 8;
 
-/// What the steps of a scene act on besides a server.
+/// What the steps of a scene act on, apart from a server.
 #[derive(Drop)]
 pub struct Props<R: Wait + Drop> {
     pub clients: Vec<Named<Client>>,
@@ -24,11 +24,11 @@ pub struct Props<R: Wait + Drop> {
     pub turns: Option<Turns<R>>,
     pub in_turn: Vec<Named<InTurn<R>>>,
     pub clock: Option<Instant>,
-    /// Milliseconds of the shortest lap, if there was one.
+    /// The time of the shortest lap in milliseconds, if a lap has ended.
     pub shortest: Option<u64>,
 }
 
-/// Allocates a shared value.
+/// Moves `value` into a new `Arc`.
 pub fn shared<T: Drop>(alloc: Global, value: T) -> Result<Arc<T>, Mishap> {
     match Arc::new(alloc, value) {
         Ok(shared) => Ok(shared),
@@ -45,7 +45,7 @@ fn queue_of(alloc: Global) -> Result<Arc<MessagesQueue<u64>>, Mishap> {
 }
 
 impl<R: Wait + Copy> Props<R> {
-    /// Creates the props of a scene that runs on `over`.
+    /// Creates the props with which a scene over `over` begins.
     pub fn over(rt: &R, alloc: Global, over: Over) -> Result<Props<R>, Mishap> {
         let mut props = Props::none(alloc);
         match over {
@@ -72,7 +72,7 @@ impl<R: Wait + Drop> Props<R> {
         }
     }
 
-    /// Returns what is over memory, or an error if there is nothing.
+    /// Returns the client over memory and what was written to it. Fails if the scene doesn't run over memory.
     pub fn memory(&mut self) -> Result<&mut Memory<R>, Mishap> {
         match &mut self.memory {
             Some(memory) => Ok(memory),
@@ -80,7 +80,7 @@ impl<R: Wait + Drop> Props<R> {
         }
     }
 
-    /// Returns the queue, or an error if there is none.
+    /// Returns the queue. Fails if there is none.
     pub fn queue(&self) -> Result<&MessagesQueue<u64>, Mishap> {
         match &self.queue {
             Some(queue) => Ok(queue),
@@ -88,7 +88,8 @@ impl<R: Wait + Drop> Props<R> {
         }
     }
 
-    /// Takes what `lines` need: everything they name, and a handle to the queue.
+    /// Takes out the props that `lines` need: the clients, requests, outputs, readers and writers that they name, and
+    /// another handle to the queue.
     pub fn part(&mut self, alloc: Global, lines: &[Line]) -> Result<Props<R>, AllocError> {
         let mut theirs = Props::none(alloc);
         if let Some(queue) = &self.queue {
@@ -100,7 +101,7 @@ impl<R: Wait + Drop> Props<R> {
         Ok(theirs)
     }
 
-    /// Takes back what is left of a part.
+    /// Puts back the clients, requests, outputs, readers and writers that are left in `part`.
     pub fn join(&mut self, part: Props<R>) -> Result<(), AllocError> {
         let Props {
             clients,
@@ -113,7 +114,8 @@ impl<R: Wait + Drop> Props<R> {
         add_all(&mut self.in_turn, in_turn)
     }
 
-    /// Drops what others may wait for: requests and outputs, readers and writers, and then clients.
+    /// Drops what other threads may wait for: first requests and outputs, then the readers and writers that take turns,
+    /// and finally clients.
     pub fn clear(&mut self) {
         self.remembered.clear();
         self.in_turn.clear();

@@ -6,7 +6,7 @@ use test_scene_files::grounds::{Popped, QueueDeed};
 use test_scene_files::mishap::{Mishap, differs};
 use tiny_http_threads::messages_queue::MessagesQueue;
 
-// Maximum number of ignored values.
+// Maximum number of values that `pop_past` skips.
 const MOST_PASSED: u32 = 1_000;
 
 // Compares the result of a pop with the expected one.
@@ -29,7 +29,8 @@ fn demand_popped(alloc: Global, wanted: Popped, came: Option<u64>) -> Result<(),
     Err(differs(alloc, wanted.as_str(), came.as_str()))
 }
 
-// Pops until a value other than `passed` comes, or none. `most` limits each wait.
+// Pops until the result is not `passed`, and returns it. Returns `passed` if `MOST_PASSED` pops returned it. `most`, if
+// set, limits the time of each pop.
 fn pop_past<R: Wait + Clock>(
     rt: &R,
     queue: &MessagesQueue<u64>,
@@ -48,7 +49,7 @@ fn pop_past<R: Wait + Clock>(
     Some(passed)
 }
 
-/// Runs a step on the queue.
+/// Runs a step on the queue. Fails if a pop doesn't return the expected result, or if memory is refused.
 pub fn act_queue<R: Wait + Clock>(
     rt: &R,
     alloc: Global,

@@ -22,7 +22,7 @@ use tiny_http_wire::response::Response;
 // Maximum number of reads of a body.
 const READS: u32 = 100_000;
 
-/// Returns the current date as a server sends it: that of second 0 if the clock can't be read.
+/// Returns the current date as a server sends it: that of Unix second 0 if the clock can't be read or is out of range.
 pub fn date_now<R: Clock>(rt: &R) -> HttpDate {
     let seconds = rt.since_1970().map_or(0, |time| time.as_secs());
     match HttpDate::from_unix_secs(seconds) {
@@ -31,7 +31,7 @@ pub fn date_now<R: Clock>(rt: &R) -> HttpDate {
     }
 }
 
-// Returns the date of second 0.
+// Returns the date of Unix second 0.
 fn epoch() -> HttpDate {
     match HttpDate::from_unix_secs(0) {
         Ok(date) => date,
@@ -49,7 +49,7 @@ fn kind_of_fault<T: Drop>(outcome: io::Result<T>) -> Option<ErrorKind> {
     outcome.err().map(|fault| fault.kind())
 }
 
-// Responds with a text.
+// Responds with this status and text. Returns the result of `respond`.
 fn respond_text<D: ReadDevice + Drop, W: WriteDevice + Drop, R: Wait + Clock + Drop>(
     rt: &R,
     alloc: Global,
@@ -64,7 +64,7 @@ fn respond_text<D: ReadDevice + Drop, W: WriteDevice + Drop, R: Wait + Clock + D
     Ok(request.respond(response, date_now(rt)))
 }
 
-// Responds with JSON.
+// Responds with this status and JSON text. Returns the result of `respond`.
 fn respond_json<D: ReadDevice + Drop, W: WriteDevice + Drop, R: Wait + Clock + Drop>(
     rt: &R,
     alloc: Global,
@@ -86,7 +86,7 @@ fn respond_json<D: ReadDevice + Drop, W: WriteDevice + Drop, R: Wait + Clock + D
     Ok(request.respond(response, date_now(rt)))
 }
 
-// Responds without a body, and closes the connection if `is_last`.
+// Responds with this status and without a body, and closes the connection if `is_last`.
 fn respond_empty<D: ReadDevice + Drop, W: WriteDevice + Drop, R: Wait + Clock + Drop>(
     rt: &R,
     alloc: Global,
@@ -100,7 +100,8 @@ fn respond_empty<D: ReadDevice + Drop, W: WriteDevice + Drop, R: Wait + Clock + 
     request.respond(response, date_now(rt))
 }
 
-// Responds with `count` bytes, without a content length unless `is_sized`. With one, they are never sent in chunks.
+// Responds with this status and `count` bytes. If `is_sized`, the response states their content length and is never
+// sent in chunks; otherwise it states none.
 fn respond_bytes<D: ReadDevice + Drop, W: WriteDevice + Drop, R: Wait + Clock + Drop>(
     rt: &R,
     alloc: Global,
@@ -118,7 +119,7 @@ fn respond_bytes<D: ReadDevice + Drop, W: WriteDevice + Drop, R: Wait + Clock + 
     request.respond(response, date_now(rt))
 }
 
-// Responds with this status and body.
+// Responds with this status and body. Returns the result of `respond`.
 fn respond<D: ReadDevice + Drop, W: WriteDevice + Drop, R: Wait + Clock + Drop>(
     rt: &R,
     alloc: Global,
@@ -139,7 +140,7 @@ fn respond<D: ReadDevice + Drop, W: WriteDevice + Drop, R: Wait + Clock + Drop>(
     }
 }
 
-/// Builds a response that states a content length, with these data.
+/// Builds a response with these data that states the content length `stated`, whatever their real length.
 pub fn short_answer(
     alloc: Global,
     status: u16,
@@ -148,7 +149,7 @@ pub fn short_answer(
     Response::empty(alloc, StatusCode(status)).with_data(Cursor::new(data), Some(stated))
 }
 
-// Reads the rest of a request's body, and expects these bytes.
+// Reads the rest of a request's body, and expects `wanted`.
 fn demand_body<D: ReadDevice + Drop, W: WriteDevice + Drop, R: Wait + Clock + Drop>(
     rt: &R,
     alloc: Global,
@@ -161,7 +162,8 @@ fn demand_body<D: ReadDevice + Drop, W: WriteDevice + Drop, R: Wait + Clock + Dr
     demand_bytes(alloc, wanted, body.as_slice())
 }
 
-// Reads a request's body, and returns the error that ends it, if any.
+// Reads a request's body until it ends or a read fails, at most `READS` times. Returns the kind of the error, if a read
+// failed.
 fn fault_of_body<D: ReadDevice + Drop, W: WriteDevice + Drop, R: Wait + Clock + Drop>(
     rt: &R,
     request: &mut Request<D, W, R>,
@@ -178,7 +180,7 @@ fn fault_of_body<D: ReadDevice + Drop, W: WriteDevice + Drop, R: Wait + Clock + 
     None
 }
 
-// Reads the next bytes of a request's body, and expects these.
+// Reads the next bytes of a request's body, and expects `wanted`.
 fn demand_next<D: ReadDevice + Drop, W: WriteDevice + Drop, R: Wait + Clock + Drop>(
     rt: &R,
     alloc: Global,
@@ -215,7 +217,7 @@ fn words_of(whole: &Result<Vec<u8>, BodyError>) -> &'static str {
     }
 }
 
-// Reads a request's whole body of at most `most` bytes, and compares the result with the expected one.
+// Calls `read_body` with the limit `most`, and compares the result with the expected one.
 fn demand_whole<D: ReadDevice + Drop, W: WriteDevice + Drop, R: Wait + Clock + Drop>(
     rt: &R,
     alloc: Global,
@@ -239,7 +241,7 @@ fn demand_whole<D: ReadDevice + Drop, W: WriteDevice + Drop, R: Wait + Clock + D
     }
 }
 
-// Fails unless both texts are equal or absent.
+// Fails unless the texts are equal or both are absent.
 fn demand_option(alloc: Global, wanted: Option<&str>, came: Option<&str>) -> Result<(), Mishap> {
     match (wanted, came) {
         (None, None) => Ok(()),
@@ -248,7 +250,8 @@ fn demand_option(alloc: Global, wanted: Option<&str>, came: Option<&str>) -> Res
     }
 }
 
-// Fails unless `came` equals `wanted`, with the words for the wanted value.
+// Fails unless `came` equals `wanted`. The error states `words` as the expectation if `wanted` is true, and
+// `words_if_not` otherwise.
 fn demand_property(
     alloc: Global,
     (words, words_if_not): (&str, &str),
@@ -258,7 +261,8 @@ fn demand_property(
     demand(alloc, words, came == wanted)
 }
 
-// Checks a request's header fields and target.
+// Checks one property of a request: a header field, its path or query, or whether it asks for an upgrade, can't be
+// answered any more, or came over TLS. Passes any other step on to `look_whole`.
 fn look<D: ReadDevice + Drop, W: WriteDevice + Drop, R: Wait + Clock + Drop>(
     alloc: Global,
     request: &Request<D, W, R>,
@@ -288,7 +292,7 @@ fn look<D: ReadDevice + Drop, W: WriteDevice + Drop, R: Wait + Clock + Drop>(
     }
 }
 
-// Checks a request's version, body length and count of headers, and how it is displayed.
+// Checks a request's version, body length, number of header fields or debug output. Fails at any other step.
 fn look_whole<D: ReadDevice + Drop, W: WriteDevice + Drop, R: Wait + Clock + Drop>(
     alloc: Global,
     request: &Request<D, W, R>,
@@ -314,7 +318,7 @@ fn look_whole<D: ReadDevice + Drop, W: WriteDevice + Drop, R: Wait + Clock + Dro
     }
 }
 
-// Borrows a request's head and body together, and expects this path and this rest of the body.
+// Borrows a request's head and body together, and expects `path` and, as the rest of the body, `wanted`.
 fn demand_parts<D: ReadDevice + Drop, W: WriteDevice + Drop, R: Wait + Clock + Drop>(
     rt: &R,
     alloc: Global,
@@ -329,7 +333,7 @@ fn demand_parts<D: ReadDevice + Drop, W: WriteDevice + Drop, R: Wait + Clock + D
     demand_bytes(alloc, wanted, came.as_slice())
 }
 
-/// Expects that the request is a `GET` without TLS from this address.
+/// Expects that the request is a `GET`, came without TLS, and has the client address `addr`.
 pub fn demand_plain<D: ReadDevice + Drop, W: WriteDevice + Drop, R: Wait + Clock + Drop>(
     alloc: Global,
     request: &Request<D, W, R>,
@@ -381,7 +385,7 @@ pub fn act_asked<D: ReadDevice + Drop, W: WriteDevice + Drop, R: Wait + Clock + 
     }
 }
 
-// Runs a step that leaves the request in place: reads its body, or checks its head.
+// Runs a step that keeps the request: reads its body, or checks its head.
 fn read_request<D: ReadDevice + Drop, W: WriteDevice + Drop, R: Wait + Clock + Drop>(
     rt: &R,
     alloc: Global,
@@ -411,7 +415,7 @@ fn read_request<D: ReadDevice + Drop, W: WriteDevice + Drop, R: Wait + Clock + D
     }
 }
 
-// Takes the request called `name`. Returns it with an empty response of this status.
+// Takes the request called `name`. Returns it, and an empty response with this status.
 fn begin_answer<D: ReadDevice + Drop, W: WriteDevice + Drop, R: Wait + Drop>(
     alloc: Global,
     asked: &mut Asked<D, W, R>,
@@ -422,7 +426,7 @@ fn begin_answer<D: ReadDevice + Drop, W: WriteDevice + Drop, R: Wait + Drop>(
     Ok((request, Response::empty(alloc, StatusCode(status))))
 }
 
-// Expects that an upgrade is refused for this reason, and puts the request back.
+// Expects that `try_upgrade` refuses an upgrade for this reason, and puts the request back.
 fn keep_upgrade<D: ReadDevice + Drop, W: WriteDevice + Drop, R: Wait + Clock + Drop>(
     rt: &R,
     alloc: Global,
@@ -446,7 +450,7 @@ fn keep_upgrade<D: ReadDevice + Drop, W: WriteDevice + Drop, R: Wait + Clock + D
     }
 }
 
-// Takes the raw writer of a request, and names it.
+// Turns a request into its raw writer, and names the writer.
 fn into_writer<D: ReadDevice + Drop, W: WriteDevice + Drop, R: Wait + Clock + Drop>(
     alloc: Global,
     asked: &mut Asked<D, W, R>,
@@ -457,7 +461,7 @@ fn into_writer<D: ReadDevice + Drop, W: WriteDevice + Drop, R: Wait + Clock + Dr
     add(alloc, &mut asked.outputs, output, Output::Raw(writer))
 }
 
-// Begins a streaming response, and names it.
+// Begins a streaming response, and names it. If `is_last`, the connection closes after the response.
 fn respond_streaming<D: ReadDevice + Drop, W: WriteDevice + Drop, R: Wait + Clock + Drop>(
     rt: &R,
     alloc: Global,
@@ -473,7 +477,7 @@ fn respond_streaming<D: ReadDevice + Drop, W: WriteDevice + Drop, R: Wait + Cloc
     }
 }
 
-// Upgrades a request, with `try_upgrade` if `is_tried`, and names the stream.
+// Upgrades a request, with `try_upgrade` if `is_tried` and with `upgrade` otherwise, and names the stream.
 fn upgrade<D: ReadDevice + Drop, W: WriteDevice + Drop, R: Wait + Clock + Drop>(
     rt: &R,
     alloc: Global,
@@ -515,7 +519,7 @@ fn flush<D: ReadDevice + Drop, W: WriteDevice + Drop, R: Wait + Clock + Drop>(
     }
 }
 
-// Closes a raw writer or finishes a streaming response.
+// Closes a raw writer, finishes a streaming response, or drops an upgraded stream.
 fn close<D: ReadDevice + Drop, W: WriteDevice + Drop, R: Wait + Clock + Drop>(
     output: Output<D, W, R>,
 ) -> io::Result<()> {
@@ -526,7 +530,7 @@ fn close<D: ReadDevice + Drop, W: WriteDevice + Drop, R: Wait + Clock + Drop>(
     }
 }
 
-// Reads the next bytes of an upgraded stream, and expects these.
+// Reads the next bytes of an upgraded stream, and expects `wanted`.
 fn demand_read<D: ReadDevice + Drop, W: WriteDevice + Drop, R: Wait + Clock + Drop>(
     alloc: Global,
     output: &mut Output<D, W, R>,
@@ -541,7 +545,7 @@ fn demand_read<D: ReadDevice + Drop, W: WriteDevice + Drop, R: Wait + Clock + Dr
     demand_bytes(alloc, wanted, came.as_slice())
 }
 
-// Expects that a read of an upgraded stream fails with this kind.
+// Expects that a read of an upgraded stream fails with the kind `wanted`.
 fn demand_stopped<D: ReadDevice + Drop, W: WriteDevice + Drop, R: Wait + Clock + Drop>(
     alloc: Global,
     output: &mut Output<D, W, R>,

@@ -1,4 +1,4 @@
-//! Runs what a scene starts besides its own steps: threads, and jobs of a pool.
+//! Runs the threads and the pool jobs that a scene starts.
 use crate::hands::Hands;
 use crate::links::Host;
 use crate::playing::{Stage, play_lines};
@@ -16,10 +16,10 @@ use test_scene_props::props::shared;
 use tiny_http::connection::SocketFiles;
 use tiny_http::messages_queue::MessagesQueue;
 
-// Milliseconds for which a waiting thread is watched.
+// Time in milliseconds for which a thread or job is watched to see that it waits.
 const WATCHED: u64 = 20;
 
-// The result of a thread: its remaining props, and the step at which it failed, if any.
+// The result of a thread: what it still holds of the server and the props, and the step at which it failed, if any.
 #[derive(Drop)]
 pub(crate) struct Done<R: Net + SocketFiles + Wait + Clock + Drop> {
     hands: Hands<R>,
@@ -42,7 +42,7 @@ pub(crate) struct Beside<R: Net + SocketFiles + Wait + Clock + Drop> {
     player: Player<R>,
 }
 
-// Plays the steps of a thread, and marks it as ended.
+// Plays the steps of a thread, and then sets `has_ended`.
 fn play_beside<R: Host>(
     rt: &R,
     alloc: Global,
@@ -118,7 +118,8 @@ fn place_of_thread<R: Host>(stage: &Stage<R>, name: &str) -> usize {
     place.unwrap_or(usize::MAX)
 }
 
-// Takes back the props of a thread that has ended, and returns its failure, if any. For a job, returns its failure.
+// Joins a thread that has ended, and takes back what it still holds, or receives the result of a job. Returns the
+// failure of the thread or job, if any.
 fn join<R: Host>(rt: &R, stage: &mut Stage<R>, beside: Beside<R>) -> Option<Failure> {
     let Beside {
         name: _,

@@ -15,20 +15,20 @@ use tiny_http::serving::Handler;
 // Maximum time in milliseconds that a handler waits at its gate.
 const LONGEST: u32 = 10_000;
 
-// Length of the body that `/long` gets in one write.
+// Length of the body of a response to `/long`.
 const LONG: usize = 20_000;
 
-/// Responds according to a request's path.
+/// A handler that responds according to a request's path.
 #[derive(Drop)]
 pub(crate) struct ByPath<R: Wait + Clock + Drop> {
-    /// The kept requests: all, or those for `/keep`.
+    /// The requests that are kept: all if `keeps_all` is set, and those for `/keep` otherwise.
     pub kept: Arc<MessagesQueue<ServerRequest<R>>>,
     pub keeps_all: Arc<AtomicBool>,
-    /// Whether a waiting handler may continue.
+    /// Whether a call of the handler that waits at the gate may continue.
     pub gate: Arc<AtomicBool>,
 }
 
-// Responds with the path as the body, and closes the connection if `is_last`.
+// Responds with the request target as the body, and closes the connection if `is_last`.
 fn answer_path<R: Wait + Clock + Drop>(
     rt: &R,
     alloc: Global,
@@ -54,7 +54,7 @@ fn echo<R: Wait + Clock + Drop>(
     request.respond(Response::from_data(alloc, body), current_date(rt))
 }
 
-// Upgrades to a protocol in which the server sends `hello` and nothing else.
+// Upgrades the request to a protocol in which the server sends `hello` and nothing else.
 fn greet<R: Wait + Clock + Drop>(
     rt: &R,
     alloc: Global,
@@ -94,7 +94,7 @@ fn grow<R: Wait + Clock + Drop>(
     body.finish()
 }
 
-// Responds with a streaming body of many bytes in one write.
+// Responds with a streaming body of `LONG` bytes in one write.
 fn write_long<R: Wait + Clock + Drop>(
     rt: &R,
     alloc: Global,
@@ -108,10 +108,11 @@ fn write_long<R: Wait + Clock + Drop>(
 }
 
 impl<R: Wait + Clock + Drop> Handler<R, ServerRequest<R>> for ByPath<R> {
-    /// Keeps the request if its path is `/keep`, or in any case if `keeps_all` is set. Drops it for `/drop` and
-    /// `/drop-err`, responds with its body for `/echo`, in pieces for `/grow`, with many bytes for `/long`, with three
-    /// of ten bytes for `/short`, and upgrades it for `/greet`. Responds to any other with its path, to `/wait` after
-    /// the gate opens. `/close` closes the connection afterwards; `/err` and `/drop-err` return an error.
+    /// Keeps the request if its target is `/keep` or `keeps_all` is set. Otherwise drops it for `/drop` and
+    /// `/drop-err`, responds with its body for `/echo`, in two pieces for `/grow`, with `LONG` bytes for `/long`, with
+    /// three of ten stated bytes for `/short`, and upgrades it for `/greet`. Responds to any other request with its
+    /// target as the body: for `/wait` once the gate is open, and for `/close` with a response that closes the
+    /// connection. Returns an error for `/err`, after the response, and for `/drop-err`.
     fn handle(&self, rt: &R, alloc: Global, request: ServerRequest<R>) -> io::Result<()> {
         let path = request.url();
         if self.keeps_all.load(Ordering::SeqCst) || path == "/keep" {

@@ -24,9 +24,9 @@ pub(crate) struct Hands<R: Net + SocketFiles + Wait + Clock + Drop> {
     pub handler: Arc<ByPath<R>>,
     pub way: Way,
     pub served: Served<R>,
-    /// What needs no server.
+    /// What the steps act on that needs no server.
     pub props: Props<R>,
-    /// File descriptors that are held so that nobody else can have them.
+    /// File descriptors that are held so that the process has few left.
     pub taken: Vec<OwnedFd>,
 }
 
@@ -48,7 +48,7 @@ impl<R: Net + SocketFiles + Wait + Clock + Drop> Hands<R> {
         }
     }
 
-    /// Returns the server, or an error if there is none.
+    /// Returns the server. Fails if there is none.
     pub(crate) fn server(&self) -> Result<&Server<R>, Mishap> {
         match &self.server {
             Some(server) => Ok(server),
@@ -56,7 +56,7 @@ impl<R: Net + SocketFiles + Wait + Clock + Drop> Hands<R> {
         }
     }
 
-    /// Returns the server's address, even after the server is dropped.
+    /// Returns the server's address, even after the server is dropped. Fails if there was no server.
     pub(crate) fn addr(&self) -> Result<&ListenAddr, Mishap> {
         match &self.addr {
             Some(addr) => Ok(addr),
@@ -64,7 +64,8 @@ impl<R: Net + SocketFiles + Wait + Clock + Drop> Hands<R> {
         }
     }
 
-    /// Takes what `lines` need: everything they name, and a handle to the server if they name it.
+    /// Takes out what `lines` need: the requests, outputs and props that they name, and another handle to the server if
+    /// they name it.
     pub(crate) fn part(&mut self, alloc: Global, lines: &[Line]) -> Result<Hands<R>, AllocError> {
         let props = self.props.part(alloc, lines)?;
         let handler = Arc::try_clone(&self.handler)?;
@@ -81,7 +82,7 @@ impl<R: Net + SocketFiles + Wait + Clock + Drop> Hands<R> {
         Ok(theirs)
     }
 
-    /// Takes back what is left of a part.
+    /// Puts back the requests, outputs and props that are left in `part`.
     pub(crate) fn join(&mut self, part: Hands<R>) -> Result<(), AllocError> {
         let Hands { served, props, .. } = part;
         self.served.join(served)?;

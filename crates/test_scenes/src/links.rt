@@ -4,7 +4,7 @@ use std::rt::Files;
 use std::{fs, io};
 use tiny_http::server;
 
-/// A runtime that can create links. Bounding by `Files` instead would prevent threads from sharing a server.
+/// A runtime that can create links. A bound of `Files` instead would prevent threads from sharing a server.
 pub(crate) trait Links {
     /// Creates a hard link to a file. Returns the system's error if it can't.
     fn hard_link(&self, original: Path<'_>, link: Path<'_>) -> io::Result<()>;

@@ -1,5 +1,5 @@
 //! Plays the scenes of files: `test_scenes FILE..`. A scene lists step by step what a server and its clients do and
-//! what each observes. Several scenes run in parallel. docs/CASES.md describes the files.
+//! what each of them observes. Several scenes run in parallel. docs/CASES.md describes the files.
 #![tactic(auto)]
 
 mod besides;
@@ -21,17 +21,17 @@ use test_data_files::program::{Checker, NamedFile, run_program};
 use test_scene_files::scene::{Scene, SceneFile, read_scenes};
 use test_scene_props::jobs::Failure;
 
-// Number of scenes that run in parallel.
+// Maximum number of scenes that run in parallel.
 const BESIDE: usize = 8;
 
-// The files named on the command line.
+// The scene files named on the command line.
 #[derive(Drop)]
 struct SceneFiles {
     files: Vec<SceneFile>,
 }
 
 impl Checker for SceneFiles {
-    /// Reads the scenes of these files. They are played after all files are read.
+    /// Reads the scenes of these files. The scenes are played after all files have been read.
     fn check<'a, O: Write>(
         &mut self,
         alloc: Global,
@@ -49,7 +49,7 @@ impl Checker for SceneFiles {
     }
 }
 
-// Plays a scene. The path of its Unix socket contains the process id and the scene's number.
+// Plays a scene. The path for its Unix socket contains the process id and the scene's number in its group.
 fn play_at<R: Host>(
     rt: &R,
     alloc: Global,
@@ -62,7 +62,7 @@ fn play_at<R: Host>(
     play(rt, alloc, scene, path.as_str())
 }
 
-// Prints one line for a failed scene.
+// Prints the file, line, name, step and error of a failed scene.
 fn report<O: Write>(
     out: &mut O,
     (file, scene): (&str, &Scene),
@@ -73,8 +73,8 @@ fn report<O: Write>(
     writeln!(out, "{file}:{number}: {name}: {line}:{mishap}")
 }
 
-// Plays scenes in parallel, and reports those that fail. Returns how many had the wrong outcome: failures, and
-// successes of scenes that must fail.
+// Plays scenes in parallel, and reports those that fail. Returns how many had the wrong outcome: scenes that failed,
+// except those that must fail, and scenes that succeeded although they must fail.
 fn play_group<R: Host, O: Write>(
     rt: &R,
     alloc: Global,
@@ -102,7 +102,7 @@ fn play_group<R: Host, O: Write>(
     Ok(failed)
 }
 
-// Plays the scenes of a file, and prints how many failed. Returns whether none did.
+// Plays the scenes of a file, and prints their number and how many had the wrong outcome. Returns whether none had.
 fn play_file<R: Host, O: Write>(
     rt: &R,
     alloc: Global,
@@ -122,8 +122,8 @@ fn play_file<R: Host, O: Write>(
     Ok(failed == 0)
 }
 
-// Plays the scenes of all files. Returns the exit status: 0 if all hold, 3 if one fails, and 1 if `out` can't be
-// written or memory is refused.
+// Plays the scenes of all files. Returns the exit status: 0 if no scene had the wrong outcome, 3 if one had, and 1 if
+// `out` can't be written or memory is refused.
 fn play_files<R: Host, O: Write>(
     rt: &R,
     alloc: Global,

@@ -18,7 +18,8 @@ use test_scene_props::named::{get, has};
 use test_scene_props::requests::{act_asked, demand_plain, write_asked};
 use tiny_http::connection::SocketFiles;
 
-/// A scene that is being played: what its steps act on, its threads and jobs, its pool, and the thread that serves.
+/// A scene that is being played: what its steps act on, its threads and jobs, its pool, and the thread that calls
+/// `serve`.
 #[derive(Drop)]
 pub(crate) struct Stage<R: Net + SocketFiles + Wait + Clock + Drop> {
     pub hands: Hands<R>,
@@ -27,7 +28,7 @@ pub(crate) struct Stage<R: Net + SocketFiles + Wait + Clock + Drop> {
     serving: Option<JoinHandle<bool>>,
 }
 
-// Runs a step on the request of this name, which is over memory or the server's.
+// Runs a step on the request called `name`, which came over memory or from the server.
 fn act_request<R: Host>(
     rt: &R,
     alloc: Global,
@@ -44,7 +45,7 @@ fn act_request<R: Host>(
     act_asked(rt, alloc, &mut hands.served, name, deed)
 }
 
-// Runs a step on the output of this name, which is over memory or the server's.
+// Runs a step on the output called `name`, which belongs to a request over memory or from the server.
 fn act_output<R: Host>(
     alloc: Global,
     hands: &mut Hands<R>,
@@ -56,7 +57,7 @@ fn act_output<R: Host>(
     write_asked(alloc, &mut hands.served, name, deed)
 }
 
-// Runs a step that starts, ends or watches no thread.
+// Runs any step but those that start, await or watch a thread or a job, which fail here.
 fn act<R: Host>(rt: &R, alloc: Global, hands: &mut Hands<R>, deed: Deed<'_>) -> Result<(), Mishap> {
     match deed {
         Deed::Client(name, ClientDeed::Connects) => connect(rt, alloc, hands, name),
@@ -75,7 +76,7 @@ fn act<R: Host>(rt: &R, alloc: Global, hands: &mut Hands<R>, deed: Deed<'_>) -> 
     }
 }
 
-/// Plays the steps of a thread. Returns the step that failed, if any.
+/// Plays the steps of a thread until one fails. Returns that failure, if any.
 pub(crate) fn play_lines<R: Host>(
     rt: &R,
     alloc: Global,
@@ -93,7 +94,8 @@ pub(crate) fn play_lines<R: Host>(
     None
 }
 
-// Plays one step of a scene. `below` holds the lines after it.
+// Plays the step of `line`. `below` holds the lines after it. Returns the failure, if any, of the step or of the thread
+// or job whose end it awaits.
 fn play_line<R: Host>(
     rt: &R,
     alloc: Global,
@@ -120,7 +122,7 @@ fn play_line<R: Host>(
     }
 }
 
-// Plays all steps of a scene until one fails.
+// Plays the steps of a scene until one fails. Skips indented steps, which their threads and jobs play.
 fn play_all<R: Host>(
     rt: &R,
     alloc: Global,
@@ -143,7 +145,8 @@ fn play_all<R: Host>(
     None
 }
 
-// Starts a thread that serves with the handler that keeps all requests, until the server is unblocked.
+// Starts a thread that calls `serve` with the handler, which keeps all requests, and waits until the server serves. The
+// thread runs until the server is unblocked.
 fn begin_to_serve<R: Host>(rt: &R, alloc: Global, stage: &mut Stage<R>) -> Result<(), Mishap> {
     let Some(server) = &stage.hands.server else {
         return Err(Mishap::Unplayable("there is no server"));
@@ -157,7 +160,7 @@ fn begin_to_serve<R: Host>(rt: &R, alloc: Global, stage: &mut Stage<R>) -> Resul
     wait_until_served(rt, alloc, &mut stage.hands)
 }
 
-// The steps that wait until the server serves: a client's request reaches the handler.
+// The steps that wait until the server serves: a client's request has to reach the handler.
 const UNTIL_SERVED: [&str; 6] = [
     "someone connects",
     "someone sends GET /keep HTTP/1.1\\r\\nHost: h\\r\\nConnection: close\\r\\n\\r\\n",
@@ -176,8 +179,9 @@ fn wait_until_served<R: Host>(rt: &R, alloc: Global, hands: &mut Hands<R>) -> Re
     Ok(())
 }
 
-// Ends a scene. Drops requests, outputs and clients first, so that nothing waits for them, and unblocks a serving
-// thread, which must end without an error. Fails if a step has not waited for the end of each thread.
+// Ends a scene. First drops requests, outputs and clients, so that nothing waits for them. Then unblocks the thread
+// that calls `serve`, if there is one, which must end without an error. Fails if a thread or job is left whose end no
+// step has awaited.
 fn clear<R: Host>(rt: &R, alloc: Global, stage: &mut Stage<R>) -> Result<(), Mishap> {
     stage.hands.served.clear();
     stage.hands.props.clear();
@@ -194,7 +198,7 @@ fn clear<R: Host>(rt: &R, alloc: Global, stage: &mut Stage<R>) -> Result<(), Mis
     )
 }
 
-// Plays a scene once.
+// Plays a scene once, in this way. Returns the failure, if any.
 fn play_once<R: Host>(
     rt: &R,
     alloc: Global,
@@ -234,8 +238,8 @@ fn play_once<R: Host>(
     }
 }
 
-/// Plays a scene as often as it states, and in each of its ways, until it fails. Returns the failure, if any. `path` is
-/// the path of its Unix socket.
+/// Plays a scene as often as it asks for, each time with `recv_timeout` and, if it asks for both ways, also with a
+/// handler, until it fails. Returns the failure, if any. A scene over `unix` binds its socket at `path`.
 pub(crate) fn play<R: Host>(rt: &R, alloc: Global, scene: &Scene, path: &str) -> Option<Failure> {
     let ground = scene.ground;
     for _ in 0..ground.repeats {

@@ -1,4 +1,4 @@
-//! Creates further servers beside that of a scene: at the same address, at a path that is in use, or with TLS.
+//! Creates servers besides that of the scene: at the same address, at a path where a file exists, or with TLS.
 use crate::hands::Hands;
 use crate::links::Host;
 use crate::serving::{Place, config_of, path_beside, path_in};
@@ -13,7 +13,7 @@ use tiny_http::connection::{ConfigListenAddr, ListenAddr};
 use tiny_http::server::{Server, ServerConfig, ServerError, SslConfig};
 use tiny_http::{Limits, Profile};
 
-// Creates a second server at the same address.
+// Creates a second server at `addr`, the address of the scene's server.
 fn second_server<R: Host>(
     rt: &R,
     alloc: Global,
@@ -25,7 +25,7 @@ fn second_server<R: Host>(
     }
 }
 
-// Expects that creating a second server failed with this kind.
+// Expects that creating a second server failed with an I/O error of this kind.
 fn demand_refused<R: Host>(
     alloc: Global,
     made: Result<Server<R>, ServerError>,
@@ -38,7 +38,7 @@ fn demand_refused<R: Host>(
     }
 }
 
-// Creates a second server at the same address, which replaces the first. The first is dropped.
+// Creates a second server at the same address, which replaces the first one, and drops the first.
 fn follow<R: Host>(rt: &R, alloc: Global, hands: &mut Hands<R>) -> Result<(), Mishap> {
     let Ok(second) = second_server(rt, alloc, hands.addr()?)? else {
         return Err(Mishap::Unplayable("there is no second server here"));
@@ -47,11 +47,12 @@ fn follow<R: Host>(rt: &R, alloc: Global, hands: &mut Hands<R>) -> Result<(), Mi
     Ok(())
 }
 
-// A file in the program's folder that is not a socket.
+// A file in the current directory that is not a socket.
 const PLAIN: &str = "closing.scenes";
 
-// Creates a server with limits at a path where this file exists. Returns the error's kind, if it fails, and whether the
-// file still exists.
+// Creates a server with limits at `path`, where `found` exists: a socket that is bound here first, or a plain file that
+// is there already. Returns the error's kind, if the server can't be created, and whether the file still exists
+// afterwards.
 fn made_at<R: Host>(
     rt: &R,
     alloc: Global,
@@ -79,7 +80,8 @@ fn made_at<R: Host>(
     Ok((refusal, is_there))
 }
 
-// Does the same with a symbolic link at this path, to a socket on which nobody listens.
+// Creates a server with limits at `link`, a symbolic link to a socket on which nobody listens. Returns the error's
+// kind, if the server can't be created, and whether the link and the socket still exist afterwards.
 fn made_at_link<R: Host>(
     rt: &R,
     alloc: Global,
@@ -98,7 +100,8 @@ fn made_at_link<R: Host>(
     Ok((refusal, is_there))
 }
 
-// Creates a server with limits at this path, and drops it at once. Returns the error's kind, if it fails.
+// Creates a server with limits at this path, and drops it at once. Returns the error's kind, if the server can't be
+// created.
 fn refusal_at<R: Host>(rt: &R, alloc: Global, path: &str) -> Result<Option<ErrorKind>, Mishap> {
     let Ok(config) = config_of(rt, alloc, Place::Path(path)) else {
         return Err(Mishap::OutOfMemory);
@@ -110,8 +113,9 @@ fn refusal_at<R: Host>(rt: &R, alloc: Global, path: &str) -> Result<Option<Error
     }
 }
 
-// Creates a server with limits at a path where this file exists, and expects this error or none. The server takes over
-// a stale socket, whose file it removes when it is dropped. Any other file stays.
+// Creates a server with limits at a path where `found` exists, and expects the error `wanted`, or no error if `wanted`
+// is `None`. Also expects that the file is gone afterwards if it is a stale socket, which the server takes over and
+// removes when it is dropped, and that any other file still exists.
 fn demand_made_at<R: Host>(
     rt: &R,
     alloc: Global,
@@ -131,7 +135,7 @@ fn demand_made_at<R: Host>(
     demand(alloc, "what was there is still there", is_there)
 }
 
-// Creates a server with TLS at this address.
+// Creates a server with TLS at `addr`.
 fn with_tls<R: Host>(
     rt: &R,
     alloc: Global,
@@ -148,7 +152,7 @@ fn with_tls<R: Host>(
     Server::new(*rt, alloc, config)
 }
 
-// Creates a server with TLS at the same address.
+// Creates a server with TLS at `addr`, the address of the scene's server.
 fn rival_with_tls<R: Host>(
     rt: &R,
     alloc: Global,
@@ -167,7 +171,8 @@ fn rival_with_tls<R: Host>(
     }
 }
 
-// Expects that a server with TLS at another address of the same kind fails with this message, and leaves no file.
+// Expects that creating a server with TLS at another address of the same kind fails with this message, and leaves no
+// socket file.
 fn demand_no_tls<R: Host>(
     rt: &R,
     alloc: Global,
@@ -194,7 +199,8 @@ fn demand_no_tls<R: Host>(
     demand(alloc, "there is no file", !is_there)
 }
 
-// Expects that a server given this address, which is in use, and then any free port listens at another address.
+// Expects that a server created from two addresses, `addr`, which is in use, and one with any free port, does not
+// listen at the first.
 fn demand_second<R: Host>(rt: &R, alloc: Global, addr: &ListenAddr) -> Result<(), Mishap> {
     let ListenAddr::IP(first) = addr else {
         return Err(Mishap::Unplayable("only TCP has two addresses"));
@@ -210,7 +216,7 @@ fn demand_second<R: Host>(rt: &R, alloc: Global, addr: &ListenAddr) -> Result<()
     demand(alloc, "it is at another address", is_another)
 }
 
-// Expects that the server's address is that of its Unix socket, and is displayed as its path.
+// Expects that the server reports a Unix address, which is displayed as the path of its socket.
 fn demand_shown<R: Host>(
     alloc: Global,
     server: &Server<R>,
@@ -223,7 +229,7 @@ fn demand_shown<R: Host>(
     demand(alloc, "it is a Unix socket's", shown.to_unix().is_some())
 }
 
-/// Runs a step that checks the server's address or creates another server.
+/// Runs a step that creates another server, or checks how the server's address is displayed. Fails at any other step.
 pub(crate) fn act_rival<R: Host>(
     rt: &R,
     alloc: Global,

@@ -1,4 +1,4 @@
-//! Creates the server of a scene, and makes its calls.
+//! Creates the server of a scene, and runs the steps on it.
 use crate::handler::ByPath;
 use crate::hands::Hands;
 use crate::links::Host;
@@ -25,10 +25,10 @@ use tiny_http::messages_queue::MessagesQueue;
 use tiny_http::server::{Server, ServerConfig, ServerError, ServerRequest, Stopped};
 use tiny_http::{Limits, Profile};
 
-// Maximum time in seconds in which an expected request must arrive.
+// Time in seconds within which an expected request must arrive.
 const LONGEST: u64 = 10;
 
-// Number of checks, a millisecond apart, for something expected.
+// Maximum number of checks, a millisecond apart, for something expected.
 const TURNS: u32 = 10_000;
 
 // Maximum number of descriptors taken. By default the system allows a process no more.
@@ -44,7 +44,7 @@ pub(crate) enum Place<'a> {
     Path(&'a str),
 }
 
-/// Returns where the server of a scene listens. Only a Unix socket uses `path`.
+/// Returns where the server of a scene listens: at `path` if it uses a Unix socket, and at any free port otherwise.
 pub(crate) fn place_of(over: Over, path: &str) -> Place<'_> {
     match over {
         Over::Ipv6 => Place::Tcp("[::1]:0"),
@@ -53,7 +53,7 @@ pub(crate) fn place_of(over: Over, path: &str) -> Place<'_> {
     }
 }
 
-/// Builds the server's configuration, without TLS.
+/// Builds the configuration of a server at `place`, without TLS.
 pub(crate) fn config_of<R: Host>(
     rt: &R,
     alloc: Global,
@@ -69,7 +69,7 @@ pub(crate) fn config_of<R: Host>(
     Ok(ServerConfig { addr, ssl: None })
 }
 
-// Creates a server over an existing listener.
+// Creates a TCP listener, and a server over it.
 fn listening_server<R: Host>(
     rt: &R,
     alloc: Global,
@@ -148,7 +148,7 @@ pub(crate) fn first_hands<R: Host>(
     Ok(hands)
 }
 
-/// Uses up all file descriptors of the process but `left`.
+/// Uses up all but `left` of the process's file descriptors.
 pub(crate) fn take_descriptors<R: Host>(
     rt: &R,
     hands: &mut Hands<R>,
@@ -170,7 +170,8 @@ pub(crate) fn take_descriptors<R: Host>(
     Ok(())
 }
 
-// Compares the result of a receiving call with the expected one, and names the request.
+// Compares the result of a call that receives a request with the expected one. If a request was expected, adds it under
+// its name.
 fn take_given<R: Host>(
     alloc: Global,
     hands: &mut Hands<R>,
@@ -197,7 +198,7 @@ fn next_kept<R: Host>(rt: &R, hands: &Hands<R>) -> Option<ServerRequest<R>> {
     hands.handler.kept.pop_timeout(rt, most)
 }
 
-// Returns the next request, received in the scene's way.
+// Receives the next request in the scene's way (`Way`), waiting at most `LONGEST` seconds.
 fn next_given<R: Host>(
     rt: &R,
     hands: &Hands<R>,
@@ -211,14 +212,14 @@ fn next_given<R: Host>(
     }
 }
 
-// Returns the next item of `incoming_requests`, which waits without a timeout.
+// Returns the next item of `incoming_requests`, waiting without a timeout.
 fn next_incoming<R: Host>(
     hands: &Hands<R>,
 ) -> Result<io::Result<Option<ServerRequest<R>>>, Mishap> {
     Ok(Ok(hands.server()?.incoming_requests().next()))
 }
 
-// Calls `recv`.
+// Calls `recv`, which waits without a timeout.
 fn received<R: Host>(hands: &Hands<R>) -> Result<io::Result<Option<ServerRequest<R>>>, Mishap> {
     Ok(match hands.server()?.recv() {
         Ok(request) => Ok(Some(request)),
@@ -226,7 +227,8 @@ fn received<R: Host>(hands: &Hands<R>) -> Result<io::Result<Option<ServerRequest
     })
 }
 
-// Calls `try_recv`, repeatedly if a request or an error is expected.
+// Calls `try_recv` once if no request is expected, and otherwise until it returns a request or an error, at most
+// `TURNS` times.
 fn tried<R: Host>(
     rt: &R,
     hands: &Hands<R>,
@@ -245,7 +247,7 @@ fn tried<R: Host>(
     Ok(Ok(None))
 }
 
-// Waits until `count` clients are connected.
+// Waits until `count` clients are connected. Fails if that takes more than `TURNS` checks.
 fn demand_clients<R: Host>(
     rt: &R,
     alloc: Global,
@@ -261,7 +263,7 @@ fn demand_clients<R: Host>(
     demand_number(alloc, count as u64, server.num_connections() as u64)
 }
 
-// Returns the counter of this name.
+// Returns the value of the counter called `field`, or `None` if there is no such counter.
 fn count_in(counts: &Counts, field: &str) -> Option<u64> {
     Some(match field {
         "connections" => counts.connections,
@@ -283,7 +285,8 @@ fn count_in(counts: &Counts, field: &str) -> Option<u64> {
     })
 }
 
-// Waits until the counter has the wanted value, or a greater one if `may_be_above`.
+// Waits until the counter called `field` has reached `wanted`. Fails if that takes more than `TURNS` checks, or if the
+// counter is greater than `wanted` and `may_be_above` is false.
 fn demand_count<R: Host>(
     rt: &R,
     alloc: Global,
@@ -305,7 +308,7 @@ fn demand_count<R: Host>(
     }
 }
 
-/// Returns the path of the server's Unix socket.
+/// Returns the path of the server's Unix socket. Fails if its address has no path.
 pub(crate) fn path_in(addr: &ListenAddr) -> Result<Path<'_>, Mishap> {
     let ListenAddr::Unix(addr) = addr else {
         return Err(Mishap::Unplayable("only a Unix socket has a path"));
@@ -316,13 +319,12 @@ pub(crate) fn path_in(addr: &ListenAddr) -> Result<Path<'_>, Mishap> {
     }
 }
 
-/// Returns a path next to that of the server's Unix socket.
+/// Returns a path next to that of the server's Unix socket. Fails if the server's address has no path.
 pub(crate) fn path_beside(alloc: Global, addr: &ListenAddr) -> Result<String, Mishap> {
     Ok(format!(in alloc; "{}.beside", path_in(addr)?.display())?)
 }
 
-// Links the file of the server's Unix socket to a second name, which still reaches the socket after the file is
-// removed.
+// Gives the file of the server's Unix socket a second name, which still reaches the socket after the first is removed.
 fn link_beside<R: Host>(rt: &R, alloc: Global, addr: &ListenAddr) -> Result<(), Mishap> {
     let link = path_beside(alloc, addr)?;
     match rt.hard_link(path_in(addr)?, Path::new(link.as_str())) {
@@ -331,8 +333,8 @@ fn link_beside<R: Host>(rt: &R, alloc: Global, addr: &ListenAddr) -> Result<(), 
     }
 }
 
-// Expects that nobody listens at the server's address. Waits for a TCP address, and checks a Unix socket once, through
-// the second name of its file, which it removes.
+// Expects that nobody listens at the server's address. For TCP, waits until the address is free. For a Unix socket,
+// checks once, through the second name of its file, and removes that name.
 fn demand_free<R: Host>(rt: &R, alloc: Global, addr: &ListenAddr) -> Result<(), Mishap> {
     let ListenAddr::IP(addr) = addr else {
         let link = path_beside(alloc, addr)?;
@@ -350,7 +352,7 @@ fn demand_free<R: Host>(rt: &R, alloc: Global, addr: &ListenAddr) -> Result<(), 
     Err(differs(alloc, "the address is free", "someone listens there"))
 }
 
-// Expects that the file of the server's Unix socket exists, or that it doesn't.
+// Expects that the file of the server's Unix socket exists if `is_there`, and that it doesn't otherwise.
 fn demand_file<R: Host>(
     rt: &R,
     alloc: Global,
@@ -365,7 +367,7 @@ fn demand_file<R: Host>(
     demand(alloc, words, rt.is_socket(path_in(addr)?) == is_there)
 }
 
-// Stops the server, and expects that everything is answered, or that it isn't.
+// Calls `stop` with this many milliseconds, and expects `Answered` if `is_answered` and `TimeOver` otherwise.
 fn stop<R: Host>(
     alloc: Global,
     server: &Server<R>,
@@ -380,7 +382,7 @@ fn stop<R: Host>(
     demand_text(alloc, wanted, came)
 }
 
-// Drops the server.
+// Drops the server. Fails if there is none.
 fn let_go<R: Host>(hands: &mut Hands<R>) -> Result<(), Mishap> {
     match hands.server.take() {
         Some(server) => {
@@ -391,7 +393,7 @@ fn let_go<R: Host>(hands: &mut Hands<R>) -> Result<(), Mishap> {
     }
 }
 
-// Calls `serve`, and compares its error once it returns.
+// Calls `serve`, and expects it to return the error `wanted`, or no error if `wanted` is `None`.
 fn serve<R: Host>(
     alloc: Global,
     hands: &Hands<R>,
@@ -401,7 +403,7 @@ fn serve<R: Host>(
     demand_fault(alloc, wanted, served.err().map(|fault| fault.kind()))
 }
 
-// Calls `serve_by`, and compares its error once it returns.
+// Calls `serve_by`, and expects it to return the error `wanted`, or no error if `wanted` is `None`.
 fn serve_by<R: Host>(
     alloc: Global,
     hands: &Hands<R>,
@@ -412,7 +414,7 @@ fn serve_by<R: Host>(
     demand_fault(alloc, wanted, served.err().map(|fault| fault.kind()))
 }
 
-/// Runs a step that receives a request, or passes other steps on to `act_rival`.
+/// Runs a step that receives a request. Passes any other step on to `act_rival`.
 fn act_giving<R: Host>(
     rt: &R,
     alloc: Global,

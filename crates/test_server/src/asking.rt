@@ -1,4 +1,4 @@
-//! Test of a thread that sends what is buffered while another one writes.
+//! Test of a thread that sends what is buffered while another thread writes.
 use crate::fixture::Host;
 use crate::leaving::{Ends, HalfWriter, ends_of};
 use std::alloc::Global;
@@ -12,14 +12,14 @@ use tiny_http::device::{WriteDevice, put};
 use tiny_http::refined_tcp_stream::RefinedTcpStream;
 use tiny_http_socket::cork::Cork;
 
-// Number of times both threads begin at once.
+// Number of rounds, in each of which both threads begin at once.
 const ROUNDS: usize = 1_000;
 
-// Length of the second piece.
+// Length in bytes of the piece that is written after the byte.
 const LENGTH: usize = 8_000;
 
-// Writes a byte, which is left in the buffer, and then a long piece while the other thread sends the byte. Then flushes
-// both. In every other round a flush leaves the byte, too.
+// In each round, writes a byte, which stays in the buffer, and then a long piece while the other thread sends the byte;
+// then flushes. In every other round the byte is flushed before the piece, which leaves it in the buffer, too.
 fn write_rounds<R: Host>(rt: &R, mut writer: HalfWriter<R>, barrier: &Barrier) {
     let piece = [b'b'; LENGTH];
     for round in 0..ROUNDS {
@@ -36,7 +36,7 @@ fn write_rounds<R: Host>(rt: &R, mut writer: HalfWriter<R>, barrier: &Barrier) {
     }
 }
 
-// Asserts that the byte arrives once both calls are done, and the rest at the flush.
+// Asserts that the byte arrives once the write and `send` are done, and the rest at the flush.
 fn assert_round<R: Host>(
     rt: &R,
     peer: &mut UnixStream,
@@ -53,7 +53,7 @@ fn assert_round<R: Host>(
     peer.read_exact(&mut [0u8; LENGTH]).expect(rt, "the rest");
 }
 
-// Asserts that a byte left in the buffer is sent, whichever thread has the lock.
+// Asserts that in each round the byte left in the buffer is sent, whichever thread has the lock.
 fn assert_sends_what_is_left<R: Host>(rt: &R, alloc: Global) {
     let Ends {
         mut peer,

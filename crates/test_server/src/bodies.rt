@@ -3,7 +3,7 @@ use crate::memory_fixture::{client, connect_to, next, now};
 use std::io::{ErrorKind, Read};
 use std::test::Fail;
 
-// Returns the kind of a read's error, if any.
+// Reads once. Returns the kind of the error, if any.
 fn kind_of<B: Read>(body: &mut B) -> Option<ErrorKind> {
     match body.read(&mut [0; 9]) {
         Ok(_) => None,
@@ -11,7 +11,7 @@ fn kind_of<B: Read>(body: &mut B) -> Option<ErrorKind> {
     }
 }
 
-// A body of 2000 bytes of which 10 arrive.
+// A request whose body has 2000 bytes, of which 10 arrive.
 const CUT: &[u8] = b"POST / HTTP/1.1\r\nContent-Length: 2000\r\n\r\n0123456789";
 
 // An interrupted read is an error, and `read_exact` does not retry it.

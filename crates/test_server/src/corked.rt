@@ -1,4 +1,4 @@
-//! Tests of what is buffered before a writer, and of what is read ahead from a reader.
+//! Tests of `Corked`, which buffers what is written, and of `ReadAhead`, which buffers what is read.
 ghost use Rattle.std.specs.Prelude.{⊤};
 
 use crate::same::assert_same;
@@ -15,13 +15,13 @@ fn corked_of(rt: &impl Abort, alloc: Global, room: usize) -> Corked<Budget> {
     Corked::new(alloc, writer).expect(rt, "memory")
 }
 
-// Asserts that these bytes are accepted at once.
+// Asserts that one write accepts all of these bytes.
 fn assert_takes(rt: &impl Abort, corked: &mut Corked<Budget>, bytes: &[u8]) {
     let taken = corked.write_out(bytes).expect(rt, "they are taken");
     assert_same(rt, taken, bytes.len());
 }
 
-// Asserts that what fits is buffered, and that a flush sends it.
+// Asserts that bytes that fit are buffered, and that a flush sends them.
 fn assert_waits(rt: &impl Abort, alloc: Global) {
     let mut corked = corked_of(rt, alloc, 100);
     assert_takes(rt, &mut corked, b"ab");
@@ -32,7 +32,7 @@ fn assert_waits(rt: &impl Abort, alloc: Global) {
     assert_same(rt, corked.into_inner().bytes(), b"abc".as_slice());
 }
 
-// Asserts that a large piece bypasses the buffer, and is sent after what it holds.
+// Asserts that a large piece bypasses the buffer, and is sent after the buffered bytes.
 fn assert_goes_past(rt: &impl Abort, alloc: Global) {
     let mut corked = corked_of(rt, alloc, 100_000);
     assert_takes(rt, &mut corked, b"ab");
@@ -49,7 +49,7 @@ fn fault_of(corked: &mut Corked<Budget>) -> Option<ErrorKind> {
     corked.write_out(b"x").err().map(|fault| fault.kind())
 }
 
-// Asserts that an error in sending the buffer is reported by the next call, once.
+// Asserts that an error in sending the buffered bytes is reported once, by the next write.
 fn assert_tells_once(rt: &impl Abort, alloc: Global) {
     let mut corked = corked_of(rt, alloc, 3);
     assert_takes(rt, &mut corked, b"abcd");
@@ -68,7 +68,7 @@ fn what_is_written_waits(rt: HostRuntime) {
     assert_tells_once(&rt, rt.alloc());
 }
 
-// Number of calls of the reader.
+// The number of calls to `before_read`, which precedes each call to the reader.
 #[derive(Drop)]
 struct Calls(u32);
 
@@ -81,7 +81,7 @@ impl BeforeRead for Calls {
     }
 }
 
-// Asserts the next bytes, and the number of calls of the reader by then.
+// Asserts the next bytes, and the number of calls to the reader by then.
 fn assert_next(
     rt: &impl Abort,
     ahead: &mut ReadAhead<ByPieces<Canned>>,
@@ -94,7 +94,7 @@ fn assert_next(
     assert_same(rt, (buf.get(..n), calls.0), (Some(wanted), count));
 }
 
-// Asserts that a reader of three bytes a call is called only when none of them is left.
+// Asserts that a reader that returns three bytes a call is called only when no byte is left in the buffer.
 fn assert_reads_ahead(rt: &impl Abort, alloc: Global) {
     let bytes = b"abcdef".to_vec(alloc).expect(rt, "memory");
     let reader = ByPieces::new(Canned::new(bytes, None), 3);

@@ -1,4 +1,4 @@
-//! Test of the date from a clock.
+//! Test of `current_date`.
 use crate::same::{assert_holds, assert_same};
 use httpdate::HttpDate;
 use std::io;
@@ -24,14 +24,15 @@ impl Clock for FixedClock {
     }
 }
 
-// Asserts that a clock at `millis` milliseconds gives the date of `wanted` seconds.
+// Asserts that a clock at `millis` milliseconds, or one that can't be read, gives the date at `wanted` seconds.
 fn assert_seconds(rt: &impl Abort, millis: Option<u64>, wanted: u64) {
     let found = current_date(&FixedClock(millis));
     let wanted = HttpDate::from_unix_secs(wanted).expect(rt, "a date");
     assert_same(rt, (millis, found), (millis, wanted));
 }
 
-// Times of a clock in milliseconds, and the seconds of its date.
+// Times of a clock in milliseconds since 1970, or `None` if it can't be read, and the date that it gives in seconds
+// since 1970.
 const TIMES: [(Option<u64>, u64); 6] = [
     (Some(0), 0),
     (Some(999), 0),

@@ -1,4 +1,4 @@
-//! Test of entries that threads make under a lock, and of the ledger shares that count them.
+//! Test of a roster that threads enter under a lock, and of the ledger shares that count their entries.
 ghost use Rattle.std.specs.Prelude.{◌≡◌, ◌+◌, ◌<◌, ◌≤◌};
 
 use crate::same::assert_same;
@@ -9,7 +9,7 @@ use std::thread;
 use std::thread::Threads;
 use tiny_http::roster::Roster;
 
-// Enters `times` times. Returns the share, and how often it was let in.
+// Enters the roster `times` times. Returns the share, and the number of entries that succeeded.
 fn enters<L: Ledger, R: Wait>(
     rt: &R,
     roster: &Roster<L>,
@@ -30,7 +30,8 @@ fn enters<L: Ledger, R: Wait>(
     (mine, entered)
 }
 
-// Enters twice on each of two threads. Returns their merged shares, and how often they were let in.
+// Enters the roster twice on each of two threads. Returns their merged shares, and the number of entries that
+// succeeded.
 fn two_threads<L: Ledger + Send + Sync, R: Threads + Wait + Sync>(
     rt: &R,
     roster: &Roster<L>,
@@ -52,8 +53,8 @@ fn two_threads<L: Ledger + Send + Sync, R: Threads + Wait + Sync>(
     (both, one + two)
 }
 
-// Runs three threads with one share each. Returns how often they were let in, and what the roster counts and reports at
-// its end.
+// Enters a new roster twice on each of three threads, which have one share each. Returns the number of entries that
+// succeeded, the roster's count, and the count that closing the roster returns.
 fn three_threads<L: Ledger + Send + Sync, R: Threads + Wait + Sync>(
     rt: &R,
     blank: Blank,

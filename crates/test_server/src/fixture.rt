@@ -1,4 +1,5 @@
-//! A server and its client, what the client reads, and the texts of responses. Any failure here ends the test.
+//! Starts servers, connects clients, responds to requests, and asserts what clients read. A failure here ends the test,
+//! unless a function returns it.
 use crate::same::assert_same;
 use std::alloc::{AllocError, Global};
 use std::io;
@@ -10,13 +11,13 @@ use std::time::{Clock, Duration};
 use tiny_http::response::Response;
 use tiny_http::server::{Server, ServerRequest, ServerRuntime, current_date};
 
-// Maximum number of attempts of 1 ms each.
+// Maximum number of reads of 1 ms each before reading fails with a timeout.
 pub const TURNS: u32 = 10_000;
 
-/// The first field lines of every response, without the date.
+/// The first field lines of every response, without the value of `Date`.
 pub const DATED: &str = "Server: tiny-http (Rust)\r\nDate: \r\n";
 
-/// What a server and its clients need of the system, and the ability to abort on a failure.
+/// A runtime with what a server and its clients need, which can abort a test that fails.
 pub trait Host: ServerRuntime + Sync + Abort {}
 
 impl<R: ServerRuntime + Sync + Abort> Host for R {}
@@ -74,12 +75,12 @@ pub fn read_all<S: Read>(rt: &impl Abort, alloc: Global, stream: &mut S) -> Vec<
     read_up_to(alloc, stream, usize::MAX).expect(rt, "an end of what is read")
 }
 
-// Returns whether the date of a response begins here.
+// Returns whether this text begins with a `Date` field.
 fn is_date(text: &[u8]) -> bool {
     text.starts_with(b"Date: ")
 }
 
-// Copies responses without their dates of 29 bytes each.
+// Copies responses without the values of their `Date` fields, of 29 bytes each.
 fn undated(alloc: Global, text: &[u8]) -> Result<Vec<u8>, AllocError> {
     let mut bytes = Vec::new(alloc);
     let mut left = 0u32;
@@ -102,7 +103,7 @@ fn assert_answers(rt: &impl Abort, alloc: Global, found: &[u8], wanted: &str) {
     assert_same(rt, str::from_utf8(&found).ok(), Some(wanted));
 }
 
-/// Asserts that the next bytes from the server are these, except for exactly one date.
+/// Asserts that the next bytes from the server are these texts and exactly one date, which the texts leave out.
 pub fn assert_reads_next<S: Read>(rt: &impl Abort, alloc: Global, stream: &mut S, wanted: &[&str]) {
     let wanted = joined(alloc, wanted).expect(rt, "memory");
     let length = wanted.len().saturating_add(29);
@@ -124,7 +125,7 @@ pub fn text(alloc: Global, text: &str) -> Result<Response<io::Cursor<Vec<u8>>>, 
     Response::from_string(alloc, String::from_str(alloc, text)?)
 }
 
-/// Responds to a request with this text. Returns whether it could be sent.
+/// Responds to a request with this text. Returns whether the response was sent without an error.
 pub fn respond<R: Clock + Wait + Drop>(
     rt: &R,
     alloc: Global,

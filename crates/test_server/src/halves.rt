@@ -1,4 +1,4 @@
-//! Tests of the halves of a connection.
+//! Tests of the halves of a connection, and of listeners and their addresses.
 use crate::same::{assert_holds, assert_same, assert_shown};
 use httpdate::HttpDate;
 use std::alloc::Global;
@@ -16,12 +16,12 @@ use tiny_http_socket::refined_tcp_stream::RefinedTcpStream;
 use tiny_http_wire::device::{ReadDevice, WriteDevice};
 use tiny_http_wire::response::Response;
 
-/// TCP sockets, and the ability to abort on a failure.
+/// A runtime with TCP sockets, which can abort a test that fails.
 pub trait Tcp: Net<Listener = TcpListener, Stream = TcpStream> + Abort {}
 
 impl<R: Net<Listener = TcpListener, Stream = TcpStream> + Abort> Tcp for R {}
 
-/// What connections and their clients need of the system, and the ability to abort on a failure.
+/// A runtime with what connections and their clients need, which can abort a test that fails.
 pub trait Host: Tcp + SocketFiles + Wait + Copy + Drop {}
 
 impl<R: Tcp + SocketFiles + Wait + Copy + Drop> Host for R {}
@@ -32,7 +32,7 @@ type Halves = (RefinedTcpStream, RefinedTcpStream);
 // A connection over two halves.
 type Client<R> = ClientConnection<RefinedTcpStream, RefinedTcpStream, R>;
 
-// A request of such a connection.
+// A request on a connection over two halves.
 type ClientRequest<R> = Request<RefinedTcpStream, RefinedTcpStream, R>;
 
 // Returns Wed, 04 May 1983 11:17:00 GMT.
@@ -44,7 +44,7 @@ fn send<S: Write>(rt: &impl Abort, stream: &mut S, text: &str) {
     stream.write_all(text.as_bytes()).expect(rt, "it is sent");
 }
 
-// Reads to the end, and asserts the text.
+// Reads to the end, and asserts the text that was read.
 fn assert_reads<S: Read>(rt: &impl Abort, alloc: Global, stream: &mut S, wanted: &str) {
     let mut bytes = Vec::new(alloc);
     let read = stream.read_to_end(&mut bytes);
@@ -81,13 +81,13 @@ fn assert_writes_out(rt: &impl Abort, half: &mut RefinedTcpStream, bytes: &[u8],
     assert_same(rt, count, wanted);
 }
 
-// Asserts that a write failed since the peer no longer reads.
+// Asserts that a write failed because the peer no longer reads.
 fn assert_broken(rt: &impl Abort, written: io::Result<usize>) {
     let fault = written.err().expect(rt, "no write");
     assert_same(rt, fault.kind(), ErrorKind::BrokenPipe);
 }
 
-// Drops the halves of a connection, the writing one first.
+// Asserts that a connection can be read after its writing half is dropped, and is closed once both halves are dropped.
 fn assert_halves_close_alone<R: Net + Abort>(rt: &R, alloc: Global) {
     let (ours, mut theirs) = UnixStream::pair(rt).expect(rt, "a pair");
     let (mut reader, mut writer) = halves_of(rt, alloc, ours);
@@ -109,7 +109,7 @@ fn a_half_closes_its_direction_alone(rt: HostRuntime) {
     assert_halves_close_alone(&rt, rt.alloc());
 }
 
-// Drops the reading half of a connection first.
+// Asserts that a connection can be written after its reading half is dropped.
 fn assert_reading_half_closes_alone<R: Net + Abort>(rt: &R, alloc: Global) {
     let (ours, mut theirs) = UnixStream::pair(rt).expect(rt, "a pair");
     let (reader, mut writer) = halves_of(rt, alloc, ours);
@@ -134,7 +134,7 @@ fn tcp_pair<R: Tcp>(rt: &R) -> (TcpStream, TcpStream) {
     (ours, theirs)
 }
 
-// Creates another handle of a connection, with a read timeout of 10 s.
+// Creates another handle to a connection, with a read timeout of 10 s.
 fn handle_of(rt: &impl Abort, stream: &TcpStream) -> TcpStream {
     let handle = stream.try_clone().expect(rt, "a handle");
     let timed = handle.set_read_timeout(Some(Duration::from_secs(10)));
@@ -142,7 +142,7 @@ fn handle_of(rt: &impl Abort, stream: &TcpStream) -> TcpStream {
     handle
 }
 
-// Drops the halves of a TCP connection, the writing one first.
+// Asserts that a TCP connection can be read after its writing half is dropped, but not once both halves are dropped.
 fn assert_halves_of_tcp<R: Host>(rt: &R, alloc: Global) {
     let (ours, mut theirs) = tcp_pair(rt);
     let mut handle = handle_of(rt, &ours);
@@ -168,7 +168,7 @@ fn nodelay_of(rt: &impl Abort, connection: &Connection) -> bool {
     stream.nodelay().expect(rt, "it is known")
 }
 
-// Sets and clears `TCP_NODELAY`.
+// Asserts that `set_nodelay` sets and clears `TCP_NODELAY`.
 fn assert_nodelay_is_set<R: Host>(rt: &R, alloc: Global) {
     let (ours, _theirs) = tcp_pair(rt);
     let connection = Connection::from(ours);
@@ -189,7 +189,7 @@ fn addr_of(rt: &impl Abort, listener: &Listener) -> SocketAddr {
     addr.to_ip().expect(rt, "an address of TCP")
 }
 
-// Asserts that the second of two addresses is bound, as the first is in use.
+// Asserts that the second of two addresses is bound, since the first is in use.
 fn assert_binds_second<R: Host>(rt: &R, alloc: Global, first: SocketAddr, second: SocketAddr) {
     let both = [first, second].to_vec(alloc).expect(rt, "memory");
     let listener = ConfigListenAddr::IP(both).bind(rt).expect(rt, "a listener");
@@ -197,7 +197,7 @@ fn assert_binds_second<R: Host>(rt: &R, alloc: Global, first: SocketAddr, second
     assert_holds(rt, "another port is bound", port != first.port());
 }
 
-// Asserts that the first address that can be bound is used.
+// Asserts that the first address that can be bound is used, and that binding fails if there is no address.
 fn assert_addresses_in_turn<R: Host>(rt: &R, alloc: Global) {
     let taken = TcpListener::bind(rt, "127.0.0.1:0").expect(rt, "a listener");
     let first = taken.local_addr().expect(rt, "an address");
@@ -226,7 +226,7 @@ fn next_of<R: Host>(rt: &R, client: &mut Client<R>) -> Option<ClientRequest<R>> 
     client.next(now(rt)).expect(rt, "memory")
 }
 
-// Asserts that a request has its client's address.
+// Asserts that a request over TCP has the address of its client.
 fn assert_client_over_tcp<R: Host>(rt: &R, alloc: Global) {
     let (ours, mut theirs) = tcp_pair(rt);
     send(
@@ -245,7 +245,7 @@ fn a_client_over_tcp_has_an_address(rt: HostRuntime) {
     assert_client_over_tcp(&rt, rt.alloc());
 }
 
-// Asserts that a half counts the failures after its connection has ended.
+// Asserts that a writing half counts the writes that fail after the peer has closed the connection.
 fn assert_failures<R: Net + Abort>(rt: &R, alloc: Global) {
     let (ours, theirs) = UnixStream::pair(rt).expect(rt, "a pair");
     let (_, mut writer) = halves_of(rt, alloc, ours);
@@ -263,7 +263,7 @@ fn failures_are_counted(rt: HostRuntime) {
     assert_failures(&rt, rt.alloc());
 }
 
-// Asserts that a listener accepts this client, and returns its address.
+// Asserts that a listener accepts this client, and returns the client's address.
 fn assert_accepts(rt: &impl Abort, listener: &Listener, client: &TcpStream) {
     let wanted = client.local_addr().expect(rt, "an address");
     let (connection, from) = listener.accept().expect(rt, "a connection");
@@ -272,7 +272,7 @@ fn assert_accepts(rt: &impl Abort, listener: &Listener, client: &TcpStream) {
     assert_same(rt, peer, from);
 }
 
-// Asserts that a listener displays its address, and accepts a client with an address.
+// Asserts how the address of a TCP listener is displayed, and that the listener returns the address of a client.
 fn assert_addresses_of_tcp<R: Host>(rt: &R, alloc: Global) {
     let listener = TcpListener::bind(rt, "127.0.0.1:0").expect(rt, "a listener");
     let listener = Listener::from(listener);
@@ -289,7 +289,7 @@ fn addresses_of_tcp(rt: HostRuntime) {
     assert_addresses_of_tcp(&rt, rt.alloc());
 }
 
-// Asserts that the connection has one request, for `/a` and without an address.
+// Asserts that a connection has exactly one request, for `/a` and without an address. Returns the request.
 fn assert_one_request<R: Host>(rt: &R, client: &mut Client<R>) -> ClientRequest<R> {
     assert_holds(rt, "it is without TLS", !client.secure());
     let request = next_of(rt, client).expect(rt, "a request");
@@ -302,7 +302,7 @@ fn assert_one_request<R: Host>(rt: &R, client: &mut Client<R>) -> ClientRequest<
 const ANSWER: &str = "HTTP/1.1 200 OK\r\nServer: tiny-http (Rust)\r\n\
     Date: Wed, 04 May 1983 11:17:00 GMT\r\nContent-Length: 1\r\n\r\na";
 
-// Responds to a Unix socket client's only request after its connection is dropped.
+// Asserts that the only request over a Unix socket can be answered after the `ClientConnection` is dropped.
 fn assert_client_over_halves<R: Host>(rt: &R, alloc: Global) {
     let (ours, mut theirs) = UnixStream::pair(rt).expect(rt, "a pair");
     send(

@@ -1,4 +1,4 @@
-//! Test of a headcount.
+//! Test of `Headcount`.
 use crate::same::{assert_holds, assert_same};
 use tiny_http::headcount::Headcount;
 

@@ -1,4 +1,4 @@
-//! Tests of when the responses of a connection leave, over a socket pair whose other end the test reads.
+//! Tests of when the responses of a connection are sent, over a socket pair whose other end the test reads.
 use crate::fixture::{DATED, Host, assert_reads_next, send, text};
 use crate::same::assert_same;
 use std::alloc::Global;
@@ -16,13 +16,13 @@ use tiny_http::response::Response;
 use tiny_http::server::current_date;
 use tiny_http_socket::cork::{Cork, CorkedWriter, FlushingReader, halves};
 
-// The reader of such a connection.
+// The reader of a connection whose responses are sent together.
 pub type HalfReader = FlushingReader<RefinedTcpStream, RefinedTcpStream>;
 
-// The writer of such a connection.
+// The writer of a connection whose responses are sent together.
 pub type HalfWriter<R> = CorkedWriter<RefinedTcpStream, R>;
 
-// A connection whose responses leave together, and its client.
+// A connection whose responses are sent together, and its client.
 #[derive(Drop)]
 struct Pair<R: Wait + Drop> {
     peer: UnixStream,
@@ -30,7 +30,7 @@ struct Pair<R: Wait + Drop> {
     client: ClientConnection<HalfReader, HalfWriter<R>, R>,
 }
 
-// The two halves of a connection whose responses leave together, and its client.
+// The two halves of a connection whose responses are sent together, and its client.
 #[derive(Drop)]
 pub struct Ends<R: Wait + Drop> {
     pub peer: UnixStream,
@@ -39,7 +39,7 @@ pub struct Ends<R: Wait + Drop> {
     pub writer: HalfWriter<R>,
 }
 
-// Creates the halves of a connection and its client, with this read timeout.
+// Creates the halves of a connection, and its client, which has this read timeout.
 pub fn ends_of<R: Host>(rt: &R, alloc: Global, wait: Duration) -> Ends<R> {
     let (ours, peer) = UnixStream::pair(rt).expect(rt, "a pair");
     let timed = peer.set_read_timeout(Some(wait));
@@ -57,7 +57,7 @@ pub fn ends_of<R: Host>(rt: &R, alloc: Global, wait: Duration) -> Ends<R> {
     }
 }
 
-// Creates a connection and its client, with a read timeout of 1 ms.
+// Creates a connection, and its client, which has a read timeout of 1 ms.
 fn pair_of<R: Host>(rt: &R, alloc: Global) -> Pair<R> {
     let ends = ends_of(rt, alloc, Duration::from_millis(1));
     let policy = Arc::try_clone(ends.cork.flush_policy())
@@ -73,14 +73,15 @@ fn pair_of<R: Host>(rt: &R, alloc: Global) -> Pair<R> {
     }
 }
 
-// Returns the next request, as a worker that serves receives it.
+// Returns the next request. Unless flushes may leave bytes buffered, sends the buffered bytes first, as a worker of
+// `serve` does.
 fn next_of<R: Host>(rt: &R, pair: &mut Pair<R>) -> Request<HalfReader, HalfWriter<R>, R> {
     let next = pair.client.next(current_date(rt)).expect(rt, "memory");
     pair.cork.send_unless_leaving();
     next.expect(rt, "a request")
 }
 
-// Creates a connection whose client has sent this, and responds to its first request with `a`.
+// Creates a connection whose client has sent this text, and responds to the first request with `a`.
 fn answered_one<R: Host>(rt: &R, alloc: Global, sent: &str) -> Pair<R> {
     let mut pair = pair_of(rt, alloc);
     send(rt, &mut pair.peer, sent);
@@ -88,7 +89,7 @@ fn answered_one<R: Host>(rt: &R, alloc: Global, sent: &str) -> Pair<R> {
     pair
 }
 
-// Responds with this text.
+// Responds to a request with this text.
 fn respond<R: Host>(
     rt: &R,
     alloc: Global,
@@ -100,7 +101,7 @@ fn respond<R: Host>(
     sent.expect(rt, "it is answered");
 }
 
-// Asserts that the client gets no further byte.
+// Asserts that the client gets no further byte before its read timeout.
 fn assert_silent<R: Host>(rt: &R, pair: &mut Pair<R>) {
     let read = pair.peer.read(&mut [0u8; 1]);
     let fault = read.err().expect(rt, "no byte");
@@ -117,7 +118,7 @@ const A: &[&str] = &[OK, DATED, ONE, "a"];
 
 const B: &[&str] = &[OK, DATED, ONE, "b"];
 
-// Asserts that two responses wait until they are sent.
+// Asserts that two responses stay buffered until `send`.
 fn assert_wait<R: Host>(rt: &R, alloc: Global) {
     let mut pair = answered_one(rt, alloc, THREE);
     respond(rt, alloc, next_of(rt, &mut pair), "b");
@@ -127,8 +128,8 @@ fn assert_wait<R: Host>(rt: &R, alloc: Global) {
     assert_reads_next(rt, alloc, &mut pair.peer, B);
 }
 
-// Asserts that waiting responses leave before a request that waits for a kept one, and that the kept one's response
-// leaves at its flush.
+// Asserts that the buffered response is sent once a request is returned while an earlier request is unanswered, and
+// that the response to the earlier request is then sent without `send`.
 fn assert_kept<R: Host>(rt: &R, alloc: Global) {
     let mut pair = answered_one(rt, alloc, THREE);
     let kept = next_of(rt, &mut pair);
@@ -139,7 +140,7 @@ fn assert_kept<R: Host>(rt: &R, alloc: Global) {
     drop(third);
 }
 
-// Asserts that a flush of a raw writer sends what waits and its own bytes.
+// Asserts that flushing a raw writer sends the buffered response and then the raw bytes.
 fn assert_raw<R: Host>(rt: &R, alloc: Global) {
     let mut pair = answered_one(rt, alloc, THREE);
     let mut writer = next_of(rt, &mut pair).into_writer();
@@ -152,7 +153,7 @@ fn assert_raw<R: Host>(rt: &R, alloc: Global) {
     drop(writer);
 }
 
-// Asserts that an upgrade sends what waits and its own head.
+// Asserts that an upgrade sends the buffered response and then the head of the upgrade's response.
 fn assert_upgrade<R: Host>(rt: &R, alloc: Global) {
     let mut pair = answered_one(rt, alloc, THREE);
     let request = next_of(rt, &mut pair);
@@ -164,7 +165,7 @@ fn assert_upgrade<R: Host>(rt: &R, alloc: Global) {
     drop(stream);
 }
 
-// Asserts that an interim response 100 sends what waits, and is sent.
+// Asserts that a 100 (Continue) response is sent at once, after the buffered response.
 fn assert_100<R: Host>(rt: &R, alloc: Global) {
     let expecting = "GET / HTTP/1.1\r\n\r\nGET / HTTP/1.1\r\nExpect: 100-continue\r\n\r\n";
     let mut pair = answered_one(rt, alloc, expecting);
@@ -193,7 +194,7 @@ fn what_a_program_flushes_is_sent(rt: HostRuntime) {
     assert_100(&rt, rt.alloc());
 }
 
-// Asserts that two texts leave in one write, in their order.
+// Asserts that `write_both` sends two texts in order.
 fn assert_writes_both<R: Host>(rt: &R, alloc: Global) {
     let (ours, mut theirs) = UnixStream::pair(rt).expect(rt, "a pair");
     let halves = RefinedTcpStream::new(alloc, Connection::from(ours));

@@ -1,5 +1,5 @@
 //! Tests of what scenes can't reach: requests over memory, halves of connections, queues and counters shared by
-//! threads, and servers with clocks of their own.
+//! threads, and dates from a fixed clock.
 #![tactic(auto)]
 
 #[cfg(test)]

@@ -14,12 +14,12 @@ use tiny_http_request::test::Recorder;
 use tiny_http_wire::device::Canned;
 use tiny_http_wire::response::Response;
 
-/// An empty 500 in version 1.1.
+/// The response to a dropped request: an empty 500 in version 1.1.
 pub(crate) const DROPPED: &str =
     "HTTP/1.1 500 Internal Server Error\r\nServer: tiny-http (Rust)\r\nDate: Wed, 04 May 1983 11:17:00 GMT\r\n\
         Content-Length: 0\r\n\r\n";
 
-/// The head of a 200 with a text, except for the content length.
+/// The head of a 200 response with a text, up to its `Content-Length` field.
 pub(crate) const TEXT: &str =
     "HTTP/1.1 200 OK\r\nServer: tiny-http (Rust)\r\nDate: Wed, 04 May 1983 11:17:00 GMT\r\n\
         Content-Type: text/plain; charset=UTF-8\r\n";
@@ -29,7 +29,7 @@ pub(crate) fn now() -> Result<HttpDate, Fail> {
     Ok(HttpDate::from_unix_secs(420_895_020)?)
 }
 
-/// Waits until `count` is at least `want`, for at most 10,000 turns of 1 ms. Returns whether it is.
+/// Waits until `count` is at least `want`, for at most 10,000 times 1 ms. Returns whether `count` got there.
 pub(crate) fn is_reached<R: Clock>(rt: &R, count: &AtomicU64, want: u64) -> bool {
     for _ in 0..10_000u32 {
         if count.load(Ordering::SeqCst) >= want {
@@ -40,17 +40,17 @@ pub(crate) fn is_reached<R: Clock>(rt: &R, count: &AtomicU64, want: u64) -> bool
     false
 }
 
-/// A request of these tests.
+/// A request over memory.
 pub(crate) type Asked<R> = Request<Canned, Recorder<R>, R>;
 
-/// A connection of these tests, and its output.
+/// A connection over memory, and its output.
 #[derive(Drop)]
 pub(crate) struct Bench<R: Wait + Copy> {
     pub client: ClientConnection<Canned, Recorder<R>, R>,
     pub output: Recorder<R>,
 }
 
-/// Creates a connection to `client`.
+/// Creates a connection that reads from `client`.
 pub(crate) fn connect_to<R: Wait + Copy>(
     rt: R,
     alloc: Global,
@@ -98,7 +98,7 @@ pub(crate) fn assert_output<R: Wait + Copy + Abort>(
     Ok(())
 }
 
-/// Builds a 200 with this text.
+/// Builds a 200 response with this text.
 pub(crate) fn text(alloc: Global, text: &str) -> Result<Response<io::Cursor<Vec<u8>>>, AllocError> {
     Response::from_string(alloc, String::from_str(alloc, text)?)
 }

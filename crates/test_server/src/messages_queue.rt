@@ -9,16 +9,16 @@ use std::thread::{JoinHandle, Threads};
 use std::time::{Clock, Duration, Instant};
 use tiny_http::messages_queue::{MessagesQueue, Popped, QueueState};
 
-// Number of threads that push, and of those that pop.
+// Number of threads that push, and number of threads that pop.
 const THREADS: usize = 8;
 
-// Number of values that each of them pushes.
+// Number of values that each pushing thread pushes.
 const VALUES: usize = 10_000;
 
 // A value: the index of its pusher, and its number.
 type Numbered = (usize, usize);
 
-// What these tests need of the system, and the ability to abort on a failure.
+// A runtime with what these tests need, which can abort a test that fails.
 trait Host: Threads + Wait + Abort + Copy + Send + 'static {}
 
 impl<R: Threads + Wait + Abort + Copy + Send + 'static> Host for R {}
@@ -32,12 +32,12 @@ fn push<T: Drop, R: Wait + Abort>(rt: &R, queue: &MessagesQueue<T>, value: T) {
     queue.push(rt, value).ok().expect(rt, "memory");
 }
 
-// Adds an unblock mark.
+// Adds an unblock mark to a queue.
 fn unblock<T: Drop, R: Wait + Abort>(rt: &R, queue: &MessagesQueue<T>) {
     queue.unblock(rt).expect(rt, "memory");
 }
 
-// Asserts the result of a pop.
+// Pops from a queue, and asserts the result.
 fn assert_pops(rt: &impl Abort, queue: &mut QueueState<usize>, wanted: Popped<usize>) {
     assert_same(rt, queue.pop(), wanted);
 }
@@ -48,7 +48,7 @@ fn room_past_all_memory_is_refused(rt: HostRuntime) {
     assert_holds(&rt, "there is no such room", refused.is_err());
 }
 
-// Pushes a value. Returns whether it was accepted; otherwise the queue returns it.
+// Pushes a value. Returns whether the queue accepted the value, and asserts that it otherwise handed the value back.
 fn is_pushed(rt: &impl Abort, queue: &mut QueueState<usize>, value: usize) -> bool {
     match queue.push(value) {
         Ok(()) => true,
@@ -80,7 +80,7 @@ fn assert_pops_both(
     }
 }
 
-// Run with each allocation failing in turn, this shows what a refused push or mark leaves behind.
+// When this is run with each allocation failing in turn, it shows that a refused push or mark changes nothing.
 #[test]
 fn a_refusal_changes_nothing(rt: HostRuntime) {
     let mut queue = QueueState::new(rt.alloc());
@@ -94,7 +94,7 @@ fn a_refusal_changes_nothing(rt: HostRuntime) {
     assert_pops(&rt, &mut queue, Popped::Empty);
 }
 
-// Creates another handle of a shared value.
+// Creates another handle to a shared value.
 fn shared<T>(rt: &impl Abort, value: &Arc<T>) -> Arc<T> {
     Arc::try_clone(value).expect(rt, "memory")
 }
@@ -105,7 +105,7 @@ const ROUNDS: u16 = 2_000;
 // The value that ends the rounds.
 const LAST: u16 = 2_001;
 
-// Replies to each value by itself and to each mark by `ROUNDS`, up to the last value.
+// Replies to each value with the value, and to each mark with `ROUNDS`, until the value is `LAST`.
 fn answer_each<R: Wait + Abort>(rt: &R, queue: &MessagesQueue<u16>, answers: &MessagesQueue<u16>) {
     for _ in rt.forever() {
         let found = queue.pop(rt);
@@ -143,7 +143,7 @@ fn assert_answered<R: Wait + Abort>(
     assert_same(rt, (round, answers.pop(rt)), (round, Some(wanted)));
 }
 
-// Returns whether fewer than 5 s have passed.
+// Returns whether less than 5 s have passed since `start`.
 fn is_early<R: Clock>(rt: &R, start: &Instant) -> bool {
     start
         .elapsed(rt)
@@ -168,7 +168,7 @@ fn no_wake_is_lost(rt: HostRuntime) -> Result<(), Fail> {
     Ok(())
 }
 
-// Pushes all values of one thread. Returns how many were refused.
+// Pushes all values of one thread. Returns the number of values that were refused.
 fn push_all<R: Wait>(rt: &R, queue: &MessagesQueue<Numbered>, pusher: usize) -> usize {
     let mut refused = 0usize;
     for number in 0..VALUES {
@@ -179,7 +179,7 @@ fn push_all<R: Wait>(rt: &R, queue: &MessagesQueue<Numbered>, pusher: usize) -> 
     refused
 }
 
-// Pops up to the first mark. Returns the values in order, or `None` if memory is refused.
+// Pops values up to the first mark. Returns the values in order, or `None` if memory is refused.
 fn pop_all<R: Wait>(
     rt: &R,
     alloc: Global,
@@ -210,7 +210,7 @@ fn is_in_order(came: &[Numbered]) -> bool {
     true
 }
 
-// Counts each value at its index among all.
+// Counts each value at its index among the values of all threads.
 fn count_in(seen: &mut [u8], came: &[Numbered]) {
     for (pusher, number) in came {
         let at = pusher.saturating_mul(VALUES).saturating_add(*number);
@@ -220,7 +220,7 @@ fn count_in(seen: &mut [u8], came: &[Numbered]) {
     }
 }
 
-// Starts a thread that pushes all its values.
+// Starts a thread that pushes all values of this index.
 fn start_pusher<R: Host>(
     rt: &R,
     queue: &Arc<MessagesQueue<Numbered>>,
@@ -231,7 +231,7 @@ fn start_pusher<R: Host>(
     started.ok().expect(rt, "a thread")
 }
 
-// Starts eight threads that push all their values.
+// Starts eight threads, each of which pushes all values of its index.
 fn start_pushers<R: Host>(
     rt: &R,
     alloc: Global,
@@ -256,7 +256,7 @@ fn start_popper<R: Host>(
     started.ok().expect(rt, "a thread")
 }
 
-// Starts eight threads that pop up to one mark each.
+// Starts eight threads, each of which pops up to its first mark.
 fn start_poppers<R: Host>(
     rt: &R,
     alloc: Global,

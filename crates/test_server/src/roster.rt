@@ -32,7 +32,7 @@ fn answer_path<R: Host>(rt: &R, alloc: Global, request: ServerRequest<R>) {
     }
 }
 
-// Responds to requests until it is unblocked, and enters the roster once for each. Returns the share.
+// Responds to requests until the thread is unblocked, and enters the roster once for each request. Returns the share.
 fn answers<L: Ledger, R: Host>(rt: &R, shared: &Shared<'_, L, R>, mut mine: Share<L>) -> Share<L>
     requires { 0 < mine.parts }
     ensures { result.parts ≡ mine.parts }
@@ -47,7 +47,7 @@ fn answers<L: Ledger, R: Host>(rt: &R, shared: &Shared<'_, L, R>, mut mine: Shar
     mine
 }
 
-// Responds on two threads. Returns their merged shares.
+// Responds to requests on two threads. Returns their merged shares.
 fn two_answer<L, R>(
     rt: &R,
     shared: &Shared<'_, L, R>,
@@ -76,7 +76,7 @@ where
     both
 }
 
-// Responds on four threads. Returns their merged shares.
+// Responds to requests on four threads. Returns their merged shares.
 fn four_answer<L, R>(rt: &R, shared: &Shared<'_, L, R>, mine: Share<L>) -> Share<L>
 where
     L: Ledger + Send + Sync,
@@ -103,7 +103,7 @@ where
     all
 }
 
-// Connects a client, and requests the path with its number. Returns the client and that path.
+// Connects a client, and requests a path with the client's number. Returns the client and the path.
 fn ask_path<R: Host>(
     rt: &R,
     alloc: Global,
@@ -144,7 +144,8 @@ fn unblock_four<R: Host>(rt: &R, server: &Server<R>) {
     }
 }
 
-// Responds to all clients on four threads, and asserts that each gets its path. Returns the count of the roster.
+// Responds to all clients on four threads, and asserts that each gets the path that it requested. Returns the roster's
+// final count.
 fn serve_all<L, R>(rt: &R, alloc: Global, server: &Server<R>, blank: Blank) -> u64
 where
     L: Ledger + Send + Sync,

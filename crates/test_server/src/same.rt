@@ -3,12 +3,13 @@ use std::alloc::Global;
 use std::fmt::{Debug, Display};
 use std::process::Abort;
 
-/// Asserts that both values are equal. A row of a table puts its key into both, so that a failure names it.
+/// Asserts that both values are equal. Tests of table rows put the row's key into both, so that a failure names the
+/// row.
 pub fn assert_same<T: PartialEq + Debug + Drop>(rt: &impl Abort, found: T, wanted: T) {
     assert_eq!(rt; found, wanted);
 }
 
-/// Asserts `holds`, and names `words` otherwise.
+/// Asserts that `holds` is true. A failure prints `words`.
 pub fn assert_holds(rt: &impl Abort, words: &str, holds: bool) {
     assert!(rt; holds, "not so: {words}");
 }

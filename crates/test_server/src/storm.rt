@@ -28,7 +28,7 @@ struct Dealt<R: Wait + Clock + Copy> {
 // The requests of a thread.
 type Share<R> = Vec<Dealt<R>>;
 
-// Drops every fourth request, takes the raw writer of another, and responds to the others.
+// Of every four requests, drops the first, writes raw bytes for the second, and responds to the other two.
 fn treat<R: Wait + Clock + Copy>(
     alloc: Global,
     date: HttpDate,
@@ -49,7 +49,8 @@ fn treat<R: Wait + Clock + Copy>(
     Ok(())
 }
 
-// Handles the requests of one thread. Returns how many succeeded.
+// Handles the requests of one thread, and then counts the thread in `done`. Returns the number of requests that were
+// handled without an error.
 fn treat_all<R: Wait + Clock + Copy>(
     alloc: Global,
     date: HttpDate,

@@ -3,7 +3,7 @@ use std::alloc::Global;
 use std::test::Fail;
 use tiny_http_client::answer_head::{AnswerHead, AnswerHeadFault, read_answer_head};
 
-// Reads the head at the start of `bytes`. Returns it and its length.
+// Reads the head at the start of `bytes`. Returns the head and its length in bytes.
 fn read(alloc: Global, bytes: &[u8]) -> Result<(AnswerHead, usize), Fail> {
     match read_answer_head(alloc, bytes)? {
         Some(read) => Ok(read),
@@ -19,7 +19,7 @@ fn a_head_is_read(rt: HostRuntime) -> Result<(), Fail> {
     let (head, length) = read(alloc, bytes)?;
     assert_eq!(rt; (head.version.0, head.version.1), (1, 0));
     assert_eq!(rt; head.status.0, 404);
-    // The body follows the head.
+    // The length does not include the body.
     assert_eq!(rt; length, 32);
     let [a, c] = head.headers.as_slice() else {
         return Err("not two headers".into());

@@ -10,7 +10,7 @@ fn ascii(alloc: Global, bytes: &[u8]) -> Result<AsciiString, Fail> {
     Ok(AsciiString::from_ascii(bytes.to_vec(alloc)?)?)
 }
 
-// Returns the error for `bytes`.
+// Returns the error of creating a text from `bytes`, which must be refused.
 fn refused(alloc: Global, bytes: &[u8]) -> Result<FromAsciiError, Fail> {
     match AsciiString::from_ascii(bytes.to_vec(alloc)?) {
         Ok(_) => Err("accepted".into()),
@@ -18,7 +18,7 @@ fn refused(alloc: Global, bytes: &[u8]) -> Result<FromAsciiError, Fail> {
     }
 }
 
-// Asserts the text, as it is and trimmed.
+// Asserts that a text is ` Ab\t`, and `Ab` when trimmed.
 fn assert_texts(rt: &impl Abort, text: &AsciiString) {
     assert_same(rt, text.as_str(), " Ab\t");
     assert_same(rt, text.as_ascii().as_str(), " Ab\t");
@@ -75,7 +75,7 @@ fn refuses(rt: HostRuntime) -> Result<(), Fail> {
     Ok(())
 }
 
-// Asserts that the copy is the same text, and that another case is a different one.
+// Asserts that `copy` equals `text`, and that `other`, which differs from `text` in case, does not.
 fn assert_copy(rt: &impl Abort, text: &AsciiString, copy: &AsciiString, other: &AsciiString) {
     assert_same(rt, copy.as_str(), "chunked");
     assert_holds(rt, "a copy is equal", copy == text);

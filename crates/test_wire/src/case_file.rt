@@ -16,7 +16,7 @@ use test_data_files::fault::FilesFault;
 use test_data_files::program::NamedFile;
 use tiny_http_wire::device::ReadDevice;
 
-// Files, the number of the first invalid line, and why it is invalid.
+// Invalid files, each with the number of its first invalid line, and why that line is invalid.
 const BAD: &[(&str, usize, &str)] = &[
     ("", 1, "there is no case"),
     ("# a\n", 2, "there is no case"),
@@ -137,7 +137,7 @@ struct Found {
     end: &'static str,
 }
 
-// The outcome that the case states.
+// The outcome that `CASE` states.
 const GOOD: Found = Found {
     reply: "ended",
     output: "a\r\nb",
@@ -166,7 +166,7 @@ impl Found {
     }
 }
 
-// Outcomes of the case, whether a call was made to fail, and the first difference.
+// Outcomes of `CASE`, each with whether a call was made to fail, and the outcome's first difference from the case.
 const DIFFERENCES: &[(Found, bool, &str)] = &[
     (GOOD, false, ""),
     (GOOD, true, ""),
@@ -223,8 +223,8 @@ const DIFFERENCES: &[(Found, bool, &str)] = &[
         false,
         "failures: 1, 0",
     ),
-    // After an injected failure a prefix of the output is enough. It is reported only by a reply to a write or a
-    // response.
+    // After an injected failure a prefix of the output is enough. Only the reply to a write or a response may report
+    // the failure.
     (
         Found {
             failures: 1,
@@ -262,7 +262,7 @@ const DIFFERENCES: &[(Found, bool, &str)] = &[
     ),
 ];
 
-// Returns the first difference of this outcome from the case, or nothing if there is none.
+// Returns the first difference of this outcome from `CASE`, or an empty text if there is none.
 fn difference_of(alloc: Global, found: Found, is_made_to_fail: bool) -> Result<String, Fail> {
     let Ok(cases) = read_cases(alloc, "a.cases", CASE.as_bytes()) else {
         return Err("no case".into());
@@ -286,7 +286,7 @@ fn outcomes_that_differ(rt: HostRuntime) -> Result<(), Fail> {
     Ok(())
 }
 
-// A case that reads a body and has two responses.
+// A case that reads a body, and whose output has two responses.
 const READ: &str =
     "case a\nclient GG\nask\n  handed 0 G\nread 0 3\n  given abc\ndrop 0\n  done\noutput HTTP/xHTTP/y\n";
 
@@ -294,8 +294,8 @@ const TIMED_OUT: &str =
     "HTTP/xHTTP/1.1 408 Request Timeout\r\nServer: tiny-http (Rust)\r\nDate: Wed, 04 May 1983 11:17:00 GMT\r\n\
         Content-Length: 0\r\n\r\n";
 
-// Replies and output of a trial whose client's bytes were cut, the error there or none for an end, and the first
-// difference.
+// The replies and the output of a trial whose client's bytes were cut, the error at the cut (none for an end), and the
+// first difference from the case.
 type CutRow = (
     &'static [&'static str],
     &'static str,
@@ -364,7 +364,7 @@ const CUTS: &[CutRow] = &[
     ),
 ];
 
-// Builds the outcome of these replies and this output.
+// Builds the outcome with these replies and this output.
 fn outcome_of(alloc: Global, lines: &[&str], output: &str) -> Result<Outcome, Fail> {
     let mut replies = Vec::new(alloc);
     for line in lines {
@@ -380,7 +380,7 @@ fn outcome_of(alloc: Global, lines: &[&str], output: &str) -> Result<Outcome, Fa
     })
 }
 
-// Formats a difference on one line, or nothing if there is none.
+// Formats a difference on one line, or as an empty text if there is none.
 fn shown(alloc: Global, difference: Option<Difference>) -> Result<String, Fail> {
     match difference {
         Some(it) => {
@@ -391,7 +391,7 @@ fn shown(alloc: Global, difference: Option<Difference>) -> Result<String, Fail> 
     }
 }
 
-// Returns the first difference of a trial whose client's bytes were cut.
+// Returns the first difference between `READ` and a trial of it whose client's bytes were cut.
 fn difference_of_cut(alloc: Global, row: &CutRow) -> Result<String, Fail> {
     let (replies, output, stop, _) = row;
     let Ok(cases) = read_cases(alloc, "a.cases", READ.as_bytes()) else {
@@ -445,7 +445,7 @@ const PLAIN: &[[&str; 3]] = &[
     ],
 ];
 
-// The same under the standard profile.
+// A client's bytes, the reply to an `ask`, and its difference from a plain reading under the standard profile.
 const PLAIN_STANDARD: &[[&str; 3]] = &[
     [
         "GET / HTTP/1.2\r\nHost: a\r\n\r\n",
@@ -475,7 +475,7 @@ const PLAIN_STANDARD: &[[&str; 3]] = &[
 
 const STANDARD_CASE: &str = "case a\nprofile standard\nclient G\nask\n  ended\n";
 
-// Returns the difference from a plain reading under the profile of the case in `file`.
+// Returns how the reply to a client's bytes differs from a plain reading, under the profile of the case in `file`.
 fn difference_of_plain(
     alloc: Global,
     file: &str,
@@ -506,7 +506,7 @@ fn a_plain_reading_differs(rt: HostRuntime) -> Result<(), Fail> {
     Ok(())
 }
 
-// The fault injected into a case, the results of the reader's next calls, and how a report describes it.
+// The fault injected into a case, if any, the results of the next three reads, and how a report describes the trial.
 type HarmRow = (
     Option<Harm>,
     &'static [Result<&'static str, ErrorKind>],
@@ -552,7 +552,7 @@ fn assert_reads(rt: &impl Abort, reader: &mut Reader, wanted: Result<&str, Error
     assert_same(rt, found, wanted.map(str::as_bytes));
 }
 
-// Creates the trial with this fault.
+// Creates the trial with this fault, if any.
 fn trial_of(harm: Option<Harm>) -> Trial {
     match harm {
         Some(harm) => Trial::harmed(harm),
@@ -560,7 +560,7 @@ fn trial_of(harm: Option<Harm>) -> Trial {
     }
 }
 
-// Asserts that a cut, an error or a changed byte reaches the reader.
+// Asserts what the reader of a trial returns with the row's fault, and how the trial is displayed.
 fn assert_harm(rt: &impl Abort, alloc: Global, case: &Case, row: &HarmRow) -> Result<(), Fail> {
     let (harm, wanted, words) = *row;
     let trial = trial_of(harm);
@@ -615,7 +615,7 @@ impl Runner for Fixed {
     }
 }
 
-// Runs the case in two ways, the second with another outcome if the reader fails once, and asserts the report.
+// Tries `CASE` with two runners, the second of which returns `once` if the reader fails once. Asserts the report.
 fn assert_report(
     rt: &impl Abort,
     alloc: Global,
@@ -640,7 +640,7 @@ fn assert_report(
     Ok(())
 }
 
-// A case that differs in the first way is not tried in the second.
+// A case that differs with the first runner is not tried with the second.
 #[test]
 fn runs_that_differ_are_reported(rt: HostRuntime) -> Result<(), Fail> {
     let done = Found {
@@ -661,7 +661,8 @@ fn runs_that_differ_are_reported(rt: HostRuntime) -> Result<(), Fail> {
     assert_report(&rt, rt.alloc(), [done, GOOD, GOOD], wanted.as_str())
 }
 
-// Outcomes of a trial whose reader fails once, and how a report states their difference from a cut there.
+// Outcomes of a trial whose reader fails once, and how the report states their difference from a trial that is cut at
+// the same byte.
 const ONCE: &[(Found, &str)] = &[
     (
         Found {
@@ -707,7 +708,8 @@ fn a_fault_that_is_no_cut_is_reported(rt: HostRuntime) -> Result<(), Fail> {
     Ok(())
 }
 
-// Writes twice and flushes. Returns what each call accepted, the number of failures, and the number of calls after one.
+// Writes twice and flushes. Returns what each call accepted, the number of failures, and the number of calls after the
+// first failure.
 fn write_by(writer: &mut Trier) -> ([Option<usize>; 3], (u64, u64)) {
     let calls = [
         writer.write(b"hello").ok(),

@@ -42,7 +42,7 @@ where
     StatusCode::from(number).as_u16()
 }
 
-// Converts numbers of 8, 16 and 32 bits to status codes.
+// Returns the status codes made from numbers of 8, 16 and 32 bits.
 fn codes() -> [[u16; 3]; 3] {
     [
         [code(-1i8), code(127i8), code(200u8)],
@@ -214,7 +214,7 @@ fn headers_are_copied(rt: HostRuntime) -> Result<(), Fail> {
     Ok(())
 }
 
-// Asserts that the copy of the method called `name` is equal to it.
+// Asserts that a copy of the method with this name equals the method, and has the name.
 fn assert_copy(rt: &impl Abort, alloc: Global, name: &str) -> Result<(), Fail> {
     let method = Method::from_str(alloc, name)?;
     let copy = method.try_clone()?;

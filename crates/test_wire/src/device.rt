@@ -67,7 +67,7 @@ fn a_reader_fails_once(rt: HostRuntime) -> Result<(), Fail> {
     Ok(())
 }
 
-// Writes twice and flushes, and returns the results.
+// Writes twice and flushes. Returns the results of the three calls.
 fn write_twice(writer: &mut FailsAt<Slow>) -> [Result<usize, ErrorKind>; 3] {
     [
         writer.write(b"hello").map_err(|e| e.kind()),
@@ -76,7 +76,7 @@ fn write_twice(writer: &mut FailsAt<Slow>) -> [Result<usize, ErrorKind>; 3] {
     ]
 }
 
-// A flush reaches the inner stream, which fails with another kind.
+// A flush that `FailsAt` does not fail reaches the inner stream, whose flushes fail with another kind of error.
 #[test]
 fn a_writer_fails_once(rt: HostRuntime) {
     let late = Err(ErrorKind::TimedOut);
@@ -118,8 +118,8 @@ fn kind_of<T: Copy>(outcome: Result<T, io::Error>) -> Option<ErrorKind> {
     }
 }
 
-// Asserts that a read of at most `most` bytes returns these and leaves the rest of the buffer, and that a read into an
-// empty buffer returns 0.
+// Asserts that a read of at most `most` bytes returns these bytes and leaves the rest of the buffer unchanged, and that
+// a read into an empty buffer returns 0.
 fn assert_front(
     rt: &impl Abort,
     reader: &mut Canned,
@@ -133,7 +133,7 @@ fn assert_front(
     Ok(())
 }
 
-// Asserts that only the error follows the bytes.
+// Asserts that the next read fails with the reader's error.
 fn assert_no_front(rt: &impl Abort, reader: &mut Canned) {
     let mut buf = [0u8; 4];
     let fault = kind_of(read_front(reader, 1, &mut buf));
@@ -164,7 +164,7 @@ fn assert_taken(rt: &impl Abort, budget: &mut Budget) -> Result<(), Fail> {
     Ok(())
 }
 
-// Asserts that a budget fails in these writes, and has then failed `count` times.
+// Asserts that a budget without room for these writes fails, and has then failed `count` times.
 fn assert_failing(rt: &impl Abort, mut budget: &mut Budget, count: u64) {
     let fault = kind_of(put_all(&mut budget, &[b" ", b"world"]));
     let found = (fault, WriteDevice::failures(&budget));
@@ -191,7 +191,7 @@ fn a_budget_takes_many_bytes(rt: HostRuntime) -> Result<(), Fail> {
     Ok(())
 }
 
-// A writer that accepts at most two bytes a call, and none beginning with `!`. Its flushes fail.
+// A writer that accepts at most two bytes a call, and no byte of a buffer that begins with `!`. Its flushes fail.
 #[derive(Drop)]
 struct Slow(Vec<u8>);
 
@@ -218,7 +218,7 @@ fn assert_slowly_taken(rt: &impl Abort, metered: &mut Metered<Slow>) -> Result<(
     Ok(())
 }
 
-// Asserts that a write and a flush fail, and are counted.
+// Asserts that a write fails and is counted, and that a flush fails.
 fn assert_counted(rt: &impl Abort, metered: &mut Metered<Slow>) {
     let fault = kind_of(metered.write_out(b"!"));
     assert_same(rt, fault, Some(ErrorKind::WriteZero));
@@ -227,7 +227,7 @@ fn assert_counted(rt: &impl Abort, metered: &mut Metered<Slow>) {
     assert_same(rt, fault, Some(ErrorKind::ConnectionReset));
 }
 
-// Asserts that a borrowed writer fails, and is counted.
+// Asserts that a flush through a borrow fails, and is counted as the third failure.
 fn assert_lent(rt: &impl Abort, mut metered: &mut Metered<Slow>) {
     let lent = (&mut metered).flush_out();
     assert_holds(rt, "a lent writer fails", lent.is_err());

@@ -1,4 +1,4 @@
-//! Tests of a writer of chunks (RFC 9112, section 7.1).
+//! Tests of `Encoder`, which writes a body in chunks (RFC 9112, section 7.1).
 use crate::same::assert_same;
 use std::alloc::Global;
 use std::io;
@@ -27,7 +27,7 @@ fn chunk(alloc: Global, bytes: &[u8]) -> Result<Vec<u8>, Fail> {
     Ok(text)
 }
 
-// A write accepts at most a full chunk if none is begun, and otherwise what fills it.
+// A write accepts at most a full chunk if no chunk is begun, and otherwise at most what fills the chunk.
 #[test]
 fn what_a_write_takes(rt: HostRuntime) -> Result<(), Fail> {
     let bytes = data(rt.alloc(), 20_000)?;
@@ -39,7 +39,7 @@ fn what_a_write_takes(rt: HostRuntime) -> Result<(), Fail> {
     Ok(())
 }
 
-// A stream that fails once, with a timeout, after it accepted `room` bytes. Later writes succeed.
+// A stream that fails once, with a timeout, after it has accepted `room` bytes. Later writes succeed.
 #[derive(Drop)]
 struct FailsOnce {
     taken: Vec<u8>,
@@ -111,8 +111,8 @@ fn fault<T: Drop>(outcome: Result<T, io::Error>) -> Option<ErrorKind> {
     outcome.err().map(|e| e.kind())
 }
 
-// Asserts that a writer that fails after `room` bytes gets no more, and that each later call fails with an error of its
-// own.
+// Asserts that a writer that fails after `room` bytes gets no more bytes, and that each later call on the encoder fails
+// with `BrokenPipe`.
 fn assert_failed(rt: &impl Abort, alloc: Global, bytes: &[u8], room: usize) -> Result<(), Fail> {
     let whole = chunk(alloc, bytes)?;
     let mut writer = Metered::new(FailsOnce::new(alloc, room));

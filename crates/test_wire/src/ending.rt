@@ -1,11 +1,11 @@
-//! Tests of streams whose first call fails, and of the end that a writer is passed.
+//! Tests of `Metered` over a stream whose first call fails, and of `end_out`, which is passed on to an inner writer.
 use crate::same::assert_same;
 use std::io;
 use std::io::{ErrorKind, Read, Write};
 use tiny_http_io::custom_stream::CustomStream;
 use tiny_http_wire::device::{Metered, ReadDevice, WriteDevice};
 
-// A stream whose first call fails with this kind. Each later one would succeed.
+// A stream whose first read or write fails with an error of this kind. Later calls succeed.
 #[derive(Drop)]
 struct FailsFirst {
     kind: ErrorKind,
@@ -13,7 +13,7 @@ struct FailsFirst {
 }
 
 impl FailsFirst {
-    // Counts a call. The first one fails.
+    // Counts a call. Fails if it is the first.
     fn call(&mut self) -> io::Result<()> {
         self.calls = self.calls.saturating_add(1);
         if self.calls == 1 {
@@ -45,7 +45,7 @@ fn failing(kind: ErrorKind) -> Metered<FailsFirst> {
     Metered::new(FailsFirst { kind, calls: 0 })
 }
 
-// An error is returned by its call. The next call is made as if there had been none.
+// `Metered` returns the error of a read, and does not retry it. The next read reaches the inner stream.
 #[test]
 fn a_metered_read_that_failed_is_not_made_again(rt: HostRuntime) {
     for kind in [ErrorKind::Interrupted, ErrorKind::TimedOut] {
@@ -69,7 +69,7 @@ fn a_metered_write_that_failed_is_not_made_again(rt: HostRuntime) {
     }
 }
 
-// A writer that counts the calls of `end_out`.
+// A writer that counts the calls to `end_out`.
 #[derive(Drop)]
 struct Told {
     writer: Metered<Vec<u8>>,
@@ -98,7 +98,7 @@ impl WriteDevice for Told {
     }
 }
 
-// Calls `end_out` of a writer of any type.
+// Calls `end_out` on a writer of any type.
 fn tell<W: WriteDevice>(writer: &mut W) {
     writer.end_out();
 }

@@ -17,7 +17,7 @@ fn text(alloc: Global, text: &str) -> Result<Response<Cursor<Vec<u8>>>, Fail> {
     Ok(Response::from_string(alloc, String::from_str(alloc, text)?)?)
 }
 
-// Asserts the status code, the length of the data, and the count of headers.
+// Asserts a response's status code, the length of its data, and the number of its headers.
 fn assert_answer<R>(rt: &impl Abort, answer: &Response<R>, code: u16, length: usize, count: usize) {
     assert_same(rt, answer.status_code(), StatusCode(code));
     assert_same(rt, answer.data_length(), Some(length));
@@ -60,7 +60,7 @@ fn answers_of_data_and_of_none(rt: HostRuntime) -> Result<(), Fail> {
     Ok(())
 }
 
-// A request: its version, one header line, and the protocol of its upgrade.
+// The request to which a response is printed: its version, its only field line, and the protocol of an upgrade, if any.
 #[derive(Clone, Copy)]
 struct Asking {
     version: HTTPVersion,
@@ -92,7 +92,7 @@ fn print_into<R: ReadDevice + Drop, W: WriteDevice>(
     Ok(outcome.err().map(|e| e.kind()))
 }
 
-// Asserts how a response is printed.
+// Asserts the text of a printed response.
 fn assert_printed<R: ReadDevice + Drop>(
     rt: &impl Abort,
     alloc: Global,
@@ -106,7 +106,7 @@ fn assert_printed<R: ReadDevice + Drop>(
     Ok(())
 }
 
-// Returns how often printing a response flushes.
+// Returns how often printing a response flushes the writer.
 fn flushes<R: ReadDevice + Drop>(
     alloc: Global,
     answer: Response<R>,
@@ -123,7 +123,8 @@ fn stream(alloc: Global) -> Result<Response<Canned>, Fail> {
     Ok(Response::empty(alloc, StatusCode(200)).with_data(data, None))
 }
 
-// For every way to send the body.
+// Each form of a body is printed without a flush: with a content length, in chunks, collected for HTTP/1.0, and in an
+// upgrade.
 #[test]
 fn an_answer_is_printed_without_a_flush(rt: HostRuntime) -> Result<(), Fail> {
     let alloc = rt.alloc();

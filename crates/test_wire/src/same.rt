@@ -4,12 +4,13 @@ use std::fmt::{Debug, Display};
 use std::process::Abort;
 use std::test::Fail;
 
-/// Asserts that both values are equal. A row of a table puts its key into both, so that a failure names it.
+/// Asserts that both values are equal. Tests of table rows put the row's key into both, so that a failure names the
+/// row.
 pub(crate) fn assert_same<T: PartialEq + Debug + Copy>(rt: &impl Abort, found: T, wanted: T) {
     assert_eq!(rt; found, wanted);
 }
 
-/// Asserts `holds`, and names `words` otherwise.
+/// Asserts that `holds` is true. A failure prints `words`.
 pub(crate) fn assert_holds(rt: &impl Abort, words: &str, holds: bool) {
     assert!(rt; holds, "not so: {words}");
 }

@@ -7,7 +7,7 @@ use test_scene_files::deed::deed_in;
 use test_scene_files::scene::{Over, read_scenes};
 use tiny_http_body::framing::Profile;
 
-// Files, the number of the first invalid line, and why it is invalid.
+// Invalid files, each with the number of its first invalid line, and why that line is invalid.
 const BAD: &[(&str, usize, &str)] = &[
     ("", 1, "there is no scene"),
     ("# a\n", 2, "there is no scene"),
@@ -259,7 +259,7 @@ fn a_file_of_two_scenes(rt: HostRuntime) -> Result<(), Fail> {
     Ok(())
 }
 
-// The steps of the second scene.
+// The lines of the second scene after its `server` line: the number and the text of each, and whether it is indented.
 const LINES: [(usize, &str, bool); 3] = [
     (8, "beside bob", false),
     (9, "pause 1", true),

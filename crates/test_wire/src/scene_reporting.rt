@@ -1,4 +1,4 @@
-//! Tests of the errors of values that differ.
+//! Tests of the error messages for values that differ.
 use crate::same::assert_same;
 use std::alloc::Global;
 use std::io::ErrorKind;
@@ -8,7 +8,7 @@ use test_scene_files::mishap::{
     Mishap, demand, demand_bytes, demand_fault, demand_number, demand_text,
 };
 
-// Asserts the error message.
+// Asserts the error message of an outcome, which is empty if there is no error.
 fn assert_said(
     rt: &impl Abort,
     alloc: Global,
@@ -65,7 +65,7 @@ fn nothing_is_said_of_what_is_the_same(rt: HostRuntime) -> Result<(), Fail> {
     assert_said(&rt, alloc, demand_bytes(alloc, b"a", b"a"), "")
 }
 
-// A part of a long text is shown, from 60 bytes before the first difference.
+// Only a part of a long text is shown, from 60 bytes before the first difference.
 #[test]
 fn a_part_of_a_long_text_is_shown(rt: HostRuntime) -> Result<(), Fail> {
     let alloc = rt.alloc();

@@ -1,4 +1,4 @@
-//! Tests of a server's output, read as a client reads it.
+//! Tests of the output of `example_greeter`, read as a client reads it.
 use crate::same::assert_same;
 use example_greeter::serve_bytes;
 use httpdate::HttpDate;
@@ -8,10 +8,10 @@ use std::test::Fail;
 use tiny_http_client::answer::{AnswerFault, read_answer};
 use tiny_http_wire::common::{HTTPVersion, Method};
 
-// An expected response: whether it is to a HEAD, then its version, its status and its body.
+// An expected response: whether its request is a HEAD, its version, its status code and its body.
 type Wanted = (bool, HTTPVersion, u16, &'static str);
 
-// A GET, a HEAD, a version above 1.1, a request that accepts chunks, and an invalid head.
+// A GET, a HEAD, a request of a version above 1.1, a request that accepts chunks, and an invalid head.
 const CLIENT: &[u8] =
     b"GET / HTTP/1.1\r\n\r\nHEAD /a HTTP/1.1\r\n\r\nGET / HTTP/2.0\r\n\r\nPOST /b HTTP/1.1\r\nTE: chunked\r\n\r\n\
         qsd\r\n";

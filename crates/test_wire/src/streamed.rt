@@ -8,7 +8,7 @@ use tiny_http_wire::streamed::{Streamed, StreamedForm};
 
 const ROOM: usize = 100_000;
 
-// Returns what is sent of a body in this form after two bytes, a flush, and `more` bytes.
+// Writes two bytes to a body in this form, flushes, and writes `more` bytes. Returns what has been sent by then.
 fn sent(alloc: Global, form: StreamedForm, more: usize) -> Result<Vec<u8>, Fail> {
     let mut body = Streamed::new(Budget::new(alloc, ROOM, ErrorKind::Other), form);
     body.write_all(b"hi")?;
@@ -19,7 +19,7 @@ fn sent(alloc: Global, form: StreamedForm, more: usize) -> Result<Vec<u8>, Fail>
     Ok(body.get_ref().bytes().to_vec(alloc)?)
 }
 
-// Bytes are buffered until they fill a piece of 8192, or are flushed.
+// Bytes are buffered until they fill a piece of 8192 bytes, or are flushed.
 #[test]
 fn a_piece_is_sent_once_it_is_full(rt: HostRuntime) -> Result<(), Fail> {
     let alloc = rt.alloc();
@@ -35,7 +35,7 @@ fn a_piece_is_sent_once_it_is_full(rt: HostRuntime) -> Result<(), Fail> {
     Ok(())
 }
 
-// The form determines the end, even of an empty body.
+// The form determines how a body ends, even an empty one.
 #[test]
 fn a_body_is_finished(rt: HostRuntime) -> Result<(), Fail> {
     let alloc = rt.alloc();

@@ -1,4 +1,4 @@
-//! Tests of how often printing a response calls the reader of its data and the writer, as each call may be a system
+//! Tests of how often printing a response calls the reader of its data and the writer, since each call may be a system
 //! call.
 use crate::same::assert_same;
 use httpdate::HttpDate;
@@ -10,7 +10,7 @@ use tiny_http_wire::common::{HTTPVersion, StatusCode};
 use tiny_http_wire::device::{Metered, ReadDevice};
 use tiny_http_wire::response::Response;
 
-// A number of bytes that are left, and the number of reads.
+// The data of a response: the number of bytes left, and the number of reads so far.
 #[derive(Drop)]
 struct Data {
     left: usize,
@@ -44,7 +44,8 @@ impl Write for Taker {
     }
 }
 
-// Returns how often the reader of 20,000 bytes of data and the writer are called, for a client of this minor version.
+// Prints a response with 20,000 bytes of data to a client of HTTP/1.`minor`. Returns the number of reads from the data,
+// and the number of writes.
 fn calls_of(alloc: Global, minor: u8, length: Option<usize>) -> Result<(u64, u64), Fail> {
     let mut data = Data {
         left: 20_000,
@@ -73,7 +74,7 @@ fn data_of_known_length_are_sent_in_large_pieces(rt: HostRuntime) -> Result<(), 
     Ok(())
 }
 
-// For version 1.0 the data are collected up to their end: three pieces, and then the end.
+// For HTTP/1.0, data of unknown length are collected up to their end: three reads return pieces, and one finds the end.
 #[test]
 fn gathered_data_are_read_in_large_pieces(rt: HostRuntime) -> Result<(), Fail> {
     let (reads, _) = calls_of(rt.alloc(), 0, None)?;

@@ -9,7 +9,7 @@ use tiny_http_wire::common::StatusCode;
 use tiny_http_wire::device::Metered;
 use tiny_http_wire::response::{Response, ResponseBox};
 
-// A substitute for a file: its bytes, and the length in its metadata, if this can be read.
+// A substitute for a file: its bytes, and the length in its metadata, if the metadata can be read.
 #[derive(Drop)]
 struct Stand {
     bytes: Cursor<Vec<u8>>,
@@ -47,7 +47,7 @@ const HELLO: &str =
     "HTTP/1.1 200 OK\r\nServer: tiny-http (Rust)\r\nDate: Wed, 04 May 1983 11:17:00 GMT\r\nContent-Length: 5\r\n\r\n\
         hello";
 
-// The response without a content length.
+// The response if the file's length is unknown, or is at least the chunked threshold.
 const HELLO_IN_CHUNKS: &str =
     "HTTP/1.1 200 OK\r\nServer: tiny-http (Rust)\r\nDate: Wed, 04 May 1983 11:17:00 GMT\r\n\
         Transfer-Encoding: chunked\r\n\r\n5\r\nhello\r\n0\r\n\r\n";
@@ -69,7 +69,7 @@ fn a_file_by_its_metadata(rt: HostRuntime) -> Result<(), Fail> {
     Ok(())
 }
 
-// From the threshold on a file is sent in chunks, without a content length.
+// A file whose length is at least the threshold is sent in chunks, without a content length.
 #[test]
 fn a_file_by_the_threshold(rt: HostRuntime) -> Result<(), Fail> {
     for (threshold, whole) in [(5, HELLO_IN_CHUNKS), (6, HELLO), (usize::MAX, HELLO)] {
@@ -83,7 +83,7 @@ fn a_file_by_the_threshold(rt: HostRuntime) -> Result<(), Fail> {
     Ok(())
 }
 
-// A file of 4 GiB.
+// The length of a file of 4 GiB is not cut to 32 bits.
 #[test]
 fn a_long_file(rt: HostRuntime) {
     let file = Stand {

@@ -1,4 +1,4 @@
-//! Tests of responses from texts and status codes, and of headers from texts.
+//! Tests of responses made from texts and status codes, and of headers made from texts.
 use super::{Asking, PLAIN, ROOM, assert_answer, assert_printed, print_into};
 use crate::same::{assert_same, assert_shown};
 use std::alloc::Global;
@@ -10,7 +10,7 @@ use tiny_http_wire::common::{HTTPVersion, Header, ParseError, StatusCode};
 use tiny_http_wire::device::Budget;
 use tiny_http_wire::response::{NotAdded, Refused, Response};
 
-// Names and values that make a header (RFC 9110, sections 5.5, 5.6.2, 8.3, 8.8.3 and 10.2.1).
+// Names and values from which a header can be made (RFC 9110, sections 5.5, 5.6.2, 8.3, 8.8.3 and 10.2.1).
 const MADE: [(&str, &str); 6] = [
     ("Content-Type", "text/html; charset=ISO-8859-4"),
     ("ETag", "\"xyzzy\""),
@@ -20,8 +20,8 @@ const MADE: [(&str, &str); 6] = [
     ("X", "a:b"),
 ];
 
-// Names and values that are refused: an empty name, or one with delimiters or white space; a value with outer white
-// space, control bytes or non-ASCII.
+// Names and values that are refused: a name that is empty, or has delimiters, white space or non-ASCII characters; a
+// value with leading or trailing white space, control characters or non-ASCII characters.
 const REFUSED: [(&str, &str); 17] = [
     ("", "a"),
     ("X Y", "a"),
@@ -42,7 +42,7 @@ const REFUSED: [(&str, &str); 17] = [
     ("X", "caf\u{e9}"),
 ];
 
-// Asserts that the texts make this header.
+// Asserts that the header made from this name and this value has them.
 fn assert_made(rt: &impl Abort, alloc: Global, name: &str, value: &str) -> Result<(), Fail> {
     let header = Header::new(alloc, name, value)?;
     assert_same(rt, header.field.as_str().as_str(), name);
@@ -66,7 +66,8 @@ fn headers_of_texts(rt: HostRuntime) -> Result<(), Fail> {
     Ok(())
 }
 
-// Builds a response with these headers, in a function that returns an `io::Result` (RFC 9110, section 15.5.6).
+// Builds a 405 response with headers made from texts, in a function that returns an `io::Result` (RFC 9110, section
+// 15.5.6).
 fn not_allowed(alloc: Global, allowed: &str) -> io::Result<Response<Cursor<Vec<u8>>>> {
     let answer = Response::status(alloc, StatusCode(405))?;
     let answer = answer.with(alloc, "Allow", allowed)?;
@@ -87,7 +88,7 @@ fn an_answer_with_headers_of_texts(rt: HostRuntime) -> Result<(), Fail> {
     Ok(())
 }
 
-// Asserts that the response of a status code has this text.
+// Asserts that the response made from a status code has this text.
 fn assert_status(rt: &impl Abort, alloc: Global, code: u16, text: &str) -> Result<(), Fail> {
     let answer = Response::status(alloc, StatusCode(code))?;
     assert_answer(rt, &answer, code, text.len(), 1);
@@ -117,7 +118,7 @@ fn an_answer_of_data(rt: HostRuntime) -> Result<(), Fail> {
     Ok(())
 }
 
-// Asserts how a response is printed for this request.
+// Asserts the text of a response that is printed to this request.
 fn assert_asked(
     rt: &impl Abort,
     alloc: Global,
@@ -138,7 +139,8 @@ const NOT_MODIFIED: &str =
 const NO_CONTENT: &str =
     "HTTP/1.0 204 No Content\r\nServer: tiny-http (Rust)\r\nDate: Wed, 04 May 1983 11:17:00 GMT\r\n\r\n";
 
-// They have neither a content length nor a transfer coding (RFC 9110, section 8.6; RFC 9112, section 6.1).
+// Responses without content have neither a content length nor a transfer coding (RFC 9110, section 8.6; RFC 9112,
+// section 6.1).
 #[test]
 fn answers_without_content(rt: HostRuntime) -> Result<(), Fail> {
     let alloc = rt.alloc();
