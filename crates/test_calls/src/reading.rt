@@ -60,7 +60,7 @@ fn go_on(
                 Ok(add_text(alloc, words, &mut finding.text)?)
             }
         }
-        _ => Err(LineFault::Bad("no bytes come before that these continue")),
+        _ => Err(LineFault::Bad("there are no earlier bytes for this line to continue")),
     }
 }
 
@@ -71,7 +71,7 @@ fn add_wanted(alloc: Global, wanted: &mut Vec<Finding>, text: &str) -> Result<()
         return go_on(alloc, wanted, word, words);
     }
     let Some(word) = word_of(word) else {
-        return Err(LineFault::Bad("nothing of this name comes of a call"));
+        return Err(LineFault::Bad("no call has a result of this name"));
     };
     let text = text_of(alloc, words)?;
     wanted
@@ -116,7 +116,7 @@ fn file_of<'a>(alloc: Global, file: &NamedFile<'a>) -> Result<RowFile<'a>, Files
     match rows.last() {
         None => Err(FilesFault::BadLine(name, number, "there is no row")),
         Some(row) if row.wanted.is_empty() => {
-            let why = "the last row says nothing of what comes";
+            let why = "the last row has no result";
             Err(FilesFault::BadLine(name, number, why))
         }
         Some(_) => Ok(RowFile { name, rows }),
