@@ -1,4 +1,4 @@
--- Greetings: each request that is handed out gets a response at once, according to its path.
+-- Greetings: each request that is handed out gets a response at once, according to its request target.
 use Rattle.std.specs.Prelude.{◌≡◌, ℕ, List, [], ◌∷◌, ◌++◌, map, length, ◌-◌, ◌^◌, Option, Some, None, Bool, true, false}
 use Rattle.httpdate.specs.declared.date.HttpDate.{HttpDate}
 use Rattle.tiny_http_wire.specs.Device.{Feed, Sink, whole_feed}
@@ -13,7 +13,7 @@ use Rattle.tiny_http_core.specs.ResponseValue.{response_of}
 use Rattle.tiny_http_core.specs.Steps.{Ask, Respond, ReplyValue, Handed, TimedValue}
 use Rattle.tiny_http_core.specs.Conversation.{IsConversation}
 
--- Whether the status is the one for the path: 200 for the root, and 404 for any other.
+-- Whether the status is the one for the request target `path`: 200 for `/`, and 404 for any other.
 pub record IsStatus (path : List ℕ) (status : ℕ) : Type 0 where
   pub root : path ≡ 47 ∷ [] → status ≡ 200
   pub other : (path ≡ 47 ∷ [] → ⊥) → status ≡ 404
@@ -25,7 +25,7 @@ pub record Greeting : Type 0 where
   pub status : ℕ
   pub reply : ReplyValue
 
--- whether each response has the status for its request's path
+-- whether each response has the status for its request's target
 abbrev pub AreByPath : List Greeting → Type 0
 AreByPath [] = Unit {0}
 AreByPath (g ∷ greetings) = IsStatus g.head.path g.status × AreByPath greetings
@@ -56,8 +56,8 @@ abbrev pub EndsGreetings : List Greeting → Option Reply → Type 0
 EndsGreetings greetings None = length greetings ≡ 2 ^ 64 - 1
 EndsGreetings greetings (Some r) = is_handed (seen r) ≡ false
 
--- Whether some greetings, each with the status for its path, then an Ask with this reply, are a conversation with this
--- client. Its output is what the writer took and what is held.
+-- Whether some greetings, each with the status for its request's target, then an Ask with this reply, are a
+-- conversation with this client. Its output is what the writer took and what is held.
 pub record Greets (client : Feed) (before : Sink) (now : HttpDate) (after : Sink) (held : List ℕ) (ended : Bool)
     (unread : Option Feed) (last : Option Reply) : Type 0 where
   pub greetings : List Greeting

@@ -1,4 +1,4 @@
-//! A server that drives a `Connection` and chooses each response by its request. Its contract states that the exchange
+//! A server that drives a `Connection` and chooses the response to each request. Its contract states that the exchange
 //! is a conversation, which shows that the connection theorem also applies to a program that isn't a list of steps. The
 //! crate is built on `tiny_http_core` and `tiny_http_wire`.
 #![tactic(auto)]
@@ -20,7 +20,7 @@ use tiny_http_wire::common::StatusCode;
 use tiny_http_wire::device::{Budget, Canned, ReadDevice, WriteDevice};
 use tiny_http_wire::response::Response;
 
-// Returns 200 for the root, and 404 for any other path.
+// Returns 200 for the request target `/`, and 404 for any other.
 fn status_of(head: &Head) -> StatusCode
     ensures { IsStatus head.now.path result.0 }
 {
@@ -30,8 +30,8 @@ fn status_of(head: &Head) -> StatusCode
     StatusCode(404)
 }
 
-/// Responds to each request according to its path, with 200 for the root and 404 for any other, without a body and
-/// dated `now`, until no request is handed out.
+/// Responds to each request according to its target, with 200 for `/` and 404 for any other, without a body and dated
+/// `now`, until no request is handed out. Heads are read under `Lenient`.
 ///
 /// Returns the reader and the writer with their buffers, and the last reply, which handed out no request: `Ended`, or
 /// `Memory` if memory for a head was refused. After 2^64 - 1 requests it stops, and returns `None` for the reply.

@@ -134,8 +134,8 @@ fn report<E: Write>(fault: &ReplayFault<'_>, err: &mut E) -> u8
 }
 
 /// Runs the steps of a script over a client's bytes, and reads heads under this profile. Writes the output to `out`,
-/// then a line for each reply to `err`. Returns the exit status: 0, or that of an error, which a line on `err` reports.
-/// A script with an invalid line isn't run.
+/// then a line for each reply to `err`. Returns the exit status: 0, or that of an error, which a line on `err` reports
+/// if it can be written. A script with an invalid line isn't run.
 pub fn replay_on<O: Write, E: Write>(
     alloc: Global,
     profile: Profile,

@@ -104,7 +104,7 @@ steps_from now [] = []
 steps_from now (line ∷ lines) =
     on_date (date_behind now line) (said_step line) ++ steps_from (date_behind now line) lines
 
--- whether these are the steps of a script; the date before the first `now` line is second 420895020
+-- whether these are the steps of a script; the date before the first `now` line is second 420,895,020 since 1970
 abbrev pub IsScript : List ℕ → List TimedValue → Type 0
 IsScript script steps =
     (lines : List ScriptLine) × (first : HttpDate)

@@ -5,7 +5,7 @@ use Rattle.tiny_http_wire.specs.declared.device.Stop.{Stop}
 use Rattle.replay_script.specs.declared.script_data.ScriptData.{ScriptData}
 use Rattle.replay_script.specs.declared.script_data.ScriptData.TheVariants.{Given, Xs}
 
--- the feed of `count` bytes `x`, which is 120, with this stop
+-- the feed of `count` bytes `x` (the code 120), with this stop
 abbrev pub xs : ℕ → Stop → Feed
 xs count stop = record { bytes = replicate count 120; stop = stop }
 

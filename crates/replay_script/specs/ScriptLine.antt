@@ -17,7 +17,8 @@ WritesNumber digits n = IsNumeral 10 digits × (digits_value 10 digits ≡ n)
 abbrev pub BeginsByNumber : List ℕ → ℕ → List ℕ → Type 0
 BeginsByNumber text n rest = (digits : List ℕ) × (text ≡ digits ++ 32 ∷ rest) × WritesNumber digits n
 
--- whether a text is a 64-bit number, a space, a 16-bit status code, a space, and the rest
+-- whether a text is this number, a space, this status code, a space, and the rest; the number is below 2^64, and the
+-- status code below 2^16
 abbrev pub BeginsByNumbers : List ℕ → ℕ → ℕ → List ℕ → Type 0
 BeginsByNumbers text number status rest =
     (behind : List ℕ)
@@ -34,11 +35,11 @@ WritesDate text date = WritesNumber text (unix_secs date) × (unix_secs date < 2
 abbrev pub IsDate : List ℕ → Type 0
 IsDate text = (date : HttpDate) × WritesDate text date
 
--- whether a text is this number, of 16 bits
+-- whether a text is this number in decimal digits, and the number is below 2^16
 abbrev pub WritesCount : List ℕ → ℕ → Type 0
 WritesCount digits count = WritesNumber digits count × (count < 2 ^ 16)
 
--- the grammar of the content of a response
+-- whether a text is this content of a response, as a script writes it
 abbrev pub WritesContent : List ℕ → Content → Type 0
 WritesContent text (Text rest) = text ≡ codes "text " ++ rest.now
 WritesContent text Empty = text ≡ codes "empty"
@@ -49,21 +50,21 @@ WritesContent text (Broken count) = (digits : List ℕ) × (text ≡ codes "brok
 abbrev pub IsContent : List ℕ → Type 0
 IsContent text = (content : Content) × WritesContent text content
 
--- the grammar of what follows `respond`: a number, a status code, and the content
+-- whether the words after `respond ` are this number, this status code and this content
 abbrev pub WritesAnswer : List ℕ → ℕ → ℕ → Content → Type 0
 WritesAnswer words number status content =
     (text : List ℕ) × BeginsByNumbers words number status text × WritesContent text content
 
--- whether the words are those of some response
+-- whether the words after `respond ` are those of some response
 abbrev pub IsAnswer : List ℕ → Type 0
 IsAnswer words = (number : ℕ) × (status : ℕ) × (content : Content) × WritesAnswer words number status content
 
--- the grammar of what follows `read`: a 64-bit number, a space, and a 16-bit number
+-- whether the words after `read ` are this number, below 2^64, a space, and this count, below 2^16
 abbrev pub WritesRead : List ℕ → ℕ → ℕ → Type 0
 WritesRead words number count =
     (digits : List ℕ) × BeginsByNumber words number digits × (number < 2 ^ 64) × WritesCount digits count
 
--- the grammar of a line, and what the line means
+-- whether a text is a line with this meaning
 abbrev pub SaysLine : List ℕ → ScriptLine → Type 0
 SaysLine text Blank = (text ≡ []) ⊎ ((comment : List ℕ) × (text ≡ codes "#" ++ comment))
 SaysLine text (Now date) = (digits : List ℕ) × (text ≡ codes "now " ++ digits) × WritesDate digits date

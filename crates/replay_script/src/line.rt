@@ -17,7 +17,7 @@ pub enum ScriptLine<'a> {
     Now(HttpDate),
     /// Asks for the next request.
     Ask,
-    /// Sends the 100 that the request of this number expects.
+    /// Sends the 100 that is owed to the request of this number.
     AsReader(u64),
     /// Reads the body of the request of this number, at most this many bytes.
     Read(u64, u16),
@@ -25,7 +25,7 @@ pub enum ScriptLine<'a> {
     Respond(u64, u16, Content<'a>),
     /// Takes the raw writer of the request of this number.
     Writer(u64),
-    /// Writes this text by the raw writer of this number, or to the stream of its upgrade.
+    /// Writes this text through the raw writer of this number, or to the stream of its upgrade.
     Write(u64, &'a str),
     /// Sends what was written under this number.
     Flush(u64),

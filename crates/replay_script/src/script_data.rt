@@ -54,7 +54,7 @@ impl ScriptData {
         ScriptData::from_bytes(text.into_bytes(), None)
     }
 
-    /// Returns data that give these bytes, then the end, or a fault of this kind in its place.
+    /// Returns data that give these bytes, then the end, or a fault of the kind `fault` if it is given.
     pub fn from_bytes(bytes: Vec<u8>, fault: Option<ErrorKind>) -> ScriptData
         ensures { data_feed result ≡ record { bytes = bytes.items; stop = stop_of fault } }
     {

@@ -53,9 +53,9 @@ pub(crate) enum Message<R: Wait + Clock + Drop> {
 }
 
 impl<R: Wait + Clock + Drop> Message<R> {
-    /// Converts a queue message to a request or an error, or to `None` if only a mark was popped. If the message is a
-    /// client that is to be served, the client goes back into the queue, and the result is `None`, too; if the queue
-    /// has no room, the client is closed.
+    /// Converts a queue message to a request or an error, or to `None` if none was popped: the queue was empty, or held
+    /// a mark. If the message is a client that is to be served, the client goes back into the queue, and the result is
+    /// `None`, too; if the queue has no room, the client is closed.
     pub fn received(
         messages: &Messages<R>,
         rt: &R,
@@ -78,7 +78,7 @@ impl<R: Wait + Clock + Drop> Message<R> {
 /// The queue of a server.
 pub(crate) type Messages<R> = MessagesQueue<Message<R>>;
 
-// Drops what is in the queue of a closed server. Once the server was stopped it leaves a mark there, so that each
+// Drops what is in the queue of a closed server. Once the server has been stopped, leaves a mark there, so that each
 // waiting call returns.
 fn drop_waiting<R: Wait + Clock + Drop>(rt: &R, messages: &Messages<R>, ending: &Ending) {
     messages.clear(rt);
@@ -87,9 +87,10 @@ fn drop_waiting<R: Wait + Clock + Drop>(rt: &R, messages: &Messages<R>, ending: 
     }
 }
 
-// Closes a connection in stages, once all is answered (RFC 9112, section 9.6): shuts down writing, then discards what
-// the client still sends, until the client closes, is silent for too long or sends too much; under limits for at most 5
-// seconds. A connection that is closed with unread bytes is reset, and the client may lose the last response.
+// Closes a connection in stages, after all its requests are answered (RFC 9112, section 9.6): shuts down writing, then
+// discards what the client still sends, until the client closes, is silent for too long or sends too much; under limits
+// for at most 5 seconds. A connection that is closed with unread bytes is reset, and the client may lose the last
+// response.
 fn close_in_stages<R: Clock>(rt: &R, socket: &Connection, has_limits: bool) {
     let begun = time_of(rt);
     let most = Duration::from_secs(LINGER_SECS);
@@ -110,8 +111,8 @@ fn close_in_stages<R: Clock>(rt: &R, socket: &Connection, has_limits: bool) {
     }
 }
 
-/// A client that was accepted. Its connection is closed when it is dropped, except for the requests that are still
-/// held.
+/// A client that was accepted. When it is dropped, its connection is closed, except as far as requests that are still
+/// held use it.
 #[derive(Drop)]
 pub(crate) struct Client<R: Wait + Clock + Drop> {
     rt: R,

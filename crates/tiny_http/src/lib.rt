@@ -20,9 +20,10 @@
 //! `Server::serve_by` runs this loop on several threads, with a `Handler`. `Server::serve` has the worker of each
 //! connection respond to that connection's requests itself.
 //!
-//! Each call gets the runtime, which locks, waits and opens sockets, and the allocator as arguments: none is implicit.
-//! A program lists `httpdate` if it makes dates, and the crate of each error that `?` converts to an `io::Error`:
-//! `tiny_http_head` for a `ParseError`, as after `Response::with`, and `tiny_http_request` for a `BodyError`.
+//! A call that needs the runtime, which locks, waits and opens sockets, or the allocator gets it as an argument:
+//! neither is implicit. A program lists `httpdate` if it makes dates, and the crate of each error that `?` converts to
+//! an `io::Error`: `tiny_http_head` for a `ParseError`, as after `Response::with`, and `tiny_http_request` for a
+//! `BodyError`.
 //!
 //! What a program needs, by module:
 //!

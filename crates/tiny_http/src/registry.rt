@@ -19,14 +19,15 @@ pub(crate) struct ConnectionHandle {
     pub timers: Arc<ConnectionTimers>,
 }
 
-// The open connections, and the counts of those that are closed.
+// The open connections, and the server's counters, without what the open connections have counted so far.
 #[derive(Drop)]
 struct Connections {
     table: ConnectionTable<ConnectionHandle>,
     counts: Counts,
 }
 
-/// A server's open connections, within its limits, and the counts of those that have closed. Its threads share it.
+/// A server's open connections, within its limits, and its counters, to which a connection's requests are added when it
+/// closes. Its threads share it.
 #[derive(Drop)]
 pub(crate) struct ConnectionRegistry {
     connections: Mutex<Connections>,
@@ -127,7 +128,7 @@ impl ConnectionRegistry {
         }
     }
 
-    // Removes the client of this number, which has disconnected.
+    // Removes the client of this number, whose connection is over.
     fn leave<R: Wait>(&self, rt: &R, number: u64) {
         let mut connections = self.connections.lock(rt);
         let left = connections.table.leave(number);
@@ -141,7 +142,7 @@ impl ConnectionRegistry {
         self.changed.notify_all();
     }
 
-    /// Stops the reading of heads, and ends the connections that wait for one.
+    /// Makes each connection read no further head, and ends the connections that wait for one.
     pub fn stop<R: Wait>(&self, rt: &R) {
         let connections = self.connections.lock(rt);
         for entry in connections.table.entries() {

@@ -98,8 +98,8 @@ pub enum Stopped {
 /// An error in making a server.
 #[derive(Debug, Drop, Error)]
 pub enum ServerError {
-    /// The server can't listen at the address, the host's name isn't found, the text isn't an address, or the system
-    /// has no thread for the server.
+    /// The server can't listen at the address, the host's name isn't found, the text isn't an address, the socket has
+    /// no address, or the system has no thread for the server.
     #[error("{0}")]
     Io(io::Error),
     /// TLS was requested, which isn't implemented.
@@ -144,7 +144,8 @@ impl From<ServerError> for io::Error {
 pub struct ServerConfig {
     /// The address to listen at.
     pub addr: ConfigListenAddr,
-    /// The TLS settings. TLS isn't implemented: `Some` fails with `ServerError::Ssl`.
+    /// The TLS settings. TLS isn't implemented: with `Some` no server is made, and the error is `ServerError::Ssl`
+    /// unless the address can't be listened at.
     pub ssl: Option<SslConfig>,
 }
 
@@ -235,8 +236,8 @@ impl<R: ServerRuntime> Server<R> {
         Server::new(rt, alloc, ServerConfig { addr, ssl: None })
     }
 
-    /// Makes a server with these settings. Fails with `Io` if it can't listen at the address, and otherwise as
-    /// `from_listener` does. If it fails, it leaves no file of a Unix socket that it made.
+    /// Makes a server with these settings. Heads are read under `Lenient`. Fails with `Io` if it can't listen at the
+    /// address, and otherwise as `from_listener` does. If it fails, it leaves no file of a Unix socket that it made.
     pub fn new(rt: R, alloc: Global, config: ServerConfig) -> Result<Server<R>, ServerError>
         ensures ssl { IsSome config.ssl → IsErr result }
         ensures refused { result ≡ Err ServerError.Ssl → IsSome config.ssl }
@@ -299,7 +300,8 @@ impl<R: ServerRuntime> Server<R> {
     }
 
     /// Makes a server over this listening socket, which has to be blocking: on a nonblocking socket accepting ends with
-    /// `WouldBlock`. Heads are read under `Lenient`. The file of a Unix socket is removed when the server is dropped.
+    /// `WouldBlock`. Heads are read under `Lenient`. The file of a Unix socket is removed when the server is stopped or
+    /// dropped.
     ///
     /// Fails with `Ssl` if there are TLS settings, with `Io` if the socket has no address or the system has no thread
     /// for the server, and with `Memory` if memory is refused. The file then stays.
@@ -436,11 +438,11 @@ impl<R: Net + SocketFiles + Wait + Clock + Drop> Server<R> {
     /// `unblock` was called. After an accept error no further client is accepted, and requests come only from clients
     /// that were accepted before.
     ///
-    /// If the server serves with a handler, `recv` returns only requests of clients that came before. If a client waits
-    /// for the next call of `serve`, `recv` fails at once with kind `Other`, as if `unblock` had been called.
+    /// Once the server serves with a handler, `recv` returns only requests that were read before that. If a client
+    /// waits for the next call of `serve`, `recv` fails at once with kind `Other`, as if `unblock` had been called.
     ///
-    /// Once the server was stopped, each call fails with kind `Other`. A server with limits doesn't hand out a request
-    /// if an earlier response on its connection broke off: the response to the request would be lost.
+    /// Once the server has been stopped, each call fails with kind `Other`. A server with limits doesn't hand out a
+    /// request if an earlier response on its connection broke off: the response to the request would be lost.
     pub fn recv(&self) -> io::Result<ServerRequest<R>> {
         for _ in self.rt.forever() {
             let popped = self.messages.pop(&self.rt);
@@ -466,8 +468,8 @@ impl<R: Net + SocketFiles + Wait + Clock + Drop> Server<R> {
         Ok(None)
     }
 
-    // Converts a queue message to the result of `recv`. Once the server was stopped the result is `None`, and another
-    // waiting call returns, too.
+    // Converts a queue message to the result of `recv`. Once the server has been stopped, the result is `None`, and
+    // another waiting call returns, too.
     fn received(&self, popped: Option<Message<R>>) -> io::Result<Option<ServerRequest<R>>> {
         if self.has_stopped() {
             let _ = self.messages.unblock(&self.rt);
@@ -604,7 +606,7 @@ pub struct IncomingRequests<'a, R: Net + SocketFiles + Wait + Clock + Drop> {
 
 impl<R: Net + SocketFiles + Wait + Clock + Drop> IncomingRequests<'_, R> {
     /// Waits for the next request. Returns `None` if `recv` fails: once for the error that ended accepting, once for
-    /// each `unblock`, and if a client waits for `serve`. A later call waits again, unless the server was stopped.
+    /// each `unblock`, and if a client waits for `serve`. A later call waits again, unless the server has been stopped.
     pub fn next(&mut self) -> Option<ServerRequest<R>> {
         self.server.recv().ok()
     }

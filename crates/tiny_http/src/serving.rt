@@ -1,6 +1,6 @@
 //! Serving with a handler. With `serve` the worker of each connection responds to that connection's requests itself,
 //! one after another, without a queue or another thread between, and consecutive responses leave together. With
-//! `serve_by` a number of threads receive the requests of all connections.
+//! `serve_by` a fixed number of threads receive the requests of all connections.
 use crate::accepting::{Arrival, Message};
 use crate::server::{Host, Server, ServerRequest, ServerRuntime};
 use std::alloc::Global;
@@ -19,7 +19,7 @@ pub trait Handler<R, Q> {
     /// the server ignores the error.
     ///
     /// Under `serve_by` the call may wait for the request's turn, as a program that calls `recv` and `respond` does.
-    /// The rest applies to `serve`, too.
+    /// The rest of this comment is about `serve`.
     ///
     /// The call may keep the request and respond later from any thread. The next request is handed out meanwhile, once
     /// the body of the kept request was read or given up, but under `Standard` not before the response to a kept
@@ -38,7 +38,7 @@ pub trait Handler<R, Q> {
 enum Work<R: Wait + Clock + Drop> {
     // Responds to the requests of a client, then closes its connection.
     Client(Arrival<R>),
-    // Responds to a request that was in the queue before the server served. `None` once it is done.
+    // Responds to a request that was queued before the server served. `None` once that is done.
     Request(R, Option<ServerRequest<R>>),
 }
 
@@ -68,15 +68,16 @@ impl<H: Handler<R, ServerRequest<R>> + Drop, R: Wait + Clock + Copy> Job for Ser
 }
 
 impl<R: ServerRuntime> Server<R> {
-    /// Serves with this handler until `unblock` is called, the server was stopped, or accepting ends, whose error is
-    /// returned. It also fails if memory or threads for its first workers are refused; if there is no worker for a
-    /// later client, that client is closed. Each client has a worker, which hands the client's requests to the handler
-    /// one after another. Further workers hand the handler the requests that came before this call.
+    /// Serves with this handler until `unblock` is called, the server has been stopped, or accepting ends with an
+    /// error, which is returned. It also fails if memory or threads for its first workers are refused; if there is no
+    /// worker for a later client, that client is closed. Each client has a worker, which hands the client's requests to
+    /// the handler one after another. Further workers hand the handler the requests that came before this call.
     ///
     /// Responses are held in a buffer of the connection, of 16,384 bytes, so a later response may report a fault of the
     /// socket. What is held is sent before the connection is read, when more comes than there is room for, when a
     /// request has to wait for another one, has a body that is read from the connection or asks for an upgrade under
-    /// `Standard`, and at the end. A flush of a raw writer or of an upgraded stream sends it too, and so does a 100.
+    /// `Standard`, and at the end. A flush of a raw writer, of an upgraded stream or of a streamed body sends it too,
+    /// and so does a 100.
     ///
     /// Once the first workers run the server serves, even after this call has returned: clients that come then wait for
     /// the next call. The clients whose workers have begun are served until the clients or the server end.
@@ -116,10 +117,10 @@ impl<R: ServerRuntime> Server<R> {
 
 impl<R: Host> Server<R> {
     /// Responds with this handler on `threads` threads, each of which receives one request after another, until
-    /// `unblock` is called once, the server was stopped, or accepting ends, whose error is returned. It returns when
-    /// all threads have ended, each after its last response. It also fails if memory is refused; the threads that were
-    /// started have ended by then. It returns at once, as `recv` does, if `serve` was called before and a client waits
-    /// for its next call.
+    /// `unblock` is called once, the server has been stopped, or accepting ends with an error, which is returned. It
+    /// returns when all threads have ended, each after its last response. It also fails if memory is refused; the
+    /// threads that were started have ended by then. It returns at once, as `recv` does, if `serve` was called before
+    /// and a client waits for its next call.
     ///
     /// This is the loop over `recv` that a program would write. Each response is sent when the handler makes it, and a
     /// request may be kept and answered later. An error of the handler is ignored. With 0 threads nothing is answered.
@@ -148,7 +149,7 @@ impl<R: Host> Server<R> {
         Ok(())
     }
 
-    // Responds to requests until no more come, and then passes the unblock on to a thread that still runs.
+    // Responds to requests until no more come, and then unblocks another thread if one still runs.
     fn answer_on<H: Handler<R, ServerRequest<R>>>(
         &self,
         alloc: Global,

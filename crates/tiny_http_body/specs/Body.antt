@@ -42,13 +42,13 @@ chunks_remaining bytes (Err kind) = record { body = record { bytes = bytes; stop
 abbrev pub coming_remaining : Coming → Remaining
 coming_remaining c = chunks_remaining c.bytes c.behind
 
--- the rules for the lines of a chunked body, by whether they are the standard's
+-- the rules for the lines of a chunked body, given whether they are those of `Standard`
 abbrev pub chunk_rules : Bool → ChunkRules
 chunk_rules true = chunks.Standard
 chunk_rules false = chunks.Lenient
 
--- the stop of a body that the input's stop cuts: the input's own stop, but by the standard an end is also a fault (RFC
--- 9112, section 8)
+-- the stop of a body that the input's stop cuts, given whether the body is read under `Standard`: the input's own stop,
+-- but under `Standard` the fault `UnexpectedEof` for an end (RFC 9112, section 8)
 abbrev pub cut_stop : Bool → Stop → Stop
 cut_stop false stop = stop
 cut_stop true stop = Fault (fault_of stop)
@@ -78,8 +78,8 @@ remaining (Counted n by_standard) feed = option_map (counted_remaining by_standa
 remaining (Chunked decoding) feed = option_map coming_remaining (decoding_coming decoding feed)
 remaining Rest feed = option_map rest_remaining feed
 
--- whether this decodes a chunked body of which nothing was read: a whole body decodes to its data and leaves the rest;
--- any other body decodes to the data that are there, then the fault
+-- whether d decodes a chunked body of which nothing has been read: a whole body decodes to its data and leaves the
+-- rest; any other body decodes to the data that are there, then the fault
 pub record IsNewDecoding (by_standard : Bool) (d : Decoding) : Type 0 where
   pub rules : decoding_rules d ≡ chunk_rules by_standard
   pub whole : (bytes body rest : List ℕ) (stop : Stop) → WholeChunksBy (chunk_rules by_standard) bytes body rest
@@ -90,7 +90,7 @@ pub record IsNewDecoding (by_standard : Bool) (d : Decoding) : Type 0 where
       → decoding_coming d (Some (record { bytes = bytes; stop = stop }))
       ≡ Some (record { bytes = body; behind = Err kind })
 
--- whether this is a chunked body of which nothing was read
+-- whether b is a chunked body of which nothing has been read
 abbrev pub IsNewChunked : Bool → UnreadBody → Type 0
 IsNewChunked by_standard b = (d : Decoding) × (b ≡ Chunked d) × IsNewDecoding by_standard d
 
@@ -154,7 +154,8 @@ abbrev pub is_skipped : Remainder → Bool
 is_skipped left.Skipped = true
 is_skipped _ = false
 
--- the body that an upgraded connection reads: by the standard all further input, otherwise the body of its request
+-- the body that an upgraded connection reads, given whether it is under `Standard`: then all further input, and
+-- otherwise the body of its request
 abbrev pub stream_body : Bool → UnreadBody → UnreadBody
 stream_body true b = Rest
 stream_body false b = b
@@ -179,23 +180,23 @@ abbrev pub IsChunkedBy : ChunkRules → UnreadBody → Type 0
 IsChunkedBy rules (Chunked decoding) = decoding_rules decoding ≡ rules
 IsChunkedBy rules _ = ⊥
 
--- whether a counted body is over, with its end or a fault. It ends without a fault if all its bytes had come;
--- otherwise, by the standard, it ends with a fault.
+-- whether a body with a `Content-Length` is over, given whether it was read under `Standard`, and whether all its bytes
+-- had come: with a fault only if they hadn't, and without a fault only if they had or it wasn't read under `Standard`
 abbrev pub IsCountedOver : Bool → Bool → UnreadBody → Type 0
 IsCountedOver by_standard has_come (Over End) = (has_come || not by_standard) ≡ true
 IsCountedOver by_standard has_come (Over (Fault kind)) = has_come ≡ false
 IsCountedOver by_standard has_come _ = ⊥
 
--- whether a body in memory stays in memory: after n of `count` bytes the others are left, and none once the end was
+-- whether a body in memory stays in memory: after n of `count` bytes the others are left, and none if the end was
 -- reported
 abbrev pub StaysHeld : ℕ → ℕ → Bool → UnreadBody → Type 0
 StaysHeld count n end_reported (WithHead bytes) =
     (n + length (cursor_bytes bytes) ≡ count) × (end_reported ≡ true → length (cursor_bytes bytes) ≡ 0)
 StaysHeld count n end_reported _ = ⊥
 
--- whether this is the body after a read that returned n bytes, and reported an end or fault if `end_reported`. A
--- counted body is over with its last byte; any other body that is read from the input is over once its end or fault was
--- reported.
+-- whether `new` is the body after a read that returned n bytes, and reported an end or fault if `end_reported`. A body
+-- with a `Content-Length` is over with its last byte; any other body that is read from the input is over once its end
+-- or fault has been reported.
 abbrev pub ReadsOn : UnreadBody → ℕ → Bool → UnreadBody → Type 0
 ReadsOn (Over stop) n end_reported new = (new ≡ Over stop) × (n ≡ 0)
 ReadsOn (WithHead bytes) n end_reported new = StaysHeld (length (cursor_bytes bytes)) n end_reported new
@@ -221,9 +222,9 @@ abbrev pub fault_stops : UnreadBody → ℕ
 fault_stops (Over (Fault kind)) = 1
 fault_stops _ = 0
 
--- THE ENDS AND FAULTS OF THE INPUT THAT A CALL MEETS: how many, if the call returned n bytes of a body and left the
--- body `new`. A counted body meets one only if it is cut, and a chunked body only if a fault ends it, since its own end
--- is a line.
+-- THE ENDS AND FAULTS OF THE INPUT THAT A CALL MEETS: how many at most, if the call returned n bytes of a body and left
+-- the body `new`. A body with a `Content-Length` meets one only if it is cut, a chunked body only if a fault ends it,
+-- since the end of such a body is a line, and a body that is the whole rest of the input only when it is over.
 abbrev pub ends_met : UnreadBody → ℕ → UnreadBody → ℕ
 ends_met (Over stop) n new = 0
 ends_met (WithHead bytes) n new = 0
@@ -231,8 +232,8 @@ ends_met (Counted left by_standard) n new = if n == left then 0 else over_count 
 ends_met (Chunked decoding) n new = fault_stops new
 ends_met Rest n new = over_count new
 
--- whether the body is finished: it is empty or in memory, or all its bytes were returned, or its end or fault was
--- reported
+-- whether a body of this form and n bytes, of which `given` were returned, is finished: it is empty or in memory, or
+-- its form is `Counted` and all its bytes were returned, or its end or fault was reported
 abbrev pub body_finished : Form → ℕ → ℕ → Bool → Bool
 body_finished form.Nothing n given end_reported = true
 body_finished form.WithHead n given end_reported = true
@@ -246,7 +247,8 @@ MayBeOver form.WithHead stop = ⊥
 MayBeOver form.Nothing stop = stop ≡ End
 MayBeOver _ stop = ⊤
 
--- whether what was read of the body fits its profile, form and length
+-- whether this can be what is left of a body of the form `shape` and of n bytes, read under `Standard` if `standard`,
+-- after `given` bytes of it were returned, and its end or fault was reported if `end_reported`
 abbrev pub Fits : Bool → UnreadBody → Form → ℕ → ℕ → Bool → Type 0
 Fits standard (Over stop) shape n given end_reported =
     (body_finished shape n given end_reported ≡ true) × MayBeOver shape stop
@@ -280,9 +282,9 @@ body_input_state (Chunked decoding) input_state = input_state
 body_input_state Rest input_state = input_state
 
 -- WHAT A READ RETURNS of a body, and what it leaves. The bytes that came are the next of the body, at most as many as
--- fit. A read into a nonempty buffer that returns 0 is at the end of the body; a fault is the body's own. A counted
--- body is over with its last byte; any other body that is read from the input is over once its end or fault was
--- reported. After the first fault the source has ended. The input advances or stays.
+-- fit. A read into a nonempty buffer that returns 0 is at the end of the body; a fault is the body's own. A body with a
+-- `Content-Length` is over with its last byte; any other body that is read from the input is over once its end or fault
+-- has been reported. After the first fault the source is at its end. The input advances or stays.
 pub record ReadsRemaining {R : Type 0} (old new : UnreadBody) (from to : SourceState R) (r : Result ℕ Error)
     (buf : List ℕ) : Type 0 where
   pub bound : IfOk r (λ n. n ≤ length buf)
@@ -298,7 +300,7 @@ pub record ReadsRemaining {R : Type 0} (old new : UnreadBody) (from to : SourceS
 
 -- ONE READ of a body. A read into an empty buffer changes nothing. A body that isn't read from the source leaves the
 -- source unchanged, and a body that is over reports its end or fault again. Otherwise what is left of the body
--- determines the input state: the next head, once the body is over.
+-- determines the input state: a head may be next once the body is over without a fault.
 pub record ReadsBody {R : Type 0} (old new : UnreadBody) (from to : SourceState R) (r : Result ℕ Error)
     (buf : List ℕ) : Type 0 where
   pub reads : ReadsRemaining old new from to r buf
@@ -321,8 +323,8 @@ pub record ReadsHeld (old new : UnreadBody) (r : Result ℕ Error) (buf : List �
   pub reports_stop : IfSome (body_stop old) (λ stop. AnswersStop stop r × (new ≡ old))
   pub stays_held : is_streaming new ≡ false
 
--- The effect of skipping an unread body: the bytes of a counted body are skipped before the next head. For any other
--- body nothing changes.
+-- The effect of skipping an unread body: the bytes of a body with a `Content-Length` are skipped before the next head.
+-- For any other body nothing changes.
 abbrev pub PassesOver : {R : Type 0} → UnreadBody → SourceState R → SourceState R → Type 0
 PassesOver (Counted left by_standard) old new = SkipsBytes left old new
 PassesOver (Over stop) old new = new ≡ old
@@ -330,8 +332,9 @@ PassesOver (WithHead bytes) old new = new ≡ old
 PassesOver (Chunked decoding) old new = new ≡ old
 PassesOver Rest old new = new ≡ old
 
--- The effect of giving up a body: the rest of a counted body is skipped without calling the reader; after a chunked
--- body no head follows; otherwise nothing changes, and the rest of the input is left to the source.
+-- The effect of giving up a body: the rest of a body with a `Content-Length` is skipped (`SkipsBytes`) before the next
+-- head; after a chunked body whose end hasn't been read no head follows; otherwise nothing changes, and the rest of the
+-- input is left to the source.
 abbrev pub GivesUp : {R : Type 0} → UnreadBody → SourceState R → SourceState R → Type 0
 GivesUp (Over stop) old new = new ≡ old
 GivesUp (WithHead bytes) old new = new ≡ old

@@ -30,12 +30,12 @@ said_after rules said (b ∷ bs) = said_after rules (said_step rules said b) bs
 abbrev pub nothing_said : Said
 nothing_said = record { size = size.Blank; field = field.Empty }
 
--- whether a nonempty line is a trailer line
+-- whether a nonempty line with this meaning may be a trailer line under these rules
 abbrev pub is_trailer_said : ChunkRules → Said → Bool
 is_trailer_said Lenient said = true
 is_trailer_said Standard said = is_whole_field said.field
 
--- whether a byte that doesn't end the line is malformed: by the standard, an LF is
+-- whether a byte that doesn't end the line is malformed: under `Standard`, an LF is
 abbrev pub breaks_line : ChunkRules → ℕ → Bool
 breaks_line Lenient b = false
 breaks_line Standard b = b == line_feed
@@ -68,7 +68,7 @@ AreNeeded rules gone =
     → 0 < length more
     → ChunkLineFaultBy rules front stop (fault_of stop)
 
--- whether there is no line, with a fault of this kind, and some of the bytes in its place were consumed
+-- whether there is no line where one must be, with a fault of this kind, and some of the bytes there were consumed
 pub record NoLine (rules : ChunkRules) (old new : Option Feed) (kind : ErrorKind) : Type 0 where
   pub gone : List ℕ
   pub gives : old ≡ prepended gone new

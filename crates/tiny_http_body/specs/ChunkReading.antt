@@ -1,4 +1,4 @@
--- Chunked bodies, as functions that compute them.
+-- Functions that compute what a chunked body decodes to.
 use Rattle.std.specs.Prelude.{ℕ, zero, suc, ◌+◌, Bool, true, false, not, ◌&&◌, ◌||◌, ◌==◌, nat_lt, nat_le, List, []}
 use Rattle.std.specs.Prelude.{◌∷◌, ◌++◌, length, take, drop, Option, Some, None, Result, Ok, Err, if◌then◌else◌}
 use Rattle.std.specs.List.{list_all}
@@ -37,7 +37,7 @@ is_field_behind some [] = false
 is_field_behind some (b ∷ bs) =
     if is_token_byte b then is_field_behind true bs else (some && (b == colon && list_all is_value_byte bs))
 
--- whether a nonempty line is a trailer line
+-- whether a nonempty line may be a trailer line under these rules
 abbrev pub is_trailer_by : ChunkRules → List ℕ → Bool
 is_trailer_by Lenient text = true
 is_trailer_by Standard text = is_field_behind false text
@@ -67,8 +67,8 @@ short_in stop bytes (Some l) = Ok (l.0, drop (length l.0 + 2) bytes)
 abbrev pub short_line : Stop → List ℕ → LineRead
 short_line stop bytes = short_in stop bytes (line (take (longest_line + 2) bytes))
 
--- the line that begins here and the bytes after its CR LF, or the fault, by these rules; by the standard a lone LF is a
--- fault
+-- the line that begins here and the bytes after its CR LF, or the fault, under these rules; under `Standard` a lone LF
+-- is a fault
 abbrev pub line_by : ChunkRules → Stop → List ℕ → LineRead
 line_by Lenient stop bytes = short_line stop bytes
 line_by Standard stop bytes =
@@ -116,6 +116,6 @@ abbrev pub decoded_by : ChunkRules → ℕ → Stop → List ℕ → Decoded
 decoded_by rules zero stop bytes = broken [] InvalidData
 decoded_by rules (suc fuel) stop bytes = chunk_in rules (decoded_by rules fuel stop) stop (line_by rules stop bytes)
 
--- the result of decoding a chunked body by the lenient rules
+-- the result of decoding a chunked body under `Lenient`
 abbrev pub decoded : ℕ → Stop → List ℕ → Decoded
 decoded fuel stop bytes = decoded_by Lenient fuel stop bytes

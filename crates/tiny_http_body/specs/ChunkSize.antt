@@ -34,7 +34,7 @@ size_step (Behind value) b = digits_ended value b
 size_step (Extension value) b = Extension value
 size_step Wrong b = Wrong
 
--- whether the standard allows the byte in this state: no white space before the digits, and no control byte except tab
+-- whether `Standard` allows the byte in this state: no white space before the digits, and no control byte except tab
 -- anywhere
 abbrev pub may_follow : Size → ℕ → Bool
 may_follow Blank b = is_value_byte b && not (is_bws b)
@@ -43,7 +43,7 @@ may_follow (Behind value) b = is_value_byte b
 may_follow (Extension value) b = is_value_byte b
 may_follow Wrong b = is_value_byte b
 
--- the state of a chunk size after one more byte, by the standard
+-- the state of a chunk size after one more byte, under `Standard`
 abbrev pub standard_step : Size → ℕ → Size
 standard_step size b = if (may_follow size b) then size_step size b else Wrong
 

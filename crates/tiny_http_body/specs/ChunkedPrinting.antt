@@ -21,10 +21,10 @@ full_chunks bytes = first_chunks (length bytes / CHUNK) bytes
 unfoldable pub left_over : List ℕ → List ℕ
 left_over bytes = drop (length bytes / CHUNK * CHUNK) bytes
 
--- the final chunk with these bytes, or nothing if there are none
+-- one chunk with these bytes, or nothing if there are none, since a chunk of size 0 would end the body
 abbrev pub short_chunk : List ℕ → List ℕ
 short_chunk bytes = if length bytes == 0 then [] else printed_chunk bytes
 
--- all bytes in chunks, the final one of 1 byte to a full chunk, and the end of the body
+-- all bytes in chunks of `CHUNK` bytes, of which the last may be shorter, then the chunk of size 0 that ends the body
 abbrev pub chunked : List ℕ → List ℕ
 chunked bytes = full_chunks bytes ++ short_chunk (left_over bytes) ++ codes "0\r\n\r\n"

@@ -1,4 +1,4 @@
--- A chunked body (RFC 9112, section 7.1), and the data of one that is cut or broken, by each of the two rules.
+-- A chunked body (RFC 9112, section 7.1), and the data of one that is cut or broken, under each of the two rules.
 use Rattle.std.specs.Prelude.{◌≡◌, ℕ, ◌+◌, ◌<◌, ◌≤◌, ◌⊎◌, Bool, false, ◌||◌, ◌==◌, nat_lt, List, [], ◌∷◌, ◌++◌}
 use Rattle.std.specs.Prelude.{length, take, flat_map, IsTrue}
 use Rattle.std.specs.List.{AllByRecursion, list_all}
@@ -47,8 +47,8 @@ pub record SizeText (text : List ℕ) (size : ℕ) : Type 0 where
   pub hexadecimal : IsTrue (list_all is_hex digits)
   pub value : size ≡ digits_value 16 digits
 
--- whether the text is a chunk-size [ chunk-ext ] of this size, by these rules. By the standard the text begins with its
--- digits, and has no control byte except tab.
+-- whether the text is a chunk-size [ chunk-ext ] of this size, under these rules. Under `Standard` the text begins with
+-- its digits, and has no control byte except tab.
 abbrev pub SizeTextBy : ChunkRules → List ℕ → ℕ → Type 0
 SizeTextBy Lenient text size = SizeText text size
 SizeTextBy Standard text size =
@@ -58,7 +58,7 @@ SizeTextBy Standard text size =
 abbrev pub IsShortLine : List ℕ → Type 0
 IsShortLine text = (length text ≤ longest_line) × (has_crlf text ≡ false)
 
--- whether the text is a line that isn't too long, by these rules; by the standard the line ends at its first LF
+-- whether the text is a line that isn't too long, under these rules; under `Standard` the line ends at its first LF
 abbrev pub IsShortLineBy : ChunkRules → List ℕ → Type 0
 IsShortLineBy Lenient text = IsShortLine text
 IsShortLineBy Standard text = IsShortLine text × HasNo line_feed text
@@ -88,7 +88,7 @@ pub record FieldText (text : List ℕ) : Type 0 where
   pub name_is : IsTrue (is_token name)
   pub value_is : IsTrue (list_all is_value_byte value)
 
--- whether the text may be a trailer line: any nonempty text, but by the standard a field line
+-- whether the text may be a trailer line: any nonempty text, but under `Standard` only a field line
 abbrev pub TrailerTextBy : ChunkRules → List ℕ → Type 0
 TrailerTextBy Lenient text = 0 < length text
 TrailerTextBy Standard text = FieldText text
@@ -119,7 +119,8 @@ pub record WholeChunksBy (rules : ChunkRules) (bytes body rest : List ℕ) : Typ
 abbrev pub HasNoShortLine : List ℕ → Type 0
 HasNoShortLine bytes = has_crlf (take (longest_line + 2) bytes) ≡ false
 
--- whether there is no line where one must be, with a fault of this kind: the longest line would fit, or the bytes end
+-- whether there is no line where one must be, with a fault of this kind: the longest line with its CR LF would fit in
+-- the bytes, and the fault is `InvalidData`; or it wouldn't, and the fault is that of their stop
 abbrev pub ChunkLineFault : List ℕ → Stop → ErrorKind → Type 0
 ChunkLineFault bytes stop kind =
     HasNoShortLine bytes
@@ -134,8 +135,8 @@ pub record LoneFeed (bytes : List ℕ) : Type 0 where
   pub lone : has_crlf (text ++ line_feed ∷ []) ≡ false
   pub near : length text < longest_line + 2
 
--- whether there is no line where one must be, by these rules, with a fault of this kind; by the standard a lone LF is a
--- fault, whatever follows it
+-- whether there is no line where one must be, under these rules, with a fault of this kind; under `Standard` a lone LF
+-- is a fault, whatever follows it
 abbrev pub ChunkLineFaultBy : ChunkRules → List ℕ → Stop → ErrorKind → Type 0
 ChunkLineFaultBy Lenient bytes stop kind = ChunkLineFault bytes stop kind
 ChunkLineFaultBy Standard bytes stop kind =
@@ -151,7 +152,7 @@ pub record NoField (bytes : List ℕ) : Type 0 where
   pub not_empty : 0 < length text
   pub no_field : FieldText text → ⊥
 
--- whether there is no trailer line where one must be, with a fault of this kind
+-- whether there is neither a trailer line nor the empty line where one must be, with a fault of this kind
 abbrev pub TrailerFaultBy : ChunkRules → List ℕ → Stop → ErrorKind → Type 0
 TrailerFaultBy Lenient bytes stop kind = ChunkLineFault bytes stop kind
 TrailerFaultBy Standard bytes stop kind =
@@ -225,7 +226,7 @@ pub record CutChunksBy (rules : ChunkRules) (bytes : List ℕ) (stop : Stop) (bo
   pub are_chunks : AllByRecursion (IsChunkBy rules) chunks
   pub breaks : RemainderBreaksBy rules way rest stop part kind
 
--- whether this is a chunk by the lenient rules
+-- whether c is a chunk under `Lenient`
 abbrev pub IsChunk : Chunk → Type 0
 IsChunk c = IsChunkBy Lenient c
 

@@ -41,7 +41,7 @@ abbrev pub rest_at : Stop → Result (List ℕ) ErrorKind → Result Feed ErrorK
 rest_at stop (Ok rest) = Ok (record { bytes = rest; stop = stop })
 rest_at stop (Err kind) = Err kind
 
--- the data still to come and the feed after the body, or the fault, by the result of decoding
+-- the data still to come and the feed after the body, or the fault, according to the result of decoding
 abbrev pub coming_of : Stop → Decoded → Coming
 coming_of stop d = record { bytes = d.body; behind = rest_at stop d.ends }
 
@@ -62,7 +62,7 @@ decoding_coming d feed = comes d.rules d.next feed
 abbrev pub decoding_rules : Decoding → ChunkRules
 decoding_rules d = d.rules
 
--- the result of decoding the rest of the body, by the bytes that follow and their stop
+-- the result of decoding the rest of the body, given the bytes that follow and their stop
 abbrev pub decoding_reads : Decoding → Feed → Decoded
 decoding_reads d feed = decoded_from_by d.rules d.next feed
 

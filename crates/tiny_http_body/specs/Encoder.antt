@@ -27,8 +27,8 @@ pub record Encoded (start now : Sink) (given held : List ℕ) : Type 0 where
   pub written : Took start now (full_chunks given)
   pub rest : held ≡ left_over given
 
--- whether an encoder was given these bytes since its writer was in the state `start`, and didn't fail: their full
--- chunks were written, and the rest is held
+-- whether an encoder has been given these bytes since its writer was in the state `start`, and its writer hasn't
+-- failed: their full chunks were written, and the rest is held
 abbrev pub HasEncoded : {W : Type 0} → Sink → List ℕ → EncoderState W → Type 0
 HasEncoded start given e = (e.failed ≡ false) × Encoded start e.sink given e.held
 

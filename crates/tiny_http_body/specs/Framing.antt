@@ -56,9 +56,9 @@ EndsWithChunked codings =
     × (codings ≡ before ++ last ∷ [])
     × IsTrue (same_name last (codes "chunked"))
 
--- THE LENGTH UNDER STRICT (RFC 9112, sections 6.1 to 6.3), by the elements of Content-Length and Transfer-Encoding:
--- without codings it is the one length, or there is none; with codings alone the last one must be chunked. With
--- elements of both fields no length is valid.
+-- THE LENGTH UNDER STRICT (RFC 9112, sections 6.1 to 6.3), according to the elements of Content-Length and
+-- Transfer-Encoding: without codings it is the one length, or there is none; with codings alone the last one must be
+-- chunked. With elements of both fields no length is valid.
 abbrev pub IsStrictLength : List (List ℕ) → List (List ℕ) → Option ℕ → Type 0
 IsStrictLength lengths [] n = IsOneLength lengths n
 IsStrictLength [] (coding ∷ codings) n = (n ≡ None) × EndsWithChunked (coding ∷ codings)

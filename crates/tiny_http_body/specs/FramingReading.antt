@@ -1,4 +1,4 @@
--- The framing of a request, as functions that compute it. The law of framing is proved by them.
+-- Functions that compute the framing of a request. The proof of the law `one_framing` uses them.
 use Rattle.std.specs.Prelude.{ℕ, Bool, true, false, not, ◌&&◌, ◌==◌, nat_le, List, [], ◌∷◌, Option, Some, None}
 use Rattle.std.specs.Prelude.{Result, Ok, Err, codes, if◌then◌else◌}
 use Rattle.tiny_http_head.specs.declared.common.Header.{Header}
@@ -46,7 +46,7 @@ strict_length lengths [] = uncoded_length (one_length lengths)
 strict_length [] (coding ∷ codings) = if ends_with_chunked coding codings then Ok None else Err Invalid
 strict_length (length ∷ lengths) (coding ∷ codings) = Err Invalid
 
--- whether the last coding is chunked, computed coding by coding
+-- whether the last coding is chunked, computed coding by coding; `was` if there are no codings
 abbrev pub chunked_on : Bool → List (List ℕ) → Bool
 chunked_on was [] = was
 chunked_on was (coding ∷ codings) = chunked_on (same_name coding (codes "chunked")) codings

@@ -19,7 +19,7 @@ pub record StreamedState (W : Type 0) : Type 0 where
   pub held : List ℕ
   pub failed : Bool
 
--- the state of a body of which nothing was given yet
+-- the state of a body to which no bytes have been given yet
 abbrev pub begun : {W : Type 0} → W → Sink → StreamedForm → StreamedState W
 begun writer sink form = record { writer = writer; sink = sink; form = form; held = []; failed = false }
 
@@ -56,7 +56,8 @@ pub record SentPieces (form : StreamedForm) (start now : Sink) (given held : Lis
   pub bounds : AllByRecursion IsPiece pieces
   pub few : length held < CHUNK
 
--- whether a body was given these bytes since its writer was in the state `start`, and didn't fail
+-- whether a body has been given these bytes since its writer was in the state `start`, and its writer hasn't failed:
+-- they were sent in pieces, except the held bytes
 abbrev pub HasStreamed : {W : Type 0} → Sink → List ℕ → StreamedState W → Type 0
 HasStreamed start given s = (s.failed ≡ false) × SentPieces s.form start s.sink given s.held
 

@@ -31,7 +31,7 @@ whole bytes = record { bytes = bytes; ending = Whole }
 abbrev pub nothing_sent : ErrorKind → Text
 nothing_sent kind = record { bytes = []; ending = Broken kind }
 
--- a body without a transfer coding, cut at n bytes (RFC 9112, section 6.2): whole if the data have n bytes
+-- a body without a transfer coding, cut at n bytes (RFC 9112, section 6.2): whole if the data have at least n bytes
 abbrev pub identity_body : ℕ → Feed → Text
 identity_body n feed =
     record {
@@ -55,8 +55,8 @@ chunked_until (Fault kind) bytes = record { bytes = full_chunks bytes; ending = 
 abbrev pub chunked_body : Feed → Text
 chunked_body feed = chunked_until feed.stop feed.bytes
 
--- The result of a call that prints a text: all of the text was written; or all bytes before it breaks off were written,
--- and its fault is the error; or the writer failed within the text.
+-- The result of a call that prints a text: a whole text was written; or all bytes of a text that breaks off were
+-- written, and its fault is the error; or the writer failed within the text.
 abbrev pub Prints : {T : Type 0} → Sink → Sink → Result T Error → Text → Type 0
 Prints old new (Ok x) text = (text.ending ≡ Whole) × Took old new text.bytes
 Prints old new (Err e) text =

@@ -15,24 +15,25 @@ use std::io::{Cursor, ErrorKind};
 use tiny_http_io::device::{ReadDevice, Stop, read_front};
 use tiny_http_io::source::{InputState, Source};
 
-/// Maximum number of unread bytes of a body of known length that are skipped before the next head, by the standard.
+/// Maximum number of unread bytes of a body of known length that are skipped before the next head under `Standard`.
 pub const MOST_SKIPPED: usize = 65_536;
 
 /// What is left of a body when its request is finished.
 #[derive(Clone, Copy, Debug, PartialEq, Eq)]
 pub enum Remainder {
-    /// Few enough bytes to skip them, so that the next head can follow.
+    /// At most `MOST_SKIPPED` bytes of a known length, which can be skipped before the next head. A body that is in
+    /// memory or has ended counts as this too, and so does the whole rest of the input, which no head follows.
     Skipped,
     /// More than `MOST_SKIPPED` bytes of a known length.
     Long,
-    /// An unknown number of bytes: chunks are unread, or the body is cut or broken.
+    /// An unknown number of bytes: the end of a chunked body hasn't been read, or the body is cut or broken.
     Endless,
 }
 
 /// The unread part of a request's body.
 #[derive(Drop)]
 pub enum UnreadBody {
-    /// Nothing is left: each read reports this end or fault.
+    /// Nothing is left: each read into a nonempty buffer reports this end or fault.
     Over(Stop),
     /// Bytes that were read with the head.
     WithHead(Cursor<Vec<u8>>),
@@ -59,8 +60,8 @@ fn report(stop: Stop) -> Result<usize, io::Error>
     }
 }
 
-/// Makes a body of the next `left` bytes of the input. By the standard an end of input before the last of these bytes
-/// is a fault.
+/// Makes a body of the next `left` bytes of the input. `by_standard` says whether an end of input before the last of
+/// these bytes is a fault, rather than the end of the body.
 pub fn counted(left: usize, by_standard: bool) -> UnreadBody
     ensures remaining { (feed : Option Feed)
         → remaining result feed ≡ option_map (counted_remaining by_standard left) feed }
@@ -73,8 +74,8 @@ pub fn counted(left: usize, by_standard: bool) -> UnreadBody
     }
 }
 
-/// Makes a chunked body whose first chunk is next in the input. Its lines are read by `ChunkRules::Standard` if
-/// `by_standard` is true, and otherwise by `ChunkRules::Lenient`.
+/// Makes a chunked body whose first chunk is next in the input. Its lines are read under `ChunkRules::Standard` if
+/// `by_standard` is true, and otherwise under `ChunkRules::Lenient`.
 pub fn chunked(by_standard: bool) -> UnreadBody
     ensures { IsNewChunked by_standard result }
 {
@@ -161,7 +162,7 @@ impl UnreadBody {
         }
     }
 
-    // Reads some bytes of the rest of the input.
+    // Reads some bytes of a body that is the whole rest of the input.
     fn read_rest<R: ReadDevice>(
         &mut self,
         source: &mut Source<R>,
@@ -189,8 +190,9 @@ impl UnreadBody {
         }
     }
 
-    /// Reads some bytes of the body into the front of `buf` and returns how many. After the last byte each call reports
-    /// the end, or the fault that cut or broke the body. After a fault no head follows on the source.
+    /// Reads some bytes of the body into the front of `buf` and returns how many: 0 at the end, or if `buf` is empty.
+    /// After the last byte each read into a nonempty `buf` reports the end, or the fault that cut or broke the body.
+    /// After a fault no head follows on the source.
     pub fn read<R: ReadDevice>(
         &mut self,
         source: &mut Source<R>,
@@ -199,7 +201,7 @@ impl UnreadBody {
         ensures reads { ReadsBody self.old self.new source.old source.new result buf.new }
         // The source's reader reports at most one end or fault, and none if bytes came.
         ensures stop_count { Tells (R.stop_count source.old.reader) (R.stop_count source.new.reader) result }
-        // It reports none if the body has its own end.
+        // It reports one only if the body is then cut or broken, or is the whole rest of the input.
         ensures whole { R.stop_count source.new.reader
             ≤ R.stop_count source.old.reader + ends_met self.old (bytes_given result) self.new }
     {
@@ -285,7 +287,7 @@ impl UnreadBody {
         ensures stop_count { R.stop_count source.new.reader ≤ R.stop_count source.old.reader + 1 }
         ensures lazy { IfOk result
             (λ n. n ≡ length buf.new → R.stop_count source.new.reader ≤ R.stop_count source.old.reader) }
-        // It reports none if the body has its own end.
+        // It reports one only if the body is then cut or broken, or is the whole rest of the input.
         ensures whole { R.stop_count source.new.reader
             ≤ R.stop_count source.old.reader + ends_met self.old (bytes_given result) self.new }
     {
@@ -305,7 +307,7 @@ impl UnreadBody {
         Ok(at)
     }
 
-    /// Returns whether the body is still read from the input, so that its unread bytes come before the next head.
+    /// Returns whether the body is still read from the input, whose next bytes are then the body's.
     pub fn holds_reader(&self) -> bool
         ensures { result ≡ is_streaming self.now }
     {
@@ -323,8 +325,8 @@ impl UnreadBody {
         }
     }
 
-    /// Returns the number of bytes left to read, if it is known: for a body of known length, and for a body that
-    /// reached its end. Fewer come if the client's input ends early.
+    /// Returns the number of bytes left to read, if it is known: for a body of known length that isn't broken, and for
+    /// a body that has reached its end. Fewer come if the client's input ends early.
     pub fn left(&self) -> Option<usize>
         ensures { result ≡ bytes_left self.now }
     {
@@ -346,8 +348,8 @@ impl UnreadBody {
         matches!(self, UnreadBody::Over(Stop::End) | UnreadBody::WithHead(_))
     }
 
-    /// Turns the body into the stream of an upgraded connection: by the standard all further input, and otherwise still
-    /// the body of the request.
+    /// Turns the body into the stream of an upgraded connection: all further input if `by_standard` is true, and
+    /// otherwise still the body of the request.
     pub fn become_stream(&mut self, by_standard: bool)
         ensures { self.new ≡ stream_body by_standard self.old }
     {
@@ -356,8 +358,9 @@ impl UnreadBody {
         }
     }
 
-    /// Discards the rest of the body. The rest of a counted body is skipped before the next head. After a chunked body
-    /// whose end wasn't reached no head follows. A body that is the whole rest of the input is left to the source.
+    /// Discards the rest of the body. The rest of a body with a `Content-Length` is skipped before the next head. After
+    /// a chunked body whose end hasn't been read no head follows. A body that is the whole rest of the input is left to
+    /// the source.
     pub fn give_up<R: ReadDevice>(&mut self, source: &mut Source<R>)
         ensures over { self.new ≡ UnreadBody.Over Stop.End }
         ensures gives_up { GivesUp self.old source.old source.new }

@@ -30,17 +30,17 @@ pub const MOST_TRAILERS: usize = 128;
 
 /// The rules for the lines of a chunked body: its chunk-size lines and its trailer section.
 ///
-/// By both rules a chunk size has 1 to 16 hexadecimal digits of either case, and CR LF follows a chunk's data. A
-/// malformed line is reported once the line has ended.
+/// Under both rules a chunk size has 1 to 16 hexadecimal digits of either case, and CR LF follows a chunk's data. A
+/// malformed line is reported once it has ended, and a line that is too long before it ends.
 #[derive(Clone, Copy, Debug, PartialEq, Eq)]
 pub enum ChunkRules {
     /// A line ends at its first CR LF. The chunk size is the text before the first `;`, without bytes 9 and 32 around
     /// it. Of extensions and trailer lines only the length is checked.
     Lenient,
-    /// By the standard (RFC 9112, sections 2.2 and 7.1 to 7.1.2). A line ends at its first LF; an LF without a CR
-    /// before it is `InvalidData` as soon as it is read. A chunk-size line begins with its digits; bytes 9 and 32 may
-    /// follow, then an extension, which begins with `;`. A trailer line is a field line: a token, a colon directly
-    /// after it, and a value. Extensions and values have no byte 0 to 8, 10 to 31 or 127.
+    /// As RFC 9112 requires (sections 2.2 and 7.1 to 7.1.2). A line ends at its first LF; an LF without a CR before it
+    /// is `InvalidData` as soon as it is read. A chunk-size line begins with its digits; bytes 9 and 32 may follow,
+    /// then an extension, which begins with `;`. A trailer line is a field line: a token, a colon directly after it,
+    /// and a value. Extensions and values have no byte 0 to 8, 10 to 31 or 127.
     Standard,
 }
 
@@ -51,7 +51,7 @@ enum Next {
     Line,
     /// This many bytes of data, then CR LF.
     Data(u64),
-    /// Nothing: the trailer section was read.
+    /// Nothing: the trailer section has been read.
     Over,
     /// Nothing: the body broke off with a fault of this kind.
     Broken(ErrorKind),
@@ -90,7 +90,8 @@ fn close_chunk<R: ReadDevice>(reader: &mut R) -> Result<(), ErrorKind>
     }
 }
 
-// Consumes the trailer section: at most `MOST_TRAILERS` lines and the empty line.
+// Consumes the trailer section, at most `MOST_TRAILERS` lines and the empty line, and returns `Over`, or `Broken` with
+// the fault.
 fn skip_trailers<R: ReadDevice>(reader: &mut R, rules: ChunkRules) -> Next
     ensures comes { comes rules result (R.feed reader.new) ≡ trails rules MOST_TRAILERS (R.feed reader.old) }
     ensures ready { IsReady result }
@@ -122,7 +123,7 @@ fn skip_trailers<R: ReadDevice>(reader: &mut R, rules: ChunkRules) -> Next
     }
 }
 
-// Consumes a chunk-size line and, after the line of the last chunk, the trailer section.
+// Consumes a chunk-size line and, after the line of the last chunk, the trailer section. Returns what comes next.
 fn open_chunk<R: ReadDevice>(reader: &mut R, rules: ChunkRules) -> Next
     ensures comes { comes rules result (R.feed reader.new) ≡ comes rules Next.Line (R.feed reader.old) }
     ensures ready { IsReady result }
@@ -144,7 +145,7 @@ fn open_chunk<R: ReadDevice>(reader: &mut R, rules: ChunkRules) -> Next
     }
 }
 
-// Consumes everything before the next byte of data, the end or the fault.
+// Consumes everything before the next byte of data, the end or the fault, and returns what comes next.
 fn go_to_data<R: ReadDevice>(reader: &mut R, rules: ChunkRules, next: Next) -> Next
     ensures comes { comes rules result (R.feed reader.new) ≡ comes rules next (R.feed reader.old) }
     ensures ready { IsReady result }
@@ -169,7 +170,7 @@ fn go_to_data<R: ReadDevice>(reader: &mut R, rules: ChunkRules, next: Next) -> N
     }
 }
 
-// Reads some of the `left` bytes of data. Fails with `UnexpectedEof` at the end of input.
+// Reads some of the `left` bytes of data. Fails with `UnexpectedEof` at the end of input, and with the reader's fault.
 fn read_data<R: ReadDevice>(reader: &mut R, left: u64, buf: &mut [u8]) -> Result<usize, io::Error>
     requires left { 0 < left }
     requires room { 0 < length buf.old }
@@ -196,7 +197,7 @@ pub struct Decoding {
 }
 
 impl Decoding {
-    /// Starts at the first byte of a body, by the lenient rules.
+    /// Starts at the first byte of a body, under `ChunkRules::Lenient`.
     pub fn new() -> Decoding
         // A whole body decodes to its data and leaves the rest.
         ensures whole { (bytes body rest : List ℕ) (stop : Stop) → WholeChunks bytes body rest
@@ -212,9 +213,9 @@ impl Decoding {
         Decoding::new_with(ChunkRules::Lenient)
     }
 
-    /// Starts at the first byte of a body, by these rules.
+    /// Starts at the first byte of a body, under these rules.
     pub fn new_with(rules: ChunkRules) -> Decoding
-        // A body that is whole by these rules decodes to its data and leaves the rest.
+        // A body that is whole under these rules decodes to its data and leaves the rest.
         ensures whole { (bytes body rest : List ℕ) (stop : Stop) → WholeChunksBy rules bytes body rest
             → decoding_coming result (Some (record { bytes = bytes; stop = stop }))
             ≡ Some (record { bytes = body; behind = Ok (record { bytes = rest; stop = stop }) }) }
@@ -233,12 +234,12 @@ impl Decoding {
 
     /// Reads some data into the front of `buf` and returns how many bytes: 0 at the end, or if `buf` is empty. It
     /// allocates nothing. Chunk-size lines, CR LFs and the trailer section are consumed, and nothing after the trailer
-    /// section (RFC 9112, section 7.1). The end is reported once the trailer section was read.
+    /// section (RFC 9112, section 7.1). The end is reported once the trailer section has been read.
     ///
     /// Fails with `InvalidData` if the body breaks the `ChunkRules`, `LONGEST_LINE` or `MOST_TRAILERS`, with
     /// `UnexpectedEof` if the reader ends within the body, and with the reader's kind if the reader fails. The data
-    /// before a fault are returned first, even those of an unfinished chunk. After the end or a fault, each call
-    /// reports it again without calling the reader.
+    /// before a fault are returned first, even those of an unfinished chunk. After the end or a fault, each read into a
+    /// nonempty `buf` reports it again without calling the reader.
     pub fn read<R: ReadDevice>(
         &mut self,
         reader: &mut R,
@@ -258,8 +259,8 @@ impl Decoding {
         ensures again { OnErr result
             (decoding_coming self.new (R.feed reader.new) ≡ decoding_coming self.old (R.feed reader.old)) }
         ensures empty { length buf.new ≡ 0 → (result ≡ Ok 0) × (self.new ≡ self.old) × (reader.new ≡ reader.old) }
-        // Whatever the reader states, it isn't called again after the end or a fault, and each call reports the same
-        // stop.
+        // Whatever the reader states, it isn't called again after the end or a fault, and each read into a nonempty
+        // buffer reports the same stop.
         ensures zero_is_end { IfOk result (λ n. n ≡ 0 → 0 < length buf.new → decoding_stop self.new ≡ Some Stop.End) }
         ensures broken { IfErr result (λ e. decoding_stop self.new ≡ Some (Stop.Fault (error_kind e))) }
         ensures stays { IsSome (decoding_stop self.old) → (self.new ≡ self.old) × (reader.new ≡ reader.old) }
@@ -317,7 +318,7 @@ impl<R: ReadDevice> Decoder<R> {
     ghost use Rattle.tiny_http_io.specs.Device.{Feed};
     ghost use Rattle.tiny_http_body.specs.Decoding.{decoder_coming, decoder_inner, decoder_stop, ReadsData};
 
-    /// Decodes a body whose first byte is the reader's next, by the lenient rules.
+    /// Decodes a body whose first byte is the reader's next, under `ChunkRules::Lenient`.
     pub fn new(inner: R) -> Decoder<R>
         ensures inner { decoder_inner result ≡ inner }
         // A whole body decodes to its data and leaves the rest.
@@ -334,10 +335,10 @@ impl<R: ReadDevice> Decoder<R> {
         Decoder::new_with(inner, ChunkRules::Lenient)
     }
 
-    /// Decodes a body whose first byte is the reader's next, by these rules.
+    /// Decodes a body whose first byte is the reader's next, under these rules.
     pub fn new_with(inner: R, rules: ChunkRules) -> Decoder<R>
         ensures inner { decoder_inner result ≡ inner }
-        // A body that is whole by these rules decodes to its data and leaves the rest.
+        // A body that is whole under these rules decodes to its data and leaves the rest.
         ensures whole { (feed : Feed) (body rest : List ℕ)
             → R.feed inner ≡ Some feed
             → WholeChunksBy rules feed.bytes body rest
@@ -356,8 +357,8 @@ impl<R: ReadDevice> Decoder<R> {
         }
     }
 
-    /// Reads some data into the front of `buf`, as `Decoding::read` does. After the last byte each call reports the end
-    /// or the fault.
+    /// Reads some data into the front of `buf`, as `Decoding::read` does. After the last byte each read into a nonempty
+    /// `buf` reports the end or the fault.
     pub fn read(&mut self, buf: &mut [u8]) -> Result<usize, io::Error>
         ensures reads { ReadsData R.feed self.old self.new result buf.new }
         ensures stop_count { Tells (R.stop_count (decoder_inner self.old))
@@ -368,7 +369,7 @@ impl<R: ReadDevice> Decoder<R> {
         self.decoding.read(&mut self.inner, buf)
     }
 
-    /// Returns the inner reader. Once the end was reported, the reader is just after the body.
+    /// Returns the inner reader. If the end has been reported, the reader is just after the body.
     pub fn into_inner(self) -> R
         ensures { result ≡ decoder_inner self }
     {

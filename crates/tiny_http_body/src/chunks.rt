@@ -35,9 +35,10 @@ pub fn put_last<W: WriteDevice>(writer: &mut W, bytes: &[u8]) -> Result<(), io::
     put(writer, b"0\r\n\r\n")
 }
 
-/// Writes all the data in chunks of 8192 bytes, the final one of 1 to 8192, and the end of the body (RFC 9112, section
-/// 7.1). Fails with the first fault of the data or the writer. After a fault of the data, all full chunks before the
-/// fault have been written, but no last chunk; after a fault of the writer, nothing more is written.
+/// Writes all the data in chunks of 8192 bytes, of which the last with data may be shorter, then the chunk of size 0
+/// and the empty trailer section that end the body (RFC 9112, section 7.1). Fails with the first fault of the data or
+/// the writer. After a fault of the data, all full chunks before the fault have been written, but not the end of the
+/// body; after a fault of the writer, nothing more is written.
 pub fn put_chunked<D: ReadDevice, W: WriteDevice>(
     source: &mut D,
     writer: &mut W,

@@ -13,7 +13,8 @@ use std::io::{ErrorKind, Write};
 use std::marker::Model;
 use tiny_http_io::device::WriteDevice;
 
-/// A writer that sends its bytes to another writer in chunks of 8192. It buffers the bytes of an unfinished chunk.
+/// A writer that sends its bytes to another writer in chunks of 8192 bytes. It buffers the bytes of an unfinished
+/// chunk.
 ///
 /// Only `finish` sends the buffered bytes and the end of the body; a dropped encoder sends nothing. After the inner
 /// writer's first fault nothing more is written: each later call fails with `BrokenPipe`.
@@ -49,7 +50,7 @@ pub(crate) fn copy_to(held: &mut [u8], at: usize, bytes: &[u8], count: usize)
 }
 
 // Appends bytes from the front of `bytes`, at least one unless it is empty, to the first `len` bytes of the buffer, and
-// returns how many. Writes a chunk once it is full.
+// returns how many. Writes the buffer as a chunk once it is full.
 fn encode<W: WriteDevice>(
     writer: &mut W,
     held: &mut [u8; CHUNK],
@@ -67,7 +68,7 @@ fn encode<W: WriteDevice>(
 impl<W: WriteDevice> Encoder<W> {
     ghost use Rattle.tiny_http_body.specs.Encoder.{HasEncoded, encoder_writer, encoder_failed, IsBroken};
 
-    /// Wraps a writer. Nothing is written yet.
+    /// Wraps a writer. Nothing has been written yet.
     pub fn new(inner: W) -> Encoder<W>
         ensures writer { encoder_writer result ≡ inner }
         ensures begins { HasEncoded (W.sink inner) [] result }
@@ -80,7 +81,7 @@ impl<W: WriteDevice> Encoder<W> {
         }
     }
 
-    /// Borrows the inner writer. Buffered bytes aren't written yet.
+    /// Borrows the inner writer. Buffered bytes haven't been written to it yet.
     pub fn get_ref(&self) -> &W
         ensures writer { result.now ≡ encoder_writer self.now }
         ensures sink { self.now.sink ≡ W.sink result.now }
@@ -89,9 +90,9 @@ impl<W: WriteDevice> Encoder<W> {
     }
 
     /// Sends the buffered bytes as a chunk, if there are any, and the end of the body, and returns the inner writer.
-    /// All bytes that the encoder was given are then written, in chunks of 8192, the final one of 1 to 8192. The writer
-    /// isn't flushed. Fails with the writer's fault; after an earlier fault it fails with `BrokenPipe`, and nothing is
-    /// written.
+    /// All bytes that the encoder was given are then written, in chunks of 8192 bytes, of which the last with data may
+    /// be shorter. The writer isn't flushed. Fails with the writer's fault; after an earlier fault it fails with
+    /// `BrokenPipe`, and nothing is written.
     pub fn finish(mut self) -> Result<W, io::Error>
     where
         W: Drop,

@@ -40,15 +40,15 @@ pub enum Profile {
     /// end in `chunked` (RFC 9112, sections 6.1 to 6.3), and a head of more than `STRICT_HEAD` bytes (RFC 6585, section
     /// 5).
     Strict,
-    /// By the standard (RFC 9110 and RFC 9112): heads follow its grammar, and `tiny_http_standard_head` validates them.
-    /// Lengths and sizes are refused as under `Strict`; `chunked` is the only transfer coding. The lines of a chunked
-    /// body follow the grammar, a body that is cut is a fault, and a connection is upgraded only as its request asks. A
-    /// response has version 1.1 and says whether the connection persists; a response without a final status code is
-    /// refused.
+    /// As RFC 9110 and RFC 9112 require: heads follow their grammar, and `tiny_http_standard_head` validates them. What
+    /// `Strict` refuses is refused too; `chunked` is the only transfer coding. The lines of a chunked body follow the
+    /// grammar, a body that is cut is a fault, and a connection is upgraded only as its request asks. A response has
+    /// version 1.1 and says whether the connection persists; a response without a final status code is refused.
     Standard,
 }
 
-/// The rules for heads that are read by the original's grammar, not by the standard.
+/// The rules for heads that are read according to the original's grammar, which is under the profiles other than
+/// `Standard`.
 #[derive(Clone, Copy, Debug, PartialEq, Eq)]
 pub enum HeadRules {
     /// As `Profile::Lenient`.
@@ -85,7 +85,7 @@ pub enum FramingFault {
 /// How a request's body is delimited (RFC 9112, section 6).
 #[derive(Clone, Copy, Debug, PartialEq, Eq)]
 pub enum Form {
-    /// The whole rest of the stream: the head names an upgrade.
+    /// The whole rest of the stream: the first `Connection` value contains `upgrade`. Never under `Standard`.
     Rest,
     /// No body.
     Nothing,
@@ -214,14 +214,16 @@ fn is_chunked(headers: &[Header]) -> bool
     is_chunked
 }
 
-// Returns the length under `Strict` if there is no `Transfer-Encoding`.
+// Returns the length under `Strict` if there is no `Transfer-Encoding`. Fails with `Invalid` if the `Content-Length`
+// values aren't one number.
 fn uncoded_length(headers: &[Header]) -> Result<Option<usize>, FramingFault>
     ensures { result ≡ uncoded_length (one_length (elements_of (codes "Content-Length") headers.now)) }
 {
     one_length(headers, Blanks::WhiteSpace).map_err(|_| FramingFault::Invalid)
 }
 
-// Returns the length under `Strict`, given whether there are `Transfer-Encoding` and `Content-Length` fields.
+// Returns the length under `Strict`, given whether there are `Transfer-Encoding` and `Content-Length` fields. Fails
+// with `Invalid` if both come, if the last coding isn't `chunked`, or if the `Content-Length` values aren't one number.
 fn strict_length(
     is_coded: bool,
     is_sized: bool,
@@ -273,7 +275,7 @@ fn expectation(value: Option<&AsciiString>) -> Option<bool>
 }
 
 /// Returns the form of a body of this length, or of no body: one of at most `LONGEST_WITH_HEAD` bytes is read with its
-/// head unless a 100 is due (RFC 9112, section 6.3).
+/// head unless a 100 is due, as `owed` says (RFC 9112, section 6.3).
 pub fn sized_form(owed: bool, length: Option<usize>) -> Form
     ensures { result ≡ sized_form owed length }
 {
@@ -296,7 +298,7 @@ fn form_by(is_upgrade: bool, is_coded: bool, owed: bool, length: Option<usize>) 
     sized_form(owed, length)
 }
 
-// Returns whether the connection ends after the request, by its version and its `Connection` field.
+// Returns whether the connection ends after the request, according to its version and its first `Connection` value.
 fn is_last(version: HTTPVersion, connection: Option<&AsciiString>) -> bool
     ensures { result ≡ is_last version (option_copied connection.entry) }
 {
@@ -305,7 +307,7 @@ fn is_last(version: HTTPVersion, connection: Option<&AsciiString>) -> bool
         || (version.0 == 1 && version.1 == 0 && !mentions(connection, "keep-alive"))
 }
 
-/// Returns the framing of a request with this version and these fields, by these rules. Fails with `Invalid` if the
+/// Returns the framing of a request with this version and these fields, under these rules. Fails with `Invalid` if the
 /// framing is invalid, which is checked first, or with `Expectation` if an expectation can't be met.
 #[tactic(auto, unfolding(crate::specs::FramingReading::framing))]
 pub fn framing_of(

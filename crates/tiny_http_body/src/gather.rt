@@ -21,7 +21,8 @@ fn read_behind<D: ReadDevice>(source: &mut D, buf: &mut [u8], at: usize) -> Resu
     read_some(source, &mut buf[at..])
 }
 
-/// Reads until the buffer is full or the data end, and returns how many bytes were read.
+/// Reads until the buffer is full or the data end, and returns how many bytes were read. Fails with the fault of the
+/// data.
 pub(crate) fn fill<D: ReadDevice>(source: &mut D, buf: &mut [u8]) -> Result<usize, io::Error>
     ensures bound { IfOk result (λ n. n ≤ length buf.old) }
     ensures bytes { Fills (D.feed source.old) (D.feed source.new) result buf.new }

@@ -10,8 +10,8 @@ ghost use Rattle.tiny_http_body.specs.declared.chunked.ChunkRules.{ChunkRules};
 use crate::framing::{Framing, FramingFault, HeadRules};
 use tiny_http_head::common::{HTTPVersion, Header};
 
-/// By each of the two rules, any bytes with their stop are exactly one of two things, in one way: a whole chunked body
-/// and a rest, or a body that is cut or broken (RFC 9112, section 7.1).
+/// Under each of the two rules, any bytes with their stop are exactly one of two things, in one way: a whole chunked
+/// body and a rest, or a body that is cut or broken (RFC 9112, section 7.1).
 pub fn one_chunked_body()
     ensures some { (rules : ChunkRules) (bytes : List ℕ) (stop : Stop)
         → ((body : List ℕ) × (rest : List ℕ) × WholeChunksBy rules bytes body rest)
@@ -30,8 +30,8 @@ pub fn one_chunked_body()
         → ⊥ }
 {}
 
-/// By the original's rules, `framing` computes the only result that the cases of `Frames` allow for the version and the
-/// fields. Under `Lenient` no framing is invalid.
+/// Under each of the `HeadRules`, `framing` computes the only result that the cases of `Frames` allow for the version
+/// and the fields. Under `Lenient` no framing is invalid.
 pub fn one_framing()
     ensures some { (p : HeadRules) (v : HTTPVersion) (headers : List Header)
         → Frames p v headers (framing p v headers) }

@@ -123,7 +123,7 @@ impl<W: WriteDevice> Streamed<W> {
         }
     }
 
-    /// Borrows the inner writer. Buffered bytes aren't written yet.
+    /// Borrows the inner writer. Buffered bytes haven't been written to it yet.
     pub fn get_ref(&self) -> &W
         ensures writer { result.now ≡ self.now.writer }
         ensures sink { self.now.sink ≡ W.sink result.now }

@@ -1,4 +1,4 @@
--- The head of a response, by the grammar of `httparse`.
+-- The head of a response, in the grammar of `httparse`.
 use Rattle.std.specs.Prelude.{◌≡◌, ℕ, ◌<◌, ◌≤◌, List, ◌++◌, length, map, IsAscii}
 use Rattle.std.specs.List.{All}
 use Rattle.httparse.specs.Grammar.{Field, field_value, ResponseHead, status_code, ReadsResponse}

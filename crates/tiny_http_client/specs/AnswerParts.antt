@@ -47,7 +47,7 @@ HasChunkData bytes =
     (body : List ℕ) × (0 < length body)
     × (((rest : List ℕ) × WholeChunks bytes body rest) ⊎ ((kind : ErrorKind) × CutChunks bytes End body kind))
 
--- whether memory for a body of this extent is requested: for the data of chunks, if there are any, and for as many
+-- whether memory for a body of this extent may be requested: for the data of chunks, if there are any, and for as many
 -- bytes as the length states, once these have arrived
 abbrev pub WantsMemory : Extent → List ℕ → Type 0
 WantsMemory NoBody bytes = ⊥
@@ -55,7 +55,8 @@ WantsMemory OfChunks bytes = HasChunkData bytes
 WantsMemory (OfLength n) bytes = n ≤ length bytes
 WantsMemory OfUnknownLength bytes = ⊥
 
--- the fault that an error of this kind reports about a chunked body whose bytes end: malformed or unfinished
+-- the fault that is reported if decoding a chunked body from bytes in memory fails with this kind: `Malformed` for
+-- `InvalidData`, otherwise `Unfinished`, since the bytes end
 abbrev pub chunk_fault : ErrorKind → Fault
 chunk_fault InvalidData = IsBad
 chunk_fault _ = IsCut

@@ -1,8 +1,8 @@
 -- What a client reads that knows only the method of its request (RFC 9112, sections 2.2, 4, 5, 6.3 and 7.1; RFC 9110,
 -- section 15.2). Where the RFCs leave a choice, or the server never sends such a response, it is read as follows: a 101
--- is skipped like any other head below 200; there is no rule for CONNECT, for a body that ends with the connection, or
--- for transfer codings other than `chunked`; of two Content-Length headers the first is read; a status may have any
--- number of digits, up to 65535; and a field name may be empty.
+-- is skipped like any other head from 100 to 199; there is no rule for CONNECT, for a body that ends with the
+-- connection, or for transfer codings other than `chunked`; of two Content-Length headers the first is read; a status
+-- is any number up to 65,535; and a field name may be empty.
 use Rattle.std.specs.Prelude.{◌≡◌, ℕ, ◌<◌, ◌≤◌, ◌⊎◌, Bool, true, false, ◌&&◌, ◌||◌, ◌==◌, nat_lt, nat_le, List, []}
 use Rattle.std.specs.Prelude.{◌∷◌, ◌++◌, length, Option, Some, None, option_and_then, if◌then◌else◌, codes, decimal}
 use Rattle.std.specs.Prelude.{IsTrue}
@@ -96,7 +96,7 @@ is_head _ = false
 abbrev pub has_no_body : Method → ℕ → Bool
 has_no_body method status = is_head method || (status == 204 || status == 304)
 
--- whether some Transfer-Encoding header is chunked
+-- whether the value of some Transfer-Encoding header is just `chunked`, in any letter case
 unfoldable pub says_chunked : List Header → Bool
 says_chunked headers =
     list_any (λ h. same_name h.field (codes "Transfer-Encoding") && same_name h.value (codes "chunked")) headers
@@ -147,8 +147,8 @@ pub data Lack : Type 0 where
   Unfinished : Lack
   Invalid : Lack
 
--- whether the next line is lacking. `Unfinished`: it isn't finished. `Invalid`: it is finished, and isn't what the
--- grammar requires there.
+-- whether the next line is lacking. `Unfinished`: it isn't finished. `Invalid`: it is finished, and isn't ASCII or
+-- isn't what the grammar requires there (`IsGood`).
 abbrev pub LacksLine : (List ℕ → Type 0) → List ℕ → Lack → Type 0
 LacksLine IsGood bytes Unfinished = IsUnfinished bytes
 LacksLine IsGood bytes Invalid =
@@ -199,8 +199,8 @@ UnfinishedAnswer method bytes = LacksAnswer method bytes Unfinished
 abbrev pub MalformedAnswer : Method → List ℕ → Type 0
 MalformedAnswer method bytes = LacksAnswer method bytes Invalid
 
--- Whether the bytes are these responses, one after another in the order of the methods, and then `rest`. They end when
--- the methods are used up or the rest begins with no response.
+-- Whether the bytes are these responses, one after another in the order of the methods, and then `rest`. The list of
+-- responses ends when the methods are used up or `rest` begins with no response to the next method.
 abbrev pub ReadsAnswers : List Method → List ℕ → List ClientAnswer → List ℕ → Type 0
 ReadsAnswers [] bytes [] rest = rest ≡ bytes
 ReadsAnswers [] bytes (a ∷ answers) rest = ⊥

@@ -52,7 +52,7 @@ abbrev pub protocol_read : Option (List ℕ × List ℕ) → Option (HTTPVersion
 protocol_read None = None
 protocol_read (Some w) = if bytes_eq w.0 (codes "HTTP") then major_read (decimal_until 255 point w.1) else None
 
--- the version and the status of a status line, in which HTTP comes before the slash (47)
+-- the version and the status in a text, if it is a status line: HTTP comes before its first slash (47)
 abbrev pub status_line_read : List ℕ → Option (HTTPVersion × ℕ)
 status_line_read text = protocol_read (cut 47 text)
 

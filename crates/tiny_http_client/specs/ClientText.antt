@@ -36,7 +36,8 @@ unfoldable pub printed_headers : List Header → List Header → HttpDate → Fr
 printed_headers headers listed date framing =
     server_header headers ++ (date_header headers date ++ (listed ++ framing_header framing))
 
--- the length in the Content-Length of a response that isn't an upgrade, if it has one
+-- the length that a Content-Length states for data of this length, if known, and of this feed: the known length, or
+-- else the number of bytes of the feed
 abbrev pub stated_length : Option ℕ → Feed → ℕ
 stated_length None feed = length feed.bytes
 stated_length (Some n) feed = n
@@ -45,7 +46,8 @@ abbrev pub framing_of : Coding → Option ℕ → Feed → FramingHeader
 framing_of Chunked length feed = TransferEncoding
 framing_of Identity length feed = ContentLength (stated_length length feed)
 
--- the framing of a response that isn't an upgrade, and may be only a head because of its code
+-- the framing of a response that isn't an upgrade, given the framing of one that is only a head because of its code, if
+-- it is one, and the coding, the data length and the feed
 abbrev pub framing_said : Option FramingHeader → Coding → Option ℕ → Feed → FramingHeader
 framing_said (Some framing) coding length feed = framing
 framing_said None coding length feed = framing_of coding length feed
@@ -59,7 +61,8 @@ sent_data Identity (Some n) feed = take n feed.bytes
 abbrev pub sent_body : Coding → Option ℕ → Feed → Bool → List ℕ
 sent_body coding length feed withheld = if withheld then [] else sent_data coding length feed
 
--- the body that is sent of a response that may be only a head because of its code
+-- the body that is sent, given the framing of a response that is only a head because of its code, if it is one: then it
+-- is empty
 abbrev pub body_said : Option FramingHeader → Coding → Option ℕ → Feed → Bool → List ℕ
 body_said (Some framing) coding length feed withheld = []
 body_said None coding length feed withheld = sent_body coding length feed withheld
@@ -83,8 +86,8 @@ received_answer a feed p =
       body = body_said (alone_by_code a p) (answer_coding a p) a.data_length feed (is_withheld p.no_body a.status);
     }
 
--- Whether a client reads a response to a request with this method back as it was printed: it isn't an upgrade, its
--- headers are readable, and its numbers fit their types.
+-- Whether a client reads a response to a request with this method back as it was printed: it isn't an upgrade, it is
+-- printed for this method, its status is at least 200, its headers are readable, and its numbers fit their types.
 pub record IsReadableAnswer (method : Method) (a : Answer) (feed : Feed) (p : Printing) : Type 0 where
   pub no_upgrade : p.upgrade ≡ None
   pub same_method : p.no_body ≡ is_head method

@@ -90,7 +90,8 @@ pub fn read_answer_head(
     ensures head { IfOk result (λ found. IfSome found (λ a. (a.1 ≤ length bytes.now)
         × ((h : ResponseHead) × ReadsResponse bytes.now h (drop a.1 bytes.now) × IsHeadOf h a.0))) }
     ensures unfinished { result ≡ Ok None → HasNoResponse bytes.now × MayBecomeResponse bytes.now }
-    // `Malformed`: no further bytes complete a valid head. `Memory`: only for a complete head with headers.
+    // `Malformed`: no further bytes complete a head of at most `MOST_HEADERS` headers, all ASCII. `Memory`: only for a
+    // complete head with headers.
     ensures malformed { result ≡ Err AnswerHeadFault.Malformed → NeverHasHead MOST_HEADERS bytes.now }
     ensures memory { result ≡ Err AnswerHeadFault.Memory → HasHeaders bytes.now }
 {

@@ -56,7 +56,7 @@ fn first_value<'a>(headers: &'a [Header], name: &str) -> Option<&'a AsciiString>
     None
 }
 
-// Returns the length in the first `Content-Length`, if there is one and its value has only digits and is below 2^64.
+// Returns the length in the first `Content-Length`, if there is one and its value is one or more digits and below 2^64.
 fn content_length(headers: &[Header]) -> Option<usize>
     ensures { result ≡ content_length headers.now }
 {
@@ -114,7 +114,8 @@ pub(crate) fn read_body(
     ensures read { IfOk result
         (λ body. BeginsWithBody (extent method.now (head_of head.now)) rest.old body.items rest.new) }
     ensures lacks { IfErr result (LacksBy (LacksBody (extent method.now (head_of head.now)) rest.old)) }
-    // Fails with `Memory` only once all bytes of the length, or the first data of a chunk, have arrived.
+    // Fails with `Memory` only once all bytes that a `Content-Length` states, or the first data of a chunk, have
+    // arrived.
     ensures memory { result ≡ Err Fault.Memory → WantsMemory (extent method.now (head_of head.now)) rest.old }
 {
     if has_no_body(method, head.status) {

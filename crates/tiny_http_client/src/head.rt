@@ -44,7 +44,8 @@ pub(crate) struct HeadParts {
     pub(crate) headers: Vec<Header>,
 }
 
-// Parses the decimal number before the first `c`, at most `most`, and returns it with the text after that `c`.
+// Parses the decimal number before the first `c`, at most `most`, and returns it with the text after that `c`. Returns
+// `None` if there is no `c`, or no such number before it.
 fn decimal_until(text: &[u8], c: u8, most: usize) -> Option<(usize, &[u8])>
     requires { AreAscii text.now }
     ensures some { IfSome result (λ r. (decimal_until most c text.now ≡ Some (r.0, r.1.now)) × AreAscii r.1.now) }
@@ -113,7 +114,7 @@ fn parse_field_line(alloc: Global, text: &[u8]) -> Result<Option<Header>, AllocE
 }
 
 // Reads the status line. Fails with `Unfinished` if the line isn't finished, and with `Malformed` if it isn't a status
-// line.
+// line in ASCII.
 fn read_status_line(rest: &mut Rest<'_>) -> Result<(HTTPVersion, StatusCode), Fault>
     ensures read { IfOk result (λ r. BeginsWithStatusLine rest.old r.0 r.1.0 rest.new) }
     ensures lacks { IfErr result (LacksBy (LacksLine IsStatusLine rest.old)) }

@@ -66,8 +66,8 @@ pub fn text_is_read_back()
         rest }
 {}
 
-/// More bytes after a response don't change how it is read. A proper prefix of a response is unfinished. The text of a
-/// response that breaks off is such a prefix.
+/// More bytes after a response don't change how it is read. A proper prefix of a response is unfinished. If the text of
+/// a response that a client can read (`IsReadableAnswer`) breaks off, it is such a prefix.
 pub fn fronts_are_unfinished()
     ensures stays { (method : Method) (bytes more : List ℕ) (answer : ClientAnswer) (rest : List ℕ)
         → ReadsAnswer method bytes answer rest

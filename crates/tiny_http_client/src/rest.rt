@@ -1,4 +1,4 @@
-//! A reader of bytes in memory, which takes lines and counted bytes from their front.
+//! A reader of bytes in memory, from whose front it takes a line or a given number of bytes.
 ghost use Rattle.std.specs.Prelude.{◌≡◌, ◌+◌, ◌<◌, ◌≤◌, ◌++◌, length, take, drop, Some, IfSome, IfNone};
 ghost use Rattle.tiny_http_text.specs.Lines.{Line, IsUnfinished};
 ghost use Rattle.tiny_http_io.specs.Device.{whole_feed};

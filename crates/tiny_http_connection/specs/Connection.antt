@@ -78,7 +78,7 @@ kept c =
       output_ended = c.outlet.ended;
     }
 
--- the response context of a request; `closes`: whether the response says that the connection closes
+-- the response context of a request; `closes`: whether, under Standard, the response says that the connection closes
 abbrev pub response_context_of : Bool → Request → ResponseContext
 response_context_of closes r =
     record {
@@ -103,7 +103,8 @@ open_slot h r given end_reported =
     record (new_slot h.date (Asks r))
     { continued = h.continued; owed = h.owed; closes = h.closes; given = given; end_reported = end_reported }
 
--- the slot of a request that was handed out as `h` states, after it was dropped
+-- the slot of a request that was handed out as `h` states, once it was dropped after `given` bytes of its body were
+-- given out; `end_reported`: whether the body's end or fault was reported
 abbrev pub dropped : HandedOut → Request → ℕ → Bool → Slot
 dropped h r given end_reported =
     finished_as (closes_now r h.closes h.owed given end_reported) (open_slot h r given end_reported) ByServer
@@ -132,8 +133,8 @@ pub record IsWaiting (s : Slot) (w : OpenRequest UnreadBody) : Type 0 where
   pub settled : is_streaming w.body ≡ false → (f : Feed)
       → remaining w.body (Some f) ≡ Some (taken_remaining (rest_of request given) f)
 
--- Whether this is the slot of a number whose body can be read, and the connection keeps `body` of it: the number awaits
--- its response, or was upgraded.
+-- Whether this is the slot of a request, in some stage, whose body wasn't given up, and the connection keeps `body` of
+-- it.
 pub record IsOpen (s : Slot) (body : UnreadBody) : Type 0 where
   pub request : Request
   pub handed : HandedOut
@@ -194,7 +195,8 @@ AreKept [] [] [] = Unit {0}
 AreKept (s ∷ slots) (m ∷ marks) (w ∷ requests) = IsKept s m w × AreKept slots marks requests
 AreKept _ _ _ = ⊥
 
--- whether nothing was sent under a number: if it is finished, all of its text is left for its turn
+-- whether nothing was sent under a number: no 100, and, unless it is finished, no other bytes; all the text of a
+-- finished number is left for its turn
 abbrev pub HasSentNothing : Slot → Type 0
 HasSentNothing s =
     (s.continued ≡ None) × (is_finished s ≡ false → (stage_text s.closes s.item s.date s.stage).bytes ≡ [])
@@ -209,7 +211,7 @@ AreSentInTurn (s ∷ slots) = MatchBool (is_finished s) (AreSentInTurn slots) (A
 abbrev pub IsSettled : Option Unfinished → Type 0
 IsSettled u = (is_streaming_body (kept_body u) ≡ false) × (holds_next_head_at (Some u) ≡ false)
 
--- whether, of these numbers, only the last has a body that is read from the input or holds the next head
+-- whether, of these numbers, at most the last has a body that is read from the input, or holds the next head
 abbrev pub AreSettled : List (Option Unfinished) → Type 0
 AreSettled [] = ⊤
 AreSettled (u ∷ []) = ⊤
@@ -304,8 +306,9 @@ pub record InputMatches (client : Feed) (k : Kept) (slots : List Slot) (rest : L
   pub follows : last_holds_next_head k.requests ≡ true → FollowsLast (last_body k.requests) (last_slot slots) k.feed
   pub source : GoesOn (Some client) k.feed
 
--- Whether this is the output so far. If the writer hasn't failed, it is the joined segments, and no failure takes back
--- what was flushed. If the writer has failed, it is what the writer took until then.
+-- Whether this is the output so far. If the writer hasn't failed, it is the joined segments, which begin with what was
+-- flushed, and the writer has sent that on unless the output has ended. If the writer has failed, it is what the writer
+-- took until then.
 abbrev pub OutputAt : Sink → Sink → Bool → List Slot → List ℕ → Option Failure → Type 0
 OutputAt before sink ended slots flushed None =
     (sink.taken ≡ Some (joined slots))

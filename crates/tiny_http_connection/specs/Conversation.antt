@@ -47,8 +47,10 @@ abbrev pub finished_front : List Slot → ℕ
 finished_front [] = 0
 finished_front (s ∷ slots) = if is_finished s then finished_front slots + 1 else 0
 
--- HOW THE WRITER FARES in a step. `Well`: it doesn't fail. `FailsWithin`: it fails in the step's own text.
--- `FailsAfter`: it fails later, in a text that was left or, if the step's data broke off, in what was held.
+-- HOW THE WRITER FARES in a step. `Well`: it doesn't fail. `FailsWithin`: it fails in what was held or in the step's
+-- own text, and the reply is made from its fault. `FailsAfter`: it fails, and the reply isn't made from its fault: in a
+-- text that was left for a later number, in any text of a step that reports no fault, or, if the step's data broke off,
+-- in what was held or the step's own text.
 pub data Fares : Type 0 where
   Well : Fares
   FailsWithin : (failure : Failure) → Fares
@@ -79,8 +81,8 @@ MayFare (Reported own None flushes report) old slots (FailsAfter f) =
 MayFare (Reported own (Some kind) flushes report) old slots (FailsAfter f) =
     FallsBetween old.flushed (joined old.reached.slots ++ own) f
 
--- the reply to a step in which the writer fares like this: its fault in the step's own text, or else the fault of the
--- step's data, or else the planned reply
+-- the reply to a step in which the writer fares like this: made from the writer's fault if the writer fails within,
+-- otherwise from the fault of the step's data, if any, and otherwise the planned reply
 abbrev pub reply_in : WriterUse → ReplyValue → Fares → ReplyValue
 reply_in (Reported own broken flushes report) planned (FailsWithin f) = report f.kind
 reply_in (Reported own broken flushes report) planned _ = unwrap_or (option_map report broken) planned
@@ -126,7 +128,7 @@ HasOutcome o old reply new =
     × (new.flushed ≡ flushed_after o.writer old o.slots)
     × WriterPart o.writer old o.reply o.slots reply new.failure
 
--- whether the response's data are read whole before its head, if it is the response to this item
+-- whether the response's data are read whole before its head is sent, if it is the response to this item
 abbrev pub GathersFor : HttpDate → ResponseValue → Slot → Item → Type 0
 GathersFor date response s (Asks r) = IsGathered response.answer (to_request r.framing.is_last r date)
 GathersFor date response s (Refuses refusal manner no_body last) = ⊥
@@ -142,7 +144,7 @@ MayLack true date old step = Unit {0}
 MayLack false date old (Respond k response) = GathersAt date response (slice_get old.slots k)
 MayLack false date old _ = ⊥
 
--- whether the item is a refused head, and requests go on after it
+-- whether the item is a refused head after which further heads are read
 abbrev pub IsPassedOver : Item → Type 0
 IsPassedOver (Asks r) = ⊥
 IsPassedOver (Refuses refusal manner no_body last) = last ≡ false
@@ -165,8 +167,8 @@ lacks_head date old refused rest =
       writer = answers_to old.slots refused;
     }
 
--- whether a step may be out of memory and lead to the state `new`: a Read, which changes nothing, or an Ask, at a head
--- after those that it refuses
+-- whether a step may be out of memory and lead to the state `new`: a Read of at least one byte, which changes nothing,
+-- or an Ask, at a head after those that it refuses
 abbrev pub FindsNoMemory : HttpDate → State → StepValue → ReplyValue → State → Type 0
 FindsNoMemory date old (Read k n) reply new =
     0 < n × ((outcome true date old.reached (Read k n)).reply ≡ NoSuch → ⊥) × (reply ≡ Memory) × (new ≡ old)
@@ -197,14 +199,14 @@ Run old (s ∷ steps) (r ∷ replies) new = (mid : State) × StepsTo old s.0 s.1
 Run old [] (r ∷ replies) new = ⊥
 Run old (s ∷ steps) [] new = ⊥
 
--- the state in which nothing of this pipeline was reached
+-- the state in which nothing of this pipeline has been reached
 abbrev pub start_state : List Item → State
 start_state items =
     record { reached = record { slots = []; rest = items; asking_ended = false }; flushed = []; failure = None }
 
 -- Whether this is the output of these slots. If the writer didn't fail, what it took and what is held are the joined
 -- segments, it took all that was flushed, and the output has ended exactly if a segment broke off. If it failed, it
--- failed once: it states that kind and those bytes, nothing is held, and the output has ended.
+-- failed once: it states the kind and the output of this failure, nothing is held, and the output has ended.
 abbrev pub IsOutput : List Slot → List ℕ → Option Failure → Sink → Sink → List ℕ → Bool → Type 0
 IsOutput slots flushed None before after held ended =
     (after.failures ≡ before.failures)
@@ -269,9 +271,9 @@ HasAskOutOfMemory (s ∷ steps) (r ∷ replies) = IsAskOutOfMemory s.1 r ⊎ Has
 HasAskOutOfMemory _ _ = ⊥
 
 -- THE CONNECTION THEOREM: the replies and the output are those of a run over the pipeline of the feed under this
--- profile, and `unread` is left of the feed. No memory is requested if no head comes: if an Ask was out of memory, an
--- item of the pipeline is left, or a byte of a further head comes after them all, or, except under Standard, the reader
--- times out there.
+-- profile, and `unread` is what is left of the feed, as `InputAt` defines. No memory is requested if no head comes: if
+-- an Ask was out of memory, an item of the pipeline is left, or a byte of a further head comes after the whole
+-- pipeline, or, except under Standard, the reader times out there.
 pub record IsConversation (p : Profile) (feed : Feed) (before : Sink) (steps : List TimedValue)
     (replies : List ReplyValue) (after : Sink) (held : List ℕ) (ended : Bool) (unread : Option Feed) : Type 0 where
   pub items : List Item

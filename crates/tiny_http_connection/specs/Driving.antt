@@ -98,8 +98,8 @@ abbrev pub EndsThere : Profile → InputState → Feed → EndOfRequests → Typ
 EndsThere p input_state f why =
     IsRefusal p f why ⊎ (OneHead p f.bytes f.stop None None × EndsAt p input_state f.bytes f.stop why)
 
--- Whether the heads of this feed are refused one after another, as these items, requests go on after each, and the feed
--- `behind` follows them.
+-- Whether the first heads of this feed are refused, as these items, further heads are read after each of them, and the
+-- feed `behind` follows the last.
 abbrev pub ArePassedOver : Profile → Feed → List Item → Feed → Type 0
 ArePassedOver p f [] behind = behind ≡ f
 ArePassedOver p f (item ∷ items) behind =
@@ -108,7 +108,7 @@ ArePassedOver p f (item ∷ items) behind =
     × OneHead p f.bytes f.stop (Some item) next
     × ArePassedOver p (place_feed f.stop next) items behind
 
--- whether, after some refused heads after which requests go on, a byte of a further head comes, or, except under
+-- whether, after some refused heads that don't end the requests, a byte of a further head comes, or, except under
 -- Standard, the reader times out there
 abbrev pub HasByteBehind : Profile → Option Feed → Type 0
 HasByteBehind p None = ⊤
@@ -136,9 +136,10 @@ EndsRequestsAt p input_state feed why =
 abbrev pub IsFree : {R W : Type 0} → ConnectionState R W → Type 0
 IsFree c = (c.source.input_state ≡ at.Body → ⊥) × (last_holds_next_head c.requests ≡ false)
 
--- How an Ask ends the requests, by its reply: for a reason in the client's bytes, or because memory for a head was
--- refused. After the end an Ask changes nothing, and after the last request it leaves the source unchanged. It reads no
--- head if the source has ended, nor while the last request holds the reader, and only the latter makes it wait.
+-- How an Ask ends the requests, depending on its reply: for a reason in the client's bytes, or because memory for a
+-- head was refused. After the end an Ask changes nothing, and after the last request it leaves the source unchanged. It
+-- reads no head if the source has ended, nor while the last request holds the reader, and only the latter makes it
+-- wait.
 abbrev pub AskEnds : {R W : Type 0} → ConnectionState R W → ConnectionState R W → ReplyValue → Type 0
 AskEnds old new (Handed k message framing) =
     (old.end ≡ None)
@@ -271,10 +272,10 @@ abbrev pub KeepsRequestOf : OpenRequest UnreadBody → Message → Framing → H
 KeepsRequestOf w message framing date =
     (h : Head) × (head_message h ≡ message) × (head_framing h ≡ framing) × KeepsHead w h date
 
--- What an Ask leaves of the requests, the source and the output, by its reply. `Handed`: a request was added after the
--- refused heads, as its head in the client's bytes frames it, and the source is after that head. If no head was
--- refused, nothing is sent, and the reader reported no end or fault. Other replies: no request was added. After the
--- last request or the end of the source no head is refused.
+-- What an Ask leaves of the requests, the source and the output, depending on its reply. `Handed`: a request was added
+-- after the refused heads, as its head in the client's bytes frames it, and the source is after that head. If no head
+-- was refused, nothing is sent, and the source's stop is unchanged. `Memory` and `Ended`: only refused heads took
+-- numbers; if the last request or the end of the source had been reached, `Ended` refuses none.
 abbrev pub AskLeaves : {R W : Type 0} → HttpDate → ConnectionState R W → ConnectionState R W → ReplyValue → Type 0
 AskLeaves now old new (Handed k message framing) =
     (n : ℕ)
@@ -295,7 +296,7 @@ AskLeaves now old new NotYet = Unit {0}
 AskLeaves now old new _ = ⊥
 
 -- What a read leaves of the source, if the request's body was `was` before it and is `body` after it. If the body is
--- read from the source, the input state follows what is left of the body; else the source is unchanged.
+-- read from the source, what is left of the body determines the input state; else the source is unchanged.
 abbrev pub InputStateAfter : {R : Type 0} → UnreadBody → UnreadBody → SourceState R → SourceState R → Type 0
 InputStateAfter was body old new =
     MatchBool (is_streaming was) (new.input_state ≡ body_input_state body old.input_state) (new ≡ old)
@@ -308,8 +309,8 @@ ContinueIsSent k now w old new =
     × SendsQuietlyOn old.outlet new.outlet (own_text_by 100 (printing_in w.response_context now))
     × HasSentAll new.outlet
 
--- What happens to the 100 of this number, by the reply. `Done`: it was sent, or none was owed and nothing changed.
--- `NotYet`: it is owed and waits for its turn. `NoSuch`: no request of this number awaits its response.
+-- What happens to the 100 of this number, depending on the reply. `Done`: it was sent, or none was owed and nothing
+-- changed. `NotYet`: it is owed and waits for its turn. `NoSuch`: no request of this number awaits its response.
 abbrev pub SendsContinue : {R W : Type 0} → ℕ → HttpDate → ConnectionState R W → ConnectionState R W → ReplyValue
     → Type 0
 SendsContinue k now old new Done =
@@ -323,16 +324,16 @@ SendsContinue k now old new _ = ⊥
 abbrev pub LeavesAllButOutlet : {R W : Type 0} → ConnectionState R W → ConnectionState R W → Type 0
 LeavesAllButOutlet old new = (new.requests ≡ old.requests) × (new.marks ≡ old.marks) × (new.source ≡ old.source)
 
--- What a Respond leaves, by the reply. `Refused`: the response was refused, and the request dropped. `Done` or `Fault`:
--- the request was answered.
+-- What a Respond leaves, depending on the reply. `Refused`: the response was refused, and the request dropped. `Done`
+-- or `Fault`: the request was answered.
 abbrev pub AnswerLeaves : {R W : Type 0} → ℕ → Answer → ConnectionState R W → ConnectionState R W → ReplyValue → Type 0
 AnswerLeaves k a old new Refused = LetsGo k old new × (refuses_at a.status (slice_get old.requests k) ≡ true)
 AnswerLeaves k a old new reply =
     IsAnswered reply → LetsGoAnswered k a.closes old new × (refuses_at a.status (slice_get old.requests k) ≡ false)
 
--- What an Upgrade to this protocol with this status code leaves, by the reply. `Done`: the request was upgraded, and
--- its stream reads its body or, under Standard, all that follows. `Refused`: the upgrade was refused, and the request
--- dropped.
+-- What an Upgrade to this protocol with this status code leaves, depending on the reply. `Done`: the request was
+-- upgraded, and its stream reads its body or, under Standard, all that follows. `Refused`: the upgrade was refused, and
+-- the request dropped.
 abbrev pub UpgradeLeaves : {R W : Type 0} → ℕ → List ℕ → ℕ → ConnectionState R W → ConnectionState R W → ReplyValue
     → Type 0
 UpgradeLeaves k protocol code old new Done =
@@ -360,7 +361,7 @@ ClosesBody n (Fault kind) body = body ≡ Over (Faults kind)
 ClosesBody n _ body = ⊤
 
 -- Whether a Read of n bytes gave the next bytes of the body that is kept of this number, as far as the reader states
--- them. The source's input state follows what is left of the body.
+-- them. What is left of the body determines the source's input state.
 abbrev pub ReadsKept : {R W : Type 0} → ℕ → ℕ → ConnectionState R W → ConnectionState R W → ReplyValue → Type 0
 ReadsKept k n old new reply =
     (u : Unfinished)
@@ -374,8 +375,8 @@ ReadsKept k n old new reply =
     × (0 < n → ReadsOn was (given_count reply) (nat_lt (given_count reply) n) body)
     × ClosesBody n reply body
 
--- What a Read of n bytes leaves of the requests and the source, by its reply. `Fault` and `Memory` come only if n is at
--- least 1.
+-- What a Read of n bytes leaves of the requests and the source, depending on its reply. `Fault` and `Memory` come only
+-- if n is at least 1.
 abbrev pub ReadLeaves : {R W : Type 0} → ℕ → ℕ → ConnectionState R W → ConnectionState R W → ReplyValue → Type 0
 ReadLeaves k n old new (Given bytes) =
     (is_readable (slice_get old.requests k) ≡ true) × (length bytes ≤ n) × ReadsKept k n old new (Given bytes)
@@ -416,8 +417,8 @@ IsDeclined _ _ = ⊥
 
 -- Whether a fault that a step reports occurred, whatever the reader, the writer and the data state. The fault of a
 -- Write or a Flush is the writer's, whose failure count rose. The fault of a Respond is the writer's or that of the
--- response's data, printed for its request. In both cases the output has ended. The fault of a Read is the body's, by
--- `ReadLeaves`. The other steps report none.
+-- response's data, printed for its request. In both cases the output has ended. The fault of a Read is the body's, as
+-- `ReadLeaves` defines. The other steps report none.
 abbrev pub ReportsFault : {R W : Type 0} → ConnectionState R W → ConnectionState R W → HttpDate → Step (Option Feed)
     → ErrorKind → Type 0
 ReportsFault old new now step.Ask kind = ⊥
@@ -452,8 +453,9 @@ AnswerIsSentOn old new now k r =
     → IsFront (taken ++ (text_of r.answer content (printing_in context now)).bytes) (output_of new.outlet).sent)
 
 -- Whether a Respond reports a failure of the writer by its kind; a kind that means that the client has disconnected is
--- reported as `Done`. It needn't report a failure after the response, in the text of the next number that was left, if
--- the response's own text had been sent on. Nor need a refused response report one: its request is dropped.
+-- reported as `Done`. It needn't report a failure after the response, in the texts that were left for the numbers
+-- directly after it, if the response's own text had been sent on. Nor need a refused response report one: its request
+-- is dropped.
 abbrev pub RespondReports : {R W : Type 0} → ConnectionState R W → ConnectionState R W → HttpDate → ℕ
     → ResponseState (Option Feed) → ReplyValue → Type 0
 RespondReports old new now k r Refused = Unit {0}
@@ -481,8 +483,8 @@ abbrev pub StepMeets : {R W : Type 0} → (R → ℕ) → Step (Option Feed) →
 StepMeets stop_count (step.Read k n) old new reply = ReadMeets stop_count old new k reply
 StepMeets stop_count _ old new reply = ⊤
 
--- WHETHER A STEP REPORTS A FAILURE OF THE WRITER, by which the writer's failure count rose. A Write and a Flush report
--- it, and so does a Respond, by `RespondReports`. The other steps don't.
+-- WHETHER A STEP REPORTS A FAILURE OF THE WRITER, a rise of the writer's failure count. A Write and a Flush report it,
+-- and so does a Respond, as `RespondReports` defines. The other steps don't.
 abbrev pub StepReports : {R W : Type 0} → ConnectionState R W → ConnectionState R W → HttpDate → Step (Option Feed)
     → ReplyValue → Type 0
 StepReports old new now (step.Write k bytes) reply = ReportsOfWriter (output_of old.outlet) (output_of new.outlet) reply
@@ -502,7 +504,7 @@ pub record MakesStep {R W : Type 0} (old new : ConnectionState R W) (now : HttpD
   pub ends : StepEnds step old new reply
   pub leaves : StepLeaves step now old new reply
   pub goes_on : GoesOn old.source.feed new.source.feed
-  -- the writer fails at most once; and what is held and what was sent on, by the step and its reply
+  -- the writer fails at most once; and what is held and what was sent on, given the step and its reply
   pub fails_once : FailsOnce old.outlet new.outlet
   pub flushed : (sent : Bool) → (sent ≡ true → old.outlet.held ≡ []) → all_sent_after step reply sent ≡ true
       → new.outlet.held ≡ []

@@ -27,7 +27,8 @@ fault_reply kind = if is_closed_client kind then Done else Fault kind
 
 -- How a step uses the writer. `Unused`: not at all. `Unreported`: it writes and flushes its texts, and no reply reports
 -- a fault. `Reported`: it writes `own`, and flushes if `flushes` holds; `report` makes the reply for a fault of the
--- writer, or for `broken`, the fault of its response's data, if any. If both fail, either may be reported.
+-- writer, or for `broken`, the fault of the response's data, if any. If both the writer and the data fail, either fault
+-- may be reported.
 pub data WriterUse : Type 0 where
   Unused : WriterUse
   Unreported : WriterUse
@@ -99,7 +100,8 @@ abbrev pub read_reply : ℕ → List ℕ → Stop → ReplyValue
 read_reply n [] close = close_reply close
 read_reply n (b ∷ left) close = Given (take n (b ∷ left))
 
--- the slot once its number is finished in this stage: its body is given up, and no 100 is owed
+-- the slot once its number is finished in this stage: its body is given up, and no 100 is owed; `closes`: whether,
+-- under Standard, its response says that the connection closes
 abbrev pub finished_as : Bool → Slot → Stage → Slot
 finished_as closes s stage = record s { stage = stage; given_up = true; owed = false; closes = closes }
 
@@ -250,7 +252,7 @@ at_slot found date old k step (Some s) = at_item found date old k step s s.item
 abbrev pub at_number : Bool → HttpDate → Reached → ℕ → StepValue → Outcome
 at_number found date old k step = at_slot found date old k step (slice_get old.slots k)
 
--- the outcome of a step on this date
+-- the outcome of a step on this date; `found`: whether memory was found for response data that have to be read whole
 abbrev pub outcome : Bool → HttpDate → Reached → StepValue → Outcome
 outcome found date old Ask = ask date old
 outcome found date old step = at_number found date old (number_of step) step

@@ -48,8 +48,9 @@ begins_left (Held ∷ marks) = false
 begins_left (Left text ∷ marks) = true
 begins_left (Finished ∷ marks) = false
 
--- whether the texts of the numbers at the front that are marked `Left` were sent and flushed, or, if there is none,
--- nothing was done
+-- whether the texts of the numbers at the front that are marked `Left` were sent, unless the output had ended, and
+-- flushed; or, if there is no such number, nothing was done; `was` and `ended`: whether the output had ended before,
+-- and has ended afterwards
 abbrev pub SendsLeft : List Mark → Bool → Sink → Sink → Bool → Type 0
 SendsLeft rest was old new ended =
     MatchBool (begins_left rest) (SendsUnlessEnded was old new ended (left_text rest)
@@ -61,8 +62,9 @@ SendsLeft rest was old new ended =
 abbrev pub FinishesFront : List Mark → List Mark → List Mark → Type 0
 FinishesFront front rest new = new ≡ front ++ (Finished ∷ with_left_finished rest)
 
--- Whether the open number between `front` and `rest` was left with this text. In its turn the text was sent, with the
--- texts of those directly after it that were marked `Left`; else it waits.
+-- Whether this text was left for the open number between `front` and `rest`. If its turn had come, the text was sent,
+-- unless the output had ended, with the texts of those directly after it that were marked `Left`; else it waits. `was`
+-- and `ended`: whether the output had ended before, and has ended afterwards.
 abbrev pub LeavesText : Bool → List Mark → List Mark → List Mark → List ℕ → Bool → Sink → Sink → Bool → Type 0
 LeavesText in_turn front rest marks text was old new ended =
     MatchBool in_turn
@@ -81,7 +83,8 @@ waiting_response_context None = None
 abbrev pub WaitsAt : List (Option Unfinished) → ℕ → OpenRequest UnreadBody → Type 0
 WaitsAt requests number w = slice_get requests number ≡ Some (Some (still.Waiting w))
 
--- whether the body of a number can be read: the number awaits its response and no 100 is owed, or it was upgraded
+-- whether the body of a number can be read: the number awaits its response and no 100 is owed, or the stream of its
+-- upgrade is in use
 abbrev pub is_readable : Option (Option Unfinished) → Bool
 is_readable (Some (Some (still.Waiting w))) = not w.owes_continue
 is_readable (Some (Some still.Raw)) = false
@@ -89,7 +92,7 @@ is_readable (Some (Some (still.Upgraded b))) = true
 is_readable (Some None) = false
 is_readable None = false
 
--- whether bytes can be written under a number: its raw writer is in use, or it was upgraded
+-- whether bytes can be written under a number: its raw writer or the stream of its upgrade is in use
 abbrev pub is_writable : Option (Option Unfinished) → Bool
 is_writable (Some (Some (still.Waiting w))) = false
 is_writable (Some (Some still.Raw)) = true
@@ -150,7 +153,7 @@ closing_number (Some still.Raw) = Some still.Raw
 closing_number (Some (still.Upgraded b)) = Some (still.Upgraded b)
 closing_number None = None
 
--- what is kept of these numbers, with the response to the last to say that the connection closes, if `closes` holds
+-- what is kept of these numbers; if `closes` holds, the response to the last has to say that the connection closes
 abbrev pub closing_if_asked : Bool → List (Option Unfinished) → List (Option Unfinished)
 closing_if_asked closes requests = if closes then with_last closing_number requests else requests
 
@@ -189,8 +192,8 @@ abbrev pub is_streaming_body : Option UnreadBody → Bool
 is_streaming_body None = false
 is_streaming_body (Some b) = is_streaming b
 
--- A REFUSED HEAD takes the next number, and its error response is left under it; or memory for that is refused, and
--- nothing changes. The response isn't held back while the connection waits for the next head.
+-- A REFUSED HEAD takes the next number, and its error response is left for that number; or, if `kept` is false, memory
+-- for that is refused, and nothing changes. If the outlet held nothing back before, it holds nothing back afterwards.
 pub record RefusesHead {W : Type 0} (p : Pending) (o : OutletState W) (text : List ℕ) (kept : Bool) (q : Pending)
     (u : OutletState W) : Type 0 where
   pub leaves : kept ≡ true → (outlet_ended o ≡ false → CanSend (output_of o))
@@ -208,8 +211,8 @@ pub record RefusesHead {W : Type 0} (p : Pending) (o : OutletState W) (text : Li
 abbrev pub WritesHeld : {W : Type 0} → HeldNumber → OutletState W → List ℕ → HeldNumber → OutletState W → Type 0
 WritesHeld k o text l u = (l ≡ k) × SendsQuietlyOn o u text × FailsOnce o u × KeepsSent o u
 
--- What follows a held number once it is finished: the next number, which had been left with this text and is now held,
--- or, for `None`, no such number.
+-- What follows a held number once it is finished: the next number, for which this text had been left and which is now
+-- held, or, for `None`, no such number.
 abbrev pub NextHeld : HeldNumber → Finishing (Unit {0}) → Option (Vec ℕ) → HeldNumber → Type 0
 NextHeld k r None l = ((u : Unit {0}) (next : Vec ℕ) → r ≡ Go u next → ⊥)
 NextHeld k r (Some text) l = ((u : Unit {0}) × (r ≡ Go u text)) × (l.0 ≡ k.0 + 1) × (l.0 < 2 ^ 64)

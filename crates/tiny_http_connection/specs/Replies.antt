@@ -1,4 +1,5 @@
--- Whether each step is done, by what is kept of its number. The laws of `InShort` can be understood without this file.
+-- Whether each step is done, given what is kept of its number. The laws of `InShort` can be understood without this
+-- file.
 use Rattle.std.specs.Prelude.{◌≡◌, ⊤, ℕ, ◌==◌, Bool, true, false, not, ◌&&◌, Option, Some, is_some, slice_get}
 use Rattle.std.specs.Prelude.{string_bytes}
 use Rattle.tiny_http_io.specs.Device.{Feed}
@@ -11,8 +12,9 @@ use Rattle.tiny_http_connection.specs.Pending.{waiting_response_context, owes_co
 use Rattle.tiny_http_connection.specs.Pending.{refuses_upgrade_at}
 use Rattle.tiny_http_connection.specs.Connection.{ConnectionState}
 
--- THE REPLY TO A STEP on a number: `NoSuch` if no request accepts the step; `Refused` if the step is refused, in its
--- turn or before it; `NotYet` if it has to wait; else the step was done, or its fault is reported.
+-- THE REPLY TO A STEP on a number, given whether a request accepts the step, whether the step is refused, and whether
+-- it has to wait: `NoSuch` if no request accepts it; otherwise `Refused` if it is refused; otherwise `NotYet` if it has
+-- to wait; otherwise the step was done, or its fault is reported.
 abbrev pub IsReplied : Bool → Bool → Bool → ReplyValue → Type 0
 IsReplied false refused waits reply = reply ≡ NoSuch
 IsReplied true true waits reply = reply ≡ Refused

@@ -15,14 +15,16 @@ use Rattle.tiny_http_open_request.specs.ErrorResponse.{own_printing, persistence
 pub data Stage : Type 0 where
   -- it awaits its response
   Unanswered : Stage
-  -- it was answered with this response on this date; `found`: memory was found for data that are read whole first
+  -- it was answered with this response on this date; `found`: whether memory was found for data that have to be read
+  -- whole first
   Answered : (response : ResponseValue) (date : HttpDate) (found : Bool) → Stage
   -- the server answers it: it is a refused head, or a request that was dropped, such as one whose response or upgrade
   -- was refused
   ByServer : Stage
   -- its raw writer was taken: the bytes that were written, and whether the writer has ended
   Raw : (written : List ℕ) (closed : Bool) → Stage
-  -- it was upgraded by this response on this date: the bytes that were written then, and whether the stream has ended
+  -- it was upgraded to this protocol, with this response, on this date: the bytes that were written afterwards, and
+  -- whether the stream has ended
   Upgraded : (protocol : List ℕ) (response : ResponseValue) (date : HttpDate) (written : List ℕ) (closed : Bool) → Stage
 
 -- A number that was reached: its item, the date of its Ask, and that of its 100, if one was sent; whether a 100 is
@@ -48,8 +50,8 @@ drop_response = response_of 500 [] []
 abbrev pub continue_response : ResponseValue
 continue_response = response_of 100 [] []
 
--- The printing of a response to a request: in its version, by its headers, without a body for HEAD. Under Standard it
--- says whether the connection closes.
+-- The printing of a response to a request: in the request's version, in the coding that its headers ask for, and
+-- without a body for HEAD. Under Standard the response says whether the connection closes (`closes`).
 abbrev pub to_request : Bool → Request → HttpDate → Printing
 to_request closes r date =
     printing_to (coding_for r.framing.by_standard r.message.headers) r.message.version

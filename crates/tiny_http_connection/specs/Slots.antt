@@ -1,4 +1,4 @@
--- What a step depends on in the numbers: which is the last, what is left of a body, and how a request ends the
+-- What the outcome of a step depends on: which number is the last, what is left of its body, and how a request ends the
 -- connection. The laws of `InShort` can be understood without this file: it defines when a step is refused, has to
 -- wait, or ends the requests.
 use Rattle.std.specs.Prelude.{ℕ, ◌-◌, nat_lt, Bool, true, false, not, ◌&&◌, ◌||◌, List, [], ◌∷◌, ◌++◌, take, drop}
@@ -120,8 +120,8 @@ ends_when_finished r owed given end_reported =
     ends_once_finished r.framing.by_standard owed (remainder_of r given end_reported)
 
 -- Whether, under Standard, the response to a request that is finished now says that the connection closes: the request
--- is the last by its head, a response asked for that, its 100 is owed, or the rest of its body isn't skipped, since it
--- is long or its end isn't known.
+-- is the last according to its head, a response asked for that, its 100 is owed, or the rest of its body isn't skipped,
+-- since it is long or its end isn't known.
 abbrev pub closes_now : Request → Bool → Bool → ℕ → Bool → Bool
 closes_now r closes owed given end_reported =
     r.framing.is_last || closes_once_answered closes owed (remainder_of r given end_reported)
@@ -136,7 +136,7 @@ with_last change [] = []
 with_last change (x ∷ []) = change x ∷ []
 with_last change (x ∷ y ∷ xs) = x ∷ with_last change (y ∷ xs)
 
--- whether the request refuses this response, by its status code
+-- whether the request refuses this response because of its status code
 abbrev pub refuses_response : Request → ResponseValue → Bool
 refuses_response r response =
     refuses_code r.framing.by_standard (is_connect_method r.message.method) response.answer.status
@@ -145,11 +145,11 @@ refuses_response r response =
 abbrev pub asks_protocol : Request → List ℕ → Bool
 asks_protocol r protocol = holds_next_head r && names_protocol r.message.headers protocol
 
--- whether the request's body has come whole, and was read to its end or came with its head
+-- whether the request's body has come whole, and was read to its end, came with its head or is empty
 abbrev pub is_body_whole : Request → Slot → Bool
 is_body_whole r s = is_body_finished r s && is_end r.body.stop
 
--- whether the request refuses the upgrade to this protocol by this response
+-- whether the request refuses the upgrade to this protocol with this response
 abbrev pub refuses_upgrade : Request → Slot → List ℕ → ResponseValue → Bool
 refuses_upgrade r s protocol response =
     is_err

@@ -40,21 +40,21 @@ use tiny_http_response::sending::reported;
 /// One call on a connection, as a value.
 #[derive(Drop)]
 pub enum Step<D> {
-    /// Reads the next request head and hands out its request. The reply is `NotYet` while the last request's body holds
-    /// the reader: a body with a content length or in chunks that was neither read to its end nor given up, unless that
-    /// request is the connection's last. Under `Standard` it is also `NotYet` while a request that asks for an upgrade
-    /// awaits its response. No head follows a chunked body that was given up before its end was reported.
+    /// Reads the next request head and hands out its request. The reply is `NotYet` while the body of the last request
+    /// is read from the input, and was neither read to its end or fault nor given up. Under `Standard` it is also
+    /// `NotYet` while the last request asks for an upgrade and awaits its response. Neither applies if that request is
+    /// the connection's last. No head follows a chunked body that was given up before its end was reported.
     Ask,
-    /// Sends the 100 that is owed to the request of this number. The reply is `NotYet` before the number's turn.
+    /// Sends the 100 that is owed to the request of this number, in its turn. If none is owed, changes nothing.
     AsReader(u64),
-    /// Reads the body of the request of this number, until it has read this many bytes, 0 to 65535, or no more follow.
+    /// Reads the body of the request of this number, until it has read this many bytes, 0 to 65,535, or no more follow.
     Read(u64, u16),
     /// Responds to the request of this number in its turn, and gives up its body.
     Respond(u64, Response<D>),
     /// Takes the raw writer of the request of this number in place of a response, and gives up its body.
     IntoWriter(u64),
-    /// Writes these bytes by the raw writer of this number, or to the stream of its upgrade, in its turn. They may be
-    /// held until the number's `Flush` or `Finish`.
+    /// Writes these bytes through the raw writer of this number, or to the stream of its upgrade, in its turn. They may
+    /// be held until the number's `Flush` or `Finish`.
     Write(u64, Vec<u8>),
     /// Sends what was written under this number, in its turn.
     Flush(u64),
@@ -86,8 +86,8 @@ pub enum Reply {
     Handed(u64, Head),
     /// The connection has no further request.
     Ended,
-    /// These bytes of the body. If they are fewer than were asked for, no byte follows: the next read reports the end
-    /// by an empty `Given`, or the fault by `Fault`.
+    /// These bytes of the body. If they are fewer than were asked for, no byte follows: the next read of at least one
+    /// byte reports the end with an empty `Given`, or the fault with `Fault`.
     Given(Vec<u8>),
     /// The body ends with this fault, or the writer or the response's data failed with it.
     Fault(ErrorKind),
@@ -97,7 +97,8 @@ pub enum Reply {
     NotYet,
     /// The step was done, and met no fault that is reported.
     Done,
-    /// An upgrade was refused, or, under `Standard`, a response for its status code. The request was dropped.
+    /// An upgrade was refused, or, under `Standard`, a response was refused because of its status code. The request was
+    /// dropped.
     Refused,
     /// No request of this number accepts the step. Nothing has changed.
     NoSuch,
@@ -108,9 +109,9 @@ pub enum Reply {
 /// A connection over a reader and a writer, without threads.
 ///
 /// It hands out the client's requests one after another, reads their bodies on demand, and sends the responses in the
-/// order of the requests (RFC 9112, section 9.3.2). A response that is made before its turn is refused with `NotYet`;
-/// the response to a dropped request waits for its turn. A program drives the connection call by call, and each call is
-/// a step of the connection theorem.
+/// order of the requests (RFC 9112, section 9.3.2). A response that is made before its turn isn't sent, and gets the
+/// reply `NotYet`; the response to a dropped request waits for its turn. A program drives the connection call by call,
+/// and each call that `Step` names is a step of the connection theorem.
 #[derive(Drop)]
 pub struct Connection<R: ReadDevice, W: WriteDevice> {
     profile: Profile,
@@ -178,7 +179,7 @@ fn answer<W: WriteDevice, D: ReadDevice + Drop>(
     Reply::write_reply(reported(request.respond(alloc, outlet, response, left, now)))
 }
 
-// Returns why the requests end: `end` if it is set, or else `LastRequest` if `ends` holds.
+// Returns why the requests end: `end` if it is set, `LastRequest` if it isn't and `ends` holds, and otherwise `None`.
 fn ends_behind(ends: bool, end: Option<EndOfRequests>) -> Option<EndOfRequests>
     ensures { result ≡ ends_behind ends end }
 {
@@ -199,7 +200,7 @@ fn zeros(alloc: Global, count: u16) -> Result<Vec<u8>, AllocError>
 
 impl<R: ReadDevice, W: WriteDevice> Connection<R, W> {
     /// Returns a connection under `Lenient`. The connection theorem requires a reader that states its bytes, and a
-    /// writer that has taken nothing, has not ended and can count a failure.
+    /// writer that states that it has taken nothing, has not ended and can count a failure.
     pub fn new(alloc: Global, reader: R, writer: W) -> Connection<R, W>
         ensures profile { result.profile ≡ Profile.Lenient }
         ensures begins { (client : Feed)
@@ -237,9 +238,10 @@ impl<R: ReadDevice, W: WriteDevice> Connection<R, W> {
         }
     }
 
-    /// Returns why no further request is handed out, or `None` while one may be. The reason is set once an `ask`
-    /// returned `Ended` or `Memory`, and once no head is read after a request that was finished, was upgraded or gave
-    /// its raw writer.
+    /// Returns why no further request is handed out, or `None` if that isn't known yet. It is known once an `ask` has
+    /// returned `Ended` or `Memory`, once a response made with `with_close` was sent, and, under `Standard`, once a
+    /// request that was answered, dropped, upgraded or gave its raw writer has ended the requests as `ask` describes.
+    /// After the connection's last head it may be `None` until the next `ask`.
     pub fn end_of_requests(&self) -> Option<EndOfRequests>
         ensures { result ≡ self.now.end }
     {
@@ -263,19 +265,20 @@ impl<R: ReadDevice, W: WriteDevice> Connection<R, W> {
     /// Reads the next request head, hands out its request, and returns `Handed` with the request's number. `now` dates
     /// the responses to refused heads, and the 500 of this request if it is dropped.
     ///
-    /// Returns `NotYet` until the body of the last request is read to its end or given up. Also returns `NotYet` while
-    /// the last request awaits its response and its head says `asks_upgrade`, unless that request is the connection's
-    /// last: what follows may be bytes of the other protocol (RFC 9110, section 7.8).
+    /// Returns `NotYet` while the body of the last request is read from the input, and was neither read to its end or
+    /// fault nor given up. Also returns `NotYet` while the last request awaits its response and its head says
+    /// `asks_upgrade`: what follows may be bytes of the other protocol (RFC 9110, section 7.8). Neither applies if that
+    /// request is the connection's last.
     ///
     /// Returns `Ended`, then and from then on, if the connection has no further request; `end_of_requests` returns why.
-    /// A refused head gets an error response under its own number, in its turn, and ends the requests. A 505 ends them
-    /// only if its head names an upgrade, its body is chunked or the profile is `Standard`; after any other 505 the
-    /// same call reads the next head.
+    /// A refused head gets an error response under its own number, in its turn, and ends the requests. A head that is
+    /// refused with 505 ends them only if it names an upgrade, its body is chunked or the profile is `Standard`;
+    /// otherwise the same call reads the next head.
     ///
     /// Returns `Memory` if memory is refused, which ends the requests too, as does a chunked body that was given up
     /// before its end. Under `Standard` the requests also end after one that asked for an upgrade, once it is upgraded
     /// or gives its raw writer, and after one that is answered, dropped or gives its raw writer while its 100 is owed
-    /// or more than 65,536 bytes of its body are unread.
+    /// or more than 65,536 bytes of a body with a `Content-Length` are unread.
     ///
     /// The call waits for the client only until the head and a body of up to 1024 bytes have come, or only the head if
     /// the request expects a 100. Before that it waits for the rest of a body with a content length that was given up
@@ -343,9 +346,11 @@ impl<R: ReadDevice, W: WriteDevice> Connection<R, W> {
     /// Reads the body of the request of this number, until it has read `count` bytes or no more follow, and returns
     /// them in `Given`, which is empty once the body has ended. The call sends nothing, and so takes no date.
     ///
-    /// Returns `Fault` if the body is cut or broken, as does each later read. Returns `NoSuch` if this number neither
-    /// awaits its response nor was upgraded, and while its 100 is owed. Returns `Memory` if memory for `count` bytes is
-    /// refused; then nothing has changed.
+    /// If the body is cut or broken, the read after its last byte returns `Fault`, as does each later read; a body with
+    /// a `Content-Length` that the end of input cuts has a fault only under `Standard`. Returns `NoSuch` if this number
+    /// neither awaits its response nor has the stream of an upgrade, and while its 100 is owed. Returns `Memory` if
+    /// memory for `count` bytes is refused; then nothing has changed. If `count` is 0, it returns `NoSuch` or an empty
+    /// `Given`.
     #[inline(never)]
     pub fn read(&mut self, alloc: Global, number: u64, count: u16) -> Reply
         ensures step { (date : Date) → TakesStep self.old self.new date (Step.Read number count) (seen result) }
@@ -353,7 +358,7 @@ impl<R: ReadDevice, W: WriteDevice> Connection<R, W> {
         ensures stop_count { R.stop_count self.new.source.reader ≤ R.stop_count self.old.source.reader + 1 }
         ensures lazy { (bytes : List ℕ) → seen result ≡ Given bytes → length bytes ≡ count
             → R.stop_count self.new.source.reader ≤ R.stop_count self.old.source.reader }
-        // The reader reports none if the body's own framing ends the body.
+        // A read meets an end or fault of the reader only if the body is then cut or broken, or has no end of its own.
         ensures whole { ReadMeets R.stop_count self.old self.new number (seen result) }
     {
         if !self.pending.is_readable(number) {
@@ -378,12 +383,13 @@ impl<R: ReadDevice, W: WriteDevice> Connection<R, W> {
     }
 
     /// Drops the request of this number, gives up its body, and returns `Done`. Returns `NoSuch` if the number doesn't
-    /// await its response. The response is an empty 500, dated when the request was handed out. It says `close` as a
-    /// response by `respond` does.
+    /// await its response. The response is an empty 500, dated when the request was handed out. Under `Standard` it
+    /// says `Connection: close` if a response from `respond` would.
     ///
     /// The 500 is sent now, or by the call that finishes the last number before this one. The reply is never `NotYet`,
     /// and never reports a fault of the writer. The call takes no memory. Under `Standard` no request follows one that
-    /// is dropped or answered while its 100 is owed, or while more than 65,536 bytes of its body are unread.
+    /// is dropped or answered while its 100 is owed, or while more than 65,536 bytes of a body with a `Content-Length`
+    /// are unread.
     #[inline(never)]
     pub fn drop_request(&mut self, number: u64) -> Reply
         ensures step { (date : Date) → TakesStep self.old self.new date (Step.Drop number) (seen result) }
@@ -413,23 +419,24 @@ impl<R: ReadDevice, W: WriteDevice> Connection<R, W> {
     }
 
     /// Responds to the request of this number, gives up its body, and returns `Done`. `now` is the response's `Date`.
-    /// Returns `Fault` if the writer failed within the response or the response's data broke off; then nothing more is
-    /// sent on the connection, and later responses are `Done` and unsent. A fault that means that the client has
-    /// disconnected is `Done` too. If memory for data of unknown length is refused, the fault is `OutOfMemory`.
+    /// Returns `Fault` if the writer failed while the response was sent, or the response's data broke off; then nothing
+    /// more is sent on the connection, and later responses are `Done` and unsent. A fault that means that the client
+    /// has disconnected is `Done` too. If memory is refused for data that have to be read whole before the head is
+    /// sent, the fault is `OutOfMemory`.
     ///
     /// Returns `NotYet` while a number before this one isn't finished, and `NoSuch` if this number doesn't await its
     /// response; then the response is dropped, and nothing has changed. Under `Standard` it returns `Refused`, in the
-    /// number's turn or before it, if the status code is below 200 or above 999, or 2xx to `CONNECT`; then the request
-    /// is dropped.
+    /// number's turn or before it, if the status code is below 200 or above 999, or is 2xx in response to a `CONNECT`;
+    /// then the request is dropped.
     ///
-    /// Under `Standard` the response says `Connection: close` if the request is the last by its head, its 100 is owed,
-    /// more than 65,536 bytes of its body's content length weren't given out, or the end of its body isn't known. What
-    /// a later `ask` meets doesn't change it.
+    /// Under `Standard` the response says `Connection: close` if the request is the last according to its head, its 100
+    /// is owed, more than 65,536 bytes of a body with a `Content-Length` weren't given out, or the end of its body
+    /// isn't known. It doesn't depend on what a later `ask` finds.
     ///
-    /// After a response that was made by `with_close` no further head is read: a later `ask` is `Ended`. Under
-    /// `Standard` the response to the last number says `Connection: close`: this response, or that to a later request
-    /// or refused head. The response to a later request doesn't say it if that request was already dropped, is
-    /// upgraded, or gives its raw writer.
+    /// After a response that was made with `with_close` no further head is read: a later `ask` is `Ended`. Under
+    /// `Standard` the response to the last number issued so far says `Connection: close`: this response, or that to a
+    /// later request or refused head. The response to a later request doesn't say it if that request was already
+    /// dropped, is upgraded, or gives its raw writer.
     #[inline(never)]
     pub fn respond<D: ReadDevice + Drop>(
         &mut self,
@@ -470,7 +477,7 @@ impl<R: ReadDevice, W: WriteDevice> Connection<R, W> {
     ///
     /// The call sends nothing: after a 100 that was already sent, the client gets only the bytes that `write` writes. A
     /// 100 that is owed isn't sent any more. Under `Standard` no request follows one whose head says `asks_upgrade`,
-    /// whose 100 is owed, or of whose body more than 65,536 bytes are unread.
+    /// whose 100 is owed, or that has a body with a `Content-Length` of which more than 65,536 bytes are unread.
     #[inline(never)]
     pub fn into_writer(&mut self, number: u64) -> Reply
         ensures step { (date : Date) → TakesStep self.old self.new date (Step.IntoWriter number) (seen result) }
@@ -484,7 +491,7 @@ impl<R: ReadDevice, W: WriteDevice> Connection<R, W> {
         Reply::Done
     }
 
-    /// Writes bytes by the raw writer of this number, or to the stream of its upgrade, and returns `Done`. Returns
+    /// Writes bytes through the raw writer of this number, or to the stream of its upgrade, and returns `Done`. Returns
     /// `Fault` if the writer failed in these bytes or in what was held before them. Up to 1024 bytes may be held until
     /// `flush` or `finish`.
     ///
@@ -527,8 +534,8 @@ impl<R: ReadDevice, W: WriteDevice> Connection<R, W> {
     /// fault of the writer.
     ///
     /// From then on `read` returns what is left of the request's body, which is all that follows if the request's head
-    /// names an upgrade; under `Standard` it returns all that follows the body. `write`, `flush` and `finish` write
-    /// bytes as for a raw writer.
+    /// names an upgrade; under `Standard` it returns all that follows the body. `write`, `flush` and `finish` act as
+    /// for a raw writer.
     ///
     /// Returns `Refused` if the protocol isn't ASCII, in the number's turn or before it; then the request is dropped.
     /// Under `Standard` it is also `Refused` if the request doesn't ask for this protocol or is its connection's last,
@@ -568,8 +575,8 @@ impl<R: ReadDevice, W: WriteDevice> Connection<R, W> {
 
     /// Ends the raw writer of this number, or the stream of its upgrade, gives up the body, and returns `Done`, in the
     /// number's turn or before it. Returns `NoSuch` if the number has no raw writer or stream. In its turn it sends
-    /// what was written, and the texts that wait directly after it. The call takes no memory, and no reply reports a
-    /// fault of the writer.
+    /// what was written, and the texts that were left for the numbers directly after it. The call takes no memory, and
+    /// no reply reports a fault of the writer.
     #[inline(never)]
     pub fn finish(&mut self, alloc: Global, number: u64) -> Reply
         ensures step { (date : Date) → TakesStep self.old self.new date (Step.Finish number) (seen result) }

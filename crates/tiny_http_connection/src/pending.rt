@@ -57,7 +57,7 @@ pub(crate) struct Pending {
 }
 
 impl Pending {
-    /// Returns an empty table: no number was issued.
+    /// Returns an empty table: no number has been issued.
     pub fn new(alloc: Global) -> Pending
         ensures marks { result.turns.marks ≡ [] }
         ensures requests { result.requests ≡ [] }
@@ -96,8 +96,8 @@ impl Pending {
         matches!(self.requests.get(number), Some(Unfinished::Waiting(_)))
     }
 
-    /// Returns whether the body of this number can be read: it awaits its response and no 100 is owed, or it was
-    /// upgraded.
+    /// Returns whether the body of this number can be read: it awaits its response and no 100 is owed, or the stream of
+    /// its upgrade is in use.
     pub fn is_readable(&self, number: u64) -> bool
         ensures { result ≡ is_readable (slice_get self.now.requests number) }
     {
@@ -108,7 +108,7 @@ impl Pending {
         }
     }
 
-    /// Returns whether bytes can be written under this number: its raw writer is in use, or it was upgraded.
+    /// Returns whether bytes can be written under this number: its raw writer or the stream of its upgrade is in use.
     pub fn is_writable(&self, number: u64) -> bool
         ensures { result ≡ is_writable (slice_get self.now.requests number) }
     {
@@ -128,7 +128,7 @@ impl Pending {
         }
     }
 
-    /// Returns whether this number awaits its response, and the next head isn't read before it.
+    /// Returns whether this number awaits its response, and the next head isn't read before that response.
     pub fn holds_next_head(&self, number: u64) -> bool
         ensures { result ≡ holds_next_head_at (slice_get self.now.requests number) }
     {
@@ -174,7 +174,7 @@ impl Pending {
         }
     }
 
-    /// Returns whether the last number awaits its response, and the next head isn't read before it.
+    /// Returns whether the last number awaits its response, and the next head isn't read before that response.
     pub fn last_holds_next_head(&self) -> bool
         ensures { result ≡ last_holds_next_head self.now.requests }
     {
@@ -240,7 +240,7 @@ impl Pending {
     }
 
     /// Upgrades the connection to this protocol, if this number awaits its response. The stream of the upgrade reads
-    /// the request's body, or under `Standard` all bytes that follow.
+    /// what is left of the request's body, or under `Standard` all bytes after the body.
     pub fn upgrade<W: WriteDevice, D: Drop>(
         &mut self,
         alloc: Global,
@@ -274,7 +274,8 @@ impl Pending {
         }
     }
 
-    /// Fills a buffer from the body of this number, and returns the number of bytes. It is 0 if no body is kept.
+    /// Fills a buffer from the body of this number, and returns the number of bytes. It is 0 if no body is kept. Fails
+    /// with the body's fault if it comes before any byte.
     pub fn fill<R: ReadDevice>(
         &mut self,
         source: &mut Source<R>,
@@ -307,7 +308,7 @@ impl Pending {
         filled
     }
 
-    /// Removes and returns the request of this number, if it awaits its response, and keeps `then` in its place.
+    /// Removes and returns the request of this number, if it awaits its response, and keeps `then` under the number.
     #[inline(always)]
     pub fn take(&mut self, number: u64, then: Option<Unfinished>) -> Option<OpenRequest<UnreadBody>>
         ensures some { IfSome result (λ w. (WaitsAt self.old.requests number w)
@@ -341,7 +342,7 @@ impl Pending {
         }
     }
 
-    /// Holds this number if it is open and its turn has come, and returns whether it is held now.
+    /// Holds this number if it is open and its turn has come, and returns whether it did.
     pub fn hold(&mut self, number: u64) -> bool
         ensures held { IsTrue result ↔ ((slice_get self.old.turns.marks number ≡ Some Open)
             × (number ≡ first_unfinished self.old.turns.marks)) }
@@ -352,8 +353,8 @@ impl Pending {
         self.turns.take(number).is_some()
     }
 
-    /// Finishes a held number, and those directly after it that were left, and sends their texts. No reply reports a
-    /// fault of the writer in these texts.
+    /// Finishes a held number and the numbers directly after it for which texts were left, and sends these texts. No
+    /// reply reports a fault of the writer in these texts.
     pub fn pass<W: WriteDevice>(&mut self, outlet: &mut Outlet<W>, number: u64)
         ensures passes { (front rest : List Mark)
             → self.old.turns.marks ≡ front ++ (Held ∷ rest)
@@ -363,7 +364,7 @@ impl Pending {
             → (outlet_ended outlet.old ≡ false → CanSend (output_of outlet.old))
             → SendsLeft rest (outlet_ended outlet.old) (output_of outlet.old) (output_of outlet.new)
             (outlet_ended outlet.new) }
-        // If none was left, the outlet isn't used, whatever its writer states.
+        // If no text was left for the next number, the outlet isn't used, whatever its writer states.
         ensures idle { (front rest : List Mark) → self.old.turns.marks ≡ front ++ (Held ∷ rest)
             → length front ≡ number → begins_left rest ≡ false → outlet.new ≡ outlet.old }
         ensures requests { self.new.requests ≡ self.old.requests }
@@ -377,7 +378,8 @@ impl Pending {
         }
     }
 
-    /// Leaves an open number with a text. In its turn the text is sent and the number finished, as `pass` does.
+    /// Leaves a text for an open number. In the number's turn, at once if it has come, sends the text and finishes the
+    /// number, as `pass` does.
     pub fn leave<W: WriteDevice>(&mut self, outlet: &mut Outlet<W>, number: u64, text: Vec<u8>)
         ensures leaves { (front rest : List Mark)
             → self.old.turns.marks ≡ front ++ (Open ∷ rest)
@@ -407,7 +409,8 @@ impl<W: WriteDevice> RefusalPlace<Outlet<W>> for Pending {
 
     ghost refuses = { RefusesHead };
 
-    /// Gives the refused head the next number, and leaves its error response under it. An error changes nothing.
+    /// Gives the refused head the next number, and leaves its error response for that number. On an error nothing has
+    /// changed.
     fn refuse(&mut self, outlet: &mut Outlet<W>, text: Vec<u8>) -> Result<(), AllocError> {
         let Ok(number) = self.issue(None) else {
             return Err(AllocError);
@@ -417,7 +420,8 @@ impl<W: WriteDevice> RefusalPlace<Outlet<W>> for Pending {
     }
 }
 
-// Fills a buffer from the body of a request, and returns the number of bytes. It is 0 if no body is kept.
+// Fills a buffer from the body of a request, and returns the number of bytes. It is 0 if no body is kept. Fails with
+// the body's fault if it comes before any byte.
 fn fill_from<R: ReadDevice>(
     unfinished: &mut Unfinished,
     source: &mut Source<R>,
@@ -442,7 +446,7 @@ fn fill_from<R: ReadDevice>(
     }
 }
 
-// Gives up the body of a request that is finished.
+// Gives up the body that was kept of a request that is finished, if any.
 pub(crate) fn close_body<R: ReadDevice>(finished: Unfinished, source: &mut Source<R>)
     ensures gives_up { GivesUpIfKept (kept_body (Some finished)) source.old source.new }
 {
@@ -479,7 +483,8 @@ impl<W: WriteDevice> HeldTurn<Turns<()>, Outlet<W>> for HeldNumber {
     }
 }
 
-// Writes the text of a held number and finishes it, and does the same for those directly after it that were left.
+// Writes the text of a held number and finishes the number, and does the same for the numbers directly after it for
+// which texts were left.
 fn write_texts<W: WriteDevice>(
     turns: &mut Turns<()>,
     outlet: &mut Outlet<W>,

@@ -1,4 +1,4 @@
-//! Takes a connection through a list of steps.
+//! Runs a list of steps on one connection.
 ghost use Rattle.std.specs.Prelude.{◌≡◌, ◌<◌, ◌≤◌, [], length, IfOk, IfErr, OnErr, vec_len, vec_capacity};
 ghost use Rattle.tiny_http_connection.specs.Runs.{IsConversationOf, RunsSteps};
 
@@ -14,8 +14,8 @@ use tiny_http_io::source::Source;
 pub struct Record<R: ReadDevice, W: WriteDevice> {
     /// The reply to each step.
     pub replies: Vec<Reply>,
-    /// The reader, with the bytes that are held. While requests may follow, its position is after the last head that
-    /// was read, and after what was read of that request's body.
+    /// The reader, with the bytes that are held. If the last body was neither read to its end nor given up, the rest of
+    /// that body comes next in it; otherwise, while requests may follow, the next head does.
     pub source: Source<R>,
     /// The writer, with the bytes that are held. The output is what the writer took, then what is held.
     pub outlet: Outlet<W>,
@@ -43,10 +43,11 @@ fn room_for(alloc: Global, count: usize) -> Result<Vec<Reply>, AllocError>
     Vec::with_capacity(alloc, count)
 }
 
-/// Takes a connection under `Lenient` through the steps, with one reply per step. If the reader, the writer and the
-/// data state their bytes, the connection hands out exactly the requests that the grammar finds in the client's bytes.
-/// The reads of each body give that body's bytes, and report its end only after them. The output is one segment for
-/// each request or refused head, in order, whole up to the first fault.
+/// Runs the steps on a connection under `Lenient`, with one reply per step. If the reader, the writer and the data
+/// state their bytes, the requests that the connection hands out are the first of those that the grammar finds in the
+/// client's bytes. The reads of each body give that body's bytes, and report its end only after them. The output is one
+/// segment for each request or refused head, in order, up to the first that isn't finished or that a fault cuts short;
+/// if the writer failed, it is a prefix of this.
 ///
 /// Fails if memory for the replies is refused.
 pub fn run<R: ReadDevice + Drop, W: WriteDevice + Drop, D: ReadDevice + Drop>(
@@ -66,10 +67,11 @@ pub fn run<R: ReadDevice + Drop, W: WriteDevice + Drop, D: ReadDevice + Drop>(
     run_with(alloc, Profile::Lenient, reader, writer, steps)
 }
 
-/// Takes a connection under this profile through the steps, with one reply per step. If the reader, the writer and the
-/// data state their bytes, the connection hands out exactly the requests that the grammar finds in the client's bytes.
-/// The reads of each body give that body's bytes, and report its end only after them. The output is one segment for
-/// each request or refused head, in order, whole up to the first fault.
+/// Runs the steps on a connection under this profile, with one reply per step. If the reader, the writer and the data
+/// state their bytes, the requests that the connection hands out are the first of those that the grammar finds in the
+/// client's bytes. The reads of each body give that body's bytes, and report its end only after them. The output is one
+/// segment for each request or refused head, in order, up to the first that isn't finished or that a fault cuts short;
+/// if the writer failed, it is a prefix of this.
 ///
 /// Fails if memory for the replies is refused.
 pub fn run_with<R: ReadDevice + Drop, W: WriteDevice + Drop, D: ReadDevice + Drop>(

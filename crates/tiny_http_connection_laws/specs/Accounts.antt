@@ -1,4 +1,4 @@
--- What was done for each number, by the steps and their replies, and why the requests end.
+-- What was done for each number, as the steps and their replies say, and why the requests end.
 use Rattle.std.specs.Prelude.{◌≡◌, ℕ, ◌⊎◌, ⊤, ◌==◌, Bool, true, false, not, ◌&&◌, ◌||◌, List, [], ◌∷◌, ◌++◌, Option}
 use Rattle.std.specs.Prelude.{Some, None, is_some, slice_get, if◌then◌else◌}
 use Rattle.httpdate.specs.declared.date.HttpDate.{HttpDate}
@@ -15,8 +15,8 @@ use Rattle.tiny_http_connection_laws.specs.InShort.{maker}
 
 -- ---- what was done for a number
 
--- The condition of a number. `Waits`: it awaits its response. `Writes`: bytes are written under it, by its raw writer
--- or to its stream. `Finished`: it is finished.
+-- The condition of a number. `Waits`: it awaits its response. `Writes`: bytes can be written under it, through its raw
+-- writer or to the stream of its upgrade. `Finished`: it is finished.
 pub data Condition : Type 0 where
   Waits : Condition
   Writes : Condition
@@ -46,7 +46,8 @@ abbrev pub first_date : Option HttpDate → HttpDate → Option HttpDate
 first_date None date = Some date
 first_date (Some first) date = Some first
 
--- The account of a number after a step for it, by the reply. A step that was neither done nor refused changes nothing.
+-- The account of a number after a step for it, given the reply. A Read, a Flush, and a step that was neither done nor
+-- refused change nothing.
 abbrev pub account_after : HttpDate → StepValue → ReplyValue → Account → Account
 account_after date Ask reply a = a
 account_after date (AsReader k) reply a = if is_done reply then record a { asked = first_date a.asked date } else a
@@ -70,7 +71,7 @@ abbrev pub account_from : ℕ → Account → List TimedValue → List ReplyValu
 account_from k a (s ∷ steps) (reply ∷ replies) = account_from k (account_now k s.0 s.1 reply a) steps replies
 account_from k a _ _ = a
 
--- WHAT WAS DONE FOR NUMBER k, by the steps and their replies
+-- WHAT WAS DONE FOR NUMBER k, as the steps and their replies say
 abbrev pub account : ℕ → List TimedValue → List ReplyValue → Account
 account k steps replies = account_from k untouched steps replies
 
@@ -89,8 +90,8 @@ written_in (Upgraded protocol response date written closed) = written
 written_in _ = []
 
 -- NUMBER k IS AS ITS ACCOUNT SAYS. Its response is that of the step which answered it, or else the server's or none.
--- Its 100 has the date on which it was first asked for, if its head expects one. Nothing is done for a refused head,
--- which the server answers.
+-- The bytes written under it are those of its writes. Its 100 has the date on which it was first asked for, if its head
+-- expects one. Nothing is done for a refused head, which the server answers.
 abbrev pub MatchesAccount : ℕ → Slot → Item → Account → Type 0
 MatchesAccount k s (Asks r) a =
     (condition_of s.stage ≡ a.condition)
@@ -140,8 +141,8 @@ waits_its_turn (Flush k) = true
 waits_its_turn (Upgrade k protocol response) = true
 waits_its_turn _ = false
 
--- whether a step that its number accepts was done or refused; a read is unrestricted, since it waits for its 100 and
--- may be out of memory
+-- whether a step that its number accepts was done or refused; a Read is unrestricted, since it isn't accepted while a
+-- 100 is owed, and may be out of memory
 abbrev pub IsTaken : StepValue → ReplyValue → Type 0
 IsTaken (Read k n) reply = ⊤
 IsTaken step reply = (is_done reply || is_refused reply) ≡ true
@@ -176,8 +177,9 @@ abbrev pub OneEndsRequests : List TimedValue → List ReplyValue → Type 0
 OneEndsRequests (s ∷ steps) (reply ∷ replies) = EndsRequests s.1 reply ⊎ OneEndsRequests steps replies
 OneEndsRequests _ _ = ⊥
 
--- Whether a request was cut short: under Standard, its 100 was not sent, or more of its body was left than is skipped,
--- when it was finished or gave its raw writer; or its chunked body was given up before its end was reported.
+-- Whether a request was cut short: under Standard, the 100 that it expects was not sent, or more of its body was left
+-- than is skipped, when it was finished or gave its raw writer; or its chunked body was given up before its end was
+-- reported.
 abbrev pub was_cut_short : Slot → Request → Bool
 was_cut_short s r =
     body_was_abandoned s (Asks r)

@@ -24,12 +24,12 @@ use Rattle.tiny_http_client.specs.ClientText.{stated_length, received_answer}
 use Rattle.tiny_http_client.specs.SentTexts.{SentText, methods, AreIn}
 
 -- The method with which a client reads a number's text: the method of the request, or GET for a refused head, but HEAD
--- for the 505 to a HEAD.
+-- for the 505 to a HEAD under Lenient or Strict.
 abbrev pub counts_as : Item → Method
 counts_as (Asks r) = r.message.method
 counts_as (Refuses refusal manner no_body last) = if no_body then Head else Get
 
--- whether a connection reads and responds by Standard
+-- whether this profile is Standard
 abbrev pub goes_by_standard : Profile → Bool
 goes_by_standard Standard = true
 goes_by_standard _ = false
@@ -38,8 +38,8 @@ abbrev pub offer_headers : Option (List ℕ) → List Header
 offer_headers None = []
 offer_headers (Some protocols) = upgrade_header protocols ∷ []
 
--- The headers of a response that are printed: its own headers; or, under Standard, a header with the protocols that it
--- offers, and its own headers made safe.
+-- The headers of a response's own as they are printed: unchanged; or, under Standard, made safe, after a header with
+-- the protocols that the response offers, if any.
 abbrev pub headers_printed : Bool → Answer → List Header
 headers_printed false a = a.headers
 headers_printed true a = offer_headers (option_map safe_value a.offered) ++ safe_headers a.headers
@@ -55,8 +55,8 @@ pub record CanBeRead (by_standard : Bool) (r : ResponseValue) : Type 0 where
   pub no_coding : has_header r.answer.headers (codes "Transfer-Encoding") ≡ false
   pub no_length : has_header r.answer.headers (codes "Content-Length") ≡ false
 
--- Whether a step leaves an output that can be read: it takes no raw writer, an upgrade is refused, since its protocol
--- isn't ASCII, and the response of a Respond can be read, even if the reply is NotYet or NoSuch.
+-- Whether a step leaves an output that can be read, whatever its reply: it isn't an IntoWriter, the protocol of an
+-- Upgrade isn't ASCII, so that the upgrade is refused, and the response of a Respond can be read.
 abbrev pub IsReadableStep : Bool → StepValue → Type 0
 IsReadableStep by_standard (Respond k response) = CanBeRead by_standard response
 IsReadableStep by_standard (IntoWriter k) = ⊥

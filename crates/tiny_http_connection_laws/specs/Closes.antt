@@ -1,4 +1,4 @@
--- What a response says of its connection, and that this is true.
+-- Whether a response says that its connection closes, and what a client reads of that.
 use Rattle.std.specs.Prelude.{◌≡◌, Bool, false, ◌&&◌, List, [], ◌∷◌, ⊤, Some, codes}
 use Rattle.tiny_http_open_request.specs.Pipeline.{Item, Asks, Refuses}
 use Rattle.tiny_http_response.specs.Answer.{has_header}
@@ -8,8 +8,8 @@ use Rattle.tiny_http_body.specs.declared.framing.Profile.TheVariants.{Standard}
 use Rattle.tiny_http_connection_laws.specs.ClientReads.{CanBeReadAt, stage_answer}
 use Rattle.tiny_http_connection.specs.Segments.{Slot, Stage, Unanswered, Answered, ByServer, Raw, Upgraded}
 
--- whether `printing_for` prints a close: under Standard in an error response to a refused head, and in another response
--- if that was decided
+-- whether `printing_for` prints a close: under Standard in an error response to a refused head, and in the response to
+-- a request if `closes` holds
 abbrev pub is_close_printed : Bool → Item → Bool
 is_close_printed closes (Asks r) = r.framing.by_standard && closes
 is_close_printed closes (Refuses refusal manner no_body last) = manner.by_standard
@@ -21,7 +21,7 @@ says_close_by closes item ByServer = is_close_printed closes item
 says_close_by closes item (Raw written ends) = false
 says_close_by closes item (Upgraded protocol response date written ends) = false
 
--- whether the response of this slot's number is made, and says that the connection closes
+-- whether the response of this slot's number was made, and says that the connection closes
 abbrev pub says_close : Slot → Bool
 says_close s = says_close_by s.closes s.item s.stage
 
@@ -41,7 +41,8 @@ abbrev pub OwnsNoConnection : Stage → Type 0
 OwnsNoConnection (Answered response date found) = has_header response.answer.headers (codes "Connection") ≡ false
 OwnsNoConnection _ = ⊤
 
--- A CLIENT READS in a number's response that the connection closes exactly if the response says so, if it can be read.
+-- WHAT A CLIENT READS under Standard in a number's response, if that is whole, can be read and has no Connection header
+-- of its own: that the connection closes exactly if the response says so.
 abbrev pub IsReadAsSaid : Slot → Type 0
 IsReadAsSaid s =
     CanBeReadAt Standard s

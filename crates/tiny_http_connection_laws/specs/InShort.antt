@@ -1,5 +1,5 @@
--- The connection theorem in short. The laws of this crate that use these definitions are on three fields of an
--- `IsConversation`: `items`, which are the pipeline of the bytes by its field `pipeline`; `end.reached.slots`, the
+-- The connection theorem in short. The laws of this crate that use these definitions are on the parts of an
+-- `IsConversation`: its `items`, which are the pipeline of the bytes (its field `pipeline`); `end.reached.slots`, the
 -- numbers that were reached; and its replies and output. They can be understood with the definitions of what the bytes
 -- hold (`Pipeline`) and what a number sends (`segment`) alone, without those of a step's outcome and of what the driver
 -- keeps.
@@ -30,8 +30,8 @@ requests_from k (Refuses refusal manner no_body last ∷ items) = requests_from 
 
 -- ---- what a body gives
 
--- What is left of the body of request k, after a step with this reply. After an upgrade under Standard, it is the bytes
--- after the request.
+-- Whether `next` is left of the body of request k after a step with this reply, and `left` before it. After an upgrade
+-- under Standard, the bytes after the request are left.
 abbrev pub LeavesBody : ℕ → Request → Feed → StepValue → ReplyValue → Feed → Type 0
 LeavesBody k r left (Read j n) reply next = MatchBool (j == k) (ReadsNext n left reply next) (next ≡ left)
 LeavesBody k r left (Upgrade j protocol response) Done next =
@@ -57,7 +57,7 @@ abbrev pub sent : List Segment → List ℕ
 sent [] = []
 sent (s ∷ segments) = s.bytes ++ (if s.is_whole then sent segments else [])
 
--- the segment of a number: whole once the number is finished, unless its data broke off
+-- the segment of a number: whole once the number is finished, unless it breaks off
 abbrev pub segment_of : Slot → Segment
 segment_of s = record { bytes = segment s; is_whole = is_finished s && not (is_slot_broken s) }
 

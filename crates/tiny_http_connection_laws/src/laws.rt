@@ -53,9 +53,9 @@ pub fn reads_give_the_body()
         → ReadsInOrder k r r.body steps replies }
 {}
 
-/// THE OUTPUT IS THE SEGMENTS: what was taken and is held is a prefix of the segments in the order of their numbers,
-/// each whole up to the first that isn't, after which nothing follows. It is all of these bytes if the writer did not
-/// fail. Each number that was reached has one segment.
+/// THE OUTPUT IS THE SEGMENTS: what the writer took, then what is held, is a prefix of the segments in the order of
+/// their numbers, each whole up to the first that isn't, after which nothing follows. It is all of these bytes if the
+/// writer did not fail. Each number that was reached has one segment.
 pub fn output_joins_the_segments()
     ensures front { (p : Profile) (feed : Feed) (before after : Sink) (steps : List TimedValue)
         (replies : List ReplyValue) (held out : List ℕ) (ended : Bool) (unread : Option Feed)
@@ -77,7 +77,7 @@ pub fn output_joins_the_segments()
         → (item : Item)
         × (slice_get c.items k ≡ Some item)
         × AreOfOneHead s.item item }
-    // A response that answers a number is that of a step for this number, on the date of the step.
+    // A response that the server didn't make itself is that of a step for its number, on the date of the step.
     ensures made { (p : Profile) (feed : Feed) (before after : Sink) (steps : List TimedValue)
         (replies : List ReplyValue) (held : List ℕ) (ended : Bool) (unread : Option Feed)
         → (c : IsConversation p feed before steps replies after held ended unread)
@@ -87,9 +87,10 @@ pub fn output_joins_the_segments()
         → IsAmong t steps }
 {}
 
-/// EACH NUMBER IS AS ITS STEPS SAY, by their replies. Each request that was handed out has a number. The number is
-/// finished if a step finished it, and has the response of the step that was done, or else the server's. Its raw writer
-/// or stream has the bytes of its writes, joined, and its 100 has the date on which it was first asked for.
+/// EACH NUMBER IS AS ITS STEPS AND THEIR REPLIES SAY. Each request that was handed out has a number. The number is
+/// finished if a step finished it, and has the response of the step that answered it, if one did, and otherwise the
+/// server's or none. Its raw writer or stream has the bytes of its writes, joined. If its head expects a 100, that has
+/// the date on which it was first asked for.
 pub fn numbers_match_their_accounts()
     ensures reached { (p : Profile) (feed : Feed) (before after : Sink) (steps : List TimedValue)
         (replies : List ReplyValue) (held : List ℕ) (ended : Bool) (unread : Option Feed)
@@ -181,19 +182,19 @@ pub fn the_end_has_a_reason()
 ///
 /// The premise is on the steps. Each `Respond` has a status of 200 or more and readable headers, each `Upgrade` names a
 /// protocol that isn't ASCII and so is refused, and there is no `IntoWriter`. So each number that was reached is a
-/// refused head, or is finished by such a `Respond`, by a `Drop` or by a refused `Upgrade`, or isn't answered yet. Raw
-/// writers and upgrades that were done are excluded: their bytes are arbitrary.
+/// refused head, or is finished by such a `Respond`, done or refused, by a `Drop` or by a refused `Upgrade`, or isn't
+/// answered yet. Raw writers and upgrades that were done are excluded: their bytes are arbitrary.
 ///
 /// A header is readable if its name and its value are ASCII, its name has no white space and no colon, and its value is
 /// trimmed and has no CR LF. Under `Standard` this applies to headers as they are printed, and to the protocols that
 /// are offered: headers whose name isn't a token are left out, and a space replaces each byte that is invalid in a
 /// value. So a value whose first or last byte is replaced isn't trimmed.
 ///
-/// The client reads the response to a refused head as one to a GET, except that it reads the 505 to a HEAD as one to a
-/// HEAD. It reads the version, which under `Standard` is 1.1, the status, the headers as they are printed (with
-/// `Server`, `Date`, under `Standard` `Connection` and `Upgrade`, and the header that frames the body), and the body
-/// that is sent. It skips a 100 before the response. After the last response nothing remains, or an unfinished prefix
-/// of the next number's text.
+/// The client reads the response to a refused head as one to a GET, except that under `Lenient` and `Strict` it reads
+/// the 505 to a HEAD as one to a HEAD. It reads the version, which under `Standard` is 1.1, the status, the headers as
+/// they are printed (with `Server`, `Date`, under `Standard` `Connection` and `Upgrade`, and the header that frames the
+/// body), and the body that is sent. It skips a 100 before the response. After the last response nothing remains, or an
+/// unfinished prefix of the next number's text.
 pub fn conversation_is_read()
     // However the writer failed, all that was sent and is held is the responses of the first numbers, then what
     // remains.
@@ -234,10 +235,10 @@ pub fn size_of_what_is_skipped()
 /// CLOSE IS THE LAST: under `Standard`, no number follows one whose response says `Connection: close`, in each
 /// conversation, whatever its steps (RFC 9112, section 9.6).
 ///
-/// A response says `close` if it is an error response to a refused head, or if that was decided when it was made: by
-/// the request's head, by a response that asked for it, by a 100 that is owed, or by what is left of the body. A client
-/// that can read the response reads `close` exactly if the response says it: as an element of `Connection`, which no
-/// response has of its own. So the client knows from the response that none follows, and sends nothing more.
+/// A response says `close` if it is an error response to a refused head, or if that was decided when it was made:
+/// because of the request's head, a response that asked for it, a 100 that is owed, or what is left of the body. A
+/// client that can read the response reads `close` exactly if the response says it: as an element of `Connection`, a
+/// header that no response has of its own. So the client knows from the response that none follows.
 pub fn close_is_the_last()
     ensures none { (feed : Feed) (before after : Sink) (steps : List TimedValue) (replies : List ReplyValue)
         (held : List ℕ) (ended : Bool) (unread : Option Feed)

@@ -13,7 +13,7 @@ slash = 47
 abbrev pub is_unsafe_byte : ℕ → Bool
 is_unsafe_byte b = b == 0 || b == 92
 
--- a part that is the folder itself, its parent, or not a file name
+-- whether a part of a path is the folder itself, its parent, or has a byte that isn't allowed in a file name
 abbrev pub is_unsafe_part : List ℕ → Bool
 is_unsafe_part part = bytes_eq part (codes ".") || (bytes_eq part (codes "..") || list_any is_unsafe_byte part)
 
@@ -21,7 +21,7 @@ abbrev pub begins_with_slash : List ℕ → Bool
 begins_with_slash [] = false
 begins_with_slash (b ∷ bs) = b == slash
 
--- the folder and the path joined, if the path begins with a slash and can't lead out of the folder
+-- the folder and the path joined, if the path begins with a slash and has no unsafe part, and otherwise `None`
 abbrev pub below_folder : List ℕ → List ℕ → Option (List ℕ)
 below_folder folder path =
     if not (begins_with_slash path) || list_any is_unsafe_part (parts slash path) then None else Some (folder ++ path)

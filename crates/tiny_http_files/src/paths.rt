@@ -20,11 +20,12 @@ fn is_unsafe_part(part: &str) -> bool
     part == "." || part == ".." || has_unsafe_byte(part.as_bytes())
 }
 
-/// Returns whether a path must not be looked up in a folder: a part between slashes is `.` or `..`, which may lead out
-/// of the folder, or contains a NUL or a backslash, which not every system allows in file names.
+/// Returns whether a path must not be looked up in a folder: a part between slashes is `..`, which may lead out of the
+/// folder, or `.`, or it contains a NUL or a backslash, which not every system allows in file names.
 ///
-/// `path` is the request's path (`Request::path`), percent-decoded, so that escaped slashes and dots count. Symbolic
-/// links may also lead out of the folder; if the folder may have them, compare the real path (`fs::canonicalize`).
+/// `path` must be the request's path (`Request::path`), percent-decoded, so that escaped slashes and dots count.
+/// Symbolic links may also lead out of the folder; if the folder may have them, compare the real path
+/// (`fs::canonicalize`).
 pub fn is_unsafe(path: &str) -> bool
     ensures { result ≡ list_any is_unsafe_part (parts slash path.now) }
 {
@@ -36,9 +37,9 @@ pub fn is_unsafe(path: &str) -> bool
     false
 }
 
-/// Returns the path of a file in a folder: `folder` and `path` joined as they are. `path` is the request's path
-/// (`Request::path`), percent-decoded by the caller. Returns `None` if it doesn't begin with a slash, or is unsafe
-/// (`is_unsafe`). The file may not exist, or may be a link. Fails if memory is refused.
+/// Returns the path of a file in a folder: `folder` and `path` joined as they are. `path` must be the request's path
+/// (`Request::path`), percent-decoded. Returns `None` if `path` doesn't begin with a slash, or is unsafe (`is_unsafe`).
+/// The file may not exist, or may be a link. Fails if memory is refused.
 pub fn below_folder(alloc: Global, folder: &str, path: &str) -> Result<Option<String>, AllocError>
     ensures { IfOk result (λ found. option_map string_bytes found ≡ below_folder folder.now path.now) }
 {

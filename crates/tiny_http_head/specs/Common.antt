@@ -20,7 +20,7 @@ lowercase text = map to_ascii_lowercase text
 abbrev pub same_name : List ℕ → List ℕ → Bool
 same_name a b = bytes_eq (lowercase a) (lowercase b)
 
--- whether the bytes are equal, or are one ASCII letter in both cases
+-- whether the bytes are equal, or are the same ASCII letter in different cases
 abbrev pub IsSameLetter : ℕ → ℕ → Type 0
 IsSameLetter a b = (a ≡ b) ⊎ ((65 ≤ a) × (a ≤ 90) × (b ≡ a + 32)) ⊎ ((65 ≤ b) × (b ≤ 90) × (a ≡ b + 32))
 

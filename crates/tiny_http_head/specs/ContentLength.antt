@@ -5,7 +5,7 @@ use Rattle.std.specs.List.{list_all}
 use Rattle.tiny_http_head.specs.declared.content_length.InvalidLength.{InvalidLength}
 use Rattle.tiny_http_head.specs.Heads.{length_of}
 
--- whether the parsed number is n
+-- whether there is a parsed number, and it is n
 abbrev pub is_number : ℕ → Option ℕ → Bool
 is_number n None = false
 is_number n (Some m) = m == n

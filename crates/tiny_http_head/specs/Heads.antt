@@ -71,7 +71,7 @@ pub record HeaderLine (text field value : List ℕ) : Type 0 where
   pub no_colon : HasNo colon field
   pub trims : Trims is_blank padded value
 
--- whether the text is ASCII and is this header field
+-- whether the text is ASCII and is the field line of this header
 abbrev pub IsHeader : List ℕ → Header → Type 0
 IsHeader text h = AreAscii text × HeaderLine text h.field h.value
 
@@ -129,7 +129,7 @@ abbrev pub IsFieldOrEnd : List ℕ → Type 0
 IsFieldOrEnd text = (text ≡ []) ⊎ ((field : List ℕ) × (value : List ℕ) × HeaderLine text field value)
 
 -- whether the first faulty line of a head has this fault: the request line if no version is given, and otherwise a
--- later line
+-- later line, after a request line with this version
 abbrev pub FaultyHead : List ℕ → Option HTTPVersion → GrammarFault → Type 0
 FaultyHead bytes None fault = FaultyLine IsRequestLine bytes fault
 FaultyHead bytes (Some v) fault =

@@ -30,7 +30,8 @@ pub record HasScheme (target behind : List ℕ) : Type 0 where
 abbrev pub HasNoScheme : List ℕ → Type 0
 HasNoScheme target = (behind : List ℕ) → HasScheme target behind → ⊥
 
--- whether the text is a front without a question mark, then optionally a question mark and a query
+-- whether the text is `front`, which has no question mark, and then, if there is a query, a question mark and that
+-- query
 abbrev pub FrontAndQuery : List ℕ → List ℕ → Option (List ℕ) → Type 0
 FrontAndQuery text front None = (text ≡ front) × HasNo question_mark front
 FrontAndQuery text front (Some query) = (text ≡ front ++ question_mark ∷ query) × HasNo question_mark front

@@ -260,8 +260,8 @@ impl fmt::Display for HTTPVersion {
     }
 }
 
-/// A field name: ASCII bytes, compared case-insensitively (RFC 9110, section 5.1). A contract sees it as the list of
-/// its bytes.
+/// A field name: ASCII bytes, compared case-insensitively (RFC 9110, section 5.1). A contract sees a `HeaderField` as
+/// the list of its bytes.
 #[derive(Debug, Drop)]
 pub struct HeaderField {
     text: AsciiString,
@@ -295,8 +295,8 @@ impl HeaderField {
         })
     }
 
-    /// Parses a name: ASCII without white space (bytes 9 to 13 and 32). Fails with `Refused` for any other text, and
-    /// only then; with `Memory` if memory for a copy is refused.
+    /// Parses a name: any ASCII text without white space (bytes 9 to 13 and 32), even an empty one. Fails with
+    /// `Refused` for any other text, and only then; with `Memory` if memory for a copy is refused.
     pub fn from_str(alloc: Global, text: &str) -> Result<HeaderField, ParseError>
         ensures ok { IfOk result (λ f. (f ≡ text.now) × IsWord text.now) }
         ensures refused { IsErrOf result ParseError.Refused ↔ ¬ (IsWord text.now) }
@@ -332,7 +332,7 @@ impl HeaderField {
         })
     }
 
-    /// Compares two names, ignoring the case of ASCII letters.
+    /// Returns whether the name equals `other`, ignoring the case of ASCII letters.
     pub fn equiv(&self, other: &str) -> bool
         ensures { result ≡ same_name self.now other.now }
     {
@@ -368,7 +368,7 @@ impl fmt::Display for HeaderField {
     }
 }
 
-/// A request method (RFC 9110, section 9; `PATCH` by RFC 5789). Names are case-sensitive.
+/// A request method (RFC 9110, section 9; for `PATCH`, RFC 5789). Names are case-sensitive.
 #[derive(Debug, Drop, PartialEq, Eq, Hash)]
 pub enum Method {
     /// `GET`

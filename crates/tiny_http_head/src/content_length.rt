@@ -38,8 +38,8 @@ pub fn number_in(text: &[u8]) -> Option<usize>
     Some(number)
 }
 
-// Returns the length after one more element. Fails if the element isn't a number, or differs from the length found
-// before.
+// Returns the one length that the elements up to this one give, if those before it gave `found`. Fails if the element
+// isn't a number below 2^64, or differs from the length that was found before.
 #[inline(always)]
 fn length_after(found: Option<usize>, element: &[u8]) -> Result<Option<usize>, InvalidLength>
     ensures { result ≡ lengths_after found (element.now ∷ []) }
@@ -55,7 +55,8 @@ fn length_after(found: Option<usize>, element: &[u8]) -> Result<Option<usize>, I
     Ok(Some(length))
 }
 
-// Returns the length after the elements of one more value. Fails as `length_after` does.
+// Returns the one length that the elements up to those of this value give, if those before it gave `found`. Fails as
+// `length_after` does.
 #[inline(always)]
 fn lengths_in(
     blanks: Blanks,

@@ -33,8 +33,8 @@ fn version_of(text: &[u8]) -> Option<HTTPVersion>
     None
 }
 
-// Splits a request line, trimmed, into its first three parts. The third ends at the next space or at the end of the
-// text.
+// Splits a request line, trimmed, at each single space, and returns its first three parts. The third ends at the next
+// space or at the end of the text. Returns `None` if there are fewer parts.
 fn split_request_line(text: &[u8]) -> Option<(&[u8], &[u8], &[u8])>
     ensures some { IfSome result (λ r. HasParts text.now r.0.now r.1.now r.2.now) }
     ensures none { IfNone result (request_line text.now ≡ None) }
@@ -72,8 +72,8 @@ pub fn parse_request_line(
     Ok(Some((method, path, version)))
 }
 
-/// Parses a `Content-Length` value: an optional `+`, then one or more decimal digits, at most 18446744073709551615 (RFC
-/// 9110, section 8.6; the `+` as in the original). Returns `None` for any other value.
+/// Parses a `Content-Length` value: an optional `+`, then one or more decimal digits whose number is at most
+/// 18446744073709551615 (RFC 9110, section 8.6; the `+` as in the original). Returns `None` for any other value.
 pub fn parse_content_length(value: &str) -> Option<usize>
     ensures { result ≡ length_in value.now }
 {

@@ -32,7 +32,8 @@ prepend bs feed = record { bytes = bs ++ feed.bytes; stop = feed.stop }
 abbrev pub prepended : List ℕ → Option Feed → Option Feed
 prepended bs feed = option_map (prepend bs) feed
 
--- whether only bytes at the front of the feed were taken
+-- whether the feed `new` is what is left of the feed `old` once some bytes at its front were taken, or neither is
+-- stated
 abbrev pub TakesFront : Option Feed → Option Feed → Type 0
 TakesFront old new = (gone : List ℕ) × (old ≡ prepended gone new)
 
@@ -53,7 +54,7 @@ abbrev pub stop_of : Option ErrorKind → Stop
 stop_of None = End
 stop_of (Some kind) = Fault kind
 
--- the kind reported for a stop before the last byte wanted
+-- the kind of the error that reports a stop before the last wanted byte: the fault's, or `UnexpectedEof` for an end
 abbrev pub fault_of : Stop → ErrorKind
 fault_of End = UnexpectedEof
 fault_of (Fault kind) = kind
@@ -73,14 +74,15 @@ abbrev pub fault_count : {T E : Type 0} → Result T E → ℕ
 fault_count (Ok x) = 0
 fault_count (Err e) = 1
 
--- THE ENDS AND FAULTS THAT A READ MEETS, by the reader's own count of those that it reported: at most one, and none if
--- bytes came.
+-- THE ENDS AND FAULTS THAT A READ MEETS, according to the reader's own count of those that it has reported: at most
+-- one, and none if bytes came.
 pub record Tells (old new : ℕ) (r : Result ℕ Error) : Type 0 where
   pub once : new ≤ old + 1
   pub lazy : IfOk r (λ n. 0 < n → new ≤ old)
 
 -- The effect of one read, by cases. The bytes that it returned came from the front of the feed. It returned 0 for a
--- nonempty buffer only at the end, after the last byte. A fault comes only after the last byte and changes nothing.
+-- nonempty buffer only at the end, after the last byte. A fault comes only after the last byte and changes nothing. If
+-- the feed isn't stated, nothing is claimed.
 abbrev pub ReadsFrom : Option Feed → Option Feed → Result ℕ Error → List ℕ → Type 0
 ReadsFrom None new r buf = ⊤
 ReadsFrom (Some f) None r buf = ⊥
@@ -112,15 +114,16 @@ abbrev pub IsAllKnown : List ℕ → Option (List ℕ) → Type 0
 IsAllKnown sent None = ⊤
 IsAllKnown sent (Some taken) = sent ≡ taken
 
--- whether a writer holds back none of its bytes
+-- whether a writer holds back none of the bytes that it took, if it states them
 abbrev pub HoldsNothing : Sink → Type 0
 HoldsNothing s = IsAllKnown s.sent s.taken
 
--- whether the stated bytes are a prefix of the bytes `whole`
+-- whether the bytes `known` are a prefix of the bytes `whole`, or neither are stated
 abbrev pub IsKnownFront : Option (List ℕ) → Option (List ℕ) → Type 0
 IsKnownFront known whole = (rest : List ℕ) × (whole ≡ append_known known rest)
 
--- the bytes that a writer has taken once it was given the bytes `bs`; a writer that has ended takes none
+-- the bytes that a writer has taken once it was given the bytes `bs`, if it had taken the bytes `known` before, and
+-- given whether it had ended: a writer that has ended takes none
 abbrev pub grown : Bool → Option (List ℕ) → List ℕ → Option (List ℕ)
 grown true known bs = known
 grown false known bs = append_known known bs
@@ -142,7 +145,8 @@ pub record Took (old new : Sink) (text : List ℕ) : Type 0 where
   pub last_kind : new.last_kind ≡ old.last_kind
   pub stays : new.has_ended ≡ old.has_ended
 
--- whether the writer failed, and states a prefix of its earlier bytes and the text, with all that it had sent on
+-- whether a writer that had not ended failed with this kind; if it states its bytes, they are a prefix of its earlier
+-- bytes and the text, and contain all that it has sent on
 pub record Failed (old new : Sink) (text : List ℕ) (kind : ErrorKind) : Type 0 where
   pub bytes : IsKnownFront new.taken (append_known old.taken text)
   pub sent : IsFront old.sent new.sent
@@ -151,17 +155,19 @@ pub record Failed (old new : Sink) (text : List ℕ) (kind : ErrorKind) : Type 0
   pub last_kind : StatesKind new.last_kind kind
   pub was_open : old.has_ended ≡ false
 
--- whether a call that writes a text took all of it, or the writer failed
+-- whether the writer took all of the text, or nothing if it has ended, if the call returned `Ok`; if it returned an
+-- error, whether the writer failed with the error's kind
 abbrev pub Puts : {T : Type 0} → Sink → Sink → Result T Error → List ℕ → Type 0
 Puts old new (Ok x) text = Took old new text
 Puts old new (Err e) text = Failed old new text (error_kind e)
 
--- whether a call that writes the front of a text took n bytes, or the writer failed
+-- whether the writer took the first n bytes of the text, or nothing if it has ended, if the call returned `Ok(n)`: at
+-- least one byte unless the text is empty; if it returned an error, whether the writer failed with the error's kind
 abbrev pub PutsFront : Sink → Sink → Result ℕ Error → List ℕ → Type 0
 PutsFront old new (Ok n) text = (n ≤ length text) × (0 < length text → 0 < n) × Took old new (take n text)
 PutsFront old new (Err e) text = Failed old new text (error_kind e)
 
--- whether what a writer states of its faults didn't change
+-- whether a writer's count of failures, the kind of the last one, and whether the writer has ended didn't change
 pub record SameFaults (old new : Sink) : Type 0 where
   pub failures : new.failures ≡ old.failures
   pub last_kind : new.last_kind ≡ old.last_kind
@@ -173,8 +179,8 @@ pub record Faulted (old new : Sink) (kind : ErrorKind) : Type 0 where
   pub last_kind : StatesKind new.last_kind kind
   pub was_open : old.has_ended ≡ false
 
--- The effect of a writing call on the faults that a writer states, whatever the call writes. Ok changes nothing. An
--- error either changes nothing, and wasn't the writer's, or raised the count, and was the writer's.
+-- The effect of a writing call on the faults that a writer states, whatever the call writes. `Ok` changes nothing. An
+-- error either wasn't the writer's and changed nothing, or was the writer's and was counted.
 abbrev pub CountsFaults : {T : Type 0} → Sink → Sink → Result T Error → Type 0
 CountsFaults old new (Ok x) = SameFaults old new
 CountsFaults old new (Err e) = SameFaults old new ⊎ Faulted old new (error_kind e)
@@ -192,7 +198,8 @@ CopiedKnown None new from to n = ⊤
 CopiedKnown (Some f) None from to n = ⊥
 CopiedKnown (Some f) (Some g) from to n = Copied f g from to n
 
--- whether the reader stopped before it returned another byte, or the writer failed within the next `left` bytes
+-- whether a copy broke off with this kind: the reader stopped before it returned another byte, or the writer failed
+-- within the next `left` bytes
 abbrev pub CopyBreaks : Option Feed → Sink → Sink → ℕ → ErrorKind → Type 0
 CopyBreaks None from to left kind = ⊤
 CopyBreaks (Some f) from to left kind =
@@ -203,8 +210,8 @@ abbrev pub CopiesPiece : Option Feed → Option Feed → Sink → Sink → ℕ �
 CopiesPiece f g from to left (Ok n) = (0 < n) × (n ≤ left) × CopiedKnown f g from to n
 CopiesPiece f g from to left (Err e) = CopyBreaks f from to left (error_kind e)
 
--- whether a call filled a buffer from the feed: the whole buffer, or all bytes before an end. A fault came before the
--- buffer was full.
+-- whether a call filled a buffer from the feed, wholly or with all bytes before an end, or failed with the feed's
+-- fault, which came before the buffer was full
 abbrev pub Fills : Option Feed → Option Feed → Result ℕ Error → List ℕ → Type 0
 Fills None new r buf = ⊤
 Fills (Some f) None r buf = ⊥
@@ -223,7 +230,7 @@ FilledTo (Some f) None n buf = ⊥
 FilledTo (Some f) (Some g) n buf =
     (n ≤ length f.bytes) × (take n buf ≡ take n f.bytes) × (g.bytes ≡ drop n f.bytes) × (g.stop ≡ f.stop)
 
--- whether a call read all bytes of a feed that ends, or reported the feed's fault, or was out of memory
+-- whether a call returned all bytes of a feed that ends, or failed with the feed's fault or with `OutOfMemory`
 abbrev pub Gathers : {T : Type 0} → (T → List ℕ) → Feed → Result T Error → Type 0
 Gathers items f (Ok all) = (items all ≡ f.bytes) × (f.stop ≡ End)
 Gathers items f (Err e) = (f.stop ≡ Fault (error_kind e)) ⊎ (error_kind e ≡ OutOfMemory)

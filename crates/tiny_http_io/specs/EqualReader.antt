@@ -14,14 +14,14 @@ equal_inner r = r.inner
 abbrev pub equal_left : {R : Type 0} → EqualReader R → ℕ
 equal_left r = r.left
 
--- the bytes still to come from an `EqualReader`, and how they stop: the next bytes of the inner reader, at most those
--- that are left
+-- the bytes still to come from an `EqualReader`, and how they stop: the next bytes of the inner reader, at most as many
+-- as may still be read
 abbrev pub equal_feed : {R : Type 0} → (R → Option Feed) → EqualReader R → Option Feed
 equal_feed feed r = option_map (feed_front r.left) (feed r.inner)
 
 -- ONE READ of an `EqualReader`. It is a read of the feed still to come; the inner reader's bytes after that feed don't
 -- change. Whatever the inner reader states, a read into an empty buffer, or with no byte left, returns 0 and changes
--- nothing. The bytes that came are subtracted from those that are left; a fault subtracts none.
+-- nothing. The number of bytes that came is subtracted from the number left; a fault subtracts nothing.
 pub record ReadsPart {R : Type 0} (feed : R → Option Feed) (old new : EqualReader R) (r : Result ℕ Error)
     (buf : List ℕ) : Type 0 where
   pub reads : Reads (equal_feed feed old) (equal_feed feed new) r buf

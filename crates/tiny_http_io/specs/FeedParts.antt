@@ -4,7 +4,7 @@ use Rattle.tiny_http_io.specs.declared.device.Stop.{Stop}
 use Rattle.tiny_http_io.specs.declared.device.Stop.TheVariants.{End}
 use Rattle.tiny_http_io.specs.Device.{Feed}
 
--- the stop of a feed's front: the feed's own if the feed has too few bytes for it, and otherwise an end
+-- the stop of a feed's first `size` bytes, given whether the feed has fewer: its own stop if so, otherwise `End`
 abbrev pub stop_where : Bool → Stop → Stop
 stop_where true stop = stop
 stop_where false stop = End

@@ -10,7 +10,7 @@ abbrev pub inner_unless_over : {R : Type 0} → Bool → R → Option R
 inner_unless_over true inner = None
 inner_unless_over false inner = Some inner
 
--- the inner reader of a `FusedReader`, or `None` once its end was reported
+-- the inner reader of a `FusedReader`, or `None` if its end has been reported
 abbrev pub fused_inner : {R : Type 0} → FusedReader R → Option R
 fused_inner r = inner_unless_over r.over r.inner
 
@@ -18,7 +18,8 @@ abbrev pub feed_unless : Bool → Option Feed → Option Feed
 feed_unless true feed = option_map (λ f. whole_feed []) feed
 feed_unless false feed = feed
 
--- the bytes still to come from a `FusedReader`, and how they stop: none, with an end, once its end was reported
+-- the bytes still to come from a `FusedReader`, and how they stop: the inner reader's, or none, with an end, if its end
+-- has been reported
 abbrev pub fused_feed : {R : Type 0} → (R → Option Feed) → FusedReader R → Option Feed
 fused_feed feed r = feed_unless r.over (feed r.inner)
 

@@ -17,8 +17,8 @@ input_stop s = s.stop
 abbrev pub input_reader : {R : Type 0} → Input R → R
 input_reader s = s.inner
 
--- the number of ends and faults that the reader has reported, plus one that it may still report until the input has
--- stopped
+-- the number of ends and faults that the reader has reported, plus 1 for the one that it may still report if the input
+-- hasn't stopped
 abbrev pub input_stop_count : {R : Type 0} → (R → ℕ) → Input R → ℕ
 input_stop_count stop_count s = stop_count s.inner + stops_to_come s.stop
 

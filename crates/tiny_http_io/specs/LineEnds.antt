@@ -5,12 +5,12 @@ use Rattle.tiny_http_text.specs.Lines.{has_crlf}
 use Rattle.tiny_http_io.specs.declared.source.LineFault.{LineFault}
 use Rattle.tiny_http_io.specs.declared.source.LineFault.TheVariants.{TooLong}
 
--- a CR that may begin the end of the line, if one is held back
+-- the bytes that are held back, given whether a CR is, since it may begin the end of the line: that CR, or none
 abbrev pub held_return : Bool → List ℕ
 held_return true = 13 ∷ []
 held_return false = []
 
--- whether no CR LF begins in this text, however the bytes after it continue
+-- whether no CR LF begins in `text` when `pend` follows it, whatever bytes come after `pend`
 pub record BeginsNoLineEnd (text pend : List ℕ) : Type 0 where
   pub none_begins : (more : List ℕ) → has_crlf (text ++ (pend ++ more)) ≡ has_crlf (pend ++ more)
 
@@ -20,13 +20,14 @@ pub record EndsLine (bytes : List ℕ) (n : ℕ) : Type 0 where
   pub ends : take (n + 2) bytes ≡ take n bytes ++ (13 ∷ (10 ∷ []))
   pub first : BeginsNoLineEnd (take n bytes) (13 ∷ [])
 
--- whether `room` is what is left of a limit after `count` bytes
+-- whether `room` is what is left of the limit `left` after `count` bytes, or there is no limit (`None` for both)
 abbrev pub IsRoom : Option ℕ → Option ℕ → ℕ → Type 0
 IsRoom None None count = ⊤
 IsRoom (Some left) (Some room) count = room + count ≡ left
 IsRoom _ _ count = ⊥
 
--- whether reading a line may stop with this fault after these bytes: `TooLong` at the limit, another fault before it
+-- whether reading a line may stop with this fault after these bytes: `TooLong` at the limit, another fault before it;
+-- without a limit, any fault but `TooLong`
 abbrev pub StopsWithin : Option ℕ → LineFault → List ℕ → Type 0
 StopsWithin None TooLong gone = ⊥
 StopsWithin (Some left) TooLong gone = length gone ≡ left

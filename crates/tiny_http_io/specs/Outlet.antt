@@ -4,7 +4,8 @@ use Rattle.std.specs.IoError.{error_kind}
 use Rattle.std.specs.declared.io.Error.{Error}
 use Rattle.tiny_http_io.specs.Device.{Sink, IsFront, grown, Failed, HoldsNothing}
 
--- the bytes that a writer took and the bytes that an outlet holds back, as one sink
+-- the bytes that a writer took and the bytes `held` that an outlet holds back, as one sink, which has ended if the
+-- outlet (`ended`) or the writer has
 abbrev pub holding : Sink → List ℕ → Bool → Sink
 holding s held ended =
     record {
@@ -23,7 +24,8 @@ pub record OutletState (W : Type 0) : Type 0 where
   pub writer : W
   pub sink : Sink
 
--- the bytes that an outlet's writer took and those that the outlet holds back, as one sink
+-- the bytes that an outlet's writer took and those that the outlet holds back, as one sink, which has ended if the
+-- outlet or its writer has
 abbrev pub output_of : {W : Type 0} → OutletState W → Sink
 output_of o = holding o.sink o.held o.ended
 

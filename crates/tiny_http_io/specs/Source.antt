@@ -34,17 +34,18 @@ pub record SourceState (R : Type 0) : Type 0 where
   pub skip : ℕ
   pub input_state : InputState
 
--- THE ENDS AND FAULTS THAT A SOURCE MEETS, by the count of those that its reader reported. No call raises the sum of
--- that count and the number still to come, so there is at most one in all calls of a source together.
+-- THE ENDS AND FAULTS THAT A SOURCE MEETS, according to the count of those that its reader has reported. No call raises
+-- the sum of that count and the number still to come, so there is at most one in all calls of a source together.
 abbrev pub CallsReader : {R : Type 0} → (R → ℕ) → SourceState R → SourceState R → Type 0
 CallsReader stop_count old new = stop_count new.reader + stops_to_come new.stop
     ≤ stop_count old.reader + stops_to_come old.stop
 
--- whether a whole line is buffered
+-- whether a whole line is buffered after the bytes to be skipped
 abbrev pub HoldsLine : {R : Type 0} → SourceState R → Type 0
 HoldsLine s = has_crlf (drop s.skip s.held) ≡ true
 
--- whether the input has ended, or was made to end, and nothing of it is left: each further line is reported as the end
+-- whether the input has ended, or was made to end, and nothing of it is left: each further read of a line fails with
+-- `End`, unless its limit is 0
 abbrev pub IsAtEnd : {R : Type 0} → SourceState R → Type 0
 IsAtEnd s = (s.is_over ≡ true) × (s.stop ≡ Some End)
 
@@ -54,7 +55,8 @@ line_fault_of End = EndOfLines
 line_fault_of (Fault TimedOut) = LineTimedOut
 line_fault_of (Fault kind) = Broken kind
 
--- The effect on the feed of reading a line: the first line is consumed, or there is none.
+-- The effect on the feed of reading a line: the first line is consumed, whether it is ASCII or not; or memory was
+-- refused, and the feed ends; or the feed stopped before a CR LF.
 abbrev pub ReadsLine : Option Feed → Option Feed → Result (List ℕ) LineFault → Type 0
 ReadsLine None new result = ⊤
 ReadsLine (Some old) new (Ok text) =
@@ -84,13 +86,14 @@ abbrev pub IsShort : Option ℕ → List ℕ → Type 0
 IsShort None bytes = ⊤
 IsShort (Some left) bytes = length bytes < left
 
--- whether the limit was reached, and no line ends before it
+-- whether there is a limit, the bytes reach it, and no line is complete within it
 abbrev pub IsTooLong : Option ℕ → List ℕ → Type 0
 IsTooLong None bytes = ⊥
 IsTooLong (Some left) bytes = (left ≤ length bytes) × IsUnfinished (take left bytes)
 
 -- The effect on the feed of reading a line within a limit: the first line is consumed, if the line and its CR LF are
--- within the limit; or the limit was reached; or the bytes ended before it.
+-- within the limit; or the limit was reached, or memory was refused, and the feed ends; or the feed stopped before a CR
+-- LF and before the limit.
 abbrev pub ReadsWithin : Option ℕ → Option Feed → Option Feed → Result (List ℕ) LineFault → Type 0
 ReadsWithin left None new result = ⊤
 ReadsWithin left (Some old) new (Ok text) = ReadsLine (Some old) new (Ok text) × IsWithin left (length text)
@@ -112,7 +115,7 @@ TakesLine (Some old) new text =
     (rest : List ℕ) × Line old.bytes text rest × (new ≡ Some (record { bytes = rest; stop = old.stop }))
 
 -- The effect on the feed of finding a line within a limit: the line was consumed; or the line is buffered, and nothing
--- was consumed; or there is none.
+-- was consumed; or no line was found, with the same effect as reading one (`ReadsWithin`).
 abbrev pub FindsLine : Option ℕ → Option Feed → Option Feed → List ℕ → ℕ → Result FirstLine LineFault → Type 0
 FindsLine left old new held skip (Ok (Taken text)) = TakesLine old new text.items × IsWithin left (length text.items)
 FindsLine left old new held skip (Ok (Held n)) = (new ≡ old) × (skip ≡ 0) × EndsLine held n × IsWithin left n
@@ -120,8 +123,8 @@ FindsLine left old new held skip (Err fault) = ReadsWithin left old new (Err fau
 
 -- ONE READ of a source. It is a read of the source's feed. Whatever the reader states, a read into an empty buffer
 -- changes nothing, and the reader isn't called again after an end or a fault. A source that has reported its stop is
--- over: it stays so, and each later read reports the same stop. Nothing is read ahead: a read that returned bytes met
--- no end or fault, and the reader isn't called if a byte is buffered.
+-- over: it stays so, and each later read into a nonempty buffer reports the same stop. Nothing is read ahead: a read
+-- that returned bytes met no end or fault, and the reader isn't called if a byte is buffered after those to be skipped.
 pub record ReadsSource {R : Type 0} (old new : SourceState R) (r : Result ℕ Error) (buf : List ℕ) : Type 0 where
   pub reads : Reads old.feed new.feed r buf
   pub empty : length buf ≡ 0 → (r ≡ Ok 0) × (new ≡ old)
@@ -160,9 +163,9 @@ pub record IsCutOff {R : Type 0} (old new : SourceState R) : Type 0 where
   pub over : new.is_over ≡ true
   pub remains : (f : Feed) → old.feed ≡ Some f → new.feed ≡ Some (stopped f.stop)
 
--- THE CALLS OF A SOURCE. None changes the input state. The reader isn't called again after an end or a fault (`once`).
--- Nothing is read ahead: a call that returned what was asked for met no end or fault (`lazy`), and the reader isn't
--- called if what was asked for was buffered (`held`).
+-- THE CALLS OF A SOURCE. None of those below changes the input state. The reader isn't called again after an end or a
+-- fault (`once`). Nothing is read ahead: a call that returned what was asked for met no end or fault (`lazy`), and the
+-- reader isn't called if what was asked for was buffered (`held`).
 
 -- The effect of looking for another byte: `found` says whether one is to come. A source that is over stays so.
 pub record LooksForByte {R : Type 0} (old new : SourceState R) (found : Bool) : Type 0 where
@@ -192,9 +195,9 @@ pub record EndsHere {R : Type 0} (old new : SourceState R) : Type 0 where
   pub input_state : new.input_state ≡ old.input_state
 
 -- The effect of reading a line, within the limit if there is one. After any fault except a line that isn't ASCII the
--- source is over; after refused memory or a line that is too long it is as at its end. If the buffer holds as many
--- bytes as the limit, the reader isn't called (`full`). A source that is over stays so, and each line is reported as
--- how the input stopped, unless the limit is 0.
+-- source is over; after refused memory or a line that is too long it is at its end. If the buffer holds as many bytes
+-- as the limit after those to be skipped, the reader isn't called (`full`). A source that is over stays so, and each
+-- further call fails with the fault of its stop, unless the limit is 0.
 pub record ReadsOneLine {R : Type 0} (left : Option ℕ) (old new : SourceState R)
     (r : Result (List ℕ) LineFault) : Type 0 where
   pub line : ReadsWithin left old.feed new.feed r

@@ -24,7 +24,8 @@ abbrev pub skipped : ℕ → Feed → Feed
 skipped n feed =
     if nat_le n (length feed.bytes) then record { bytes = drop n feed.bytes; stop = feed.stop } else stopped End
 
--- the feed still to come once n bytes are skipped, buffered ones first
+-- the feed still to come: the buffered bytes `held` followed by the feed `feed`, without the first n of these bytes; if
+-- there are fewer than n, an empty feed that ends
 abbrev pub to_come : ℕ → List ℕ → Option Feed → Option Feed
 to_come n held feed = option_map (skipped n) (prepended held feed)
 

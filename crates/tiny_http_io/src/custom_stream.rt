@@ -15,7 +15,7 @@ pub struct CustomStream<R, W> {
 }
 
 impl<R, W> CustomStream<R, W> {
-    /// Joins a reader and a writer. Nothing is read or written yet.
+    /// Joins a reader and a writer. Nothing has been read or written yet.
     pub fn new(reader: R, writer: W) -> CustomStream<R, W>
         ensures reader { custom_reader result ≡ reader }
         ensures writer { custom_writer result ≡ writer }
@@ -73,7 +73,7 @@ impl<R, W: WriteDevice> WriteDevice for CustomStream<R, W> {
         self.writer.flush_out()
     }
 
-    /// Makes the writer signal that no byte follows. The reader isn't touched.
+    /// Makes the writer signal that no byte follows, if it can. The reader isn't touched.
     fn end_out(&mut self)
         ensures sink { W.sink (custom_writer self.new) ≡ W.sink (custom_writer self.old) }
         ensures reader { custom_reader self.new ≡ custom_reader self.old }

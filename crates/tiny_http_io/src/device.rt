@@ -30,7 +30,7 @@ pub trait ReadDevice {
     ghost stop_count: { Self → ℕ } = { λ _. 0 };
 
     /// Reads some bytes into the front of `buf` and returns how many: 0 at the end, or if `buf` is empty. After the
-    /// last byte each call reports the end or the fault. A read that fails takes no byte.
+    /// last byte each read into a nonempty `buf` reports the end or the fault. A read that fails takes no byte.
     fn read_in(&mut self, buf: &mut [u8]) -> Result<usize, io::Error>
         ensures reads { Reads (feed self.old) (feed self.new) result buf.new }
         ensures empty { length buf.new ≡ 0 → (result ≡ Ok 0) × (self.new ≡ self.old) }
@@ -55,12 +55,13 @@ pub trait WriteDevice {
     fn write_out(&mut self, buf: &[u8]) -> Result<usize, io::Error>
         ensures { PutsFront (sink self.old) (sink self.new) result buf.now };
 
-    /// Sends on the bytes that the writer holds back. The bytes that it took don't change.
+    /// Sends on the bytes that the writer holds back. If it fails, bytes that the writer took and didn't send on may be
+    /// lost; otherwise the bytes that it took don't change.
     fn flush_out(&mut self) -> Result<(), io::Error>
         ensures puts { Puts (sink self.old) (sink self.new) result [] }
         ensures sent { OnOk result ((sink self.new).has_ended ≡ false → HoldsNothing (sink self.new)) };
 
-    /// Signals that no byte follows (RFC 9112, section 9.6). The caller writes nothing more.
+    /// Signals that no byte follows (RFC 9112, section 9.6). The caller must write nothing more.
     ///
     /// What the writer states doesn't change. A writer that can't signal the end does nothing, as this default does.
     /// That other writers signal it is tested, not proved.
@@ -82,7 +83,7 @@ pub fn copy_front(from: &[u8], to: &mut [u8]) -> usize
     n
 }
 
-/// A reader over bytes in memory that then stops with a given end or fault. A contract sees it as its feed.
+/// A reader over bytes in memory that then stops with a given end or fault. A contract sees a `Canned` as its feed.
 #[derive(Drop)]
 pub struct Canned {
     bytes: Vec<u8>,
@@ -99,8 +100,8 @@ impl Model for Canned {
 }
 
 impl Canned {
-    /// Makes a reader that returns these bytes. After them each call reports the end, or a fault of this kind if one is
-    /// given.
+    /// Makes a reader that returns these bytes. After them each read into a nonempty buffer reports the end, or a fault
+    /// of kind `fault` if that is given.
     pub fn new(bytes: Vec<u8>, fault: Option<ErrorKind>) -> Canned
         ensures { result ≡ record { bytes = bytes.items; stop = stop_of fault } }
     {
@@ -115,7 +116,7 @@ impl Canned {
 impl ReadDevice for Canned {
     ghost feed = { λ c. Some c };
 
-    /// Copies the next bytes. After the last one it reports the end or the fault.
+    /// Copies the next bytes. After the last one, a read into a nonempty buffer reports the end or the fault.
     fn read_in(&mut self, buf: &mut [u8]) -> Result<usize, io::Error> {
         if buf.is_empty() {
             return Ok(0);
@@ -389,8 +390,8 @@ pub fn read_some<R: ReadDevice>(reader: &mut R, buf: &mut [u8]) -> Result<usize,
     reader.read_in(buf)
 }
 
-/// Reads at most `most` bytes into the front of `buf`. If `most` is 0 or `buf` is empty it returns 0 and changes
-/// nothing.
+/// Reads at most `most` bytes into the front of `buf` and returns how many. If `most` is 0 or `buf` is empty, it
+/// returns 0 and changes nothing.
 pub fn read_front<R: ReadDevice>(
     reader: &mut R,
     most: usize,
@@ -412,7 +413,7 @@ pub fn read_front<R: ReadDevice>(
     reader.read_in(front)
 }
 
-/// Writes all the bytes, in as many calls as it takes. After the writer's first fault nothing more is written.
+/// Writes all the bytes, in as many calls as it takes. Stops at the first call that fails, and returns its error.
 pub fn put<W: WriteDevice>(writer: &mut W, bytes: &[u8]) -> Result<(), io::Error>
     ensures { Puts (W.sink writer.old) (W.sink writer.new) result bytes.now }
 {
@@ -480,9 +481,9 @@ impl<R: ReadDevice> ReadDevice for ByPieces<R> {
     }
 }
 
-/// A reader or writer of which one call fails. That call doesn't reach the inner stream; every other call does, except
-/// a read into an empty buffer. It is a `ReadDevice` over a `ReadDevice`, and a `Write` over a `Write`. It is for
-/// testing code that reads and writes.
+/// A reader or writer of which one chosen call, or none, fails. That call doesn't reach the inner stream; every other
+/// call does, except a read into an empty buffer. It is a `ReadDevice` over a `ReadDevice`, and a `Write` over a
+/// `Write`. It is for testing code that reads and writes.
 #[derive(Drop)]
 pub struct FailsAt<S> {
     inner: S,
@@ -511,7 +512,7 @@ impl<S> FailsAt<S> {
         }
     }
 
-    /// Returns whether the failing call was made.
+    /// Returns whether the failing call has been made.
     pub fn has_failed(&self) -> bool
         ensures { result ≡ has_failed self.now }
     {
@@ -626,7 +627,7 @@ impl<W: WriteDevice> WriteDevice for &mut W {
         WriteDevice::flush_out(&mut **self)
     }
 
-    /// Makes the borrowed writer signal that no byte follows.
+    /// Makes the borrowed writer signal that no byte follows, if it can.
     fn end_out(&mut self) {
         WriteDevice::end_out(&mut **self)
     }

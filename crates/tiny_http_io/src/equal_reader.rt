@@ -52,11 +52,11 @@ impl<R: ReadDevice + Drop> EqualReader<R> {
         }
     }
 
-    /// Reads and discards the rest of the bytes, and returns the inner reader. Its next byte is the one after them,
-    /// unless it stopped before. Faults met here are not reported.
+    /// Reads and discards the rest of this reader's bytes, and returns the inner reader. The inner reader's next byte
+    /// is the first one after them, unless it stopped before. A fault that is met here isn't reported.
     pub fn finish(self) -> R
         ensures feed { R.feed result ≡ option_map (feed_behind (equal_left self)) (R.feed (equal_inner self)) }
-        // The reader reports at most one end or fault.
+        // The inner reader reports at most one end or fault in this call.
         ensures stop_count { R.stop_count result ≤ R.stop_count (equal_inner self) + 1 }
     {
         let EqualReader { mut inner, left } = self;

@@ -7,8 +7,8 @@ use crate::device::{ReadDevice, Stop};
 use std::io;
 use std::io::Read;
 
-/// A reader that doesn't call its inner reader again after the end, and reports the end from then on. It passes faults
-/// on; they don't count as the end.
+/// A reader that doesn't call its inner reader again after the end, and reports the end from then on. It also reports
+/// the inner reader's faults, which don't count as the end.
 #[derive(Drop)]
 pub struct FusedReader<R> {
     inner: R,
@@ -18,7 +18,7 @@ pub struct FusedReader<R> {
 impl<R: ReadDevice> FusedReader<R> {
     ghost use Rattle.tiny_http_io.specs.FusedReader.{fused_inner};
 
-    /// Wraps a reader. Its end hasn't been reported yet.
+    /// Wraps a reader. The new reader hasn't reported an end yet.
     pub fn new(reader: R) -> FusedReader<R>
         ensures { fused_inner result ≡ Some reader }
     {
@@ -32,7 +32,7 @@ impl<R: ReadDevice> FusedReader<R> {
 impl<R: ReadDevice + Drop> FusedReader<R> {
     ghost use Rattle.tiny_http_io.specs.FusedReader.{fused_inner};
 
-    /// Returns the inner reader, or `None` once its end was reported.
+    /// Returns the inner reader, or `None` if its end has been reported.
     pub fn into_inner(self) -> Option<R>
         ensures { result ≡ fused_inner self }
     {
@@ -47,7 +47,8 @@ impl<R: ReadDevice> ReadDevice for FusedReader<R> {
 
     ghost stop_count = { fused_stop_count R.stop_count };
 
-    /// Reads some bytes. A read into an empty buffer returns 0, which doesn't count as the end.
+    /// Reads some bytes from the inner reader, or returns 0 if its end has been reported. A read into an empty buffer
+    /// also returns 0, but doesn't count as the end.
     fn read_in(&mut self, buf: &mut [u8]) -> Result<usize, io::Error>
         ensures reads { ReadsFused R.feed self.old self.new result buf.new }
         ensures stop_count { Tells (fused_stop_count R.stop_count self.old)
@@ -76,7 +77,8 @@ impl<R: ReadDevice> Read for FusedReader<R> {
 
     ghost remaining = { λ r. bytes_of (fused_feed R.feed r) };
 
-    /// Reads some bytes. A read into an empty buffer returns 0, which doesn't count as the end.
+    /// Reads some bytes from the inner reader, or returns 0 if its end has been reported. A read into an empty buffer
+    /// also returns 0, but doesn't count as the end.
     fn read(&mut self, buf: &mut [u8]) -> io::Result<usize>
         ensures bound { ReadsAtMost result buf.new }
         ensures bytes { ReadConsumes (bytes_of (fused_feed R.feed self.old)) (bytes_of (fused_feed R.feed self.new))

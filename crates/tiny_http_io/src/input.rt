@@ -118,7 +118,7 @@ impl<R: ReadDevice> Input<R> {
         ensures feed { input_feed R.feed self.new ≡ input_feed R.feed self.old }
         ensures skip { self.new.skip ≡ 0 }
         ensures over { self.new.held ≡ [] → IsSome self.new.stop }
-        // The reader isn't called again after an end or a fault, nor if a byte is buffered.
+        // The reader isn't called again after an end or a fault, nor if a byte is buffered after those to be skipped.
         ensures once { IsSome (input_stop self.old)
             → IsSome (input_stop self.new) × (input_reader self.new ≡ input_reader self.old) }
         ensures stays { IsInputOver self.old → self.new ≡ self.old }
@@ -319,8 +319,8 @@ impl<R: ReadDevice> Input<R> {
         // The reader isn't called again after an end or a fault.
         ensures once { IsSome (input_stop self.old)
             → IsSome (input_stop self.new) × (input_reader self.new ≡ input_reader self.old) }
-        // Whatever the reader states, an input that is over stays so, and each further line is reported as how the
-        // input stopped.
+        // Whatever the reader states, an input that is over stays so, and each further call fails with the fault of its
+        // stop, unless the limit is 0.
         ensures limited { result ≡ Err LineFault.TooLong → IsSome left }
         ensures over { IfErr result (λ fault. fault ≢ LineFault.NotAscii → IsInputOver self.new) }
         ensures ended { IfErr result (λ fault. (fault ≡ LineFault.Memory) ⊎ (fault ≡ LineFault.TooLong)
@@ -466,8 +466,9 @@ impl<R: ReadDevice> Input<R> {
         }
     }
 
-    /// Reads some bytes and returns how many. After the last byte each call reports how the input stopped. If no byte
-    /// is buffered or to be skipped, a read into 1024 bytes or more goes straight to the reader.
+    /// Reads some bytes and returns how many: 0 at the end, or if `buf` is empty. After the last byte each read into a
+    /// nonempty `buf` reports how the input stopped. If no byte is buffered or to be skipped, a read into 1024 bytes or
+    /// more goes straight to the reader.
     pub fn read(&mut self, buf: &mut [u8]) -> Result<usize, io::Error>
         ensures bound { IfOk result (λ n. n ≤ length buf.new) }
         ensures bytes { IfOk result

@@ -3,7 +3,7 @@ ghost use Rattle.std.specs.Prelude.{◌≡◌};
 
 use crate::buffer::CAPACITY;
 
-/// The buffers of `Source` and `Outlet` hold 1024 bytes. Their contracts rely on it.
+/// The buffer of a `Source` or an `Outlet` holds at most 1024 bytes: the `CAPACITY` of the contracts of `Outlet`.
 pub fn size_of_buffers()
     ensures { CAPACITY ≡ 1024 }
 {}

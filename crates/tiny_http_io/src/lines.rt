@@ -9,7 +9,7 @@ ghost use Rattle.tiny_http_io.specs.Source.{IsWithin};
 use crate::source::LineFault;
 use memchr::memchr;
 
-/// Returns the position of the first CR LF.
+/// Returns the position of the first CR LF, or `None` if the bytes contain no CR LF.
 pub(crate) fn line_end(bytes: &[u8]) -> Option<usize>
     ensures some { IfSome result (EndsLine bytes.now) }
     ensures none { IfNone result (has_crlf bytes.now ≡ false) }
@@ -24,7 +24,7 @@ pub(crate) fn line_end(bytes: &[u8]) -> Option<usize>
     None
 }
 
-/// Returns whether a line of n bytes and its CR LF are within the limit.
+/// Returns whether a line of n bytes and its CR LF are within the limit `left`, if there is one.
 pub(crate) fn is_within(left: Option<usize>, n: usize) -> bool
     requires { n + 2 < 2 ^ 64 }
     ensures within { IsTrue result → IsWithin left n }
@@ -36,7 +36,7 @@ pub(crate) fn is_within(left: Option<usize>, n: usize) -> bool
     }
 }
 
-/// Returns whether n bytes reach the limit.
+/// Returns whether there is a limit, `left`, and n bytes reach it.
 pub(crate) fn is_reached(left: Option<usize>, n: usize) -> bool
     ensures reached { IsTrue result → IsSome left × IfSome left (λ left. left ≤ n) }
     ensures below { result ≡ false → IfSome left (λ left. n < left) }
@@ -47,7 +47,7 @@ pub(crate) fn is_reached(left: Option<usize>, n: usize) -> bool
     }
 }
 
-/// Returns what is left of the limit after one more byte.
+/// Returns what is left of the limit `room` after one more byte, or `None` if there is no limit.
 pub(crate) fn one_less(room: Option<usize>) -> Option<usize>
     requires { IfSome room (λ n. 0 < n) }
     ensures { result ≡ option_map (λ n. n - 1) room }
@@ -58,8 +58,8 @@ pub(crate) fn one_less(room: Option<usize>) -> Option<usize>
     }
 }
 
-// Appends a byte that doesn't end the line. A CR is held back until the byte after it is known. Fails with `Memory` if
-// memory is refused.
+// Appends a byte that doesn't end the line. A CR is held back until the byte after it is known; `after_return` says
+// whether one is. Fails with `Memory` if memory is refused.
 pub(crate) fn go_on(text: &mut Vec<u8>, after_return: &mut bool, b: u8) -> Result<(), LineFault>
     requires not_end { after_return.old ≡ true → b ≢ 10 }
     requires passed { BeginsNoLineEnd text.old.items (held_return after_return.old) }

@@ -8,7 +8,8 @@ use std::io;
 use std::io::Write;
 use std::marker::Model;
 
-/// A buffered writer. After the first fault of the inner writer it takes no bytes and holds none.
+/// A buffered writer. It ends by `end` or `abandon`, or at the first fault of the inner writer; from then on it takes
+/// no bytes and holds none.
 #[derive(Drop)]
 pub struct Outlet<W: WriteDevice> {
     inner: W,
@@ -29,7 +30,7 @@ impl<W: WriteDevice> Outlet<W> {
     ghost use Rattle.tiny_http_io.specs.Outlet.{output_of, outlet_held, outlet_ended, outlet_writer, SentOn};
     ghost use Rattle.tiny_http_io.specs.Outlet.{EndsOutlet};
 
-    /// Wraps a writer. The contracts are meant for a writer that hasn't ended by itself.
+    /// Wraps a writer. The contracts are meant for a writer that doesn't state that it has ended.
     pub fn new(inner: W) -> Outlet<W>
         ensures held { outlet_held result ≡ [] }
         ensures writer { outlet_writer result ≡ inner }
@@ -73,7 +74,8 @@ impl<W: WriteDevice> Outlet<W> {
         }
     }
 
-    // Writes to the inner writer directly. No bytes may be buffered. A fault ends the outlet.
+    // Writes some bytes straight to the inner writer. No bytes may be buffered when it is called. A fault ends the
+    // outlet.
     fn pass(&mut self, buf: &[u8]) -> Result<usize, io::Error>
         requires open { self.old.ended ≡ false }
         requires none { self.old.held ≡ [] }
@@ -90,7 +92,8 @@ impl<W: WriteDevice> Outlet<W> {
         }
     }
 
-    // Takes some bytes into the empty buffer. `CAPACITY` bytes or more go straight to the inner writer.
+    // Takes all bytes into the empty buffer if there are fewer than `CAPACITY`, and otherwise writes some of them
+    // straight to the inner writer. Returns how many it took.
     fn take_first(&mut self, buf: &[u8]) -> Result<usize, io::Error>
         requires open { self.old.ended ≡ false }
         requires none { self.old.held ≡ [] }
@@ -110,7 +113,7 @@ impl<W: WriteDevice> Outlet<W> {
     // none and returns the length of `buf`.
     fn take_some(&mut self, buf: &[u8]) -> Result<usize, io::Error>
         ensures puts { PutsFront (output_of self.old) (output_of self.new) result buf.now }
-        // If the buffer is empty, fewer bytes than its capacity stay in it.
+        // If the buffer is empty and fewer than `CAPACITY` bytes are written, the inner writer isn't called.
         ensures small { outlet_held self.old ≡ []
             → length buf.now < CAPACITY
             → (outlet_writer self.new ≡ outlet_writer self.old) × (result ≡ Ok (length buf.now)) }
@@ -134,11 +137,12 @@ impl<W: WriteDevice> Outlet<W> {
         self.take_first(buf)
     }
 
-    /// Takes all bytes into the buffer, which is sent if it is full and more bytes come; `CAPACITY` bytes or more
-    /// bypass an empty buffer. Once the outlet has ended, it takes none and returns `Ok`.
+    /// Takes all bytes. They are buffered, and the buffer is sent when it is full and more bytes follow; `CAPACITY`
+    /// bytes or more bypass an empty buffer. A fault ends the outlet. Once the outlet has ended, it takes none and
+    /// returns `Ok`.
     pub fn write(&mut self, bytes: &[u8]) -> Result<(), io::Error>
         ensures puts { Puts (output_of self.old) (output_of self.new) result bytes.now }
-        // If the buffer is empty, fewer bytes than its capacity stay in it.
+        // If the buffer is empty and fewer than `CAPACITY` bytes are written, the inner writer isn't called.
         ensures small { outlet_held self.old ≡ []
             → length bytes.now < CAPACITY
             → (outlet_writer self.new ≡ outlet_writer self.old) × (result ≡ Ok tt) }
@@ -196,11 +200,12 @@ impl<W: WriteDevice> Outlet<W> {
     }
 
     /// Ends the outlet: sends the buffered bytes and flushes the inner writer. The outlet ends even if the writer
-    /// fails.
+    /// fails. If the outlet had ended before, this does nothing and returns `Ok`.
     pub fn end(&mut self) -> Result<(), io::Error>
         ensures ends { EndsOutlet (output_of self.old) (output_of self.new) result }
         ensures held { outlet_held self.new ≡ [] }
-        // Unless the outlet had ended before, the writer is flushed.
+        // If the outlet hadn't ended before, the writer holds no bytes back after `Ok`, unless it states that it has
+        // ended.
         ensures sent { outlet_ended self.old ≡ false
             → OnOk result (self.new.sink.has_ended ≡ false → HoldsNothing self.new.sink) }
         ensures ended { outlet_ended self.new ≡ true }
@@ -211,7 +216,7 @@ impl<W: WriteDevice> Outlet<W> {
         sent
     }
 
-    /// Returns how often the inner writer has failed. Like `abandon`, it is for the crates that build on this one.
+    /// Returns how often the inner writer has failed. It is for the crates that build on this one.
     pub fn writer_failures(&self) -> u64
         ensures count { result ≡ (output_of self.now).failures }
         ensures sent { let s = self.now.sink in BeginsKnown s.sent s.taken }
@@ -219,7 +224,7 @@ impl<W: WriteDevice> Outlet<W> {
         self.inner.failures()
     }
 
-    /// Ends the outlet and discards the buffered bytes.
+    /// Ends the outlet and discards the buffered bytes. It is for the crates that build on this one.
     pub fn abandon(&mut self)
         ensures held { outlet_held self.new ≡ [] }
         ensures ended { outlet_ended self.new ≡ true }
@@ -256,7 +261,8 @@ impl<W: WriteDevice> WriteDevice for Outlet<W> {
         self.flush()
     }
 
-    /// Makes the inner writer signal that no byte follows, unless bytes are buffered: the caller flushes first.
+    /// Makes the inner writer signal that no byte follows, if it can. Does nothing if bytes are buffered: the caller
+    /// must flush first.
     fn end_out(&mut self)
         ensures sink { output_of self.new ≡ output_of self.old }
         // Only the inner writer changes.
@@ -287,7 +293,7 @@ impl<W: WriteDevice> Write for Outlet<W> {
         Outlet::take_some(self, buf)
     }
 
-    /// Sends all buffered bytes and flushes the inner writer.
+    /// Sends all buffered bytes and flushes the inner writer, as the inherent `flush` does.
     fn flush(&mut self) -> io::Result<()>
         ensures puts { Puts (output_of self.old) (output_of self.new) result [] }
         ensures held { outlet_held self.new ≡ [] }

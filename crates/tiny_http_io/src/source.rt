@@ -13,20 +13,20 @@ use std::io::{ErrorKind, Read};
 use std::marker::Model;
 use tiny_http_text::ascii::AsciiString;
 
-/// The reason why no line was read.
+/// The reason why no line was returned.
 #[derive(Clone, Copy, Debug, PartialEq, Eq)]
 pub enum LineFault {
     /// The input ended before a CR LF.
     End,
     /// The line has a byte above 127. The source continues after the line.
     NotAscii,
-    /// No CR LF came within the limit, and all bytes up to the limit came. From then on the source reports `End`.
+    /// All bytes up to the limit came, without a CR LF. From then on the source is at its end.
     TooLong,
     /// The reader timed out before a CR LF.
     TimedOut,
     /// The reader failed with an error of this kind before a CR LF.
     Broken(ErrorKind),
-    /// Memory for the line was refused. From then on the source reports `End`.
+    /// Memory for the line was refused. From then on the source is at its end.
     Memory,
 }
 
@@ -39,14 +39,15 @@ pub enum FirstLine {
     Taken(Vec<u8>),
 }
 
-/// What comes next in a connection's input: a head, the rest of a body, or no further head, and why.
+/// What comes next in a connection's input: a head, the rest of a body, or no further head, and why. Whether the input
+/// itself has stopped isn't recorded here: `Source::stop` returns that.
 #[derive(Clone, Copy, Debug, PartialEq, Eq)]
 pub enum InputState {
     /// A head is next.
     Head,
-    /// The rest of a body is next. A head follows once the body has been read or given up.
+    /// The rest of a body is next. A head follows once the whole body has been read or skipped.
     Body,
-    /// The head of the last request was read. The body of that request may be next; no head follows.
+    /// The head of the last request has been read. The body of that request may be next; no head follows.
     Last,
     /// A chunked body was given up before its end, so the start of the next head isn't known.
     Abandoned,
@@ -57,7 +58,7 @@ pub enum InputState {
 impl InputState {
     ghost use Rattle.tiny_http_io.specs.InputState.{after_body, after_fault, after_abandoned};
 
-    /// Returns the state after a whole body was read or given up.
+    /// Returns the state after a body that was read or skipped whole: `Head` after `Body`; any other state is kept.
     pub fn after_body(self) -> InputState
         ensures { result ≡ after_body self }
     {
@@ -67,7 +68,8 @@ impl InputState {
         }
     }
 
-    /// Returns the state after a body that broke off with a fault of this kind.
+    /// Returns the state after a body that broke off with a fault of this kind: `Broken` after `Body`; any other state
+    /// is kept.
     pub fn after_fault(self, kind: ErrorKind) -> InputState
         ensures { result ≡ after_fault kind self }
     {
@@ -77,7 +79,8 @@ impl InputState {
         }
     }
 
-    /// Returns the state after a chunked body that was given up before its end was read.
+    /// Returns the state after a chunked body that was given up before its end was read: `Abandoned` after `Body`; any
+    /// other state is kept.
     pub fn after_abandoned(self) -> InputState
         ensures { result ≡ after_abandoned self }
     {
@@ -90,10 +93,10 @@ impl InputState {
 
 /// The buffered input of a connection. It also stores the `InputState` that the crates that build on this one set.
 ///
-/// The buffer holds 1024 bytes. The reader is called only if the buffer is empty and a byte is wanted, and never again
-/// after its first end or fault: nothing is read ahead beyond one call. By the clauses `lazy` in `specs/Source.antt`, a
-/// call that returned what was asked for met no end or fault; by the clauses `calls`, the reader reports at most one
-/// end or fault in all calls together.
+/// The buffer holds at most 1024 bytes. The reader is called only if the buffer is empty and a byte is wanted, never
+/// again after its first end or fault: nothing is read ahead beyond one call. By the clauses `lazy` in
+/// `specs/Source.antt`, a call that returned what was asked for met no end or fault; by the clauses `calls`, the reader
+/// reports at most one end or fault in all calls together.
 #[derive(Drop)]
 pub struct Source<R: ReadDevice> {
     input: Input<R>,
@@ -160,7 +163,7 @@ impl<R: ReadDevice> Source<R> {
         self.input.stop()
     }
 
-    /// Returns whether another byte follows. Blocks until a byte, the end or a fault arrives.
+    /// Returns whether another byte follows. Unless one is buffered, blocks until a byte, the end or a fault arrives.
     pub fn has_byte(&mut self) -> bool
         ensures looks { LooksForByte self.old self.new result }
         ensures calls { CallsReader R.stop_count self.old self.new }
@@ -168,7 +171,7 @@ impl<R: ReadDevice> Source<R> {
         self.input.has_byte()
     }
 
-    /// Returns the inner reader. Buffered bytes are lost.
+    /// Returns the inner reader. Buffered bytes are discarded.
     pub fn into_inner(self) -> R
         ensures { result ≡ self.reader }
     {
@@ -203,8 +206,8 @@ impl<R: ReadDevice> Source<R> {
 
     /// Reads the next line, as `read_line` does, if the line and its CR LF have at most `left` bytes.
     ///
-    /// Otherwise it fails with `TooLong` as soon as `left` bytes have come, and the source ends. At most `left` bytes
-    /// of the line are copied. The other faults are those of `read_line`.
+    /// If no CR LF is among the next `left` bytes, it fails with `TooLong` as soon as these have come, and the source
+    /// is at its end. At most `left` bytes of the line are copied. The other faults are those of `read_line`.
     pub fn read_line_within(&mut self, alloc: Global, left: usize) -> Result<AsciiString, LineFault>
         ensures reads { ReadsOneLine (Some left) self.old self.new result }
         ensures calls { CallsReader R.stop_count self.old self.new }
@@ -251,8 +254,9 @@ impl<R: ReadDevice> Source<R> {
         self.input.consume(n)
     }
 
-    /// Reads some bytes and returns how many. After the last byte each call reports how the input stopped. If no byte
-    /// is buffered or to be skipped, a read into 1024 bytes or more goes straight to the reader.
+    /// Reads some bytes and returns how many: 0 at the end, or if `buf` is empty. After the last byte each read into a
+    /// nonempty `buf` reports how the input stopped. If no byte is buffered or to be skipped, a read into 1024 bytes or
+    /// more goes straight to the reader.
     pub fn read(&mut self, buf: &mut [u8]) -> Result<usize, io::Error>
         ensures reads { ReadsSource self.old self.new result buf.new }
         ensures stop_count { Tells (R.stop_count self.old.reader) (R.stop_count self.new.reader) result }

@@ -80,7 +80,8 @@ module _ {T : Type 0} where
   AreNumbered least [] next = least ≤ next
   AreNumbered least (entry ∷ entries) next = (least ≤ entry.number) × AreNumbered (entry.number + 1) entries next
 
-  -- THE INVARIANT OF A CONNECTION TABLE: no number occurs twice, and neither limit is exceeded.
+  -- THE INVARIANT OF A CONNECTION TABLE: the numbers increase and are less than the next one, and neither limit is
+  -- exceeded.
   pub record IsKept (table : Connected T) : Type 0 where
     pub numbered : AreNumbered 0 table.entries table.next
     pub few : length table.entries ≤ table.most

@@ -42,7 +42,7 @@ add_count count more = min (count + more) (2 ^ 64 - 1)
 abbrev pub one_more : ℕ → ℕ
 one_more count = add_count count 1
 
--- the refusals after one more refused head, counted by the status code of its response
+-- the refusals after one more refused head, which is counted under the status code of its response
 abbrev pub with_refusal : ℕ → Refusals → Refusals
 with_refusal status r =
     if status == 400 then record r { bad_request = one_more r.bad_request }

@@ -8,7 +8,7 @@ abbrev pub joined : List (List ℕ) → List ℕ
 joined [] = []
 joined (text ∷ texts) = text ++ joined texts
 
--- the text of the refusals: each status code, a colon and its count
+-- the text of the refusals: each status code, and `other`, with a colon and its count, separated by spaces
 unfoldable pub refusals_text : Refusals → List ℕ
 refusals_text r =
     joined (codes "400:" ∷ decimal r.bad_request ∷ codes " 408:" ∷ decimal r.request_timeout

@@ -4,7 +4,7 @@ use Rattle.std.specs.Duration.{as_nanos, max_nanos}
 use Rattle.std.specs.declared.time.Duration.{Duration}
 use Rattle.tiny_http_limits.specs.declared.times.Stall.{Stall}
 
--- WHAT IS LEFT OF A TIME after `gone`: `time - gone` if less than the time is gone, and otherwise nothing (`None`).
+-- WHAT IS LEFT OF A TIME after `gone`: `time - gone` if `gone` is less than `time`, and otherwise nothing (`None`).
 abbrev pub LeavesTime : ℕ → ℕ → Option Duration → Type 0
 LeavesTime gone time (Some left) = (gone < time) × (as_nanos left ≡ time - gone)
 LeavesTime gone time None = time ≤ gone
@@ -18,11 +18,13 @@ abbrev pub AddsCall : Stall → ℕ → ℕ → Stall → Type 0
 AddsCall old waited moved new =
     (as_nanos new.waited ≡ min (as_nanos old.waited + waited) max_nanos) × (new.moved ≡ old.moved + moved)
 
--- the nanoseconds that these bytes take at this rate in bytes per second
+-- the nanoseconds that these bytes take at this rate in bytes per second; their nanoseconds at one byte per second,
+-- which the rate divides, are at most 2^64 - 1
 abbrev pub nanos_of_bytes : ℕ → ℕ → ℕ
 nanos_of_bytes bytes rate = min (bytes * 1_000_000_000) (2 ^ 64 - 1) / rate
 
--- THE EFFECT OF A CALL on a stall at a minimum rate: its wait is added, less the time that its bytes take.
+-- THE EFFECT OF A CALL on a stall at a minimum rate: its wait is added, up to the longest duration, and from that sum
+-- the time that its bytes take is subtracted, but not below 0.
 abbrev pub GivesBack : Stall → ℕ → ℕ → ℕ → Stall → Type 0
 GivesBack old waited moved rate new =
     as_nanos new.waited ≡ min (as_nanos old.waited + waited) max_nanos - nanos_of_bytes moved rate

@@ -11,8 +11,8 @@ pub const FIRST_MILLIS: u64 = 10;
 /// The longest wait, in milliseconds.
 pub const MOST_MILLIS: u64 = 1_000;
 
-/// An exponential backoff: 10 ms at first, doubling with each wait, at most 1,000 ms. A contract sees it as the next
-/// wait in milliseconds.
+/// An exponential backoff: 10 ms at first, doubling with each wait, at most 1000 ms. A contract sees a `Backoff` as the
+/// next wait in milliseconds.
 #[derive(Clone, Copy, Debug, PartialEq, Eq)]
 pub struct Backoff {
     millis: u64,
@@ -40,7 +40,7 @@ impl Backoff {
         }
     }
 
-    /// Returns the next wait. The wait after that is twice as long, up to 1,000 ms.
+    /// Returns the next wait. The wait after that is twice as long, up to 1000 ms.
     pub fn take(&mut self) -> Duration
         ensures wait { as_nanos result ≡ self.old * 1_000_000 }
         ensures next { self.new ≡ min (self.old * 2) 1_000 }

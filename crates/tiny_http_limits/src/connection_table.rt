@@ -29,7 +29,7 @@ impl<T> Entry<T> {
 /// The reason why a connection isn't admitted.
 #[derive(Clone, Copy, Debug, PartialEq, Eq)]
 pub enum Refusal {
-    /// The limit of open connections is reached.
+    /// The limit of open connections is reached, or no number is left.
     Full,
     /// The limit of open connections from its address is reached.
     AddressFull,
@@ -157,7 +157,7 @@ impl<T: Drop> ConnectionTable<T> {
         Some(self.entries.remove(at).item)
     }
 
-    // Returns the position of the connection with this number.
+    // Returns the position of the connection with this number, or `None` if there is no such connection.
     fn position_of(&self, number: u64) -> Option<usize>
         ensures { result ≡ position (has_number number) self.now.entries }
     {

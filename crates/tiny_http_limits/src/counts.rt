@@ -8,7 +8,7 @@ use std::fmt;
 /// The limit that closed a connection.
 #[derive(Clone, Copy, Debug, PartialEq, Eq)]
 pub enum Closing {
-    /// No byte of a head, or of an upgraded stream, came in time.
+    /// No byte of a head came in time, or an upgraded stream was silent for too long.
     Idle,
     /// A head took too long.
     Head,
@@ -23,7 +23,7 @@ pub enum Closing {
 pub struct Summary {
     /// The number of requests that were handed to the application.
     pub requests: u64,
-    /// The status code of the refused head that ended the connection's requests, if there was one.
+    /// The status code of the response to the refused head that ended the connection's requests, if there was one.
     pub refusal: Option<u16>,
     /// The limit that closed the connection, if one did.
     pub closing: Option<Closing>,
@@ -63,7 +63,7 @@ pub struct Counts {
     pub accept_faults: u64,
     /// Connections that were closed at once because the limit of their address was reached.
     pub turned_away: u64,
-    /// Connections closed because no byte of a head, or of an upgraded stream, came in time.
+    /// Connections closed because no byte of a head came in time, or an upgraded stream was silent for too long.
     pub idle: u64,
     /// Connections whose head took too long.
     pub slow_heads: u64,

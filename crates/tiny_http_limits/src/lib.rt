@@ -1,5 +1,6 @@
 //! The limits of a server on an open port, as plain values: the limits themselves, the connection table, timeouts, the
-//! accept backoff, and counters. The crate depends only on the standard library. `tiny_http` re-exports it.
+//! accept backoff, and counters. The crate depends only on the standard library. `tiny_http` re-exports `counts`,
+//! `headcount` and `limits`.
 #![tactic(auto)]
 
 pub mod backoff;

@@ -6,32 +6,32 @@ use crate::times::Patience;
 use std::time::Duration;
 
 /// The limits that a server on an open port imposes on its clients. The defaults, as `Limits::new()` returns them, suit
-/// a process that may have 1,024 open file descriptors.
+/// a process that may have 1024 open file descriptors.
 #[derive(Clone, Copy, Debug, PartialEq, Eq)]
 pub struct Limits {
-    /// Maximum number of open connections: 1,000 by default. At the limit the server accepts no connection until one
+    /// Maximum number of open connections: 1000 by default. At the limit the server accepts no connection until one
     /// closes, and new clients wait in the system's queue. If the limit is 0, no connection is accepted.
     pub connections: usize,
     /// Maximum number of open connections from one IP address: 250 by default. A further connection is closed at once.
     /// Connections over a Unix socket have no address and aren't counted. Behind a proxy all clients have the proxy's
     /// address.
     pub connections_of_address: usize,
-    /// Maximum time for a head, from its first byte on: 30 seconds by default. A slower head is answered with 408. The
-    /// rest of a body that is skipped before the head counts as part of the head.
+    /// Maximum time for a head once its first bytes have come: 30 seconds by default. A slower head is answered with
+    /// 408. The rest of a body that is skipped before the head counts as part of the head.
     pub head_time: Duration,
     /// Maximum time without a byte of a head: 60 seconds by default. The connection is then closed without a response.
-    /// If a request is open when the time ends, or was open when the time began, the time starts over.
+    /// If a request was open when the time began, the time starts over when it ends.
     pub idle_time: Duration,
     /// Maximum time that reads of a body may wait: 60 seconds by default. The bytes of the body give time back, as
-    /// `least_rate` describes. Once the time is over, the read and each later one report `TimedOut`, and the connection
-    /// ends after the response.
+    /// `least_rate` describes. Once the time is over, a read that got no bytes and each later one report `TimedOut`,
+    /// and the connection ends after the response.
     pub body_time: Duration,
     /// Maximum time that writes of responses may wait: 60 seconds by default. The bytes written give time back, as
     /// `least_rate` describes. Once the time is over, the output ends and the connection is closed.
     pub write_time: Duration,
     /// Minimum rate of a body, or of responses, in bytes per second: 500 by default. Each byte gives back the time that
     /// it takes at this rate, but no more than was waited. So the reads of a body of N bytes wait at most `body_time`
-    /// plus N / `least_rate` seconds, and writes likewise. If the rate is 0, there is no minimum: every 4,096 bytes
+    /// plus N / `least_rate` seconds, and writes likewise. If the rate is 0, there is no minimum: every 4096 bytes
     /// give back the whole time.
     pub least_rate: usize,
     /// Maximum time without a byte in either direction on an upgraded stream: 10 minutes by default; `None` means no

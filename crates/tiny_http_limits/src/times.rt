@@ -11,8 +11,8 @@ pub const PIECE: usize = 4_096;
 // The number of nanoseconds in a second.
 const NANOS: u64 = 1_000_000_000;
 
-/// Returns what is left at `now` of a time that began at `begun`, or `None` once the time is over. `begun` and `now`
-/// are readings of one clock; if the clock went back, the whole time is left.
+/// Returns what is left at `now` of the time `time`, which began at `begun`, or `None` if the time is over. `begun` and
+/// `now` are readings of one clock; if the clock went back, the whole time is left.
 pub fn time_left(begun: Duration, now: Duration, time: Duration) -> Option<Duration>
     ensures { LeavesTime (as_nanos now - as_nanos begun) (as_nanos time) result }
 {
@@ -34,12 +34,12 @@ fn time_of_bytes(bytes: usize, rate: usize) -> Duration
     Duration::from_nanos(nanos / rate as u64)
 }
 
-/// The limits of time and rate for waiting on a client.
+/// The limits of time and rate for waiting for a client.
 #[derive(Clone, Copy, Debug, PartialEq, Eq)]
 pub struct Patience {
-    /// The maximum time to wait, less the time that the client's bytes give back.
+    /// The maximum time to wait, not counting the time that the client's bytes give back.
     pub time: Duration,
-    /// The rate, in bytes per second, at which bytes give time back. If it is 0, every 4,096 bytes give back the whole
+    /// The rate, in bytes per second, at which bytes give time back. If it is 0, every 4096 bytes give back the whole
     /// time.
     pub least_rate: usize,
 }
@@ -63,7 +63,7 @@ impl Stall {
         }
     }
 
-    /// Returns what is left of `time` after the time waited, or 0.
+    /// Returns `time` less the time waited, but not less than 0.
     pub fn left(&self, time: Duration) -> Duration
         ensures { as_nanos result ≡ as_nanos time - as_nanos self.now.waited }
     {
@@ -73,7 +73,7 @@ impl Stall {
     /// Counts a call that waited for this time and moved this number of bytes. Returns whether the time is over.
     ///
     /// The bytes give time back, but no more than was waited. The time is over once the whole of `patience.time` has
-    /// been waited, unless the rate is 0 and this call completed a piece of 4,096 bytes.
+    /// been waited, unless the rate is 0 and this call completed a piece of 4096 bytes.
     pub fn count(&mut self, waited: Duration, moved: usize, patience: Patience) -> bool
         ensures rate { 0 < patience.least_rate
             → GivesBack self.old (as_nanos waited) moved patience.least_rate self.new }
@@ -95,7 +95,7 @@ impl Stall {
         self.waited.as_nanos() >= time.as_nanos()
     }
 
-    // Counts a call as `count` does at a rate of 0: each piece of 4,096 bytes gives back the whole time.
+    // Counts a call as `count` does at a rate of 0: each piece of 4096 bytes gives back the whole time.
     fn count_piece(&mut self, waited: Duration, moved: usize, time: Duration) -> bool
         ensures whole { 4_096 ≤ self.old.moved + moved → (result ≡ false) × IsFresh self.new }
         ensures part { self.old.moved + moved < 4_096 → AddsCall self.old (as_nanos waited) moved self.new }

@@ -36,14 +36,14 @@ WithinChunk standard left bytes stop body next =
     × (next ≡ None))
     ⊎ ((length bytes < left) × (body ≡ breaking bytes (fault_of stop)) × (next ≡ None)))
 
--- whether the end of a body, or its fault, was met and not reported yet; `next` is where the next head begins
+-- whether the end of a body, or its fault, has been met and not yet reported; `next` is where the next head begins
 abbrev pub IsMet : List ℕ → Feed → Place → Type 0
 IsMet bytes body next =
     ((body ≡ whole_feed []) × (next ≡ Some bytes)) ⊎ ((kind : ErrorKind) × (body ≡ breaking [] kind) × (next ≡ None))
 
--- WHAT IS LEFT OF A BODY: whether `body` is left of a body of this form, with n bytes left if it is counted, and `next`
--- is where the next head begins. `Chunked`: the rest of a chunk and a chunked body, or a chunked body, or nothing. Any
--- other form: a body of that form.
+-- WHAT IS LEFT OF A BODY: whether `body` is left of a body of this form, with n bytes left if the form has a length,
+-- and `next` is where the next head begins. `Chunked`: the rest of a chunk and a chunked body, or a chunked body, or
+-- nothing. Any other form: a body of that form.
 abbrev pub RemainsAt : Bool → Form → ℕ → List ℕ → Stop → Feed → Place → Type 0
 RemainsAt standard Chunked n bytes stop body next =
     BodyAt standard Chunked n bytes stop body next

@@ -1,4 +1,5 @@
--- The server's error responses: a status without added headers or data, except that a version above 1.1 gets a text.
+-- The server's error responses: a status without added headers or data. Under `Lenient` and `Strict` the response to a
+-- version above 1.1 also has a plain-text body.
 use Rattle.std.specs.Prelude.{ℕ, Bool, true, List, [], ◌∷◌, Option, None, Some, codes, if◌then◌else◌}
 use Rattle.httpdate.specs.declared.date.HttpDate.{HttpDate}
 use Rattle.tiny_http_response.specs.declared.response_context.Persistence.{Persistence}
@@ -25,11 +26,11 @@ own_text_by status p = (response_text (response_of status [] []) p).bytes
 abbrev pub own_text : ℕ → Manner → Bool → HttpDate → List ℕ
 own_text status manner no_body date = own_text_by status (own_printing manner no_body date)
 
--- the body of the response to a version above 1.1
+-- the body of the response to a head that is refused with `VersionNotSupported`
 abbrev pub too_new_text : List ℕ
 too_new_text = codes "This server only supports HTTP versions 1.0 and 1.1"
 
--- the response to a refused head: with a text for a version above 1.1, otherwise the status alone
+-- the response to a refused head: with a plain-text body for `VersionNotSupported`, otherwise the status alone
 abbrev pub refusal_response : Refusal → ResponseValue
 refusal_response VersionNotSupported = response_of (refusal_status VersionNotSupported) (text_plain ∷ []) too_new_text
 refusal_response refusal = response_of (refusal_status refusal) [] []

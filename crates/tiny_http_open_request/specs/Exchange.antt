@@ -40,7 +40,7 @@ exchange_left x feed = remaining x.open_request.body feed
 abbrev pub exchange_printing : Exchange → HttpDate → Printing
 exchange_printing x date = printing_in x.open_request.response_context date
 
--- how the response to an exchange's request is printed now, by what is left of its body
+-- how the response to an exchange's request is printed now, given what is left of its body
 abbrev pub exchange_context : Exchange → ResponseContext
 exchange_context x = final_context x.open_request (remainder x.open_request.body)
 
@@ -74,7 +74,7 @@ KeepsButBody old new =
 abbrev pub GivesUpBody : {R : Type 0} → Exchange → SourceState R → SourceState R → Type 0
 GivesUpBody x old new = GivesUp x.open_request.body old new
 
--- Whether an exchange is that of a request that was read on this date, and of whose body nothing was read yet.
+-- Whether an exchange is that of a request that was read on this date, and of whose body nothing has been read yet.
 pub record KeepsRequest (x : Exchange) (date : HttpDate) : Type 0 where
   pub answer : KeepsHead x.open_request x.head date
   pub body : Fits x.head.framing.by_standard x.open_request.body x.head.framing.form

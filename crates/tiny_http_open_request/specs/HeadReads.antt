@@ -61,7 +61,7 @@ head_fault linefault.TooLong = fault.TooLarge
 head_fault linefault.Memory = fault.Memory
 head_fault _ = fault.Cut
 
--- whether the fault of a head is a bad line, which was read
+-- whether the fault of a head is that of a line which was read: one that isn't ASCII, or is malformed
 abbrev pub IsBadLine : HeadFault → Type 0
 IsBadLine fault.NotAscii = ⊤
 IsBadLine fault.Malformed = ⊤
@@ -69,7 +69,8 @@ IsBadLine fault.Cut = ⊥
 IsBadLine fault.TooLarge = ⊥
 IsBadLine fault.Memory = ⊥
 
--- whether `left` is what is left of a limit after the bytes before `rest`
+-- whether `left` is what is left of the limit after the part of `bytes` that precedes `rest`, or there is neither a
+-- limit nor `left`
 abbrev pub IsSpent : Option ℕ → List ℕ → Option ℕ → List ℕ → Type 0
 IsSpent None bytes None rest = ⊤
 IsSpent (Some limit) bytes (Some left) rest = limit + length rest ≡ left + length bytes
@@ -113,7 +114,8 @@ abbrev pub FindsText : Option ℕ → Option Feed → Option Feed → List ℕ �
 FindsText left old new held skip (Ok line) = FindsLine left old new held skip (Ok line)
 FindsText left old new held skip (Err e) = HasNoLine left old e × (IsBadLine e → ⊥)
 
--- whether the next line exceeds this limit or isn't good, as this fault says
+-- whether the next line is unfinished, exceeds this limit, or isn't good (`IsGood`), as this fault says; always true if
+-- memory is refused
 abbrev pub IsFaulty : Option ℕ → (List ℕ → Type 0) → List ℕ → HeadFault → Type 0
 IsFaulty left IsGood bytes fault.Cut = IsUnfinished bytes × IsShort left bytes
 IsFaulty left IsGood bytes fault.TooLarge = IsTooLong left bytes
@@ -121,7 +123,7 @@ IsFaulty left IsGood bytes fault.NotAscii = FaultyLine IsGood (seen_within left 
 IsFaulty left IsGood bytes fault.Malformed = FaultyLine IsGood (seen_within left bytes) Malformed
 IsFaulty left IsGood bytes fault.Memory = ⊤
 
--- whether a call reads a request line within this limit, of which `left` is left
+-- whether a call reads a request line within this limit, of which `left` is left, or reports why it can't
 abbrev pub ReadsStart : Option ℕ → Option ℕ → Option Feed → Option Feed
     → Result (Method × List ℕ × HTTPVersion) HeadFault → Type 0
 ReadsStart limit left None new r = ⊤
@@ -132,7 +134,8 @@ ReadsStart limit left (Some f) new (Ok r) =
     × IsSpent limit f.bytes left rest
 ReadsStart limit left (Some f) new (Err e) = IsFaulty limit IsRequestLine f.bytes e
 
--- whether a call reads a header line, or the empty line, within this limit, of which `left` is left
+-- whether a call reads a header line, or the empty line, within this limit, of which `left` is left, or reports why it
+-- can't
 abbrev pub ReadsField : Option ℕ → Option ℕ → Option Feed → Option Feed → Result (Option Header) HeadFault → Type 0
 ReadsField limit left None new r = ⊤
 ReadsField limit left (Some f) new (Ok (Some h)) =
@@ -156,7 +159,8 @@ HasReadFields limit left (Some f) new hs =
     × (new ≡ feed_from f rest)
     × IsSpent limit f.bytes left rest
 
--- whether a call reads all header lines and the empty line within this limit, of which `left` is left
+-- whether a call reads all header lines and the empty line within this limit, of which `left` is left, or reports why
+-- it can't
 abbrev pub ReadsFields : {T : Type 0} → (T → List Header) → Option ℕ → Option ℕ → Option Feed → Option Feed
     → Result T HeadFault → Type 0
 ReadsFields items limit left None new r = ⊤
@@ -205,14 +209,15 @@ ReadsMessage limit (Some f) new (Ok m) =
     (rest : List ℕ) × BeginsWithin limit f.bytes (message_of m) rest × (new ≡ feed_from f rest)
 ReadsMessage limit (Some f) new (Err e) = IsFaultyHead limit f.bytes e.0 e.1
 
--- why no request follows if the input stopped in this way, before a head or after bytes of one
+-- why no request follows if the input stopped in this way, after bytes of a head if `has_begun`, and otherwise before
+-- its first byte
 abbrev pub cut_end : Stop → Bool → EndOfRequests
 cut_end (Fault kind) has_begun = because.Fault kind
 cut_end End true = because.Cut
 cut_end End false = because.Closed
 
--- WHY NO REQUEST FOLLOWS by the rules of tiny_http: whether this is the reason that these bytes are no head, and get no
--- response. The head is cut, and not by a timeout; or a line of it isn't ASCII.
+-- WHY NO REQUEST FOLLOWS under the rules of tiny_http: whether this is the reason that these bytes are no head, and get
+-- no response. The head, or a body that is read with it, is cut, and not by a timeout; or a line of it isn't ASCII.
 abbrev pub RulesEndBy : HeadRules → List ℕ → Stop → EndOfRequests → Type 0
 RulesEndBy p bytes stop why =
     (IsCutHead p bytes × (is_timed_out stop ≡ false) × (why ≡ cut_end stop (nat_lt 0 (length bytes))))
@@ -239,16 +244,16 @@ end_at at.Abandoned why = because.AbandonedBody
 end_at (at.Broken kind) why = because.BrokenBody kind
 end_at _ why = why
 
--- Whether a call refuses a head with this status in this manner, by the text of the response, so that no head follows;
--- or memory for that text is refused.
+-- Whether a call refuses a head with this status, returns the text of the response, printed in this manner, and reports
+-- that no head follows; or memory for that text is refused.
 abbrev pub RefusesWith : ℕ → Manner → HttpDate → Result HeadRead AllocError → Type 0
 RefusesWith status v date (Ok (read.Refused code text last)) =
     (code.0 ≡ status) × (text.items ≡ own_text status v false date) × (last ≡ true)
 RefusesWith status v date (Ok _) = ⊥
 RefusesWith status v date (Err e) = ⊤
 
--- Whether a call refuses a head for its version, by the text of the response in version 1.1; `ends` says whether no
--- head follows. Or memory for that text is refused.
+-- Whether a call refuses a head for its version, returns the text of the response in version 1.1, without a body if
+-- `no_body`, and reports in `last` that no head follows exactly if `ends`; or memory for that text is refused.
 abbrev pub RefusesTooNew : Bool → Bool → HttpDate → Result HeadRead AllocError → Type 0
 RefusesTooNew ends no_body date (Ok (read.Refused code text last)) =
     (code.0 ≡ 505)
@@ -277,7 +282,7 @@ AnswersFault v fault.Memory stop date r = IsErr r
 abbrev pub ComesWith : Option Remaining → Stop → Feed → Place → Type 0
 ComesWith left stop body next = left ≡ Some (record { body = body; behind = place_feed stop next })
 
--- whether this is a body with this framing, of which nothing was read
+-- whether this is a body with this framing, of which nothing has been read
 abbrev pub FitsFraming : Framing → UnreadBody → Type 0
 FitsFraming f b = Fits f.by_standard b f.form (body_length_or_0 f) 0 false
 
@@ -301,8 +306,8 @@ TimesOut (Some f) = is_timed_out f.stop ≡ true
 abbrev pub HasByteOrTimedOut : Profile → Option Feed → Type 0
 HasByteOrTimedOut p o = HasByte o ⊎ ((p ≢ under.Standard) × TimesOut o)
 
--- Whether the input is at this place after a refused head: at the next head, or, if the refused one was the last, no
--- head follows.
+-- Whether the input is at this place after a refused head: at the next head, or, if the flag is true, since the refused
+-- head was the last, at none.
 abbrev pub GoesOnAt : Bool → Stop → Place → Option Feed → Type 0
 GoesOnAt true stop next new = next ≡ None
 GoesOnAt false stop next new = new ≡ Some (place_feed stop next)
@@ -354,14 +359,13 @@ abbrev pub IsRequest : HeadRead → Type 0
 IsRequest (read.Request x) = ⊤
 IsRequest _ = ⊥
 
--- whether a head was refused that was read to its end or its first bad line (so not with 408 or 431), and no head
--- follows
+-- whether a head was refused, with another status than 408 and 431, and no head follows
 abbrev pub IsRefusedUncut : HeadRead → Type 0
 IsRefusedUncut (read.Refused status text last) = (status.0 ≢ 408) × (status.0 ≢ 431) × (last ≡ true)
 IsRefusedUncut _ = ⊥
 
--- whether this is the framing of a message by its version and headers; under `Standard` that of a validated head, in
--- the version in which the request is served
+-- whether this is the framing of a message, according to its version and headers; under `Standard` that of a validated
+-- head, in the version in which the request is served
 abbrev pub IsFramedAs : Profile → Texted → Framing → Type 0
 IsFramedAs under.Lenient m f = framing rules.Lenient m.version m.headers ≡ Ok f
 IsFramedAs under.Strict m f = framing rules.Strict m.version m.headers ≡ Ok f
@@ -375,12 +379,11 @@ IsFramedAs under.Standard m f =
 abbrev pub IsFramedHead : Profile → Head → Type 0
 IsFramedHead p h = IsFramedAs p (head_message h) (head_framing h)
 
--- whether a head is framed by its version and headers, and this is what is kept of the request with this head on this
--- date
+-- whether a head is framed as in `IsFramedAs`, and this is what is kept of the request with this head on this date
 abbrev pub IsFramedBy : {B : Type 0} → Profile → HttpDate → Head → OpenRequest B → Type 0
 IsFramedBy p date h kept = IsFramedHead p h × KeepsHead kept h date
 
--- whether a request that was read is framed by its version and headers, and is kept as of this date
+-- whether a request that was read is framed as in `IsFramedAs`, and is kept as of this date
 abbrev pub IsFramedRequest : Profile → HttpDate → HeadRead → Type 0
 IsFramedRequest p date (read.Request x) =
     IsFramedBy p date (exchange_head x) (exchange_open x)
@@ -414,15 +417,15 @@ pub record TakesHead {R : Type 0} (p : Profile) (date : HttpDate) (old new : Sou
   pub last : old.input_state ≡ at.Last → (r ≡ Ok (read.Ended because.LastRequest)) × (new ≡ old)
   pub unread : old.input_state ≡ at.Body
       → (r ≡ Ok (read.Ended because.UnreadBody)) × IsAtEnd new × (new.reader ≡ old.reader)
-  -- The source goes on, or is unchanged.
+  -- Only bytes at the front of the feed are consumed.
   pub goes_on : GoesOn old.feed new.feed
   -- Whatever the reader states: after the end of the source no head follows, and the reader isn't called.
   pub at_end : IsAtEnd old → IsOkEnd r × (new.reader ≡ old.reader)
   -- Unless the result is that no request follows, a byte of a head has come; or, except under `Standard`, the reader
   -- timed out. At the end of the source memory isn't refused.
   pub begun : (IsOkEnd r → ⊥) → HasByteOrTimedOut p old.feed
-  -- Whatever the reader states: a request is framed by its version and headers, its body fits that framing, and the
-  -- text of its drop is that of its head.
+  -- Whatever the reader states: a request is framed as in `IsFramedAs`, its body fits that framing, and what is kept of
+  -- the request is that of its head.
   pub framed : IfOk r (IsFramedRequest p date)
   pub fits : IfOk r FitsHead
   -- Nothing is read ahead: if a request was read, no end or fault of the reader was met.

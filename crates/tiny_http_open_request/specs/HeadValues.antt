@@ -13,7 +13,8 @@ is_rest Counted = false
 is_rest Chunked = false
 
 -- Whether a head asks for an upgrade that its profile accepts: under `Standard` as RFC 9110, section 7.8, requires,
--- unless the connection ends after the request; otherwise by a first `Connection` that contains `upgrade`.
+-- unless the connection ends after the request; otherwise if its first `Connection` contains `upgrade`, so that its
+-- body is the whole rest of the stream.
 abbrev pub is_upgrade : Head → Bool
 is_upgrade h =
     if h.framing.by_standard then h.framing.asks_upgrade && not h.framing.is_last else is_rest h.framing.form

@@ -22,8 +22,8 @@ pub record At (R P O : Type 0) : Type 0 where
 abbrev pub at : {R P O : Type 0} → SourceState R → P → O → At R P O
 at source place output = record { source = source; place = place; output = output }
 
--- How a text is put into the place for refusals; the flag is true if it was. The type of the relation of
--- `RefusalPlace`.
+-- The type of the relation `refuses` of `RefusalPlace`: the place and the output before the call, the text, whether it
+-- was put in the place, and the place and the output after the call.
 abbrev pub Refuses : Type 0 → Type 0 → Type 1
 Refuses P O = P → O → List ℕ → Bool → P → O → Type 0
 
@@ -31,14 +31,14 @@ Refuses P O = P → O → List ℕ → Bool → P → O → Type 0
 abbrev pub Found : Type 0
 Found = Option (Result NextRequest AllocError)
 
--- what is found after a refused head whose response was put in its place: the end if the head was the last, otherwise
--- the next head
+-- what is found after a refused head whose response was put in the place for refusals: the end if the head was the
+-- last, otherwise the next head
 abbrev pub after_refused : StatusCode → Bool → Found
 after_refused status true = Some (Ok (next.Ended (because.Refused status)))
 after_refused status false = None
 
--- whether this is found after a refused head: if the flag is true, its response was put in its place; otherwise memory
--- for that was refused
+-- whether this is found after a refused head: if the second flag is true, its response was put in the place for
+-- refusals; otherwise memory for that was refused
 abbrev pub FollowsRefusal : StatusCode → Bool → Bool → Found → Type 0
 FollowsRefusal status last true found = found ≡ after_refused status last
 FollowsRefusal status last false found = (e : AllocError) × (found ≡ Some (Err e))

@@ -52,7 +52,7 @@ ends_once_finished by_standard owed left = by_standard && (owed || is_long left)
 abbrev pub is_last_once_finished : {B : Type 0} → OpenRequest B → Remainder → Bool
 is_last_once_finished w left = ends_once_finished w.by_standard w.owes_continue left
 
--- whether no head is read after a request by which the raw writer or an upgrade takes over the connection's stream now
+-- whether no head is read after a request whose raw writer or upgrade takes over the connection's stream now
 abbrev pub is_last_with_stream : {B : Type 0} → OpenRequest B → Remainder → Bool
 is_last_with_stream w left = w.holds_next_head || is_last_once_finished w left
 
@@ -62,8 +62,8 @@ is_last_with_stream w left = w.holds_next_head || is_last_once_finished w left
 abbrev pub closes_once_answered : Bool → Bool → Remainder → Bool
 closes_once_answered closes owed left = closes || (owed || not (is_skipped left))
 
--- how the response to an open request is printed now; if the request is the last by its head, its context says so
--- already
+-- how the response to an open request is printed now; if the request is the last according to its head, its context
+-- says so already
 abbrev pub final_context : {B : Type 0} → OpenRequest B → Remainder → ResponseContext
 final_context w left =
     if w.by_standard && closes_once_answered w.closes w.owes_continue left then record w.response_context
@@ -81,8 +81,9 @@ streaming_context w status left =
     if w.by_standard && is_plain (streamed_form w.response_context status) then record (final_context w left)
     { persistence = Some Close } else final_context w left
 
--- Whether a response with this code can upgrade a connection to this protocol, or why not. Under `Standard` the request
--- must ask for the protocol, the code must be 101, and the body must be whole (RFC 9110, section 7.8).
+-- Whether a response with this code can upgrade a connection to this protocol, or why not. The protocol must be ASCII.
+-- Under `Standard` the request must ask for the protocol, the code must be 101, and the body must be whole (RFC 9110,
+-- section 7.8).
 abbrev pub upgrade_check : Bool → Bool → List ℕ → ℕ → Bool → Result ⊤ UpgradeError
 upgrade_check by_standard is_asked protocol code is_whole =
     if not (list_all is_ascii protocol) then Err Protocol else
@@ -132,7 +133,7 @@ HasNoDropText old new = new ≡ record old { owes_continue = false; dropped = re
 abbrev pub HasNoBodyLeft : OpenRequest UnreadBody → OpenRequest UnreadBody → Type 0
 HasNoBodyLeft old new = new ≡ record old { body = Over End; owes_continue = false; holds_next_head = false }
 
--- whether an outlet holds nothing back, and all that it took was sent on
+-- whether an outlet holds nothing back, and all that it took was sent on, unless its writer has ended
 abbrev pub HasSentAll : {W : Type 0} → OutletState W → Type 0
 HasSentAll o = (outlet_held o ≡ []) × SentOn o × IsFlushed (output_of o)
 

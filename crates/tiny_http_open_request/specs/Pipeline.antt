@@ -41,15 +41,15 @@ pub record Request : Type 0 where
 
 -- Why a head is refused.
 pub data Refusal : Type 0 where
-  -- the bytes are no head by the grammar, or the head's framing or host is invalid
+  -- the bytes break the grammar of a head, or the head's framing or host is invalid
   BadRequest : Refusal
-  -- the reader timed out before the head had arrived
+  -- the reader timed out before the head, or a body that is read with it, had arrived
   RequestTimeout : Refusal
   -- the head's expectation can't be met
   ExpectationFailed : Refusal
   -- the head is larger than the profile allows, or has too many field lines
   HeaderFieldsTooLarge : Refusal
-  -- the head's version is above 1.1
+  -- the head's version is above 1.1, under `Lenient` or `Strict`
   VersionNotSupported : Refusal
   -- the head is larger than `Standard` allows, within its request line
   RequestLineTooLong : Refusal
@@ -92,7 +92,7 @@ pub data Item : Type 0 where
   Asks : (request : Request) → Item
   Refuses : (refusal : Refusal) (manner : Manner) (no_body last : Bool) → Item
 
--- The bytes from the next head on; or `None` if the connection has ended.
+-- The bytes from the next head on; or `None` if no head follows.
 abbrev pub Place : Type 0
 Place = Option (List ℕ)
 
@@ -113,7 +113,8 @@ abbrev pub is_connect_method : Method → Bool
 is_connect_method Connect = true
 is_connect_method _ = false
 
--- BY THE RULES OF TINY_HTTP: whether the bytes begin with this head, of at most `limit` bytes, and `after` follows it
+-- UNDER THE RULES OF TINY_HTTP: whether the bytes begin with this head, of at most `limit` bytes if that is given, and
+-- `after` follows it
 abbrev pub BeginsWithin : Option ℕ → List ℕ → Message → List ℕ → Type 0
 BeginsWithin None bytes m after = BeginsWithRequestHead bytes m after
 BeginsWithin (Some limit) bytes m after =
@@ -199,14 +200,15 @@ pub record IsRequestHead (p : HeadRules) (bytes : List ℕ) (m : Message) (f : F
 abbrev pub standard_front : List ℕ → List ℕ
 standard_front bytes = take STANDARD_HEAD bytes
 
--- the version in which a request is served: 1.0 is kept, and any later one counts as 1.1
+-- the version in which a request is served: 1.0 is kept, and any other counts as 1.1
 abbrev pub served_version : HTTPVersion → HTTPVersion
 served_version v = if is_1_0 v then version 1 0 else version 1 1
 
 abbrev pub served_message : Message → Message
 served_message m = record { method = m.method; path = m.path; version = served_version m.version; headers = m.headers }
 
--- the form of a body by the framing of its head; an upgrade has no framing of its own
+-- the form of a body, given whether it is chunked, whether a 100 is owed, and its length, if any; a request for an
+-- upgrade is framed like any other
 abbrev pub standard_form : Bool → Bool → Option ℕ → Form
 standard_form true owed n = Chunked
 standard_form false owed n = sized_form owed n
@@ -229,7 +231,8 @@ standard_refusal validated.InvalidHead = BadRequest
 standard_refusal validated.UnknownCoding = CodingNotImplemented
 standard_refusal validated.UnknownExpectation = ExpectationFailed
 
--- the refusal of a head that has the maximum size and hasn't ended: within its request line, or after it
+-- the refusal of a head that has the maximum size and hasn't ended: within its request line, or after it if the flag is
+-- true
 abbrev pub long_refusal : Bool → Refusal
 long_refusal false = RequestLineTooLong
 long_refusal true = HeaderFieldsTooLarge
@@ -241,7 +244,7 @@ pub data Heading : Type 0 where
   Refused : (refusal : Refusal) (manner : Manner) → Heading
   Heads : (message : Message) (framing : Framing) (after : List ℕ) → Heading
 
--- whether this is the heading of the bytes by the rules of tiny_http
+-- whether this is the heading of the bytes under the rules of tiny_http
 abbrev pub RulesHeadAt : HeadRules → List ℕ → Stop → Heading → Type 0
 RulesHeadAt p bytes stop Silence = HasNoItem p bytes stop
 RulesHeadAt p bytes stop (Refused refusal v) = IsRefused p bytes stop refusal v
@@ -253,7 +256,8 @@ abbrev pub standard_cut : Bool → Stop → Heading
 standard_cut has_begun stop =
     if (has_begun && is_timed_out stop) then Refused RequestTimeout by_the_standard else Silence
 
--- the heading of a head that hasn't ended: cut, or too large
+-- the heading of a head that hasn't ended: cut, or too large; `behind_request_line` says whether its request line has
+-- ended
 abbrev pub standard_open : Bool → List ℕ → Stop → Heading
 standard_open behind_request_line bytes stop =
     if nat_lt (length bytes) STANDARD_HEAD then standard_cut (is_begun bytes) stop
@@ -264,7 +268,7 @@ abbrev pub standard_heads : Message → Framing → List ℕ → Stop → Headin
 standard_heads m f after stop =
     if is_cut_with_head f.form (body_length_or_0 f) after then standard_cut true stop else Heads m f after
 
--- THE HEADING of the bytes under `Standard`, by how the first bytes are read. All refusals are in version 1.1.
+-- THE HEADING of the bytes under `Standard`, given how the first of them are read. All refusals are in version 1.1.
 abbrev pub standard_heading : Reading → List ℕ → Stop → Heading
 standard_heading ReadBad bytes stop = Refused BadRequest by_the_standard
 standard_heading ReadTooMany bytes stop = Refused HeaderFieldsTooLarge by_the_standard

@@ -1,5 +1,5 @@
--- The pipeline of a feed as a computation: from the heading at each position, which is itself computed by the rules of
--- tiny_http. The law of pipelines is proved from it.
+-- The pipeline of a feed as a computation: from the heading at each position, which is itself computed under the rules
+-- of tiny_http. The law of pipelines is proved from it.
 use Rattle.std.specs.Prelude.{ℕ, zero, suc, ◌+◌, Bool, true, false, nat_lt, nat_le, List, [], ◌∷◌, ◌++◌, length, take}
 use Rattle.std.specs.Prelude.{drop, Option, Some, None, unwrap_or, Result, Ok, Err, if◌then◌else◌}
 use Rattle.tiny_http_io.specs.declared.device.Stop.{Stop}
@@ -42,7 +42,7 @@ sized_read n after stop =
     then record { body = record { bytes = after; stop = stop }; next = None }
     else record { body = record { bytes = take n after; stop = End }; next = Some (drop n after) }
 
--- the reading of a counted body, which stops as its profile requires if it is cut
+-- the reading of a body with a Content-Length, which stops as its profile requires if it is cut
 abbrev pub counted_read : Bool → ℕ → List ℕ → Stop → BodyRead
 counted_read standard n after stop = sized_read n after (cut_stop standard stop)
 
@@ -67,7 +67,7 @@ abbrev pub is_full : Option ℕ → List ℕ → Bool
 is_full None bytes = false
 is_full (Some limit) bytes = nat_le limit (length bytes)
 
--- the bytes after a head among all bytes, from those after it among the bytes within the limit
+-- all bytes after a head, given those of them that are within the limit
 abbrev pub all_after : Option ℕ → List ℕ → List ℕ → List ℕ
 all_after None bytes after = after
 all_after (Some limit) bytes after = after ++ drop limit bytes
@@ -85,7 +85,7 @@ heading p bytes stop (Faulty v fault) = faulty (is_full (head_limit p) bytes) v 
 heading p bytes stop (Whole m after) =
     whole_heading m (all_after (head_limit p) bytes after) stop (framing p m.version m.headers)
 
--- the heading of the bytes at a position, by the rules of tiny_http
+-- the heading of the bytes at a position, under the rules of tiny_http
 abbrev pub heading_of : HeadRules → Stop → List ℕ → Heading
 heading_of p stop bytes = heading p bytes stop (request_head_read (seen_within (head_limit p) bytes))
 
@@ -105,6 +105,6 @@ items_from at zero stop place = []
 items_from at (suc fuel) stop place =
     elim place [ None ↦ [] | Some bytes ↦ items_at (items_from at fuel stop) stop (at stop bytes) ]
 
--- the items of a feed's pipeline, by the heading at each position
+-- the items of a feed's pipeline, given the heading at each position
 abbrev pub items_of : Headings → Feed → List Item
 items_of at feed = items_from at (length feed.bytes + 1) feed.stop (Some feed.bytes)

@@ -37,7 +37,7 @@ pub struct Head {
     pub version: HTTPVersion,
     /// The headers, in order.
     pub headers: Vec<Header>,
-    /// How the message is framed, by its version and headers.
+    /// How the request is framed, and whether the connection ends after it.
     pub framing: Framing,
 }
 
@@ -52,10 +52,11 @@ pub struct Exchange {
 /// Why no further request follows.
 #[derive(Clone, Copy, Debug, PartialEq, Eq)]
 pub enum EndOfRequests {
-    /// The last request was read. By its version or its `Connection` header the connection ends after it. Under
-    /// `Standard` it also ends by the method `CONNECT`; if the request was finished while its 100 was owed or more than
-    /// 65,536 bytes of its counted body were unread; and, if the request asked for an upgrade, by its raw writer or its
-    /// upgrade. Under any profile it ends after a response with `Response::with_close`.
+    /// The last request has been read: according to its version or its `Connection` header the connection ends after
+    /// it. Under `Standard` the connection also ends after a `CONNECT` request, after a request that was finished while
+    /// its 100 was owed or more than 65,536 bytes of a body with a `Content-Length` were unread, and after a request
+    /// for an upgrade that was upgraded, or answered through its raw writer. Under any profile it ends after a response
+    /// with `Response::with_close`.
     LastRequest,
     /// The input ended before any byte of a further head. This includes an end within a body of known length (under
     /// `Standard` that is `BrokenBody` once the body was read up to its cut), and an end or a fault within the rest of
@@ -63,7 +64,7 @@ pub enum EndOfRequests {
     Closed,
     /// The input ended within a head, or within a body that is read with its head.
     Cut,
-    /// A line of the head has a byte that isn't ASCII (128 or above).
+    /// A line of the head has a byte that isn't ASCII (128 or above). Not returned under `Standard`.
     NotAscii,
     /// A head was refused with this status, which ended the requests.
     Refused(StatusCode),
@@ -98,7 +99,7 @@ pub enum HeadRead {
 }
 
 impl Exchange {
-    // Creates a request with this head, to which no response was sent yet.
+    // Creates a request with this head, to which no response has been sent yet.
     pub(crate) fn new(head: Head, open_request: OpenRequest<UnreadBody>) -> Exchange
         ensures head { result.head ≡ head }
         ensures open { result.open_request ≡ open_request }
@@ -136,24 +137,26 @@ impl Exchange {
         ensures reads { ReadsBody (exchange_body self.old) (exchange_body self.new) source.old source.new result
             buf.new }
         ensures kept { KeepsButBody self.old self.new }
-        // The source's reader isn't called for a second end or fault, nor for more than the bytes that arrived.
+        // One read meets at most one end or fault of the source's reader, and none if it returns bytes.
         ensures stop_count { Tells (R.stop_count source.old.reader) (R.stop_count source.new.reader) result }
-        // The source's reader isn't called for an end or fault if the body has its own end.
+        // A read meets an end or fault of the source's reader only if the body is then cut or broken, or has no end of
+        // its own.
         ensures whole { R.stop_count source.new.reader ≤ R.stop_count source.old.reader
             + ends_met (exchange_body self.old) (bytes_given result) (exchange_body self.new) }
     {
         self.open_request.read(source, buf)
     }
 
-    /// Sends the response to this request, dated `now`, and flushes it. No 100 is owed afterwards. The caller responds
-    /// to each request once, in order, and then discards the body. Under `Standard` the response says that the
-    /// connection closes if the request is the last by its head, its 100 is owed, more than 65,536 bytes of its body
-    /// are unread, or the end of its body isn't known; the caller then reads no further head. A body discarded before
-    /// this call counts as read. `Response::with_close` is ignored.
+    /// Sends the response to this request, dated `now`, and flushes it. No 100 is owed afterwards. The caller must
+    /// respond to each request exactly once, in order, and then discard the body. Under `Standard` the response says
+    /// that the connection closes if the request is the last according to its head, its 100 is owed, more than 65,536
+    /// bytes of its body are unread, or the end of its body isn't known; the caller must then read no further head. A
+    /// body discarded before this call counts as read. `Response::with_close` is ignored.
     ///
     /// On an outlet that has ended this sends nothing, doesn't read the data, and returns `Ok`. Fails with the first
-    /// fault, of the data or of the writer; if both fail, either may be reported. The outlet has then ended, and the
-    /// bytes held before a fault of the data are sent.
+    /// fault, of the data or of the writer (if both fail, either may be reported), or with `OutOfMemory` if memory for
+    /// data of unknown length is refused. The outlet has then ended; unless the writer failed, the bytes that were held
+    /// are sent.
     pub fn respond_on<W: WriteDevice, D: ReadDevice + Drop>(
         &mut self,
         alloc: Global,
@@ -175,15 +178,16 @@ impl Exchange {
     /// tiny_http). The data are dropped unread, and no 100 is owed afterwards. A fault of the writer ends the outlet,
     /// and isn't reported. An outlet that has ended sends nothing. Allocates nothing.
     ///
-    /// The caller makes this call in the request's turn, in place of a response, and sends neither a response nor the
-    /// text of a drop afterwards. From then on the output is the protocol's, and `read_body` reads its input: the
-    /// request's body, or under `Standard` all that follows that body. Under `Standard` the caller reads no head after
-    /// an upgrade.
+    /// The caller must make this call in the request's turn, instead of sending a response, and must send neither a
+    /// response nor the text of a drop afterwards. From then on the output is the protocol's, and `read_body` reads its
+    /// input: the request's body, or under `Standard` all that follows that body. Under `Standard` the caller must read
+    /// no head after an upgrade.
     ///
     /// # Errors
     /// Fails if the protocol isn't ASCII. Under `Standard` it also fails if the request doesn't ask for this protocol
     /// or is its connection's last, if the code isn't 101, and if the body isn't whole (cut, broken, or not read to its
-    /// end) or was discarded. Then nothing has changed, and the caller drops the request.
+    /// end, unless it was read with the head) or was discarded. Then nothing has changed, and a response or the text of
+    /// a drop is still to be sent.
     pub fn upgrade_on<W: WriteDevice, D: Drop>(
         &mut self,
         alloc: Global,
@@ -214,8 +218,8 @@ impl Exchange {
     }
 
     /// Sends the 100 that is owed to this request, and flushes it (RFC 9110, section 10.1.1). If none is owed, changes
-    /// nothing. The caller makes this call in the request's turn, before the body is read and before the response. A
-    /// fault of the writer ends the outlet, and isn't reported. An outlet that has ended sends nothing. Allocates
+    /// nothing. The caller must make this call in the request's turn, before the body is read and before the response.
+    /// A fault of the writer ends the outlet, and isn't reported. An outlet that has ended sends nothing. Allocates
     /// nothing.
     pub fn send_continue<W: WriteDevice>(
         &mut self,
@@ -233,9 +237,9 @@ impl Exchange {
         self.open_request.send_continue(alloc, outlet, now);
     }
 
-    /// Discards the rest of the body: each later read returns 0, and no 100 is owed. The rest of a body of known length
-    /// is skipped before the next head. If the body is chunked and its end or fault wasn't reported, the source has
-    /// then ended.
+    /// Discards the rest of the body: each later read returns 0, no 100 is owed, and under `Standard` no upgrade is
+    /// accepted. The rest of a body of known length is skipped before the next head. If the body is chunked and its end
+    /// or fault hasn't been reported, this ends the source.
     pub fn give_up<R: ReadDevice>(&mut self, source: &mut Source<R>)
         ensures gives_up { GivesUpBody self.old source.old source.new }
         ensures kept { Changes HasNoBodyLeft self.old self.new }
@@ -246,7 +250,7 @@ impl Exchange {
 
     /// Takes the text that is sent if this request is dropped: an empty 500, printed for the request's version, headers
     /// and method, with the date on which the request was read (as in tiny_http). A later call returns no bytes. No 100
-    /// is owed afterwards. The caller sends the text in the request's turn, in place of a response, and discards the
+    /// is owed afterwards. The caller must send the text in the request's turn, instead of a response, and discard the
     /// body. Allocates nothing.
     pub fn text_of_drop(&mut self) -> Vec<u8>
         ensures text { result.items ≡ exchange_drop_text self.old }

@@ -73,7 +73,8 @@ fn ends_too_new(form: Form) -> bool
     matches!(form, Form::Rest | Form::Chunked)
 }
 
-// Skips a body of which nothing was read. Doesn't call the reader, unless 2^64 bytes or more are to be skipped.
+// Skips a body of known length of which nothing has been read, and does nothing for any other body. Doesn't call the
+// reader, unless 2^64 bytes or more are to be skipped.
 fn skip<R: ReadDevice>(source: &mut Source<R>, body: &UnreadBody)
     ensures passes { PassesOver body.now source.old source.new }
     ensures goes_on { GoesOn source.old.feed source.new.feed }
@@ -88,8 +89,8 @@ fn skip<R: ReadDevice>(source: &mut Source<R>, body: &UnreadBody)
     }
 }
 
-// Refuses a head for its version. If another head follows, skips the body of the refused one. Fails if memory is
-// refused.
+// Refuses a head for its version, under `Lenient` or `Strict`. If another head follows, skips the body of the refused
+// one. Fails if memory is refused.
 pub(crate) fn refuse_too_new<R: ReadDevice>(
     alloc: Global,
     source: &mut Source<R>,

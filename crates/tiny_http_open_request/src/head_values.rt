@@ -48,7 +48,7 @@ impl Head {
         self.framing.asks_upgrade
     }
 
-    /// Returns whether the connection ends after this request (RFC 9112, section 9.3).
+    /// Returns whether the connection ends after this request, according to its head (RFC 9112, section 9.3).
     #[inline(always)]
     pub fn is_last(&self) -> bool
         ensures { result ≡ self.now.framing.is_last }
@@ -96,10 +96,10 @@ impl Head {
     }
 
     /// Returns whether the head asks for an upgrade that its profile accepts (RFC 9110, section 7.8). Under `Standard`
-    /// it must satisfy `asks_upgrade`, and the connection must not end after the request, by its version, by
-    /// `Connection: close` or by its method. In exactly these cases an upgrade to a protocol that `Upgrade` names
-    /// doesn't fail with `NotAsked`. Under the other profiles the first `Connection` must contain `upgrade`; all bytes
-    /// after the head are then its body, and what `Upgrade` names is ignored.
+    /// it must satisfy `asks_upgrade`, and not be the connection's last (`is_last`). In exactly these cases, unless the
+    /// body was discarded, an upgrade to a protocol that `Upgrade` names doesn't fail with `NotAsked`. Under the other
+    /// profiles the first `Connection` must contain `upgrade`; all bytes after the head are then its body, and what
+    /// `Upgrade` names is ignored.
     pub fn is_upgrade(&self) -> bool
         ensures { result ≡ is_upgrade self.now }
     {

@@ -186,8 +186,8 @@ fn read_fields<R: ReadDevice>(
     }
 }
 
-/// Reads a complete head of at most `limit` bytes, including its empty line. Fails with the fault of the head, and with
-/// its version if that was read.
+/// Reads a complete head, including its empty line, of at most `limit` bytes if that is given. Fails with the fault of
+/// the head, and with its version if that was read.
 pub(crate) fn read_message<R: ReadDevice>(
     alloc: Global,
     source: &mut Source<R>,

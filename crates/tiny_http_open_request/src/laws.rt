@@ -6,7 +6,7 @@ ghost use Rattle.tiny_http_open_request.specs.Pipeline.{Item, Pipeline};
 use tiny_http_body::framing::{LONGEST_WITH_HEAD, Profile, STANDARD_HEAD, STRICT_HEAD};
 use tiny_http_standard_head::heads::MOST_HEADERS;
 
-/// The constants of the code that the definitions of a head and of its framing use as numbers.
+/// The values of the constants that the definitions of a head and of its framing use.
 pub fn sizes_of_heads()
     ensures with_head { LONGEST_WITH_HEAD ≡ 1024 }
     ensures strict { STRICT_HEAD ≡ 65536 }

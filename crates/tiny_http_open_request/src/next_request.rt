@@ -1,4 +1,4 @@
-//! The next request of a connection. Refused heads that are followed by another head are skipped.
+//! Reading up to the next request of a connection, past refused heads that another head follows.
 ghost use Rattle.std.specs.Prelude.{ℕ, List, Bool, is_ok};
 ghost use Rattle.tiny_http_open_request.specs.NextRequest.{at, FindsHead, FindsNext};
 
@@ -23,20 +23,20 @@ pub enum NextRequest {
 /// A destination for the responses to refused heads, each sent in the turn of its head. `O` is the output that each
 /// call borrows.
 pub trait RefusalPlace<O> {
-    /// Whether the text was put in the place, or, if the flag is false, wasn't, from the state before the call to that
-    /// after it.
+    /// The effect of `refuse`, as a relation of the place and the output before the call, the text, whether the call
+    /// accepted it, and the place and the output after the call.
     ghost refuses: { Self → O → List ℕ → Bool → Self → O → Type 0 };
 
-    /// Accepts the complete response to a refused head, which is sent in the turn of the head. The call doesn't block.
-    /// Fails if memory is refused.
+    /// Accepts the complete response to a refused head, which must be sent in the turn of the head. The call must not
+    /// block. Fails if memory is refused.
     fn refuse(&mut self, output: &mut O, text: Vec<u8>) -> Result<(), AllocError>
         ensures { refuses self.old output.old text.items (is_ok result) self.new output.new };
 }
 
-/// Reads heads up to that of the next request, and passes the response to each refused head to `place`. A refused head
+/// Reads heads up to that of the next request, and hands the response to each refused head to `place`. A refused head
 /// ends the requests, except that after a 505 the next head is read, unless the refused head names an upgrade, its body
 /// is chunked (as in tiny_http), or the profile is `Standard`. `now` dates the responses to refused heads, and the 500
-/// of a dropped request. Fails if memory is refused, or after 2^64 heads.
+/// of a dropped request. Fails if memory is refused, or after 2^64 refused heads.
 pub fn next_request<R: ReadDevice, O, P: RefusalPlace<O>>(
     alloc: Global,
     source: &mut Source<R>,

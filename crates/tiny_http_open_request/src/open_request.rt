@@ -39,15 +39,16 @@ use tiny_http_response::sending::send_unless_ended;
 use tiny_http_standard_head::validation::{asks_chunked, names_protocol};
 
 /// What the server still owes a request that the application holds: how its response is printed, whether a 100 is owed,
-/// whether the connection closes, and its body. The head went to the application.
+/// whether the connection closes, and its body. The application has the head.
 #[derive(Drop)]
 pub struct OpenRequest<B> {
     /// How the response to this request is printed.
     pub response_context: ResponseContext,
-    /// Whether a 100 is owed that wasn't sent yet.
+    /// Whether a 100 is owed that hasn't been sent yet.
     pub owes_continue: bool,
-    /// Whether the next head isn't read before the response: the request asks for an upgrade, and isn't its
-    /// connection's last. The bytes after it may belong to the other protocol (RFC 9110, section 7.8).
+    /// Whether the next head must not be read before the response: the request asks for an upgrade under `Standard`,
+    /// isn't its connection's last, and its body wasn't discarded. The bytes after it may belong to the other protocol
+    /// (RFC 9110, section 7.8).
     pub holds_next_head: bool,
     /// Whether the request's head was read under `Standard`.
     pub by_standard: bool,
@@ -123,7 +124,7 @@ impl<B: Drop> OpenRequest<B> {
     }
 
     /// Makes the response to this request say, under `Standard`, that the connection closes after it (RFC 9112, section
-    /// 9.6). The caller reads no further head.
+    /// 9.6). The caller must then read no further head.
     pub fn close(&mut self)
         ensures { self.new ≡ closing self.old }
     {
@@ -132,8 +133,8 @@ impl<B: Drop> OpenRequest<B> {
 
     /// Returns whether no head is read after this request if it is now answered or dropped, or its raw writer is taken,
     /// with `left` of its body unread. Under `Standard` this holds while its 100 is owed, since the client may omit the
-    /// body or send it, and both are right (RFC 9110, section 10.1.1). It also holds if more of the body is left than
-    /// the server skips.
+    /// body or send it, and both are right (RFC 9110, section 10.1.1), and if more of the body is left than the server
+    /// skips. Under another profile it never holds.
     pub fn is_last_once_finished(&self, left: Remainder) -> bool
         ensures { result ≡ is_last_once_finished self.now left }
     {
@@ -149,8 +150,9 @@ impl<B: Drop> OpenRequest<B> {
     }
 
     // Returns how the response to this request is printed now, with `left` of its body unread. Under `Standard` the
-    // response says that the connection closes if the request is the last by its head, `close` was called, its 100 is
-    // owed, or the rest of its body isn't skipped: it is long, or its end isn't known (RFC 9112, section 9.6).
+    // response says that the connection closes if the request is the last according to its head, `close` was called,
+    // its 100 is owed, or the rest of its body isn't skipped: it is long, or its end isn't known (RFC 9112, section
+    // 9.6).
     fn final_context(&self, left: Remainder) -> ResponseContext
         ensures { result ≡ final_context self.now left }
     {
@@ -163,8 +165,9 @@ impl<B: Drop> OpenRequest<B> {
     }
 
     /// Returns whether a response with this code is refused. Under `Standard` a code is refused if it isn't final,
-    /// since the client would take a later response for the one to this request (RFC 9110, section 15.2), or hasn't
-    /// three digits. So is a 2xx in response to `CONNECT`, since it would open a tunnel (section 9.3.6).
+    /// since the client would take a later response for the one to this request (RFC 9110, section 15.2), or doesn't
+    /// have three digits. So is a 2xx in response to `CONNECT`, since it would open a tunnel (section 9.3.6). Under
+    /// another profile no code is.
     pub fn refuses(&self, status: StatusCode) -> bool
         ensures { result ≡ refuses_code self.now.by_standard self.now.is_connect status.0 }
     {
@@ -172,10 +175,11 @@ impl<B: Drop> OpenRequest<B> {
         self.by_standard && (!is_final || (self.is_connect && status.0 < 300))
     }
 
-    /// Checks whether a response with this code can upgrade the connection to this protocol; `is_whole` means that the
-    /// whole body was read. Returns the first error that applies. Under `Standard` the request must ask for the
-    /// protocol and not be its connection's last, the code must be 101, and the body must be whole (RFC 9110, section
-    /// 7.8). An element of `Upgrade` with a percent sign doesn't count as a protocol.
+    /// Checks whether a response with this code can upgrade the connection to this protocol, and returns the first
+    /// error that applies; `is_whole` means that the body needs no more input, and has no fault. The protocol must be
+    /// ASCII. Under `Standard` the request must ask for the protocol and not be its connection's last, the code must be
+    /// 101, and the body must be whole (RFC 9110, section 7.8). An element of `Upgrade` with a percent sign doesn't
+    /// count as a protocol.
     pub fn check_upgrade(
         &self,
         protocol: &str,
@@ -189,14 +193,15 @@ impl<B: Drop> OpenRequest<B> {
     }
 
     /// Sends the response to this request, dated `now`, with `left` of its body unread, and flushes it. Under
-    /// `Standard` the response says that the connection closes if the request is the last by its head, `close` was
-    /// called, its 100 is owed, or the rest of its body isn't skipped (RFC 9112, section 9.6). The caller handles
-    /// `Response::with_close`. No 100 is owed afterwards. The caller makes this call in the request's turn, and then
-    /// discards the body.
+    /// `Standard` the response says that the connection closes if the request is the last according to its head,
+    /// `close` was called, its 100 is owed, or the rest of its body isn't skipped (RFC 9112, section 9.6). The caller
+    /// must handle `Response::with_close`. No 100 is owed afterwards. The caller must make this call in the request's
+    /// turn, and then discard the body.
     ///
     /// On an outlet that has ended this sends nothing, doesn't read the data, and returns `Ok`. Fails with the first
-    /// fault, of the data or of the writer; if both fail, either may be reported. The outlet has then ended, and the
-    /// bytes held before a fault of the data are sent.
+    /// fault, of the data or of the writer (if both fail, either may be reported), or with `OutOfMemory` if memory for
+    /// data of unknown length is refused. The outlet has then ended; unless the writer failed, the bytes that were held
+    /// are sent.
     pub fn respond<W: WriteDevice, D: ReadDevice + Drop>(
         &mut self,
         alloc: Global,
@@ -238,7 +243,7 @@ impl<B: Drop> OpenRequest<B> {
     /// that the connection closes if that of `respond` would, or if the end of the connection ends the body. No 100 is
     /// owed afterwards. Doesn't flush.
     ///
-    /// The caller makes this call in the request's turn, and then discards the body. Fails with the writer's first
+    /// The caller must make this call in the request's turn, and then discard the body. Fails with the writer's first
     /// fault. On an outlet that has ended this writes nothing, and returns `Ok`.
     pub fn begin_streaming<W: WriteDevice, D>(
         &mut self,
@@ -257,8 +262,8 @@ impl<B: Drop> OpenRequest<B> {
     }
 
     /// Sends the 100 that is owed to this request, and flushes it (RFC 9110, section 10.1.1). If none is owed, changes
-    /// nothing. The caller makes this call in the request's turn, before the body is read and before the response. A
-    /// fault of the writer ends the outlet, and isn't reported. An outlet that has ended sends nothing. Allocates
+    /// nothing. The caller must make this call in the request's turn, before the body is read and before the response.
+    /// A fault of the writer ends the outlet, and isn't reported. An outlet that has ended sends nothing. Allocates
     /// nothing.
     pub fn send_continue<W: WriteDevice>(
         &mut self,
@@ -285,8 +290,9 @@ impl<B: Drop> OpenRequest<B> {
     /// tiny_http). The data are dropped unread, and no 100 is owed afterwards. A fault of the writer ends the outlet,
     /// and isn't reported. An outlet that has ended sends nothing. Allocates nothing.
     ///
-    /// The caller calls `check_upgrade` first. It makes this call in the request's turn, in place of a response. From
-    /// then on the output is the protocol's, and its input is what the body returns after `become_stream`.
+    /// The caller must call `check_upgrade` first, and make this call in the request's turn, instead of sending a
+    /// response. From then on the output is the protocol's, and its input is what the body returns after
+    /// `become_stream`.
     pub fn upgrade<W: WriteDevice, D: Drop>(
         &mut self,
         alloc: Global,
@@ -317,8 +323,8 @@ impl<B: Drop> OpenRequest<B> {
 
     /// Takes the text that is sent if this request is dropped with `left` of its body unread: an empty 500, printed for
     /// the request's version, headers and method, with the date on which the request was read (as in tiny_http). A
-    /// later call returns no bytes. No 100 is owed afterwards. The caller sends the text in the request's turn, in
-    /// place of a response, and discards the body. Allocates nothing.
+    /// later call returns no bytes. No 100 is owed afterwards. The caller must send the text in the request's turn,
+    /// instead of a response, and discard the body. Allocates nothing.
     pub fn take_drop_text(&mut self, left: Remainder) -> Vec<u8>
         ensures text { result.items ≡ drop_text self.old.dropped (final_context self.old left) }
         ensures once { HasNoDropText self.old self.new }
@@ -328,8 +334,8 @@ impl<B: Drop> OpenRequest<B> {
         self.dropped.take_text(context)
     }
 
-    /// Returns the text that is sent when this request is dropped with `left` of its body unread, and the body. The
-    /// caller discards the body once it has placed the text in the request's turn.
+    /// Returns the text that is sent when this request is dropped with `left` of its body unread, or no bytes if it was
+    /// taken, and the body. The caller must discard the body once it has placed the text in the request's turn.
     pub fn into_drop_text(self, left: Remainder) -> (Vec<u8>, B)
         ensures text { result.0.items ≡ drop_text self.dropped (final_context self left) }
         ensures body { result.1 ≡ self.body }
@@ -350,9 +356,10 @@ impl OpenRequest<UnreadBody> {
     ) -> Result<usize, io::Error>
         ensures reads { ReadsBody self.old.body self.new.body source.old source.new result buf.new }
         ensures kept { self.new ≡ record self.old { body = self.new.body } }
-        // The source's reader isn't called for a second end or fault, nor for more than the bytes that arrived.
+        // One read meets at most one end or fault of the source's reader, and none if it returns bytes.
         ensures stop_count { Tells (R.stop_count source.old.reader) (R.stop_count source.new.reader) result }
-        // The source's reader isn't called for an end or fault if the body has its own end.
+        // A read meets an end or fault of the source's reader only if the body is then cut or broken, or has no end of
+        // its own.
         ensures whole { R.stop_count source.new.reader
             ≤ R.stop_count source.old.reader + ends_met self.old.body (bytes_given result) self.new.body }
     {
@@ -361,7 +368,7 @@ impl OpenRequest<UnreadBody> {
 
     /// Discards the rest of the body: each later read returns 0, no 100 is owed, and under `Standard` no upgrade is
     /// accepted. The rest of a body of known length is skipped before the next head. If the body is chunked and its end
-    /// or fault wasn't reported, the source has then ended.
+    /// or fault hasn't been reported, this ends the source.
     pub fn give_up<R: ReadDevice>(&mut self, source: &mut Source<R>)
         ensures gives_up { GivesUp self.old.body source.old source.new }
         ensures kept { HasNoBodyLeft self.old self.new }

@@ -33,8 +33,8 @@ fn head_of(message: MessageHead, framing: Framing) -> Head
     }
 }
 
-// Reads the head at the source's position, by the rules of tiny_http. After any result but a request the source may be
-// within a head or its body.
+// Reads the head at the source's position, under the rules of tiny_http. After any result but a request the source may
+// be within a head or its body.
 fn read_by_rules<R: ReadDevice>(
     alloc: Global,
     source: &mut Source<R>,
@@ -117,16 +117,16 @@ fn end_at(input_state: InputState, why: EndOfRequests) -> EndOfRequests
     }
 }
 
-/// Reads one head, and with it a body of up to 1024 bytes (RFC 9112, sections 2 to 6). Returns a request, whose body is
-/// then read from the source; a refused head; or the end, with its reason. `now` dates the response to a refused head,
-/// and the 500 of a dropped request. Fails if memory is refused.
+/// Reads one head, and with it a body of `Form::WithHead`, which has up to 1024 bytes (RFC 9112, sections 2 to 6).
+/// Returns a request, whose body is then read from the source; a refused head; or the end, with its reason. `now` dates
+/// the response to a refused head, and the 500 of a dropped request. Fails if memory is refused.
 ///
-/// Under `Lenient` and `Strict` a head is refused with 400 for a bad line, 408 if the reader timed out, even before the
-/// first byte, 417 for an expectation that can't be met, and 505 for a version above 1.1, with a text that names the
-/// supported ones (as in tiny_http). `Strict` also refuses a head with 431 if it hasn't ended within its maximum size
-/// (RFC 6585, section 5), and with 400 if its framing is invalid (RFC 9112, section 6.3). If several faults apply, the
-/// first in this order decides: the first bad line, the size, the framing, the expectation, a cut body that is read
-/// with its head, the version.
+/// Under `Lenient` and `Strict` a head is refused with 400 for a malformed line, 408 if the reader timed out, even
+/// before the first byte, 417 for an expectation that can't be met, and 505 for a version above 1.1, with a plain-text
+/// body that names the supported ones (as in tiny_http). `Strict` also refuses a head with 431 if it hasn't ended
+/// within its maximum size (RFC 6585, section 5), and with 400 if its framing is invalid (RFC 9112, section 6.3). If
+/// several faults apply, the first in this order decides: the first bad line, the size, the framing, the expectation, a
+/// cut body that is read with its head, the version.
 ///
 /// Under `Standard` `tiny_http_standard_head` reads the head. It is refused with 400, 408, 414, 417, 431, 501 or 505,
 /// each an empty response in version 1.1 after which no head follows. A timeout before the first byte of a head gets no
@@ -134,10 +134,10 @@ fn end_at(input_state: InputState, why: EndOfRequests) -> EndOfRequests
 /// host and the framing of the body, its coding, the expectation, a cut body that is read with its head.
 ///
 /// Under the other profiles the next head after a 505 follows the body, which is skipped, unless the head names an
-/// upgrade or the body is chunked. After any other result but a request the source has ended, except after the last
-/// request: then nothing is read, and its body can still be read.
+/// upgrade or the body is chunked. After any other result but a request the source has ended, except for `LastRequest`:
+/// then nothing is read, and the body of the last request can still be read.
 ///
-/// Under `Standard` the caller reads no head before a request that asks for an upgrade is answered or dropped, none
+/// Under `Standard` the caller must read no head before a request that asks for an upgrade is answered or dropped, none
 /// after its upgrade or raw writer, and none after a request that was finished while its 100 was owed or more than
 /// 65,536 bytes of its body were unread. `Connection` ensures that.
 ///

@@ -24,7 +24,7 @@ use tiny_http_standard_head::heads::{StandardFault, StandardHead, StandardRead};
 use tiny_http_standard_head::source_heads::read_head_from;
 use tiny_http_standard_head::validation::HeadSummary;
 
-// Returns the version in which a request is served: any after 1.0 counts as 1.1.
+// Returns the version in which a request is served: any other than 1.0 counts as 1.1.
 fn served_version(version: HTTPVersion) -> HTTPVersion
     ensures { result ≡ served_version version }
 {
@@ -34,7 +34,7 @@ fn served_version(version: HTTPVersion) -> HTTPVersion
     HTTPVersion(1, 1)
 }
 
-// Returns how the body is read; `owed` means that a 100 is owed. An upgrade has no framing of its own.
+// Returns how the body is read; `owed` means that a 100 is owed. A request for an upgrade is framed like any other.
 fn form_of(is_chunked: bool, owed: bool, length: Option<usize>) -> Form
     ensures { result ≡ standard_form is_chunked owed length }
 {

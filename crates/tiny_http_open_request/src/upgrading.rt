@@ -25,7 +25,7 @@ pub enum UpgradeError {
     #[error("the protocol's name is not ASCII")]
     Protocol,
     /// Under `Standard`: the request doesn't ask for this protocol, or can't be upgraded because it is its connection's
-    /// last.
+    /// last or its body was discarded.
     #[error("the request does not ask for this protocol, or is the last")]
     NotAsked,
     /// Under `Standard`: the response's code isn't 101.
@@ -40,8 +40,8 @@ pub enum UpgradeError {
 }
 
 /// Checks whether a response with this code can upgrade a connection to a protocol of this name, and returns the first
-/// error that applies. Under `Standard` the request must ask for the protocol, the code must be 101, and the body must
-/// be whole (RFC 9110, section 7.8).
+/// error that applies. The name must be ASCII. Under `Standard` the request must ask for the protocol (`is_asked`), the
+/// code must be 101, and the body must be whole (`is_whole`; RFC 9110, section 7.8).
 pub fn check_upgrade(
     by_standard: bool,
     is_asked: bool,

@@ -30,7 +30,7 @@ pub record BodyState : Type 0 where
   -- What the connection's input still gives, if the body holds it. If the body passed the input on: what the input gave
   -- when the body was made. If the body never held the input: an ended feed.
   pub input : Option Feed
-  -- whether the body holds the input, and whether it does so after its own end, until its request is answered or
+  -- whether the body holds the input, and whether it still does after the body's end, until its request is answered or
   -- dropped
   pub holds_input : Bool
   pub outlasts : Bool
@@ -69,7 +69,7 @@ pub record GivesOnInput (old new : BodyState) : Type 0 where
   pub outlasts : new.outlasts ≡ old.outlasts
   pub holds_input : new.holds_input ≡ (is_streaming new.unread || old.outlasts)
 
--- ONE READ OF A BODY: how far the body was read, and what holds if the connection's reader states no feed; `Reads`
+-- ONE READ OF A BODY: how far the body was read, and what holds even if the connection's reader states no feed; `Reads`
 -- defines the bytes. A body that came with its head gives its next bytes, and none only at its end. A body that reports
 -- its end is read no further, and no fault ended it. A body that is over reports its end or fault again. A read into an
 -- empty buffer changes nothing.

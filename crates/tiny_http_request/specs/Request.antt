@@ -53,7 +53,7 @@ request_open r = with_body r.open_request r.open_request.body.unread
 abbrev pub request_body : {R : Type 0} → {W : Type 0} → {Rt : Type 0} → Request R W Rt → BodyState
 request_body r = r.open_request.body
 
--- whether a call failed with `InvalidInput`, as one does whose response is refused
+-- whether a call failed with `InvalidInput`, as it does if the response is refused
 abbrev pub IsInvalidInput : {T : Type 0} → Result T Error → Type 0
 IsInvalidInput (Ok x) = ⊥
 IsInvalidInput (Err e) = error_kind e ≡ InvalidInput

@@ -28,8 +28,9 @@ error_by _ _ e = Io e
 abbrev pub fault_error : Form → Error → BodyError
 fault_error form e = error_by form (error_kind e) e
 
--- Why reading a body on ended, whatever its form. `TooLong`: a body of unknown length has more bytes than the limit.
--- `Cut`: the bytes of a body of a known length ended early. `Io`: a fault was reported. `Memory` is unrestricted.
+-- Why reading the rest of a body failed, whatever its form. `TooLong`: a body of unknown length has more bytes than the
+-- limit. `Cut`: the bytes of a body of a known length ended early. `Io`: a fault was reported. `Memory` is
+-- unrestricted.
 abbrev pub FailsReading : UnreadBody → UnreadBody → BodyError → Type 0
 FailsReading old new TooLong = (bytes_left old ≡ None) × ((kind : ErrorKind) → body_stop old ≡ Some (Fault kind) → ⊥)
 FailsReading old new Cut = (is_streaming old ≡ true) × IsBodyOver new
@@ -37,7 +38,7 @@ FailsReading old new Broken = ⊥
 FailsReading old new (Io e) = body_stop new ≡ Some (Fault (error_kind e))
 FailsReading old new Memory = ⊤
 
--- whether a body of this form is framed so that its end can be missed
+-- whether a body of this form is read from the input, and its framing says where it ends
 abbrev pub HasAnEnd : Form → Type 0
 HasAnEnd form = (form ≡ Counted) ⊎ (form ≡ Chunked)
 

@@ -9,7 +9,7 @@ use tiny_http_io::outlet::Outlet;
 use tiny_http_open_request::open_request::OpenRequest;
 use tiny_http_threads::sequential::SequentialWriter;
 
-/// Makes the body the stream of an upgrade. No head follows if the stream takes over the connection.
+/// Makes the body the stream of an upgrade, and ends the requests if `is_last_with_stream` applies.
 pub(crate) fn read_stream<R: ReadDevice + Drop, Rt: Wait + Drop>(
     open_request: &mut OpenRequest<Body<R, Rt>>,
 )
@@ -23,7 +23,8 @@ pub(crate) fn read_stream<R: ReadDevice + Drop, Rt: Wait + Drop>(
 }
 
 /// Waits for the turn of a request whose response begins, and returns what is left of the request's body. If `ends`
-/// holds, the response ends the connection. No head is read after the request if it is the last once finished.
+/// holds, no further request is handed out. If this is the connection's last response, it says so under `Standard`. No
+/// head is read after a request to which `is_last_once_finished` applies.
 pub(crate) fn begin_answer<R: ReadDevice + Drop, W: WriteDevice + Drop, Rt: Wait + Drop>(
     open_request: &mut OpenRequest<Body<R, Rt>>,
     writer: &mut SequentialWriter<Outlet<W>, Rt>,

@@ -30,7 +30,7 @@ pub(crate) enum GivesOn {
     Never,
 }
 
-// Drops the reader, and ends the requests: no head is read after it.
+// Drops the reader, and ends the requests: no further head is read.
 fn end_behind<R: ReadDevice + Drop, Rt: Wait + Drop>(reader: HeldReader<Source<R>, Rt>) {
     let mut reader = reader;
     reader.turn.item.set_input_state(InputState::Last);
@@ -46,7 +46,7 @@ fn end_behind<R: ReadDevice + Drop, Rt: Wait + Drop>(reader: HeldReader<Source<R
 /// Under `Standard` the body of a request that asks for an upgrade holds the input until the request is answered or
 /// dropped. No head follows if the request's raw writer is taken or the request is upgraded; once upgraded, its body
 /// reads all that follows. Nor does a head follow a request that is finished while its 100 is owed, or while more than
-/// 65,536 bytes of its body are unread.
+/// 65,536 bytes of a body with a `Content-Length` are unread.
 ///
 /// After the end each read returns 0. After a fault, the client's or the body's own, each read fails with that fault,
 /// even one of kind `Interrupted`. The standard library's `read_to_end` and `read_to_string` retry that kind without
@@ -106,8 +106,8 @@ impl<R: ReadDevice + Drop, Rt: Wait + Drop> Model for Body<R, Rt> {
 }
 
 impl<R: ReadDevice + Drop, Rt: Wait + Drop> Body<R, Rt> {
-    /// Returns a body with the reader of the input, which it has if it is read from there or the next head waits for
-    /// the response.
+    /// Creates a body. `reader` holds the input; it is given exactly if the body is read from the input, or the next
+    /// head waits for the response.
     pub(crate) fn new(
         unread: UnreadBody,
         reader: Option<HeldReader<Source<R>, Rt>>,
@@ -141,7 +141,7 @@ impl<R: ReadDevice + Drop, Rt: Wait + Drop> Body<R, Rt> {
         self.unread.is_whole()
     }
 
-    /// Returns how many bytes of the body are left, if a length states it.
+    /// Returns how many bytes of the body are left, if that is known.
     pub(crate) fn left(&self) -> Option<usize>
         ensures { result ≡ bytes_left self.now.unread }
     {

@@ -42,7 +42,7 @@ pub(crate) struct Client {
 pub(crate) struct Links {
     /// Whether the connection's flushes may hold their bytes, if they ever may.
     pub flush_policy: Option<Arc<FlushPolicy>>,
-    /// The connection's timers, if the request reads from the connection and timers are set.
+    /// The connection's timers, if they are set. A request has them only if it reads from the connection.
     pub timers: Option<Arc<ConnectionTimers>>,
 }
 
@@ -73,7 +73,7 @@ enum NextHead<R: ReadDevice + Drop, Rt: Wait + Drop> {
 impl<R: ReadDevice + Drop, Rt: Wait + Drop> NextHead<R, Rt> {
     ghost use Rattle.tiny_http_request.specs.Client.{source_here};
 
-    // Waits until the previous request passes the input on.
+    // Returns the input. If the previous request took it, waits until that request passes it on.
     fn hold(self) -> HeldReader<Source<R>, Rt>
         ensures { IfSome (source_here self) (λ source. held_item result ≡ source) }
     {
@@ -207,8 +207,8 @@ impl<R: ReadDevice + Drop, W: WriteDevice + Drop, Rt: Wait + Copy> ClientConnect
     ///
     /// The policy lets them once the connection hands out a request whose turn has come, whose body isn't read from the
     /// connection, and which asks for no upgrade under `Standard`; it stops when any other request is handed out. A raw
-    /// writer, an upgrade and a 100 end it too. The caller has the `Cork` of this policy send the held bytes: with
-    /// `send_unless_leaving` after each `next`, and with `send` at the end.
+    /// writer, an upgrade, a streamed body and a 100 stop it too. The caller has the `Cork` of this policy send the
+    /// held bytes: with `send_unless_leaving` after each `next`, and with `send` at the end.
     pub fn set_flush_policy(&mut self, flush_policy: Arc<FlushPolicy>)
         ensures over { IsOver self.new ↔ IsOver self.old }
         ensures input { client_source self.new ≡ client_source self.old }
@@ -223,9 +223,9 @@ impl<R: ReadDevice + Drop, W: WriteDevice + Drop, Rt: Wait + Copy> ClientConnect
     /// limit of open requests, which is at least 2: before a head, and before the response to a refused head, `next`
     /// waits until fewer are open. A `TimedReader` and a `TimedWriter` apply the other limits.
     ///
-    /// `next` returns `None` once the timers were stopped. With limits it also does once a response ended the output
-    /// without being whole: its data were too short or failed, or the writer did; the client of a socket then sees end
-    /// of file. Fails if no further handle to the timers can be made.
+    /// `next` returns `None` once the timers have been stopped. With limits it also does once a response ended the
+    /// output without being whole: its data were too short or failed, or the writer did; the client of a socket then
+    /// sees end of file. Fails if no further handle to the timers can be made.
     pub fn set_timers(&mut self, timers: Arc<ConnectionTimers>) -> Result<(), AllocError>
         ensures over { IsOver self.new ↔ IsOver self.old }
         ensures input { client_source self.new ≡ client_source self.old }
@@ -250,13 +250,13 @@ impl<R: ReadDevice + Drop, W: WriteDevice + Drop, Rt: Wait + Copy> ClientConnect
     /// program that makes this call on the same thread does that first. It returns `None` after such a request if its
     /// raw writer was taken or it was upgraded; if the stream of the upgrade still reads, once the stream has ended.
     /// Under `Standard` it also returns `None` after a request that was finished while its 100 was owed, or while more
-    /// than 65,536 bytes of its body were unread.
+    /// than 65,536 bytes of a body with a `Content-Length` were unread.
     ///
-    /// It returns `None` too once a response that was made by `with_close` was sent; a call that waits for the client
-    /// then returns when the client sends a head or ends. The client of a socket sees end of file after the last
-    /// response, as `Request::respond` says. Refused heads are answered in their turn, for which the call doesn't wait.
-    /// They end the requests, but after a head with a version above 1.1 the next head is read, unless the refused head
-    /// names an upgrade or its body is chunked.
+    /// It returns `None` too once a response made with `with_close` has been sent; a call that waits for the client
+    /// then returns when the client sends a head, or sends no more. The client of a socket sees end of file after the
+    /// last response, as `Request::respond` says. Refused heads are answered in their turn, for which the call doesn't
+    /// wait. They end the requests, except that under `Lenient` and `Strict` the next head is read after one with a
+    /// version above 1.1, unless that one names an upgrade or its body is chunked.
     pub fn next(&mut self, now: HttpDate) -> Result<Option<Request<R, W, Rt>>, AllocError>
         ensures over { IsOver self.old → (result ≡ Ok None) × IsOver self.new }
         ensures none { IfOk result (λ r. IfNone r (IsOver self.new)) }

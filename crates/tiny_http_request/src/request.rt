@@ -271,7 +271,8 @@ impl<R: ReadDevice + Drop, W: WriteDevice + Drop, Rt: Wait + Drop> Request<R, W,
         self.head.body_length()
     }
 
-    /// Returns the client's address. A client of a Unix socket has none.
+    /// Returns the client's address. A client of a Unix socket has none, nor has one whose address the system doesn't
+    /// know.
     pub fn remote_addr(&self) -> Option<&SocketAddr>
         ensures { option_copied result ≡ request_address self.now }
     {
@@ -339,9 +340,9 @@ impl<R: ReadDevice + Drop, W: WriteDevice + Drop, Rt: Wait + Drop> Request<R, W,
     /// the body continues at the current position. A later call reports a fault again, and `Cut` too, except for a body
     /// of a known length under `Lenient` and `Strict`: that body is over, and a later call returns no bytes.
     ///
-    /// No error responds to the request: a handler that returns it by `?` drops the request, which sends a 500.
-    /// `BodyError` lists the status code for each error. A body that is all that follows the head, such as that of an
-    /// upgrade under each profile except `Standard`, ends with the client's bytes.
+    /// An error sends no response: a handler that returns it with `?` drops the request, which sends a 500. `BodyError`
+    /// lists the status codes that fit. A body that is all that follows the head, such as that of an upgrade under each
+    /// profile except `Standard`, ends with the client's bytes.
     pub fn read_body(
         &mut self,
         alloc: Global,
@@ -391,20 +392,20 @@ impl<R: ReadDevice + Drop, W: WriteDevice + Drop, Rt: Wait + Drop> Request<R, W,
     /// A fault of kind `BrokenPipe`, `ConnectionAborted`, `ConnectionRefused` or `ConnectionReset` isn't reported, even
     /// from the data. Fails with `UnexpectedEof` if the data end before their stated length; if they are sent in
     /// chunks, only under `Standard`. Under `Standard` it fails with `InvalidInput` if the status code is below 200 or
-    /// above 999, or 2xx to `CONNECT`; then the request is dropped.
+    /// above 999, or is 2xx in response to a `CONNECT`; then the request is dropped.
     ///
     /// Under `Standard` no request follows one that is answered or dropped while its 100 is owed, or while more than
-    /// 65,536 bytes of its body are unread. Then the response says `Connection: close`, as it does if the request is
-    /// the last by its head or the end of its body isn't known (RFC 9112, section 9.6).
+    /// 65,536 bytes of a body with a `Content-Length` are unread. Then the response says `Connection: close`, as it
+    /// does if the request is the last according to its head, or the end of its body isn't known (RFC 9112, section
+    /// 9.6).
     ///
-    /// After a response that was made by `with_close` no further request is handed out. Under `Standard` the response
-    /// to the last number says `Connection: close`: this response, or that to a later request or refused head. The
-    /// response to a later request doesn't say it if that request was already dropped, is upgraded, or gives its raw
-    /// writer.
+    /// After a response made with `with_close` no further request is handed out. Under `Standard` the connection's last
+    /// response says `Connection: close`: this one, or that to a later request or refused head. The response to a later
+    /// request doesn't say it if that request was already dropped, is upgraded, or gives its raw writer.
     ///
     /// Under each profile the writer signals that no byte follows once that last response is flushed: the client of a
     /// socket then sees end of file, even while a thread waits for the next head. It signals nothing after a raw writer
-    /// or an upgrade, nor after a text that was left and is written when the turn of that writer or upgrade ends.
+    /// or an upgrade, nor after responses that waited for the turn of that writer or upgrade to end.
     pub fn respond<D: ReadDevice + Drop>(
         self,
         response: Response<D>,
@@ -434,12 +435,13 @@ impl<R: ReadDevice + Drop, W: WriteDevice + Drop, Rt: Wait + Drop> Request<R, W,
     /// flush, or once 8192 bytes have been written.
     ///
     /// The body is sent in chunks (RFC 9112, section 7.1). For a request of version 1.0 or lower it is sent as it is,
-    /// and ends with the connection (section 6.3): no further request is handed out, and responses to those that were
-    /// are lost. The body isn't sent if none is allowed (`HEAD`, or a code without content): if `StreamedBody::form` is
-    /// `Absent`, call `finish` at once, since no call would report that the client has disconnected.
+    /// and ends with the connection (section 6.3): no further request is handed out, and responses to later requests
+    /// that were already handed out are lost. The body isn't sent if none is allowed (`HEAD`, or a code without
+    /// content): if `StreamedBody::form` is `Absent`, call `finish` at once, since no write would report that the
+    /// client has disconnected.
     ///
     /// Fails with `InvalidInput` if `respond` would refuse the status code; then the request is dropped. Fails with the
-    /// fault of the client's writer, or with `BrokenPipe` if one ended the connection's output before. The rules of
+    /// fault of the client's writer, or with `BrokenPipe` if the connection's output had already ended. The rules of
     /// `respond` on the end of the connection and on `with_close` apply.
     pub fn respond_streaming<D: Drop>(
         self,
@@ -474,7 +476,8 @@ impl<R: ReadDevice + Drop, W: WriteDevice + Drop, Rt: Wait + Drop> Request<R, W,
 
     /// Takes the raw writer in place of a response, and gives up the body. The client gets only what is written, after
     /// a 100 that was sent before. The turn ends when the writer is dropped. Under `Standard` no request follows one
-    /// that asks for an upgrade, whose 100 is owed, or of whose body more than 65,536 bytes are unread.
+    /// that asks for an upgrade, whose 100 is owed, or that has a body with a `Content-Length` of which more than
+    /// 65,536 bytes are unread.
     pub fn into_writer(self) -> SequentialWriter<Outlet<W>, Rt> {
         self.send_at_flush();
         let (mut open_request, writer) = self.into_parts();
@@ -520,9 +523,9 @@ impl<R: ReadDevice + Drop, W: WriteDevice + Drop, Rt: Wait + Drop> Request<R, W,
         Ok(self.begin_stream(protocol, response, is_whole, now))
     }
 
-    /// Upgrades as `upgrade` does, but under each profile only if the head asks for this protocol, by `is_upgrade` and
-    /// by an `Upgrade` header that lists it; otherwise it fails with `NotAsked`. If the upgrade is refused, nothing was
-    /// sent, and the error returns the request, which can still be answered. The response is dropped.
+    /// Upgrades as `upgrade` does, but under each profile only if the head asks for this protocol: `is_upgrade`
+    /// applies, and the `Upgrade` headers list it; otherwise it fails with `NotAsked`. If the upgrade is refused,
+    /// nothing was sent, and the error returns the request, which can still be answered. The response is dropped.
     pub fn try_upgrade<D: Drop>(
         self,
         protocol: &str,
@@ -621,9 +624,9 @@ impl<R: ReadDevice + Drop, W: WriteDevice + Drop, Rt: Wait + Drop> Request<R, W,
 }
 
 impl<R: ReadDevice + Drop, W: WriteDevice + Drop, Rt: Wait + Drop> Drop for Request<R, W, Rt> {
-    /// Leaves the turn with an empty 500, and then gives up the body. Under `Standard` the 500 says `Connection: close`
-    /// as a response by `respond` does. If the 500 is the last response after one that asked to close the connection,
-    /// the writer signals that no byte follows, as `respond` describes.
+    /// Leaves an empty 500 for the request's turn, and then gives up the body. Under `Standard` the 500 says
+    /// `Connection: close` if a response from `respond` would. If the 500 is the last response after one that asked to
+    /// close the connection, the writer signals that no byte follows, as `respond` describes.
     fn drop(self) {
         let (mut open_request, writer) = self.into_parts();
         let left = open_request.body.remainder();

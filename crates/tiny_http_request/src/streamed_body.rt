@@ -17,14 +17,14 @@ use tiny_http_threads::sequential::SequentialWriter;
 /// whole.
 ///
 /// The call that meets the first fault of the client's writer fails with that fault. Each later call fails with
-/// `BrokenPipe`, and nothing more is sent on the connection. If the body isn't sent at all, no call reports a fault: a
-/// program whose body has no end checks `form` first.
+/// `BrokenPipe`, and nothing more is sent on the connection. If the body isn't sent at all, only the call that sends
+/// the head can meet a fault: a program whose body has no end must check `form` first.
 pub struct StreamedBody<W: WriteDevice + Drop, Rt: Wait + Drop> {
     body: Streamed<SequentialWriter<Outlet<W>, Rt>>,
 }
 
 impl<W: WriteDevice + Drop, Rt: Wait + Drop> StreamedBody<W, Rt> {
-    // Returns an empty body, after its head was written.
+    // Creates the empty body of a response whose head has already been written.
     pub(crate) fn new(
         writer: SequentialWriter<Outlet<W>, Rt>,
         form: StreamedForm,

@@ -225,7 +225,7 @@ impl TestRequest {
         request
     }
 
-    /// Makes the connection encrypted.
+    /// Marks the connection as encrypted.
     pub fn with_https(self) -> TestRequest
         ensures { result ≡ record self { secure = true } }
     {
@@ -243,8 +243,7 @@ impl TestRequest {
         request
     }
 
-    /// Sets the request target. Fails with `Refused` if the target isn't ASCII, and only then; with `Memory` if memory
-    /// is refused.
+    /// Sets the request target. Fails with `Refused` if the target isn't ASCII, and with `Memory` if memory is refused.
     pub fn with_path(self, alloc: Global, path: &str) -> Result<TestRequest, ParseError>
         ensures path { IfOk result (λ r. r ≡ record self { path = path.now }) }
         ensures refused { IsErrOf result ParseError.Refused ↔ ¬ (IsAscii path.now) }
@@ -280,7 +279,7 @@ impl TestRequest {
         Ok(request)
     }
 
-    /// Makes the request, and discards its response. Otherwise it is like `into_request_over`.
+    /// Makes the request as `into_request_over` does. Its response is discarded.
     pub fn into_request<Rt: Wait + Copy>(
         self,
         rt: Rt,

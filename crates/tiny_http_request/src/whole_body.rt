@@ -84,7 +84,7 @@ impl From<BodyError> for io::Error {
 // Returns the error for a fault of a body of this form.
 fn fault_error(form: Form, fault: io::Error) -> BodyError
     ensures error { result ≡ fault_error form fault }
-    // If each later read reports this fault, it is a failure of the whole body.
+    // If each later read of the body reports this fault, the error is one that `FailsWhole` allows.
     ensures fails { (most : ℕ) (old new : UnreadBody)
         → body_stop new ≡ Some (Fault (error_kind fault))
         → FailsWhole form most old new result }

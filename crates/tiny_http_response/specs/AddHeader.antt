@@ -14,7 +14,7 @@ is_reserved name =
     || (same_name name (codes "Trailer")
     || (same_name name (codes "Transfer-Encoding") || same_name name (codes "Upgrade")))
 
--- the list after the value of its first header with this name is replaced with this one
+-- the list after this value has replaced that of its first header with this name, if there is one
 abbrev pub with_value : List ℕ → List ℕ → List Header → List Header
 with_value name value [] = []
 with_value name value (h ∷ hs) =
@@ -31,12 +31,13 @@ headers_with h headers =
     then with_value (codes "Content-Type") h.value headers
     else headers ++ h ∷ []
 
--- the response with this length of its data, if there is one
+-- the response with the length of its data set to this one, or unchanged if there is none
 abbrev pub with_length : Option ℕ → Answer → Answer
 with_length None a = a
 with_length (Some n) a = record a { data_length = Some n }
 
--- THE RESPONSE WITH A HEADER ADDED: a reserved header is ignored, and a Content-Length only sets the length of the data
+-- THE RESPONSE WITH A HEADER ADDED: a reserved header is ignored; a Content-Length sets the length of the data if its
+-- value is a length, and is otherwise ignored; any other is added to the list, as in `headers_with`
 abbrev pub add_header : Header → Answer → Answer
 add_header h a =
     if is_reserved h.field then a else

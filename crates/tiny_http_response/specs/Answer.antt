@@ -120,7 +120,8 @@ answer_head_text version status upgrade headers listed date framing =
     status_line version status ++ upgrade_lines upgrade ++ server_line headers ++ date_line headers date
     ++ flat_map field_line_of listed ++ framing_line framing ++ codes "\r\n"
 
--- whether the body is omitted: if `asked`, and for the codes 100 to 199, 204 and 304 (RFC 9112, section 6.3)
+-- whether the body is omitted: if the request is a HEAD (`asked`), and for the codes 100 to 199, 204 and 304 (RFC 9112,
+-- section 6.3)
 abbrev pub is_withheld : Bool → ℕ → Bool
 is_withheld asked status = asked || has_no_content status
 
@@ -138,13 +139,14 @@ pub record Printing : Type 0 where
 abbrev pub body_unless_withheld : Bool → Text → Text
 body_unless_withheld withheld body = if withheld then whole [] else body
 
--- the text of a response whose data are read whole before its head is sent: nothing is sent if the data fail
+-- the text of a response whose data are read whole before its head `front` is sent, given how the data stop, whether
+-- the body is withheld, and the bytes of the data: nothing is sent if the data fail
 abbrev pub gathered_body : Stop → List ℕ → Bool → List ℕ → Text
 gathered_body End front withheld bytes = whole (front ++ (if withheld then [] else bytes))
 gathered_body (Fault kind) front withheld bytes = nothing_sent kind
 
--- The text of a response without a transfer coding. Its length is `Some n` if known; `head` returns the head for each
--- framing.
+-- The text of a response without a transfer coding. The length of its data is `Some n` if known; `head` returns the
+-- head for each framing.
 abbrev pub uncoded_text : Option ℕ → (FramingHeader → List ℕ) → Bool → Feed → Text
 uncoded_text (Some n) head withheld feed =
     prepend_text (head (ContentLength n)) (body_unless_withheld withheld (identity_body n feed))
@@ -158,7 +160,8 @@ coded_text Identity says length head withheld feed = uncoded_text length head wi
 coded_text Chunked says length head withheld feed =
     prepend_text (head TransferEncoding) (body_unless_withheld withheld (chunked_body (owing (owed says length) feed)))
 
--- the headers listed after the date: for an upgrade the response's own, without a further `Connection` or `Upgrade`
+-- the headers listed after the date: for an upgrade only those that were added to the response, as in `own_headers`,
+-- and otherwise as in `listed_headers`
 abbrev pub listed_with : Option (List ℕ) → Option Persistence → HTTPVersion → Answer → List Header
 listed_with None says version a = listed_headers says version a.status a.offered a.headers
 listed_with (Some protocol) says version a = own_headers says a.headers
@@ -179,7 +182,8 @@ text_by_code (Some framing) a feed p = whole (head_text_of a p framing)
 text_by_code None a feed p =
     coded_text (answer_coding a p) p.persistence a.data_length (head_text_of a p) (is_withheld p.no_body a.status) feed
 
--- the text of a response: for an upgrade only a head, or nothing if the protocol isn't ASCII
+-- the text of a response: for an upgrade only a head, or nothing and the fault `InvalidInput` if the protocol isn't
+-- ASCII; otherwise as in `text_by_code`
 abbrev pub with_upgrade : Option (List ℕ) → Answer → Feed → Printing → Text
 with_upgrade (Some protocol) a feed p =
     if list_all is_ascii protocol then whole (head_text_of a p Neither) else nothing_sent InvalidInput
@@ -204,8 +208,8 @@ LacksMemory old new (Err e) = (error_kind e ≡ OutOfMemory) × (new ≡ old)
 abbrev pub PrintsUncoded : {T : Type 0} → Sink → Sink → Result T Error → Option ℕ → Text → Type 0
 PrintsUncoded old new r length text = PrintsText old new r text ⊎ ((length ≡ None) × LacksMemory old new r)
 
--- whether the data of a response are read whole before its head is sent: it is not an upgrade, it has content without a
--- transfer coding, and its length is unknown
+-- whether the data of a response are read whole before its head is sent: it is not an upgrade, its code doesn't make it
+-- only a head, it has no transfer coding, and the length of its data is unknown
 abbrev pub IsGathered : Answer → Printing → Type 0
 IsGathered a p =
     (p.upgrade ≡ None)

@@ -27,7 +27,7 @@ pub record IsChosen (elements : List TeElement) (coding : Coding) : Type 0 where
   pub none_greater : All (λ e. IsSupported e → e.1 ≤ chosen.1) elements
   pub none_equal_before : All (λ e. IsSupported e → e.1 ≢ chosen.1) before
 
--- whether the elements choose this coding, or none if each supported element has quality 0
+-- whether the elements choose this coding; they choose none if each supported element has quality 0
 abbrev pub Choose : List TeElement → Option Coding → Type 0
 Choose elements None = All (λ e. IsSupported e → e.1 ≡ 0) elements
 Choose elements (Some coding) = IsChosen elements coding

@@ -59,8 +59,8 @@ abbrev pub own_headers : Option Persistence → List Header → List Header
 own_headers None headers = headers
 own_headers (Some _) headers = safe_headers headers
 
--- The headers listed after the date of a response that isn't an upgrade: those that were added to it. Under `Standard`,
--- `Connection` and `Upgrade` come before them, except for a code below 200.
+-- The headers listed after the date of a response that isn't an upgrade: those that were added to it. Under `Standard`
+-- these are made safe, and those of `connection_headers` come before them, except for a code below 200.
 abbrev pub listed_headers : Option Persistence → HTTPVersion → ℕ → Option (List ℕ) → List Header → List Header
 listed_headers None version status offered headers = headers
 listed_headers (Some says) version status offered headers =
@@ -89,8 +89,9 @@ framing_by_standard (Some _) status length = framing_without_content status leng
 abbrev pub has_no_content : ℕ → Bool
 has_no_content status = (nat_le 100 status && nat_lt status 200) || (status == 204 || status == 304)
 
--- The framing of a response that is only a head because of its code. If it is made to state no length and its code has
--- no content, it has neither header under any profile; otherwise its framing is that under `Standard`.
+-- The framing of a response that is only a head because of its code, or none if it isn't. With `contentless`, a
+-- response whose code has no content has neither header, under any profile. For any other response it is that of
+-- `framing_by_standard`.
 abbrev pub contentless_framing : Option Persistence → Bool → ℕ → Option ℕ → Option FramingHeader
 contentless_framing says contentless status length =
     if contentless && has_no_content status then Some Neither else framing_by_standard says status length

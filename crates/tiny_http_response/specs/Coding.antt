@@ -31,7 +31,7 @@ abbrev pub most_wanted : List Weighed → Option Coding
 most_wanted ws =
     if nat_lt 0 (greatest_quality ws) then option_map (λ w. w.0) (find (λ w. w.1 == greatest_quality ws) ws) else None
 
--- the coding that the first TE header asks for
+-- the coding that the first TE header of these request headers asks for, if any
 unfoldable pub coding_asked : List Header → Option Coding
 coding_asked request_headers =
     option_and_then (λ h. most_wanted (supported_codings (qualities h.value)))
@@ -50,13 +50,13 @@ coding_by None threshold length = coding_by_length threshold length
 abbrev pub is_up_to_1_0 : HTTPVersion → Bool
 is_up_to_1_0 v = nat_lt v.0 1 || (v.0 == 1 && v.1 == 0)
 
--- whether a response is sent without a transfer coding whatever is asked for: to a version up to 1.0, with a status
--- below 200 and with a 204
+-- whether a response is sent without a transfer coding whatever the request asks for: if the request's version is at
+-- most 1.0, or the status is below 200 or is 204
 abbrev pub takes_identity_alone : HTTPVersion → ℕ → Bool
 takes_identity_alone version status = is_up_to_1_0 version || (nat_lt status 200 || status == 204)
 
--- THE CODING of a response: by the version of the request and the coding that it asks for, and by the status, the
--- threshold and the length of the response
+-- THE CODING of a response, given the version of the request and the coding that it asks for, if any, and the status,
+-- the threshold and the data length of the response
 abbrev pub chosen_coding : HTTPVersion → Option Coding → ℕ → ℕ → Option ℕ → Coding
 chosen_coding version asked status threshold length =
     if takes_identity_alone version status then Identity else coding_by asked threshold length

@@ -6,12 +6,13 @@ use Rattle.tiny_http_io.specs.declared.device.Stop.TheVariants.{Fault}
 use Rattle.tiny_http_response.specs.declared.response_context.Persistence.{Persistence}
 use Rattle.tiny_http_response.specs.declared.owing.OwingReader.{OwingReader}
 
--- how many bytes the data of a chunked response must have: under `Standard` the stated length, otherwise 0
+-- how many bytes the data of a chunked response must have at least: under `Standard` the stated length, if there is
+-- one, otherwise 0
 abbrev pub owed : Option Persistence → Option ℕ → ℕ
 owed (Some says) (Some n) = n
 owed says length = 0
 
--- the feed of data that must have n bytes: an end before the last of them is a fault
+-- the feed of data that must have at least n bytes: an end before the last of these becomes the fault `UnexpectedEof`
 abbrev pub owing : ℕ → Feed → Feed
 owing n feed =
     record {
@@ -19,7 +20,8 @@ owing n feed =
       stop = if nat_le n (length feed.bytes) then feed.stop else Fault (fault_of feed.stop);
     }
 
--- the feed of an `OwingReader`: that of its inner reader, in which an end before the required bytes is a fault
+-- the feed of an `OwingReader`: that of its inner reader, in which an end before the last required byte becomes the
+-- fault `UnexpectedEof`
 abbrev pub owing_feed : {R : Type 0} → (R → Option Feed) → OwingReader R → Option Feed
 owing_feed feed r = option_map (owing r.left) (feed r.inner)
 

@@ -23,8 +23,9 @@ response_of status headers text =
 abbrev pub response_text : ResponseValue → Printing → Text
 response_text r p = text_of r.answer r.content p
 
--- how a response is printed to a request that asks for this coding, and what the response says about its connection
--- under `Standard`
+-- how a response without an upgrade is printed to a request of this version that asks for this coding, if any;
+-- `no_body` says whether the request is a HEAD, and `persistence`, under `Standard`, what the response says about its
+-- connection
 abbrev pub printing_to : Option Coding → HTTPVersion → Bool → Option Persistence → HttpDate → Printing
 printing_to asked version no_body persistence date =
     record {
@@ -48,6 +49,6 @@ printing_with context upgrade date = record (printing_in context date) { upgrade
 abbrev pub upgrading : List ℕ → Printing → Printing
 upgrading protocol p = record p { upgrade = Some protocol }
 
--- the text of a response that upgrades to this protocol: its head alone
+-- the text of a response that upgrades to this protocol: its head alone, or nothing if the protocol isn't ASCII
 abbrev pub upgrade_text : ResponseValue → List ℕ → Printing → List ℕ
 upgrade_text r protocol p = (response_text r (upgrading protocol p)).bytes

@@ -44,9 +44,10 @@ pub record DropsHeld (old new : Sink) : Type 0 where
   pub failures : new.failures ≡ old.failures
   pub last_kind : new.last_kind ≡ old.last_kind
 
--- Whether a call sends a text and flushes it. `Ok`: all was sent. `Err`: the outlet has ended. Either the text broke
--- off, its fault is reported, and the part before the fault was sent or the writer failed in sending it. Or the writer
--- failed in a nonempty text, and the writer's fault is reported.
+-- Whether a call sends a text on an outlet; `ended` says whether the outlet has ended afterwards. `Ok`: the writer took
+-- all of the text, and the outlet hasn't ended. `Err`: the outlet has ended. Either the text broke off, its fault is
+-- reported, and the writer took the part before the fault or failed in it; or the writer failed in a nonempty text, and
+-- the writer's fault is reported.
 abbrev pub SendsText : {T : Type 0} → Sink → Sink → Bool → Result T Error → Text → Type 0
 SendsText old new ended (Ok x) text =
     (text.ending ≡ Whole) × OutletTook old new text.bytes × (ended ≡ false) × (new.has_ended ≡ false)
@@ -62,7 +63,8 @@ Sends old new ended r a feed p =
     SendsText old new ended r (text_of a feed p)
     ⊎ (IsGathered a p × SendsText old new ended r (nothing_sent OutOfMemory))
 
--- whether a call sends a text without reporting a fault: the writer took it, or failed and the outlet has ended
+-- whether a call sends a text without reporting a fault: the writer took it and the outlet hasn't ended, or the writer
+-- failed and the outlet has ended
 abbrev pub SendsQuietly : Sink → Sink → Bool → List ℕ → Type 0
 SendsQuietly old new ended text =
     ((ended ≡ false) × (new.has_ended ≡ false) × OutletTook old new text)
@@ -79,13 +81,14 @@ pub record Idles (old new : Sink) : Type 0 where
   pub last_kind : new.last_kind ≡ old.last_kind
   pub stays : new.has_ended ≡ old.has_ended
 
--- whether a call sends a text without reporting a fault, or sends nothing if the outlet had ended
+-- whether a call sends a text without reporting a fault, or, if the outlet had ended (`was`), sends nothing
 abbrev pub SendsUnlessEnded : Bool → Sink → Sink → Bool → List ℕ → Type 0
 SendsUnlessEnded was old new ended text =
     MatchBool was (Idles old new × (ended ≡ true)) (SendsQuietly old new ended text)
 
 -- A TEXT IS SENT ON AN OUTLET: whether a call sends it without reporting a fault. An outlet that had ended sends
--- nothing. On any other the text is sent if its writer takes bytes and its failure count can rise.
+-- nothing. On any other the text is sent, or the writer fails, if the writer takes bytes and its failure count can
+-- rise; if not, nothing is claimed.
 abbrev pub SendsQuietlyOn : {W : Type 0} → OutletState W → OutletState W → List ℕ → Type 0
 SendsQuietlyOn old new text =
     (old.ended ≡ false → CanSend (output_of old))
@@ -96,7 +99,8 @@ abbrev pub SinkFailsOnce : Sink → Sink → Bool → Type 0
 SinkFailsOnce old new ended =
     (new.failures ≡ old.failures) ⊎ ((new.failures ≡ next_count old.failures) × (ended ≡ true))
 
--- whether the writer failed at most once, as in `SinkFailsOnce`, or not at all if the outlet had ended
+-- whether the writer failed at most once, as in `SinkFailsOnce`, or, if the outlet had ended (`was`), not at all, and
+-- the outlet is still ended
 abbrev pub FailsOnceUnlessEnded : Bool → Sink → Sink → Bool → Type 0
 FailsOnceUnlessEnded was old new ended =
     MatchBool was ((new.failures ≡ old.failures) × (ended ≡ true)) (SinkFailsOnce old new ended)
@@ -114,8 +118,8 @@ KeepsSent old new = IsFront (output_of old).sent (output_of new).sent
 abbrev pub FailsAtMostOnce : Sink → Sink → Type 0
 FailsAtMostOnce old new = (new.failures ≡ old.failures) ⊎ (new.failures ≡ next_count old.failures)
 
--- Whether the text of a response breaks off with this kind, that of its data's fault; or memory to gather the data is
--- refused, and this kind is `OutOfMemory`.
+-- Whether the text of a response breaks off with a fault of this kind; or its data are gathered, and this kind is
+-- `OutOfMemory`: memory for them may be refused.
 abbrev pub BreaksOff : Answer → Feed → Printing → ErrorKind → Type 0
 BreaksOff a f p kind = ((text_of a f p).ending ≡ Broken kind) ⊎ (IsGathered a p × (kind ≡ OutOfMemory))
 
@@ -125,17 +129,18 @@ abbrev pub MayBreakOff : Answer → Option Feed → Printing → ErrorKind → T
 MayBreakOff a None p kind = Unit {0}
 MayBreakOff a (Some f) p kind = length f.bytes < 2 ^ 63 → BreaksOff a f p kind
 
--- whether the writer failed once more and, if its failure count could rise, states this kind
+-- whether the writer failed once more and, if its failure count could rise, states this kind for its last failure, if
+-- it states any
 abbrev pub FailedBy : Sink → Sink → ErrorKind → Type 0
 FailedBy old new kind =
     (new.failures ≡ next_count old.failures) × (old.failures < 2 ^ 64 - 1 → StatesKind new.last_kind kind)
 
--- whether the kind of a reported fault is honest: that of the writer, whose failure count rose and which states the
--- kind, or that of the response's data
+-- whether the kind of a reported fault is honest: that of a failure of the writer, as in `FailedBy`, or one with which
+-- the text of the response may break off, as in `MayBreakOff`
 abbrev pub IsHonest : Sink → Sink → Answer → Option Feed → Printing → ErrorKind → Type 0
 IsHonest old new a feed p kind = FailedBy old new kind ⊎ MayBreakOff a feed p kind
 
--- whether the writer did not fail if no fault is reported
+-- whether the writer did not fail if the call returns `Ok`
 abbrev pub ReportsFailure : {T : Type 0} → Sink → Sink → Result T Error → Type 0
 ReportsFailure old new r = OnOk r (new.failures ≡ old.failures)
 
@@ -150,9 +155,9 @@ pub record SendsAnswer {W D : Type 0}
   pub sends : (content : Feed) → stated response.data_reader ≡ Some content → length content.bytes < 2 ^ 63
       → old.ended ≡ false → CanSend (output_of old)
       → Sends (output_of old) (output_of new) new.ended r response.answer content p
-  -- Whatever the writer and the data state: the writer fails at most once, and then a fault is reported. A fault is the
-  -- writer's, or that of data that state fewer than 2^63 bytes; for other data it is unconstrained. After a fault the
-  -- outlet has ended. The outlet holds no bytes, and a writer that has not ended has sent everything on.
+  -- Whatever the writer and the data state: the writer fails at most once, and then a fault is reported. The kind of a
+  -- fault is honest, as in `IsHonest`. After a fault the outlet has ended. The outlet holds no bytes, and a writer that
+  -- has not ended has sent everything on.
   pub fails_once : FailsOnce old new
   pub reports : ReportsFailure (output_of old) (output_of new) r
   pub honest : IfErr r

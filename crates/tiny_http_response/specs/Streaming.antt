@@ -10,8 +10,9 @@ use Rattle.tiny_http_response.specs.declared.response_context.ResponseContext.{R
 use Rattle.tiny_http_response.specs.ByStandard.{status_version, listed_headers, contentless_framing}
 use Rattle.tiny_http_response.specs.Answer.{Answer, answer_head_text}
 
--- The form of a streamed body, by the framing of a code without content, whether the request is a HEAD, and whether its
--- version is at most 1.0. `Absent`: no body. `Plain`: the bytes as they are. `Chunks`: in chunks.
+-- The form of a streamed body, given the framing of a response that is only a head because of its code, if it is one,
+-- whether the request is a HEAD, and whether its version is at most 1.0. `Absent`: no body. `Plain`: the bytes as they
+-- are. `Chunks`: in chunks.
 abbrev pub form_by : Option FramingHeader → Bool → Bool → StreamedForm
 form_by (Some framing) no_body is_old = Absent
 form_by None true is_old = Absent
@@ -23,8 +24,9 @@ abbrev pub streamed_form : ResponseContext → ℕ → StreamedForm
 streamed_form context status =
     form_by (contentless_framing context.persistence true status None) context.no_body (is_up_to_1_0 context.version)
 
--- the header that frames a streamed body: that of a code without content; otherwise neither to a version up to 1.0, and
--- chunked to a later one, even for a HEAD
+-- the header that frames a streamed body, given the framing of a response that is only a head because of its code, if
+-- it is one, and whether the request's version is at most 1.0: that framing, otherwise `Neither` for such a version and
+-- `TransferEncoding` for a later one, even for a HEAD
 abbrev pub framing_by : Option FramingHeader → Bool → FramingHeader
 framing_by (Some framing) is_old = framing
 framing_by None true = Neither

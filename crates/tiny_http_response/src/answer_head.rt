@@ -24,7 +24,7 @@ use tiny_http_text::number::Numeral;
 pub(crate) struct ResponseHead<'a> {
     /// The version of the request.
     pub(crate) version: HTTPVersion,
-    /// What the response says about its connection, under `Profile::Standard`.
+    /// What the response says about its connection, under `Profile::Standard`; `None` under any other profile.
     pub(crate) persistence: Option<Persistence>,
     pub(crate) status: StatusCode,
     pub(crate) headers: &'a [Header],
@@ -68,7 +68,7 @@ fn put_other_status_line<W: WriteDevice>(
     )
 }
 
-// Writes the status line. For a 200 in version 1.1 it is one piece.
+// Writes the status line; for a 200 in version 1.1, in one piece.
 fn put_status_line<W: WriteDevice>(
     writer: &mut W,
     version: HTTPVersion,
@@ -196,8 +196,8 @@ fn put_status<W: WriteDevice>(writer: &mut W, head: &ResponseHead<'_>) -> Result
     }
 }
 
-// Writes the field lines after `Date`: the headers of the response. Under `Profile::Standard` they are made safe, and
-// `Connection` and `Upgrade` come before them, except for an upgrade and a code below 200.
+// Writes the field lines after `Date`: the headers of the response. Under `Profile::Standard` they are made safe and,
+// unless there is an upgrade or the code is below 200, `Connection` and `Upgrade` come before them if needed.
 fn put_listed<W: WriteDevice>(
     writer: &mut W,
     head: &ResponseHead<'_>,
@@ -239,9 +239,9 @@ fn put_lines<W: WriteDevice>(
 }
 
 /// Writes the head of a response: status line, field lines and an empty line (RFC 9112, sections 4 and 5). Under
-/// `Profile::Standard` the status line has version 1.1. Except for an upgrade and a code below 200, `Connection` states
-/// that the connection closes, or for versions up to 1.0 that it persists, and `Upgrade` offers protocols. A header
-/// whose name isn't a token is omitted; any other takes one line. A head of up to 512 bytes is one write.
+/// `Profile::Standard`, the status line has version 1.1; except for an upgrade and a code below 200, `Connection`
+/// states that the connection closes, or for versions up to 1.0 that it persists, and `Upgrade` offers protocols; a
+/// header whose name isn't a token is omitted, and any other takes one line. A head of up to 512 bytes is one write.
 pub(crate) fn put_head<W: WriteDevice>(
     writer: &mut W,
     head: &ResponseHead<'_>,

@@ -1,5 +1,6 @@
-//! What the head of a response says under `Profile::Standard`: whether its connection persists, and each header on one
-//! line (RFC 9112, sections 9.3, 9.6 and 11.1; RFC 9110, sections 5.5, 7.8 and 15).
+//! What the head of a response has under `Profile::Standard`: whether its connection persists, the protocols that it
+//! offers, each header on one line, and the framing of a response without content (RFC 9112, sections 9.3, 9.6 and
+//! 11.1; RFC 9110, sections 5.5, 7.8 and 15).
 ghost use Rattle.std.specs.Prelude.{◌≡◌, ◌∷◌, [], Some, option_map};
 ghost use Rattle.std.specs.List.{flat_map};
 ghost use Rattle.std.specs.Option.{option_copied};
@@ -19,7 +20,8 @@ use tiny_http_head::common::{HTTPVersion, Header, StatusCode};
 use tiny_http_io::device::{WriteDevice, put, put_all};
 use tiny_http_text::ascii::AsciiString;
 
-// Returns the connection option to send: `close`, or `keep-alive` to a version up to 1.0 if the connection persists.
+// Returns the connection option to send: `close` if the connection closes; if it persists, `keep-alive` to a version up
+// to 1.0 and none to a later one.
 pub(crate) fn persistence_option(
     version: HTTPVersion,
     persistence: Persistence,
@@ -197,9 +199,9 @@ pub(crate) fn has_no_content(status: StatusCode) -> bool
     (status.0 >= 100 && status.0 < 200) || status.0 == 204 || status.0 == 304
 }
 
-/// Returns the framing of a response that is only a head because of its code, or `None` if it isn't. A response made by
-/// `Response::contentless` with a code that has no content has neither header. Any other is only a head under
-/// `Profile::Standard`, with the framing for its code.
+/// Returns the framing of a response that is only a head because of its code, or `None` if it isn't. With
+/// `contentless`, a response whose code has no content has neither header, under any profile. Any other response has
+/// the framing that `framing_by_standard` returns, if any.
 pub(crate) fn contentless_framing(
     persistence: Option<Persistence>,
     contentless: bool,

@@ -27,7 +27,7 @@ pub enum FramingHeader {
     ContentLength(usize),
 }
 
-// Returns the supported coding with this name, ignoring letter case.
+// Returns the supported coding with this name, if any, ignoring letter case.
 fn coding_named(name: &str) -> Option<Coding>
     ensures { result ≡ coding_named name.now }
 {

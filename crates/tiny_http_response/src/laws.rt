@@ -15,7 +15,7 @@ use crate::response::THRESHOLD;
 use tiny_http_body::chunked::{LONGEST_LINE, MOST_TRAILERS};
 use tiny_http_body::chunks::CHUNK;
 
-/// The constants of the code that the definitions of a chunked body and of a response use as numbers.
+/// The values of the constants that the definitions of a chunked body and of a response use.
 pub fn sizes_of_bodies()
     ensures line { LONGEST_LINE ≡ 8192 }
     ensures trailers { MOST_TRAILERS ≡ 128 }
@@ -23,9 +23,9 @@ pub fn sizes_of_bodies()
     ensures threshold { THRESHOLD ≡ 32768 }
 {}
 
-/// The headers of a request ask for exactly one coding or for none, as `coding_asked` computes: the coding of the
-/// supported element of the first `TE` header that no other supported element outranks (RFC 9110, sections 10.1.4 and
-/// 12.4.2).
+/// The headers of a request ask for exactly one coding or for none, and `coding_asked` computes which: the coding of
+/// the first supported element with the greatest quality in the first `TE` header, or none if there is no such element
+/// or its quality is 0 (RFC 9110, sections 10.1.4 and 12.4.2).
 pub fn one_coding_asked()
     ensures some { (headers : List Header) → AsksFor headers (coding_asked headers) }
     ensures one { (headers : List Header) (asked other : Option Coding)
@@ -47,7 +47,7 @@ pub fn response_headers()
         → IsResponseHeaders (with_headers hs a).headers }
 {}
 
-/// A header made from a name and a value, as by `Header::new`, is readable, and is printed unchanged under
+/// A header that `Header::new` makes from a name and a value is readable, and is printed unchanged under
 /// `Profile::Standard` (RFC 9110, sections 5.5 and 5.6.2).
 pub fn header_of_texts()
     ensures readable { (name value : List ℕ) → AreHeaderTexts name value → IsReadable (header_of name value) }

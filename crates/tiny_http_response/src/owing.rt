@@ -15,9 +15,9 @@ pub(crate) struct OwingReader<R> {
     left: usize,
 }
 
-/// Returns how many bytes the data of a chunked response must have: under `Profile::Standard` their length, if it is
-/// known, otherwise 0. A chunked body without its last chunk shows the client that it is incomplete (RFC 9112, section
-/// 8).
+/// Returns how many bytes the data of a chunked response must have at least: under `Profile::Standard` their length, if
+/// it is known, otherwise 0. A chunked body without its last chunk shows the client that it is incomplete (RFC 9112,
+/// section 8).
 pub(crate) fn owed(persistence: Option<Persistence>, data_length: Option<usize>) -> usize
     ensures { result ≡ owed persistence data_length }
 {
@@ -46,7 +46,8 @@ impl<R: ReadDevice> ReadDevice for OwingReader<R> {
 
     ghost stop_count = { λ r. R.stop_count (owing_inner r) };
 
-    /// Reads once from the inner reader. Fails with `UnexpectedEof` if that reader ends while bytes are still required.
+    /// Reads once from the inner reader. Fails with that reader's error, or with `UnexpectedEof` if it ends while bytes
+    /// are still required.
     fn read_in(&mut self, buf: &mut [u8]) -> Result<usize, io::Error> {
         let n = self.inner.read_in(buf)?;
         if n == 0 && !buf.is_empty() && self.left > 0 {

@@ -34,7 +34,7 @@ fn is_readable_value(value: &[u8]) -> bool
     is_trimmed(value) && !has_crlf(value)
 }
 
-// Returns whether a client reads the header as intended. Its name and value are ASCII by their types.
+// Returns whether a client reads the header as intended. Its types ensure that its name and value are ASCII.
 fn is_readable(header: &Header) -> bool
     ensures { IsTrue result ↔ IsReadable header.now }
 {

@@ -81,8 +81,9 @@ impl<R> Model for Response<R> {
     ghost invariant = { λ r. IsResponseHeaders r.headers.items };
 }
 
-/// The default chunked threshold: data of this length in bytes or more are sent in chunks (as in tiny_http). To send a
-/// `Content-Length` whatever the length, such as for a file, use `with_chunked_threshold(usize::MAX)`.
+/// The default chunked threshold: data of this length in bytes or more are sent in chunks (as in tiny_http), unless
+/// `coding::choose` requires otherwise. To send a `Content-Length` for data of any length, such as a file, use
+/// `with_chunked_threshold(usize::MAX)`.
 pub const THRESHOLD: usize = 32768;
 
 // Returns the header `Content-Type: text/plain; charset=UTF-8`. Fails if memory is refused.
@@ -97,10 +98,10 @@ fn text_plain(alloc: Global) -> Result<Header, AllocError>
 
 impl<F: Read + OpenFile> Response<Metered<F>> {
     /// Creates a 200 response with an open file as its data, and no headers (as in tiny_http). The length is the one in
-    /// the file's metadata, or unknown if the metadata can't be read. A file of `THRESHOLD` bytes or more is sent in
-    /// chunks, without a `Content-Length`, unless `with_chunked_threshold(usize::MAX)` is set. If the file shrinks
-    /// before it is sent, sending it reports `UnexpectedEof`; in chunks it does so only under `Profile::Standard`.
-    /// Allocates nothing.
+    /// the file's metadata, or unknown if the metadata can't be read. By default a file of `THRESHOLD` bytes or more is
+    /// sent in chunks, without a `Content-Length`; `with_chunked_threshold(usize::MAX)` changes that. If the file
+    /// shrinks before it is sent, sending it reports `UnexpectedEof`; in chunks it does so only under
+    /// `Profile::Standard`. Allocates nothing.
     pub fn from_file(alloc: Global, file: F) -> Response<Metered<F>>
         ensures status { result.answer.status ≡ 200 }
         ensures headers { result.answer.headers ≡ [] }
@@ -331,10 +332,11 @@ impl<R> Response<R> {
     }
 
     /// Closes the connection after this response (RFC 9112, section 9.6). Once a `Connection` or a `Request` has sent
-    /// it, no further request is handed out; requests already handed out are still answered. Under `Profile::Standard`
-    /// the last response on the connection has `Connection: close`: this one, if nothing was read after its request.
-    /// With `Request`s, a socket's client sees end of file after the last response; a `Connection` closes nothing.
-    /// Upgrades and `Exchange` ignore this setting, and it doesn't change the bytes that `raw_print` and `print` print.
+    /// it, no further request is handed out; requests already handed out can still be answered. Under
+    /// `Profile::Standard` the last response on the connection has `Connection: close`: this one, if no later request
+    /// has been handed out. With `Request`s, a socket's client sees end of file after the last response; a `Connection`
+    /// closes nothing. Upgrades and `Exchange` ignore this setting, and it doesn't change the bytes that `raw_print`
+    /// and `print` print.
     pub fn with_close(self) -> Response<R>
         ensures { result ≡ record self { answer = record self.answer { closes = true } } }
     {
@@ -345,9 +347,9 @@ impl<R> Response<R> {
 
     /// Adds a header (as in tiny_http). `Connection`, `Trailer`, `Transfer-Encoding` and `Upgrade` are ignored, in any
     /// letter case. `Content-Length` sets the length of the data if its value is an optional `+` and digits, at most
-    /// 18446744073709551615; otherwise it is ignored. A second `Content-Type` replaces the value of the first, in
-    /// place. Any other header is appended. Only that needs memory: if it is refused, the error hands back the header,
-    /// and the response is unchanged.
+    /// 2^64 - 1; otherwise it is ignored. A second `Content-Type` replaces the value of the first, in place. Any other
+    /// header is appended. Only that needs memory: if it is refused, the error hands back the header, and the response
+    /// is unchanged.
     pub fn add_header(&mut self, header: Header) -> Result<(), Header>
         ensures added { OnOk result (self.new ≡ record self.old { answer = add_header header self.old.answer }) }
         ensures refused { IfErr result (λ h. (h ≡ header) × (self.new ≡ self.old)) }
@@ -413,7 +415,7 @@ impl<R> Response<R> {
         self.offered.as_ref().map(AsciiString::as_str)
     }
 
-    /// Returns whether the connection closes after the response.
+    /// Returns whether `with_close` was called on the response.
     pub fn closes(&self) -> bool
         ensures { result ≡ self.now.answer.closes }
     {
@@ -429,13 +431,14 @@ impl<R> Response<R> {
 
     /// Prints the head and the body of the response to a request with this version and these headers, dated `now` (RFC
     /// 9112, sections 4 to 7). With `upgrade`, prints the head alone. The body is omitted if `no_body` is set, as for a
-    /// `HEAD`, or if the code is 100 to 199, 204 or 304. `coding::choose` chooses the coding by the request's version
-    /// and `TE`, the code, and the length. Doesn't flush.
+    /// `HEAD`, or if the code is 100 to 199, 204 or 304. `coding::choose` chooses the coding, given the request's
+    /// version and `TE`, the code, the length of the data, and the threshold. Doesn't flush.
     ///
     /// Fails with the first fault, of the writer or of the data, and writes nothing after it. Fails with
-    /// `UnexpectedEof` if the data end before their length, except in chunks. Reads data of unknown length whole before
-    /// the head, unless it sends them in chunks: if they fail, or if memory is refused (`OutOfMemory`), nothing is
-    /// written. Fails with `InvalidInput`, and writes nothing, if the protocol to upgrade to isn't ASCII.
+    /// `UnexpectedEof` if the data end before their length, unless the body is omitted or sent in chunks. Reads data of
+    /// unknown length whole before the head, unless it sends them in chunks: if they fail, or if memory is refused
+    /// (`OutOfMemory`), nothing is written. Fails with `InvalidInput`, and writes nothing, if the protocol to upgrade
+    /// to isn't ASCII.
     pub fn raw_print<W: WriteDevice>(
         self,
         alloc: Global,
@@ -472,9 +475,10 @@ impl<R> Response<R> {
 
     /// Prints the head and the body as `raw_print` does, with what `context` keeps of the request. If
     /// `context.persistence` is `Some`, it follows `Profile::Standard`: the status line has version 1.1, each header
-    /// takes one line, and `Connection` follows the date if needed, except for an upgrade and a code below 200. No data
-    /// are read for a code below 200, 204, 205 and 304. In chunks, too, data that end before their length are
-    /// `UnexpectedEof`; without the last chunk the client sees that the response is incomplete (RFC 9112, section 8).
+    /// takes one line, and `Connection` comes before the response's headers if needed, except for an upgrade and a code
+    /// below 200. No data are read for a code below 200, 204, 205 and 304. In chunks, too, data that end before their
+    /// length are `UnexpectedEof`; without the last chunk the client sees that the response is incomplete (RFC 9112,
+    /// section 8).
     pub fn print<W: WriteDevice>(
         self,
         alloc: Global,
@@ -539,9 +543,9 @@ impl<R> Response<R> {
 
     /// Prints only the head, for a response whose body is streamed after it as `ResponseContext::streamed_form` says.
     /// From version 1.1 on the head has `Transfer-Encoding: chunked`, even for a `HEAD`, unless the code has no
-    /// content; for earlier versions it has neither a length nor a coding (RFC 9112, section 6). The data, their length
-    /// and the threshold are ignored. Follows `Profile::Standard` if `print` would. Fails with the writer's first
-    /// fault, and writes nothing after it. Doesn't flush.
+    /// content; otherwise it has neither a length nor a coding (RFC 9112, section 6). Under `Profile::Standard`, which
+    /// it follows if `print` would, a 205 has `Content-Length: 0`, and a code below 100 neither. The data, their length
+    /// and the threshold are ignored. Fails with the writer's first fault, and writes nothing after it. Doesn't flush.
     pub fn print_head<W: WriteDevice>(
         &self,
         writer: &mut W,
@@ -569,7 +573,7 @@ impl<R> Response<R> {
     }
 }
 
-// Returns whether the body of a response with this status code is omitted.
+// Returns whether the body of a response is omitted because of `no_body` or its status code.
 fn is_withheld(no_body: bool, status: StatusCode) -> bool
     ensures { result ≡ is_withheld no_body status.0 }
 {

@@ -16,7 +16,7 @@ pub enum Persistence {
     Close,
 }
 
-/// What printing a response needs to know about its request, kept instead of the request's headers.
+/// What printing a response needs to know about its request and its connection, kept in place of the request's headers.
 #[derive(Clone, Copy, Debug, PartialEq, Eq)]
 pub struct ResponseContext {
     /// The HTTP version of the request.
@@ -26,16 +26,17 @@ pub struct ResponseContext {
     /// Whether the response has no body because the request is a `HEAD`.
     pub no_body: bool,
     /// What the response says about its connection (RFC 9112, section 9.6). `Some` prints the response as
-    /// `Profile::Standard` requires. `None` prints it as tiny_http does: with the request's version in the status line,
-    /// with the response's headers unchanged, and with a length or a coding for any status code, unless it was made by
-    /// `Response::contentless`.
+    /// `Profile::Standard` requires. `None` prints it as tiny_http does: with the request's version in the status line
+    /// and with the response's headers unchanged. It then has a length or a coding even if its code has no content,
+    /// unless it is an upgrade, its body is streamed, or `Response::contentless` made it.
     pub persistence: Option<Persistence>,
 }
 
 impl ResponseContext {
     /// Returns how the body of a streamed response with this status code is sent. `Absent`: not at all, for a `HEAD`,
-    /// for a code without content, and under `Profile::Standard` for a 205. `Plain`: as it is, for versions up to 1.0;
-    /// the end of the connection ends it (RFC 9112, section 6.3). `Chunks`: in chunks, otherwise (section 7.1).
+    /// for a code without content, and under `Profile::Standard` for a 205 and a code below 100. `Plain`: otherwise, as
+    /// it is, for versions up to 1.0; the end of the connection ends it (RFC 9112, section 6.3). `Chunks`: otherwise,
+    /// in chunks (section 7.1).
     pub fn streamed_form(&self, status: StatusCode) -> StreamedForm
         ensures { result ≡ streamed_form self.now status.0 }
     {

@@ -19,8 +19,9 @@ use std::io::ErrorKind;
 use tiny_http_io::device::{ReadDevice, WriteDevice};
 use tiny_http_io::outlet::Outlet;
 
-// Ends an outlet after a fault in printing. If the writer's failure count is still `failures`, the fault was not the
-// writer's, and the held bytes are sent; otherwise they are discarded.
+// Ends an outlet after a fault in printing, before which the writer's failure count was `failures`. If the count is
+// unchanged, the fault was not the writer's: the held bytes are sent, and a failure in sending them isn't reported.
+// Otherwise the held bytes are discarded.
 fn end_behind_fault<W: WriteDevice>(outlet: &mut Outlet<W>, failures: u64)
     ensures ends { MatchBool ((output_of outlet.old).failures == failures)
         (EndsQuietly (output_of outlet.old) (output_of outlet.new))
@@ -68,8 +69,9 @@ fn send_printed<W: WriteDevice, D: ReadDevice + Drop>(
     outlet.flush()
 }
 
-/// Prints a response and flushes it. Fails with the first fault, of the data or of the writer. After an error nothing
-/// more is sent on the connection; bytes that were held before a fault of the data are still sent.
+/// Prints a response and flushes it. Fails with the first fault, of the data or of the writer, or with `OutOfMemory` if
+/// memory for data of unknown length is refused. After an error nothing more is sent on the connection; unless the
+/// writer failed, the bytes that were held are still sent.
 pub fn send<W: WriteDevice, D: ReadDevice + Drop>(
     alloc: Global,
     outlet: &mut Outlet<W>,
@@ -138,8 +140,9 @@ pub fn reported(sent: Result<(), io::Error>) -> Result<(), io::Error>
 
 /// Prints the response that upgrades the connection to a protocol, and flushes it (RFC 9110, section 7.8): the head
 /// alone, with `Connection: upgrade` and `Upgrade: PROTOCOL` before the other headers. The data are dropped unread.
-/// Fails with the writer's first fault, or with `InvalidInput` if the protocol isn't ASCII; then nothing of the
-/// response is sent. After an error nothing more is sent on the connection. Allocates nothing.
+/// Fails with `InvalidInput`, and sends nothing of the response, if the protocol isn't ASCII; otherwise with the
+/// writer's first fault. After an error nothing more is sent on the connection, except the bytes that were held before
+/// an `InvalidInput`. Allocates nothing.
 pub fn send_upgrade<W: WriteDevice, D: Drop>(
     alloc: Global,
     outlet: &mut Outlet<W>,

@@ -18,7 +18,7 @@ pub record CorkedState (W : Type 0) : Type 0 where
   pub writer : W
   pub sink : Sink
 
--- the kind of a fault that was met and isn't reported yet, by the state of the writer
+-- the kind of a fault that was met and hasn't been reported yet, given the state of the writer
 abbrev pub unreported_of : State → Option ErrorKind
 unreported_of (Broken kind) = Some kind
 unreported_of Open = None
@@ -28,13 +28,15 @@ unreported_of Ended = None
 abbrev pub unreported : {W : Type 0} → CorkedState W → Option ErrorKind
 unreported c = unreported_of c.state
 
--- the bytes that the inner writer took, followed by the buffered ones; none are buffered once it has failed
+-- the bytes that the inner writer took, followed, in state `Open`, by the buffered ones, unless the inner writer has
+-- ended
 abbrev pub taken_by : State → Sink → List ℕ → Option (List ℕ)
 taken_by Open s waiting = grown s.has_ended s.taken waiting
 taken_by (Broken kind) s waiting = s.taken
 taken_by Ended s waiting = s.taken
 
--- whether a `Corked` takes nothing more: a call reported its fault, or the inner writer has ended
+-- whether a `Corked` takes nothing more: it is `Ended`, since a call has reported its fault, or it is `Open` and the
+-- inner writer has ended
 abbrev pub takes_none : State → Sink → Bool
 takes_none Open s = s.has_ended
 takes_none (Broken kind) s = false
@@ -51,7 +53,8 @@ corked_sink c =
       has_ended = takes_none c.state c.sink;
     }
 
--- whether the inner writer took the buffered bytes and then n bytes of the text after them, or failed within them
+-- whether the inner writer took the buffered bytes and then n bytes of the text after them, at least one unless the
+-- text is empty, or failed within the buffered bytes and the text
 abbrev pub PassesBehind : Sink → Sink → List ℕ → Result ℕ Error → List ℕ → Type 0
 PassesBehind old new waiting (Ok n) text =
     (n ≤ length text) × (0 < length text → 0 < n) × Took old new (waiting ++ take n text)
@@ -62,8 +65,8 @@ abbrev pub ReportsFault : {W T : Type 0} → CorkedState W → CorkedState W →
 ReportsFault old new (Ok x) kind = ⊥
 ReportsFault old new (Err e) kind = (error_kind e ≡ kind) × (new.writer ≡ old.writer) × (new.sink ≡ old.sink)
 
--- whether all bytes taken so far were sent on; or, if a fault isn't reported yet, whether the bytes still stated as
--- taken are a prefix of those
+-- whether all bytes taken so far were sent on, unless the writer has ended; or, if a fault of some kind hasn't been
+-- reported yet, whether the bytes still stated as taken are a prefix of those
 abbrev pub SentOrBroken : Sink → Sink → Option ErrorKind → Type 0
 SentOrBroken old new None =
     (new.taken ≡ old.taken) × (new.has_ended ≡ old.has_ended) × (new.has_ended ≡ false → HoldsNothing new)

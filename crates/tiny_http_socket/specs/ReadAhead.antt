@@ -2,8 +2,8 @@
 use Rattle.std.specs.Prelude.{ℕ, List, Option}
 use Rattle.tiny_http_io.specs.Device.{Feed, prepended}
 
--- What clauses see of a `ReadAhead`: the bytes that were read ahead and not returned yet, the inner reader, and the
--- feed of the inner reader.
+-- What clauses see of a `ReadAhead`: the bytes that have been read ahead and not yet returned, the inner reader, and
+-- the feed of the inner reader.
 pub record AheadState (R : Type 0) : Type 0 where
   pub held : List ℕ
   pub reader : R

@@ -12,7 +12,7 @@ use Rattle.tiny_http_socket.specs.declared.refined_tcp_stream.Half.{Half}
 use Rattle.tiny_http_socket.specs.declared.refined_tcp_stream.Half.TheVariants.{Reading, Writing}
 use Rattle.tiny_http_socket.specs.declared.refined_tcp_stream.RefinedTcpStream.{RefinedTcpStream}
 
--- the system's name for shutting down this direction alone
+-- the way to shut down this direction alone
 abbrev pub shutdown_of : Half → Shutdown
 shutdown_of Reading = Read
 shutdown_of Writing = Write
@@ -25,19 +25,22 @@ stream_sink s = record { taken = None; sent = []; failures = s.failures; last_ki
 abbrev pub connection_of : RefinedTcpStream → Connection
 connection_of s = s.connection.value
 
--- Whether a stream is the read half of this connection, which shuts down the direction from the client.
+-- Whether a stream is the read half of this connection, which shuts down the direction from the client, and has counted
+-- no failure.
 pub record IsReadingHalf (connection : Connection) (s : RefinedTcpStream) : Type 0 where
   pub half : s.half ≡ Reading
   pub same : connection_of s ≡ connection
   pub sink : stream_sink s ≡ fresh_sink
 
--- Whether a stream is the write half of this connection, which shuts down the direction to the client.
+-- Whether a stream is the write half of this connection, which shuts down the direction to the client, and has counted
+-- no failure.
 pub record IsWritingHalf (connection : Connection) (s : RefinedTcpStream) : Type 0 where
   pub half : s.half ≡ Writing
   pub same : connection_of s ≡ connection
   pub sink : stream_sink s ≡ fresh_sink
 
--- whether a half has this peer address: TCP has one, a Unix socket has none
+-- whether a half can have this peer address, given the kind of its connection: TCP any, but not none; a Unix socket
+-- only none
 abbrev pub HasSamePeer : RefinedTcpStream → Option SocketAddr → Type 0
 HasSamePeer s addr = HasPeerOf (connection_of s) addr
 

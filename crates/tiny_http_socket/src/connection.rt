@@ -13,8 +13,8 @@ use std::rt::Files;
 use std::time::Duration;
 use std::{fmt, fs, io};
 
-/// What a server needs of the file system for Unix sockets. Any runtime with files and sockets implements it. A bound
-/// by `Files` instead would not let generic code share a server among threads.
+/// What a server needs of the file system for Unix sockets. Any runtime with files and sockets implements it. A `Files`
+/// bound instead would not let generic code share a server among threads.
 pub trait SocketFiles {
     /// Listens at this path, where it creates a file. Fails with the system's error.
     fn bind_unix(&self, path: Path<'_>) -> io::Result<unix_net::UnixListener>;
@@ -129,7 +129,7 @@ impl Connection {
     }
 
     /// Shuts down one direction or both, for this and every other handle to the connection. Fails with the system's
-    /// error if the client has disconnected.
+    /// error, such as when the client has disconnected.
     pub fn shutdown(&self, how: Shutdown) -> io::Result<()> {
         match self {
             Connection::Tcp(stream) => stream.shutdown(how),
@@ -137,7 +137,8 @@ impl Connection {
         }
     }
 
-    /// Returns another handle to the same connection. Fails with the system's error if no file descriptor is left.
+    /// Returns another handle to the same connection. Fails with the system's error, such as when no file descriptor is
+    /// left.
     pub fn try_clone(&self) -> io::Result<Connection>
         ensures { IfOk result (λ other. IsSameKind self.now other) }
     {
@@ -158,8 +159,8 @@ impl Connection {
 }
 
 impl Connection {
-    /// Sets the maximum time that each later read waits, by this and every other handle. After that time a read fails
-    /// with `WouldBlock`. Fails with the system's error, or with `InvalidInput` if the timeout is 0.
+    /// Sets the maximum time that each later read waits, through this and every other handle. After that time a read
+    /// fails with `WouldBlock`. Fails with the system's error, or with `InvalidInput` if the timeout is 0.
     pub fn set_read_timeout(&self, timeout: Duration) -> io::Result<()> {
         match self {
             Connection::Tcp(stream) => stream.set_read_timeout(Some(timeout)),
@@ -167,7 +168,8 @@ impl Connection {
         }
     }
 
-    /// Makes each later read wait without a timeout, by this and every other handle. Fails with the system's error.
+    /// Makes each later read wait without a timeout, through this and every other handle. Fails with the system's
+    /// error.
     pub fn clear_read_timeout(&self) -> io::Result<()> {
         match self {
             Connection::Tcp(stream) => stream.set_read_timeout(None),
@@ -175,8 +177,8 @@ impl Connection {
         }
     }
 
-    /// Sets the maximum time that each later write waits, by this and every other handle. After that time a write fails
-    /// with `WouldBlock`, or returns the number of bytes taken so far. Fails with the system's error, or with
+    /// Sets the maximum time that each later write waits, through this and every other handle. After that time a write
+    /// fails with `WouldBlock`, or returns the number of bytes taken so far. Fails with the system's error, or with
     /// `InvalidInput` if the timeout is 0.
     pub fn set_write_timeout(&self, timeout: Duration) -> io::Result<()> {
         match self {
@@ -250,7 +252,7 @@ impl Connection {
 }
 
 impl Connection {
-    /// Writes once, by one system call, from the front of the concatenation of two texts. Returns the number of bytes
+    /// Writes once, with one system call, from the front of the concatenation of two texts. Returns the number of bytes
     /// taken.
     pub fn write_both_shared(&self, front: &[u8], back: &[u8]) -> io::Result<usize>
         ensures { IfOk result (λ n. n ≤ length (front.now ++ back.now)) }

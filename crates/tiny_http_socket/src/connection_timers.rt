@@ -110,7 +110,7 @@ pub struct ConnectionTimers {
 }
 
 impl ConnectionTimers {
-    /// Creates the state of a connection from which nothing was read yet. Without limits there are no timeouts.
+    /// Creates the state of a connection from which nothing has been read yet. Without limits there are no timeouts.
     /// `upgraded` counts the upgraded connections; connections with the same counter share the limit of upgrades. Fails
     /// if memory is refused.
     pub fn new(
@@ -165,7 +165,7 @@ impl ConnectionTimers {
     }
 
     /// Records that the connection waits for its next head; `has_begun` means that bytes of that head, or of what is
-    /// skipped before it, may have arrived. Returns false if the connection was stopped: the caller then doesn't read
+    /// skipped before it, may have arrived. Returns false if the connection was stopped: the caller must then not read
     /// the head.
     pub fn begin_head(&self, has_begun: bool) -> bool {
         let phase = if has_begun {
@@ -191,8 +191,8 @@ impl ConnectionTimers {
         self.requests.fetch_add(1, Ordering::SeqCst);
     }
 
-    /// Counts the connection as upgraded until `end_stream`, and returns true. If that would exceed the limit of
-    /// upgrades, doesn't count it and returns false. Without limits it only returns true.
+    /// Counts the connection as upgraded until `end_stream`, unless it is counted already, and returns true. If that
+    /// would exceed the limit of upgrades, doesn't count it and returns false. Without limits it only returns true.
     pub fn enter_stream(&self) -> bool {
         let Some(limits) = &self.limits else {
             return true;
@@ -233,7 +233,7 @@ impl ConnectionTimers {
     }
 
     /// Prevents any further head from being read. Returns whether the connection was waiting for a head: then nothing
-    /// more is read, and the caller shuts down the direction from the client.
+    /// more is read, and the caller must shut down the direction from the client.
     pub fn stop(&self) -> bool {
         self.is_stopped.store(true, Ordering::SeqCst);
         self.stop_from(Phase::Between) || self.stop_from(Phase::Head)

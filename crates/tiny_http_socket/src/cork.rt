@@ -1,4 +1,4 @@
-//! The two halves of a connection that may send several responses together. Threads share them.
+//! The two halves of a connection that may send several responses together. Different threads may use them.
 ghost use Rattle.std.specs.Prelude.{◌≡◌, ◌<◌, ◌≤◌, ⊤, length, IfOk};
 ghost use Rattle.tiny_http_socket.specs.Cork.{reader_feed, writer_sink, fresh_sink, CountsOutcome};
 
@@ -62,9 +62,9 @@ impl FlushPolicy {
     }
 }
 
-/// What the two halves of a connection share: the writer, and the bytes buffered before it. Bytes are written under the
-/// lock. Only the thread whose turn it is waits for the lock; a thread that sends the buffered bytes before it reads
-/// asks the thread that holds the lock instead.
+/// What the two halves of a connection share: the writer, and the bytes buffered for it. Bytes are written under the
+/// lock. A thread that writes, flushes or ends the writer waits for the lock; one that sends the buffered bytes before
+/// it reads doesn't, but asks the thread that holds the lock to send them.
 #[derive(Drop)]
 pub struct Cork<W: WriteBoth + Drop> {
     flush_policy: Arc<FlushPolicy>,
@@ -256,7 +256,8 @@ impl<R: ReadDevice + Drop, W: WriteBoth + Drop> ReadDevice for FlushingReader<R,
 
     ghost stop_count = { reader_stop_count R.stop_count };
 
-    /// Returns bytes that were read ahead, if there are any. Otherwise sends the buffered bytes, then reads a piece.
+    /// Returns bytes that were read ahead, if there are any. Otherwise sends the buffered bytes, then reads from the
+    /// socket, as `ReadAhead::read_after` does.
     fn read_in(&mut self, buf: &mut [u8]) -> Result<usize, io::Error> {
         self.ahead.read_after(&mut self.sending, buf)
     }

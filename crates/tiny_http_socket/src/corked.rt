@@ -21,16 +21,16 @@ pub const ROOM: usize = 16_384;
 enum State {
     // The writer takes bytes.
     Open,
-    // The writer has failed with this kind, which the next call reports.
+    // The writer has failed with this kind, which the next write or flush reports.
     Broken(ErrorKind),
     // The writer has failed, and a call has reported it.
     Ended,
 }
 
-/// A writer that buffers up to 16,384 bytes. It sends the buffered bytes before bytes that don't fit, by a flush, by
-/// `write_past`, and by `send_waiting`. After its first fault it sends nothing. The fault is reported by the call that
-/// met it, or after `send_waiting` by the next call. After that report it discards the bytes of each write, and returns
-/// `Ok`.
+/// A writer that buffers up to 16,384 bytes. It sends the buffered bytes before bytes that don't fit, and in a flush,
+/// `write_past` and `send_waiting`. After its first fault it sends nothing. The fault is reported by the write or flush
+/// that met it, or after `send_waiting` by the next write or flush. After that report it discards the bytes of each
+/// write, and returns `Ok`.
 #[derive(Drop)]
 pub struct Corked<W: WriteBoth> {
     writer: W,
@@ -124,7 +124,7 @@ impl<W: WriteBoth> Corked<W> {
         self.writer.flush_out()
     }
 
-    // Passes the buffered bytes and then `buf` to the inner writer, and returns how many bytes of `buf` that took.
+    // Writes the buffered bytes and then `buf` to the inner writer, and returns how many bytes of `buf` it took.
     fn pass(&mut self, buf: &[u8]) -> Result<usize, io::Error>
         ensures puts { PassesBehind self.old.sink self.new.sink self.old.waiting result buf.now }
         ensures rest { self.new ≡ record self.old { waiting = []; writer = self.new.writer; sink = self.new.sink } }
@@ -245,8 +245,8 @@ impl<W: WriteBoth> WriteDevice for Corked<W> {
         self.failures
     }
 
-    /// Buffers all the bytes if they fit. Otherwise sends the buffered bytes with some of these. Fails with a fault
-    /// that `send_waiting` met, and then takes no byte.
+    /// Buffers all the bytes if they fit. Otherwise sends the buffered bytes with some of these. Fails with the inner
+    /// writer's fault, or with one that `send_waiting` met; the latter takes no byte.
     fn write_out(&mut self, buf: &[u8]) -> Result<usize, io::Error>
         ensures puts { PutsFront (corked_sink self.old) (corked_sink self.new) result buf.now }
         ensures fault { self.old.state ≡ Open
@@ -263,7 +263,8 @@ impl<W: WriteBoth> WriteDevice for Corked<W> {
         }
     }
 
-    /// Sends the buffered bytes, and flushes the inner writer. Fails with a fault that `send_waiting` met.
+    /// Sends the buffered bytes, and flushes the inner writer. Fails with the inner writer's fault, or with one that
+    /// `send_waiting` met.
     fn flush_out(&mut self) -> Result<(), io::Error>
         ensures puts { Puts (corked_sink self.old) (corked_sink self.new) result [] }
         ensures sent { OnOk result ((corked_sink self.new).has_ended ≡ false → HoldsNothing (corked_sink self.new)) }
@@ -281,7 +282,7 @@ impl<W: WriteBoth> WriteDevice for Corked<W> {
         }
     }
 
-    /// Ends the inner writer, unless bytes are buffered. The caller sends those first.
+    /// Ends the inner writer, unless bytes are buffered. The caller must send those first.
     fn end_out(&mut self)
         ensures sink { corked_sink self.new ≡ corked_sink self.old }
         // The buffer is unchanged, and so is whether more bytes are taken.

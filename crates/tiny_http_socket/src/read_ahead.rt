@@ -16,7 +16,7 @@ pub const PIECE: usize = 16_384;
 
 /// An action to take before each call of an inner reader.
 pub trait BeforeRead {
-    /// Whether the action was done, from the state before it to the state after it.
+    /// The effect of the action, as a relation between the state before it and the state after it.
     ghost does: { Self → Self → Type 0 };
 
     /// Takes the action.
@@ -86,7 +86,7 @@ impl<R: ReadDevice> ReadAhead<R> {
         n
     }
 
-    // Reads at most a piece from the inner reader. No byte may be held before.
+    // Reads at most a piece from the inner reader. No bytes may be held when it is called.
     fn fill(&mut self) -> Result<(), io::Error>
         requires none { self.old.held ≡ [] }
         ensures bytes { OnOk result (self.old.feed ≡ ahead_feed self.new) }
@@ -128,8 +128,8 @@ impl<R: ReadDevice> ReadAhead<R> {
         self.read_more(buf)
     }
 
-    // Reads some bytes from the inner reader: directly into `buf` if that has room for a piece, and otherwise by way of
-    // a piece. No byte may be held before.
+    // Reads some bytes from the inner reader: directly into `buf` if that has room for a piece; otherwise it reads a
+    // piece and copies what fits. No bytes may be held when it is called.
     fn read_more(&mut self, buf: &mut [u8]) -> Result<usize, io::Error>
         requires none { self.old.held ≡ [] }
         ensures reads { Reads self.old.feed (ahead_feed self.new) result buf.new }

@@ -17,8 +17,8 @@ use tiny_http_limits::times::{Patience, Stall, time_left};
 const LEAST_MILLIS: u64 = 1;
 
 /// A reader over a client's socket, with timeouts if its connection has limits. A timeout for the first byte of a head
-/// counts as the end of input. A timeout for a head, a body or an upgraded stream is a fault of kind `TimedOut`. As a
-/// `ReadDevice` it states no feed.
+/// counts as the end of input. A timeout for the rest of a head, a body or an upgraded stream is a fault of kind
+/// `TimedOut`. As a `ReadDevice` it states no feed.
 #[derive(Drop)]
 pub struct TimedReader<R: ReadDevice + Drop, Rt: Clock> {
     rt: Rt,
@@ -142,8 +142,8 @@ impl<R: ReadDevice + Drop, Rt: Clock> TimedReader<R, Rt> {
         self.check_body(patience, begun, read)
     }
 
-    // Converts the result of a read from a body, begun at `begun`, into the one to report, and counts the time that it
-    // took.
+    // Converts the result of a read from a body, begun at `begun`, into the one to report. Counts the time that it took
+    // if it returned bytes. If the socket's timeout ended it, the time for the body is over.
     fn check_body(
         &mut self,
         patience: Patience,

@@ -19,9 +19,9 @@ use tiny_http_limits::times::{Patience, Stall};
 // out although the socket has room by then; the next call finds it.
 const STEP_MILLIS: u64 = 1_000;
 
-/// A writer to a client's socket. Under limits a write that takes too long fails with `TimedOut`, and the connection is
-/// shut down. The clock is read only after a system call has taken fewer bytes than it was given. As a `WriteDevice` it
-/// counts its failures and states no bytes.
+/// A writer to a client's socket. Under limits, once the time for writes is over, the connection is shut down, and the
+/// write fails with `TimedOut`, or the next one does if some bytes were taken. The clock is read only after a system
+/// call has taken fewer bytes than it was given. As a `WriteDevice` it counts its failures and states no bytes.
 #[derive(Drop)]
 pub struct TimedWriter<Rt: Clock> {
     rt: Rt,
@@ -29,10 +29,10 @@ pub struct TimedWriter<Rt: Clock> {
     timers: Arc<ConnectionTimers>,
     // How long writes may wait, if the connection has limits.
     patience: Option<Patience>,
-    // Whether the client was waited for; until then no time is counted.
+    // Whether the client has been waited for; until then no time is counted.
     has_waited: bool,
     stall: Stall,
-    // Whether the time for a write is over.
+    // Whether the time for writes is over.
     is_late: bool,
     failures: u64,
     last: Option<ErrorKind>,
@@ -83,8 +83,8 @@ impl<Rt: Clock> TimedWriter<Rt> {
         Asked { begun, bytes }
     }
 
-    // Converts the result of a system call into the one to report, and counts a failure. Under limits the time of the
-    // call is counted.
+    // Converts the result of a system call into the one to report, and counts a failure. Under limits the time of a
+    // call that succeeded is counted.
     fn report(&mut self, asked: Asked, written: io::Result<usize>) -> io::Result<usize>
         ensures taken { IfOk result (λ n. (written ≡ Ok n) × (timed_sink self.new ≡ timed_sink self.old)) }
         ensures fault { IfErr result (λ e. timed_sink self.new ≡ failed_sink self.old (error_kind e)) }
@@ -97,8 +97,8 @@ impl<Rt: Clock> TimedWriter<Rt> {
         written
     }
 
-    // Converts the result of a system call under limits: the system's timeout becomes `TimedOut`. If the time for a
-    // write is over and only some bytes were taken, shuts the connection down.
+    // Converts the result of a system call under limits: the system's timeout becomes `TimedOut`. If the time for
+    // writes is over and only some bytes were taken, shuts the connection down.
     fn in_time(
         &mut self,
         patience: Patience,
@@ -121,9 +121,9 @@ impl<Rt: Clock> TimedWriter<Rt> {
         }
     }
 
-    // Counts the time of a call that wrote this number of bytes, and returns whether the time for a write is over. A
-    // call that wrote nothing waited for one step, even if the clock can't be read. The wait of the first call that
-    // wrote only some of its bytes is unknown, and isn't counted.
+    // Counts the time of a call that wrote this number of bytes, and returns whether the time for writes is over. A
+    // call that wrote nothing counts as at least one step, even if the clock can't be read. If the first call that
+    // falls short wrote some bytes, its wait is unknown, and isn't counted.
     fn is_over(&mut self, patience: Patience, asked: Asked, written: usize) -> bool
         ensures { timed_sink self.new ≡ timed_sink self.old }
     {
@@ -140,7 +140,8 @@ impl<Rt: Clock> TimedWriter<Rt> {
         self.has_waited && self.stall.count(waited, written, patience)
     }
 
-    // Returns whether to retry a write: the system timed out, and the time for a write isn't over.
+    // Returns whether to retry a write: under limits, if the system timed out and the time for writes isn't over.
+    // Counts the time of the call, and shuts the connection down if the time is over.
     fn tries_again(&mut self, asked: Asked, written: &io::Result<usize>) -> bool
         ensures { timed_sink self.new ≡ timed_sink self.old }
     {
@@ -160,7 +161,7 @@ impl<Rt: Clock> TimedWriter<Rt> {
         true
     }
 
-    // Shuts the connection down because the time for a write is over. Each later write fails.
+    // Shuts the connection down because the time for writes is over. Each later nonempty write fails with `TimedOut`.
     fn end_late(&mut self)
         ensures { timed_sink self.new ≡ timed_sink self.old }
     {
@@ -196,8 +197,8 @@ impl<Rt: Clock> WriteDevice for TimedWriter<Rt> {
         self.failures
     }
 
-    /// Writes once to the client. If `buf` is empty, returns 0 without a call. Under limits it returns at most a second
-    /// after the time for a write is over.
+    /// Writes some bytes to the client, and returns their number. If `buf` is empty, returns 0 without a call. Under
+    /// limits it returns at most a second after the time for writes is over.
     fn write_out(&mut self, buf: &[u8]) -> Result<usize, io::Error> {
         if buf.is_empty() {
             return Ok(0);
@@ -228,7 +229,8 @@ impl<Rt: Clock> WriteDevice for TimedWriter<Rt> {
 }
 
 impl<Rt: Clock> WriteBoth for TimedWriter<Rt> {
-    /// Writes once to the client, by one system call, as `write_out` does. Writes nothing if both texts are empty.
+    /// Writes some bytes to the client, as `write_out` does, with one system call for both texts. Writes nothing if
+    /// both are empty.
     fn write_both(&mut self, front: &[u8], back: &[u8]) -> Result<usize, io::Error> {
         if front.is_empty() && back.is_empty() {
             return Ok(0);

@@ -25,7 +25,8 @@ impl WriteBoth for Budget {
 }
 
 impl WriteBoth for RefinedTcpStream {
-    /// Writes once to the client, by one system call.
+    /// Writes once to the client, with one system call for both texts, which is repeated if a signal interrupts it.
+    /// Writes nothing if both are empty.
     fn write_both(&mut self, front: &[u8], back: &[u8]) -> Result<usize, io::Error> {
         RefinedTcpStream::write_both(self, front, back)
     }

@@ -1,4 +1,4 @@
--- Whole heads by the standard (RFC 9112, sections 2.2, 3 and 5), and how the first bytes from a client are read.
+-- Whole heads under `Standard` (RFC 9112, sections 2.2, 3 and 5), and how the first bytes from a client are read.
 use Rattle.std.specs.Prelude.{◌≡◌, ◌≢◌, ℕ, ◌+◌, ◌<◌, ◌≤◌, ◌⊎◌, Bool, not, ◌&&◌, ◌==◌, List, [], ◌∷◌, ◌++◌, length}
 use Rattle.std.specs.Prelude.{take, true, false, Result, Ok, Err, IsTrue, if◌then◌else◌}
 use Rattle.tiny_http_text.specs.Bytes.{HasNo, has_bare_end}
@@ -63,7 +63,8 @@ BeginsWithFieldLines bytes (h ∷ hs) rest =
     × ReadsFieldLine text h
     × BeginsWithFieldLines next hs rest
 
--- A HEAD: whether the bytes begin with a request line, field lines, at most MOST_HEADERS, and an empty line
+-- A HEAD: whether the bytes begin with the request line and the field lines of m, at most MOST_HEADERS, and an empty
+-- line, and the bytes `after` follow
 pub record BeginsWithHead (bytes : List ℕ) (m : Message) (after : List ℕ) : Type 0 where
   pub fields : List ℕ
   pub empty : List ℕ
@@ -79,7 +80,7 @@ pub record HasGoodRequestLine (bytes : List ℕ) : Type 0 where
   pub line : Line (behind_empty_line bytes) text rest
   pub good : IsNoRequestLine text → ⊥
 
--- A MALFORMED LINE: its LF has no CR before it, or its text doesn't match the grammar for its place.
+-- A MALFORMED LINE: whether the first line of the bytes is one, because its LF has no CR before it or its text `IsBad`
 abbrev pub BeginsWithBadLine : (List ℕ → Type 0) → List ℕ → Type 0
 BeginsWithBadLine IsBad bytes =
     BeginsWithBareLine bytes ⊎ ((text : List ℕ) × (rest : List ℕ) × Line bytes text rest × IsBad text)
@@ -99,7 +100,7 @@ pub record ComesToField (bytes rest : List ℕ) : Type 0 where
   pub lines : BeginsWithFieldLines fields headers rest
   pub few : length headers ≤ MOST_HEADERS
 
--- whether the bytes begin with a request line and one field line more than a head may have
+-- whether the bytes begin with a request line and with one field line more than the MOST_HEADERS that a head may have
 pub record HasTooManyFields (bytes : List ℕ) : Type 0 where
   pub method : Method
   pub target : List ℕ
@@ -117,7 +118,7 @@ HasBadLine bytes =
     BeginsWithBadLine IsNoRequestLine (behind_empty_line bytes)
     ⊎ ((rest : List ℕ) × ComesToField bytes rest × BeginsWithBadLine IsNoFieldOrEnd rest)
 
--- whether the request line hasn't ended
+-- whether the request line, after at most one empty line, hasn't ended
 abbrev pub HasOpenRequestLine : List ℕ → Type 0
 HasOpenRequestLine bytes = HasNo line_feed (behind_empty_line bytes)
 

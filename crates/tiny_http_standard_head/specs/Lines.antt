@@ -1,4 +1,4 @@
--- The lines of a head by the standard (RFC 9112, sections 2.3, 3 and 5; RFC 9110, sections 5.5 and 5.6.2), each as a
+-- The lines of a head under `Standard` (RFC 9112, sections 2.3, 3 and 5; RFC 9110, sections 5.5 and 5.6.2), each as a
 -- concatenation of named parts. Tokens, the bytes of a value and optional white space are those of the crate
 -- `httparse`.
 use Rattle.std.specs.Prelude.{◌≡◌, ℕ, ◌+◌, ◌-◌, ◌<◌, ◌⊎◌, Bool, ◌&&◌, ◌||◌, ◌==◌, nat_lt, ◌/◌, ◌%◌, List, []}
@@ -37,7 +37,8 @@ abbrev pub authority_in : List ℕ → List ℕ
 authority_in [] = []
 authority_in (b ∷ bs) = if (b == slash || b == question_mark) then [] else b ∷ authority_in bs
 
--- whether the target begins with the scheme, in any case, and its authority is a host with or without a port
+-- whether the target begins with the scheme, compared case-insensitively and given with its ://, and its authority is a
+-- host with or without a port
 pub record HasScheme (scheme target : List ℕ) : Type 0 where
   pub front : IsTrue (same_name (take (length scheme) target) scheme)
   pub authority : IsHostWithPort (authority_in (drop (length scheme) target))

@@ -61,7 +61,7 @@ FieldIn line (Err (Refused BadLine)) = IsBadLine IsNoFieldOrEnd line
 FieldIn line (Err Memory) = IsGoodLine IsNoFieldLine line
 FieldIn line (Err _) = ⊥
 
--- the reason why no head was read if no line was found; `later` means that a line of the head came before
+-- the reason why no head was read if no line was found; `later` says whether a line of the head came before
 abbrev pub no_head : NoLine → StandardFault → Bool → NoHead
 no_head (no_line.Cut has_begun) too_long later = Unfinished (has_begun || later)
 no_head no_line.TooLong too_long later = Refused too_long
@@ -77,7 +77,7 @@ abbrev pub IsUnfinishedRead : StandardRead → Type 0
 IsUnfinishedRead (read.Unfinished has_begun) = ⊤
 IsUnfinishedRead _ = ⊥
 
--- whether the limit shrank by the number of bytes taken
+-- whether the limit shrank from `limit` to `left` by the number of bytes taken
 abbrev pub IsSpent : ℕ → List ℕ → ℕ → List ℕ → Type 0
 IsSpent limit bytes left rest = limit + length rest ≡ left + length bytes
 
@@ -159,7 +159,7 @@ ReadsStart limit left (Some f) new (Err (Unfinished has_begun)) =
 ReadsStart limit left (Some f) new (Err Memory) = ⊤
 ReadsStart limit left (Some f) new (Err _) = ⊥
 
--- whether these header fields were read
+-- whether these field lines were read, and the limit and the feed shrank by their bytes
 abbrev pub HasReadFields : ℕ → ℕ → Option Feed → Option Feed → List Header → Type 0
 HasReadFields limit left None new headers = ⊤
 HasReadFields limit left (Some f) new headers =
@@ -191,7 +191,7 @@ IsWithoutHead (Refused fault) r = r ≡ Ok (read.Refused fault)
 IsWithoutHead (Unfinished has_begun) r = r ≡ Ok (read.Unfinished has_begun)
 IsWithoutHead Memory r = IsErr r
 
--- whether the input continues after a complete head
+-- whether the input continues directly after the head, if a complete one was read
 abbrev pub LeavesBehind : Feed → Option Feed → StandardRead → Type 0
 LeavesBehind f new (read.Whole h) = new ≡ feed_from f (drop h.length f.bytes)
 LeavesBehind f new _ = ⊤

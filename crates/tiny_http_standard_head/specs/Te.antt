@@ -1,4 +1,4 @@
--- Whether a client asks for chunks, by TE (RFC 9110, sections 10.1.4 and 12.4.2).
+-- Whether a client asks for chunks in its TE fields (RFC 9110, sections 10.1.4 and 12.4.2).
 use Rattle.std.specs.Prelude.{ℕ, Bool, false, not, ◌&&◌, List, [], ◌∷◌, map, take, drop, codes, if◌then◌else◌}
 use Rattle.std.specs.List.{list_any}
 use Rattle.std.specs.Str.{bytes_eq}

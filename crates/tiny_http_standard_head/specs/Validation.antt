@@ -23,7 +23,7 @@ use Rattle.tiny_http_standard_head.specs.Lists.{values_of, elements_of, has_elem
 abbrev pub is_1_0 : HTTPVersion → Bool
 is_1_0 v = v.0 == 1 && v.1 == 0
 
--- THE HOST: whether there is exactly one in version 1.1, and at most one in 1.0
+-- THE HOST: whether there is exactly one value of Host, and it is valid; in version 1.0 there may also be none
 abbrev pub HasValidHost : HTTPVersion → List (List ℕ) → Type 0
 HasValidHost v [] = IsTrue (is_1_0 v)
 HasValidHost v (value ∷ []) = IsHostValue value
@@ -37,8 +37,8 @@ is_chunked coding = same_name coding (codes "chunked")
 abbrev pub is_unknown_coding : List ℕ → Bool
 is_unknown_coding coding = not (is_chunked coding) && not (bytes_eq coding [])
 
--- THE BODY, by the elements of Content-Length and Transfer-Encoding: without codings it has the one length, or there is
--- none; with codings it is chunked, which is the only coding, in version 1.1 and without a content length.
+-- THE BODY, according to the elements of Content-Length and Transfer-Encoding: without codings it has the one length,
+-- or there is none; with codings it is chunked, which is the only coding, in version 1.1 and without a content length.
 abbrev pub IsBodyFraming : HTTPVersion → List (List ℕ) → List (List ℕ) → Option ℕ → Bool → Type 0
 IsBodyFraming v lengths [] n chunked = IsOneLength lengths n × (chunked ≡ false)
 IsBodyFraming v [] (coding ∷ codings) n chunked =

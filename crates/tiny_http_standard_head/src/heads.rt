@@ -1,4 +1,4 @@
-//! Parsing of whole heads from bytes, by the standard (RFC 9112, sections 2.2, 3 and 5).
+//! Parsing of whole heads from bytes, under `Standard` (RFC 9112, sections 2.2, 3 and 5).
 ghost use Rattle.std.specs.Prelude.{◌≡◌, ◌<◌, ◌≤◌, IfOk, IfErr, OnErr, length, take};
 ghost use Rattle.tiny_http_standard_head.specs.Heads.{Line, behind_empty_line, is_begun, BeginsWithRequestLine};
 ghost use Rattle.tiny_http_standard_head.specs.Heads.{HasGoodRequestLine, Reads, status_of};
@@ -101,7 +101,8 @@ enum NoHead {
     Memory,
 }
 
-// Splits off the first line. Returns its text, without the CR LF, and the rest of the bytes.
+// Splits off the first line. Returns its text, without the CR LF, and the rest of the bytes. Fails if there is no LF,
+// or no CR before the first LF.
 fn next_line(bytes: &[u8]) -> Result<(&[u8], &[u8]), NoLine>
     ensures some { IfOk result (λ r. Line bytes.now r.0.now r.1.now) }
     ensures none { IfErr result (λ why. HasNoLine why bytes.now) }
@@ -126,7 +127,7 @@ fn behind_empty_line(bytes: &[u8]) -> &[u8]
     bytes
 }
 
-// Parses the request line and returns the rest of the bytes.
+// Parses the request line, after at most one empty line, and returns the rest of the bytes.
 fn read_request(
     alloc: Global,
     bytes: &[u8],
@@ -223,8 +224,8 @@ fn not_ended(bytes: &[u8], limit: usize, fault: StandardFault) -> StandardRead
 ///
 /// The first malformed or surplus line is refused, whatever follows, and so are `limit` bytes without the end of a
 /// head; if `limit` is below 3, even before a byte of a head. If more bytes are needed, call again with these bytes and
-/// the new ones. Each call starts over, so for a head that comes byte by byte use a reader that keeps its lines. Fails
-/// if memory is refused, which happens only after a valid request line.
+/// the new ones. Each call starts over, so for a head that comes byte by byte use `source_heads::read_head_from`. Fails
+/// if memory is refused, which happens only if the request line is valid.
 pub fn read_head(alloc: Global, bytes: &[u8], limit: usize) -> Result<StandardRead, AllocError>
     ensures reads { IfOk result (λ read. Reads limit bytes.now read) }
     ensures begun { OnErr result (HasGoodRequestLine (take limit bytes.now)) }

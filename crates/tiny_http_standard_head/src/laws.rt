@@ -1,4 +1,4 @@
-//! Laws of heads by the standard: each line has at most one reading, any bytes have exactly one, and validation has
+//! Laws of heads under `Standard`: each line has at most one reading, any bytes have exactly one, and validation has
 //! exactly one result.
 ghost use Rattle.std.specs.Prelude.{◌≡◌, ℕ, List, Result};
 ghost use Rattle.tiny_http_head.specs.declared.common.Method.{Method};

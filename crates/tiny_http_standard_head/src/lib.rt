@@ -1,5 +1,6 @@
-//! Request heads by the standard (RFC 9110 and RFC 9112): their lines, hosts, and what their fields say. The crate
-//! depends on `tiny_http_head` and `tiny_http_io`, and uses the byte classes of the crate `httparse`.
+//! Request heads under the profile `Standard` (RFC 9110 and RFC 9112): their lines, hosts, and what their fields say.
+//! The crate depends on `tiny_http_text`, `tiny_http_io`, `tiny_http_head`, `memchr`, `httparse` for its byte classes,
+//! and the standard library.
 #![tactic(auto)]
 
 pub mod heads;

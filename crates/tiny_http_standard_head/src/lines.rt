@@ -1,4 +1,4 @@
-//! The lines of a head by the standard (RFC 9112, sections 2.3, 3 and 5).
+//! The lines of a head under `Standard` (RFC 9112, sections 2.3, 3 and 5).
 ghost use Rattle.std.specs.Prelude.{◌≡◌, ◌↔◌, ◌<◌, ◌++◌, IsTrue, IfOk, OnOk, OnErr, IfSome, IfNone, None, Ok};
 ghost use Rattle.std.specs.List.{list_all};
 ghost use Rattle.std.specs.Char.{is_ascii_graphic};
@@ -42,7 +42,7 @@ fn authority_in(text: &[u8]) -> &[u8]
     &text[..end]
 }
 
-// Returns whether the target is in absolute-form with this scheme.
+// Returns whether the target is in absolute-form with this scheme, which is given with its `://`.
 fn has_scheme(scheme: &[u8], target: &[u8]) -> bool
     ensures { IsTrue result ↔ HasScheme scheme.now target.now }
 {
@@ -111,9 +111,9 @@ fn split_request_line(text: &[u8]) -> Option<(&[u8], &[u8], HTTPVersion)>
 /// for any other text. Fails if the text is a request line and memory is refused.
 ///
 /// The target has only bytes 33 to 126. For `CONNECT` it is a host with a port. Otherwise it begins with `/`, or is `*`
-/// for `OPTIONS`, or begins with `http://` or `https://` in any case, followed up to the first `/` or `?` by a nonempty
-/// host, with or without a port (`hosts::is_host_with_port`). The version is `HTTP/`, a digit, a point and a digit;
-/// `validation::validate` checks whether it is supported.
+/// for `OPTIONS`, or begins with `http://` or `https://`, compared case-insensitively, followed up to the next `/` or
+/// `?` by a nonempty host, with or without a port (`hosts::is_host_with_port`). The version is `HTTP/`, a digit, a
+/// point and a digit; `validation::validate` checks whether it is supported.
 pub fn parse_request_line(
     alloc: Global,
     text: &[u8],

@@ -1,4 +1,4 @@
-//! Parsing of whole heads from a source, by the standard (RFC 9112, sections 2.2, 3 and 5).
+//! Parsing of whole heads from a source, under `Standard` (RFC 9112, sections 2.2, 3 and 5).
 ghost use Rattle.std.specs.Prelude.{◌≡◌, ◌+◌, ◌<◌, ◌≤◌, ◌++◌, ◌∷◌, [], IsTrue, Ok, Err, None, IfSome, IfNone, IfOk};
 ghost use Rattle.std.specs.Prelude.{IfErr, OnOk, OnErr};
 ghost use Rattle.tiny_http_text.specs.Bytes.{crlf, has_bare_end};
@@ -33,7 +33,7 @@ enum NoHead {
     Memory,
 }
 
-// Returns the text of a line before its CR, or `None` if it doesn't end with one.
+// Returns the text of a line before the CR that ends it, or `None` if the line doesn't end with a CR.
 fn text_of(line: &[u8]) -> Option<&[u8]>
     ensures some { IfSome result (λ text. line.now ≡ text.now ++ carriage_return ∷ []) }
     ensures none { IfNone result (IsTrue (has_bare_end is_carriage_return line.now)) }
@@ -96,7 +96,7 @@ fn no_head(why: NoLine, too_long: StandardFault, later: bool) -> NoHead
     }
 }
 
-// Reads a request line or an empty line, within `left` bytes.
+// Reads a request line or an empty line, within `left` bytes, and subtracts its bytes from `left`.
 fn read_request<R: ReadDevice>(
     alloc: Global,
     source: &mut Source<R>,
@@ -128,7 +128,7 @@ fn read_request<R: ReadDevice>(
     }
 }
 
-// Reads a field line or the empty line, within `left` bytes.
+// Reads a field line or the empty line, within `left` bytes, and subtracts its bytes from `left`.
 fn read_field<R: ReadDevice>(
     alloc: Global,
     source: &mut Source<R>,
@@ -194,7 +194,7 @@ fn read_fields<R: ReadDevice>(
     left: &mut usize,
 ) -> Result<Vec<Header>, NoHead>
     ensures reads { ReadsFields left.old left.new source.old.feed source.new.feed result }
-    // `Memory` is reported only after a valid line, or for a line that isn't whole in the buffer.
+    // `Memory` is reported only if the first line is a valid field line, or isn't whole in the buffer.
     ensures memory { result ≡ Err NoHead.Memory → IfSome source.old.feed
         (λ f. LacksMemory IsNoFieldLine left.old f source.new.feed source.new.held) }
     ensures shorter { OnOk result (left.new ≤ left.old) }
@@ -243,7 +243,7 @@ pub fn read_head_from<R: ReadDevice>(
     limit: usize,
 ) -> Result<StandardRead, AllocError>
     ensures reads { IfOk result (λ read. ReadsFrom limit source.old.feed source.new.feed read) }
-    // Memory is needed only once the request line is valid, or for a line that isn't whole in the buffer.
+    // Memory is needed only if the request line is valid, or isn't whole in the buffer.
     ensures memory { OnErr result (IfSome source.old.feed
         (λ f. LacksMemoryAtStart limit f source.new.feed source.new.held)) }
     ensures validated { IfOk result IsValidated }

@@ -33,7 +33,7 @@ pub(crate) enum NoLine {
     Memory,
 }
 
-// Returns the position of the first LF.
+// Returns the position of the first LF, or `None` if there is no LF.
 fn find_line_feed(bytes: &[u8]) -> Option<usize>
     ensures some { IfSome result (EndsLine bytes.now) }
     ensures none { IfNone result (HasNo line_feed bytes.now) }
@@ -48,7 +48,7 @@ fn within(bytes: &[u8], limit: usize) -> &[u8]
     &bytes[..bytes.len().min(limit)]
 }
 
-// Reads and consumes a line of which only a part is in the buffer.
+// Reads and consumes a line, within `limit` bytes including its LF, of which only a part is in the buffer.
 fn take_line<R: ReadDevice>(
     alloc: Global,
     source: &mut Source<R>,

@@ -26,15 +26,17 @@ use tiny_http_text::bytes::{cut, is};
 /// What a head says about its body and the connection.
 #[derive(Clone, Copy, Debug, PartialEq, Eq)]
 pub struct HeadSummary {
-    /// The value of `Content-Length`, if there is one. There is no body if it is `Some(0)`, or if it is `None` and the
-    /// body isn't chunked.
+    /// The value of `Content-Length`, if there is one. There is no body if it is `Some(0)`, or if it is `None` and
+    /// `is_chunked` is false.
     pub body_length: Option<usize>,
     /// Whether the body is chunked.
     pub is_chunked: bool,
-    /// Whether a 100 (Continue) is due before the body: in 1.1, if a body follows and `Expect` lists `100-continue`.
+    /// Whether a 100 (Continue) is due before the body: in version 1.1 or later, if a body follows and `Expect` lists
+    /// `100-continue`.
     pub owes_continue: bool,
-    /// Whether the head asks for an upgrade: in 1.1, if `Connection` lists `upgrade` and `Upgrade` lists a protocol. A
-    /// protocol is a token, or two tokens with a slash between, without `%`, which may stand for a byte above 127.
+    /// Whether the head asks for an upgrade: in version 1.1 or later, if `Connection` lists `upgrade` and `Upgrade`
+    /// lists a protocol. A protocol is a token, or two tokens with a slash between, without `%`, which may stand for a
+    /// byte above 127.
     pub asks_upgrade: bool,
     /// Whether the head alone makes this the last request of the connection: if `Connection` lists `close`, if the
     /// version is 1.0 and `Connection` doesn't list `keep-alive`, or if the method is `CONNECT`.
@@ -47,9 +49,10 @@ pub enum HeadError {
     /// The major version isn't 1: 505 (RFC 9110, section 15.6.6).
     UnsupportedVersion,
     /// The host or the framing of the body is invalid: 400 (RFC 9112, sections 3.2 and 6). Either `Host` is missing in
-    /// 1.1, comes more than once, or is neither empty nor a host. Or the elements of `Content-Length` aren't all the
-    /// same number; an empty element isn't a number. Or `Transfer-Encoding` comes in 1.0 or beside `Content-Length`,
-    /// its last element isn't `chunked`, or another element is empty or `chunked`.
+    /// version 1.1 or later, comes more than once, or is neither empty nor a host with or without a port. Or the
+    /// elements of `Content-Length` aren't all the same number; an empty element isn't a number. Or `Transfer-Encoding`
+    /// comes in version 1.0 or beside `Content-Length`, its last element isn't `chunked`, or another element is empty
+    /// or `chunked`.
     InvalidHead,
     /// Other transfer codings come before a final `chunked`, in version 1.1 or later and without a content length: 501
     /// (RFC 9112, section 6.1).
@@ -116,8 +119,8 @@ fn is_protocol(text: &[u8]) -> bool
     is_one_or_two_tokens(text) && has_no_percent(text)
 }
 
-// Returns the value of a weight parameter, the text after `q=` or `Q=` (RFC 9110, section 12.4.2), or `None` for any
-// other parameter.
+// Returns the value of a weight parameter, the text after `q=` or `Q=`, stripped of spaces and tabs (RFC 9110, section
+// 12.4.2), or `None` for any other parameter.
 fn weight_value(parameter: &[u8]) -> Option<&[u8]>
     ensures some { IfSome result (λ value. IsTrue (is_weight parameter.now)
         × (value.now ≡ weight_value parameter.now)) }
@@ -205,7 +208,7 @@ fn has(headers: &[Header], name: &str, wanted: Wanted) -> bool
     false
 }
 
-// Returns whether there is exactly one `Host` and its value is valid; version 1.0 may have none.
+// Returns whether there is exactly one `Host` and its value is valid; in version 1.0 there may also be none.
 fn has_valid_host(version: HTTPVersion, headers: &[Header]) -> bool
     ensures { IsTrue result ↔ HasValidHost version (values_of (codes "Host") headers.now) }
 {

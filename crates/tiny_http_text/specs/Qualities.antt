@@ -4,8 +4,8 @@ use Rattle.std.specs.List.{list_all}
 use Rattle.std.specs.Str.Parse.{AllDigits, digits_value}
 use Rattle.tiny_http_text.specs.Bytes.{is_blank, Trims, parts, comma, semicolon, point}
 
--- whether the text is a quality of these thousandths: one to six digits, then optionally a point and at most three
--- digits
+-- whether the text is a quality whose value, in thousandths, is `thousandths`: one to six digits, then optionally a
+-- point and at most three digits
 pub record IsQuality (text : List ℕ) (thousandths : ℕ) : Type 0 where
   pub whole : List ℕ
   pub fraction : List ℕ
@@ -17,7 +17,8 @@ pub record IsQuality (text : List ℕ) (thousandths : ℕ) : Type 0 where
   pub at_most_three : length fraction ≤ 3
   pub value : thousandths ≡ digits_value 10 whole * 1000 + digits_value 10 fraction * 10 ^ (3 - length fraction)
 
--- whether the parameter gives this quality: optional white space, `q=`, and a quality between optional white space
+-- whether the parameter gives a quality of `thousandths`: it is optional white space, `q=`, and that quality with
+-- optional white space around it
 pub record GivesQuality (parameter : List ℕ) (thousandths : ℕ) : Type 0 where
   pub before : List ℕ
   pub padded : List ℕ
@@ -27,14 +28,15 @@ pub record GivesQuality (parameter : List ℕ) (thousandths : ℕ) : Type 0 wher
   pub trims : Trims is_blank padded text
   pub quality : IsQuality text thousandths
 
--- whether q is the quality of the first parameter that gives one, or 1000 if none does
+-- whether q is the quality, in thousandths, of the first parameter that gives one, or 1000 if none does
 abbrev pub FirstQuality : List (List ℕ) → ℕ → Type 0
 FirstQuality [] q = q ≡ 1000
 FirstQuality (parameter ∷ more) q =
     GivesQuality parameter q ⊎ (((n : ℕ) → GivesQuality parameter n → ⊥) × FirstQuality more q)
 
--- whether the text is an element with this name and quality: its first part, up to a semicolon and trimmed, is the
--- name; the other parts are parameters
+-- whether the text is an element with this name and a quality of q thousandths: of its parts, which semicolons
+-- separate, the first, without white space at its ends, is the name; the others are parameters, and the first of them
+-- that gives a quality gives q, or q is 1000 if none does
 pub record Element (text name : List ℕ) (q : ℕ) : Type 0 where
   pub padded : List ℕ
   pub parameters : List (List ℕ)
@@ -42,13 +44,13 @@ pub record Element (text name : List ℕ) (q : ℕ) : Type 0 where
   pub trims : Trims is_blank padded name
   pub quality : FirstQuality parameters q
 
--- whether the texts are these elements, in order
+-- whether the texts are elements with these names and qualities, in order
 abbrev pub Elements : List (List ℕ) → List (List ℕ × ℕ) → Type 0
 Elements [] [] = ⊤
 Elements [] (e ∷ es) = ⊥
 Elements (text ∷ texts) [] = ⊥
 Elements (text ∷ texts) (e ∷ es) = Element text e.0 e.1 × Elements texts es
 
--- whether the parts of the value between the commas are these names with their qualities
+-- whether the parts of the value, which commas separate, are elements with these names and qualities, in order
 abbrev pub ListsQualities : List ℕ → List (List ℕ × ℕ) → Type 0
 ListsQualities value list = Elements (parts comma value) list

@@ -1,4 +1,4 @@
--- Lists of qualities, as functions that compute them.
+-- Functions that compute the names and qualities that a field value lists.
 use Rattle.std.specs.Prelude.{ℕ, ◌+◌, ◌-◌, ◌*◌, ◌^◌, ◌&&◌, ◌==◌, nat_lt, nat_le, List, [], ◌∷◌, length, map, Option}
 use Rattle.std.specs.Prelude.{Some, None, option_map, unwrap_or, if◌then◌else◌}
 use Rattle.std.specs.Str.{all_ascii_digits}
@@ -15,7 +15,7 @@ unfoldable pub short_number : List ℕ → Option ℕ
 short_number ds =
     if nat_lt 0 (length ds) && (nat_le (length ds) 6 && all_ascii_digits ds) then Some (digits_value 10 ds) else None
 
--- the thousandths that at most three digits after a point stand for, or `None` for any other text
+-- the value, in thousandths, of at most three digits after a point, or `None` for any other text
 unfoldable pub thousandths : List ℕ → Option ℕ
 thousandths ds =
     if nat_le (length ds) 3 && all_ascii_digits ds then Some (digits_value 10 ds * 10 ^ (3 - length ds)) else None

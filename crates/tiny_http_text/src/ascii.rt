@@ -196,7 +196,7 @@ impl AsciiString {
     }
 
     /// Copies bytes that are known to be ASCII, without checking them. Fails if memory is refused; a copy of at most 30
-    /// bytes needs none.
+    /// bytes needs no allocation.
     pub(crate) fn copied_unchecked(alloc: Global, bytes: &[u8]) -> Result<AsciiString, AllocError>
         requires { IsAscii bytes.now }
         ensures text { IfOk result (λ s. s ≡ bytes.now) }
@@ -244,14 +244,14 @@ impl AsciiString {
         self.as_ascii().trim()
     }
 
-    /// Compares two texts, ignoring the case of ASCII letters.
+    /// Returns whether the text equals `other`, ignoring the case of ASCII letters.
     pub fn eq_ignore_ascii_case(&self, other: &str) -> bool
         ensures { IsTrue result ↔ (map to_ascii_lowercase self.now ≡ map to_ascii_lowercase other.now) }
     {
         self.as_ascii().eq_ignore_ascii_case(other)
     }
 
-    /// Copies the text. Fails if memory is refused; a copy of at most 30 bytes needs none.
+    /// Copies the text. Fails if memory is refused; a copy of at most 30 bytes needs no allocation.
     pub fn try_clone(&self) -> Result<AsciiString, AllocError>
         ensures text { IfOk result (λ s. s ≡ self.now) }
         ensures short { length self.now ≤ 30 → IsOk result }
@@ -337,7 +337,7 @@ impl<'a> AsciiStr<'a> {
         }
     }
 
-    /// Compares two texts, ignoring the case of ASCII letters.
+    /// Returns whether the text equals `other`, ignoring the case of ASCII letters.
     pub fn eq_ignore_ascii_case(&self, other: &str) -> bool
         ensures { IsTrue result ↔ (map to_ascii_lowercase self.now ≡ map to_ascii_lowercase other.now) }
     {

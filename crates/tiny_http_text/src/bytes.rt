@@ -13,7 +13,7 @@ fn is_blank(b: u8) -> bool
     (b >= 9 && b <= 13) || b == 32
 }
 
-/// Returns the text without trailing white space.
+/// Returns the text without trailing white space (bytes 9 to 13 and 32).
 pub fn trim_end(text: &[u8]) -> &[u8]
     ensures { result.now ≡ skip_end_while is_blank text.now }
 {
@@ -24,7 +24,7 @@ pub fn trim_end(text: &[u8]) -> &[u8]
     &text[..end]
 }
 
-/// Returns the text without leading white space.
+/// Returns the text without leading white space (bytes 9 to 13 and 32).
 pub fn trim_front(text: &[u8]) -> &[u8]
     ensures { result.now ≡ skip_while is_blank text.now }
 {
@@ -35,21 +35,21 @@ pub fn trim_front(text: &[u8]) -> &[u8]
     &text[start..]
 }
 
-/// Returns the text without leading and trailing white space.
+/// Returns the text without leading and trailing white space (bytes 9 to 13 and 32).
 pub fn trim(text: &[u8]) -> &[u8]
     ensures { result.now ≡ trimmed is_blank text.now }
 {
     trim_end(trim_front(text))
 }
 
-/// Returns whether the text has no leading or trailing white space.
+/// Returns whether the text has no leading or trailing white space (bytes 9 to 13 and 32).
 pub fn is_trimmed(text: &[u8]) -> bool
     ensures { IsTrue result ↔ IsTrimmed text.now }
 {
     trim(text).len() == text.len()
 }
 
-// Returns the position of the first `c`, or the length of the text if there is none.
+// Returns the position of the first `c`, or the length of the text if it has no `c`.
 fn find(text: &[u8], c: u8) -> usize
     ensures bound { result ≤ length text.now }
     ensures first { HasNo c (take result text.now) }
@@ -75,7 +75,7 @@ pub fn cut(text: &[u8], c: u8) -> Option<(&[u8], &[u8])>
     Some((&text[..i], &text[i + 1..]))
 }
 
-/// Returns whether the text equals a word, byte by byte.
+/// Returns whether the text has exactly the bytes of `word`.
 pub fn is(text: &[u8], word: &str) -> bool
     ensures { result ≡ bytes_eq text.now word.now }
 {
@@ -96,7 +96,7 @@ pub fn are_ascii(text: &[u8]) -> bool
     text.is_ascii()
 }
 
-/// Returns whether the text has no white space.
+/// Returns whether the text has no white space (bytes 9 to 13 and 32).
 pub fn has_no_blank(text: &[u8]) -> bool
     ensures { result ≡ list_all (λ b. not (is_blank b)) text.now }
 {

@@ -13,7 +13,8 @@ use std::alloc::{AllocError, Global};
 // The quality, in thousandths, of an element that has no readable quality.
 const DEFAULT_QUALITY: u32 = 1000;
 
-// Parses decimal digits as a number below 2^32. `str::parse` accepts a leading plus sign, which a quality can't have.
+// Parses decimal digits as a number below 2^32. Returns `None` for any other text, also for a leading plus sign, which
+// `str::parse` accepts and a quality can't have.
 fn number(digits: &str) -> Option<u32>
     ensures { SomeIff result (IsNumeral 10 digits.now × (digits_value 10 digits.now < 2 ^ 32))
         (digits_value 10 digits.now) }
@@ -35,7 +36,7 @@ fn short_number(digits: &str) -> Option<u32>
     number(digits)
 }
 
-// Returns the weight of the last of one to three fraction digits, in thousandths.
+// Returns the place value, in thousandths, of the last of `digits` fraction digits, one to three.
 fn scale(digits: usize) -> u32
     requires some { 1 ≤ digits }
     requires few { digits ≤ 3 }
@@ -48,7 +49,8 @@ fn scale(digits: usize) -> u32
     }
 }
 
-// Parses at most three fraction digits and returns them in thousandths: 0 if there are no digits.
+// Parses at most three fraction digits and returns them in thousandths: 0 if there are no digits. Returns `None` for
+// any other text.
 fn thousandths(digits: &str) -> Option<u32>
     ensures value { result ≡ thousandths digits.now }
     ensures bound { IfSome result (λ n. n < 1000) }
@@ -62,7 +64,8 @@ fn thousandths(digits: &str) -> Option<u32>
     Some(short_number(digits)? * scale(digits.len()))
 }
 
-// Parses a quality and returns it in thousandths.
+// Parses a quality, one to six digits and then optionally a point and at most three digits, and returns it in
+// thousandths. Returns `None` for any other text.
 fn quality(text: &str) -> Option<u32>
     ensures { result ≡ quality text.now }
 {
@@ -72,7 +75,8 @@ fn quality(text: &str) -> Option<u32>
     }
 }
 
-// Returns the quality of a `q=` parameter, or `None` if the parameter has another name or its quality can't be read.
+// Returns the quality, in thousandths, of a parameter that begins with `q=` after optional white space. Returns `None`
+// for any other parameter, and if the quality can't be read.
 fn parameter_quality(parameter: &str) -> Option<u32>
     ensures { result ≡ parameter_quality parameter.now }
 {
@@ -80,7 +84,8 @@ fn parameter_quality(parameter: &str) -> Option<u32>
     quality(trim(padded))
 }
 
-// Returns the first readable quality among the parameters, or 1000 if none has one.
+// Returns the first readable quality, in thousandths, among the parameters, which semicolons separate, or 1000 if there
+// is none.
 fn first_quality(parameters: &str) -> u32
     ensures { result ≡ first_quality (parts semicolon parameters.now) }
 {
@@ -110,11 +115,11 @@ pub fn parse_element(text: &str) -> (&str, u32)
 /// Parses the value of `TE`, or of a similar field, into its names and their qualities in thousandths, in order (RFC
 /// 9110, section 12.4.2).
 ///
-/// A name is the part of a list element before the first semicolon, without white space (bytes 9 to 13 and 32) at its
-/// ends. The quality of the name is that of the first parameter that begins, after optional white space, with `q=` and
-/// has a readable number: one to six digits, then optionally a point and at most three digits, with optional white
-/// space around the number. If there is no such parameter, the quality is 1000. The original crate accepts other forms
-/// of numbers. Fails if memory for the list is refused.
+/// A name is the part of a list element before its first semicolon, if it has one, without white space (bytes 9 to 13
+/// and 32) at its ends; the name of an empty element is empty. The quality of the name is that of the first parameter
+/// that begins, after optional white space, with `q=` and has a readable number: one to six digits, then optionally a
+/// point and at most three digits, with optional white space around the number. If there is no such parameter, the
+/// quality is 1000. The original crate accepts other forms of numbers. Fails if memory for the list is refused.
 pub fn parse_header_value(alloc: Global, value: &str) -> Result<Vec<(&str, u32)>, AllocError>
     ensures { IfOk result (λ list. ListsQualities value.now (map (λ e. (e.0.now, e.1)) list.items)) }
 {

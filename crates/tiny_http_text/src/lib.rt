@@ -1,6 +1,6 @@
 //! Text handling for a small HTTP server: trimming and splitting, ASCII strings, formatted numbers, and field values
-//! that list names with qualities. The crate depends only on the standard library. `tiny_http_wire` re-exports `ascii`,
-//! `header_value` and `number`.
+//! that list names with qualities. The crate depends only on `thiserror` and the standard library. `tiny_http_wire`
+//! re-exports `ascii`, `header_value` and `number`.
 #![tactic(auto)]
 
 pub mod ascii;

@@ -7,7 +7,7 @@ use std::marker::Model;
 // The number of decimal digits of the greatest `u64`. Larger bases need fewer.
 const MOST_DIGITS: usize = 20;
 
-/// The digits of a number, in an inline buffer. A contract sees it as the list of the digits.
+/// The digits of a number, in ASCII and in an inline buffer. A contract sees a `Numeral` as the list of these bytes.
 #[derive(Drop)]
 pub struct Numeral {
     buffer: [u8; 20],
@@ -72,7 +72,7 @@ impl Numeral {
         }
     }
 
-    // Formats the number in this base. It is inlined so that the divisor is a constant.
+    // Formats the number in base `base`, from 10 to 16. It is inlined so that the divisor is a constant.
     #[inline(always)]
     fn in_base(number: u64, base: u64) -> Numeral
         requires low { 10 ≤ base }

@@ -21,8 +21,8 @@ pub fn trim(text: &str) -> &str
     &front[..core.len()]
 }
 
-/// Splits the text at the first `c`. Returns the text before it and the text after it, or `None` if the text has no
-/// `c`.
+/// Splits the text at the first `c`, an ASCII character. Returns the text before it and the text after it, or `None` if
+/// the text has no `c`.
 pub fn cut(text: &str, c: char) -> Option<(&str, &str)>
     requires { c < 128 }
     ensures some { IfSome result (λ r. (text.now ≡ r.0.now ++ c ∷ r.1.now) × HasNo c r.0.now) }

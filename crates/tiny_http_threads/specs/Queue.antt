@@ -10,7 +10,7 @@ module _ {T : Type 0} where
   Pops old Unblocked new = old ≡ None ∷ new
   Pops old Empty new = (old ≡ []) × (new ≡ [])
 
-  -- what a pop of a shared queue returns
+  -- what a pop of a shared queue returns, given what it found
   abbrev pub popped_value : Popped T → Option T
   popped_value (Value x) = Some x
   popped_value Unblocked = None

@@ -36,7 +36,7 @@ pub record IsSoundTurnQueue {T W C : Type 0} (queue : TurnQueueView T W C) : Typ
   pub issued : (n : ℕ) → IsSome (waker queue.waiting n) → n < length queue.turns.marks
   pub waits : (n : ℕ) → IsSome (waker queue.waiting n) → IsItsTurn queue.turns.marks n → ⊥
 
--- Whether a turn queue is new: no number holds its item, none is issued, and everything else is empty.
+-- Whether a turn queue is new: no number holds its item, none has been issued, and everything else is empty.
 pub record IsNewTurnQueue {T W C : Type 0} (item : T) (queue : TurnQueueView (Box T) W C) : Type 0 where
   pub rests : option_map box_value queue.turns.resting ≡ Some item
   pub marks : queue.turns.marks ≡ []
@@ -50,8 +50,9 @@ module _ {W : Type 0} where
   abbrev pub OthersStay : ℕ → List (ℕ × W) → List (ℕ × W) → Type 0
   OthersStay number old new = (n : ℕ) → n ≢ number → waker new n ≡ waker old n
 
-  -- whether a call that finishes a number wakes the next one: if no number holds the item then, the next one is woken,
-  -- if it waited, and no longer waits
+  -- whether a call that finishes a number with this result wakes the thread of the number `next`: if no number then
+  -- holds the item (`Passed`), the call returns what wakes that thread, if it waits, and `next` no longer waits;
+  -- otherwise it wakes no thread
   abbrev pub WakesNext : {U : Type 0} → Finishing U → ℕ → List (ℕ × W) → Option W → List (ℕ × W) → Type 0
   WakesNext Passed next old woken new = (woken ≡ waker old next) × (waker new next ≡ None) × OthersStay next old new
   WakesNext (Go item text) next old woken new = (woken ≡ None) × (new ≡ old)

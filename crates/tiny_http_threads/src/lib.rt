@@ -1,6 +1,7 @@
 //! What the threads of a small HTTP server share: a queue, a pool of workers, a count, and a turn queue for threads
-//! that use one reader or writer one after another. There are locks in two other places: over the connection table, in
-//! `tiny_http`, and over the buffered bytes in `tiny_http_socket`. `tiny_http` re-exports the modules.
+//! that use one reader or writer one after another. A server has locks in two other places: over the connection table,
+//! in `tiny_http`, and over the buffered bytes, in `tiny_http_socket`. `tiny_http` re-exports `messages_queue`,
+//! `roster`, `sequential` and `task_pool`.
 //!
 //! Who may touch what:
 //!

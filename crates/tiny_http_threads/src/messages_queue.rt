@@ -99,8 +99,8 @@ impl<T> QueueState<T> {
 }
 
 /// A queue that threads share: a `QueueState` under a lock. Each call is one step on that state, except for `clear`,
-/// and for the pops that wait, which retry until there is something to pop. The lock is released before a waiting
-/// thread is woken. No contract here states what a call did to the queue.
+/// and for the pops that wait, which retry until there is something to pop or their time is over. The lock is released
+/// before a waiting thread is woken. No contract here states what a call did to the queue.
 #[derive(Drop)]
 pub struct MessagesQueue<T> {
     state: Mutex<QueueState<T>>,

@@ -148,14 +148,14 @@ impl<W: Write + Drop, R: Wait + Copy> SequentialWriterBuilder<W, R> {
         self.queue.set_open(&self.rt, open);
     }
 
-    /// Waits until fewer than `most` writers are unfinished, or until none is if `most` is 0.
+    /// Waits until fewer than `most` writers are unfinished, or, if `most` is 0, until none is.
     #[doc(hidden)]
     pub fn wait_for_room(&self, most: usize) {
         self.queue.wait_for_room(&self.rt, most);
     }
 }
 
-// Finishes a held number. If the next number was left with a text, that number is now held, and its text is returned.
+// Finishes a held number. If a text was left for the next number, that number is now held, and its text is returned.
 fn finish_held<T: Drop, R: Wait + Drop>(held: &mut Option<Held<T, R>>) -> Option<Vec<u8>> {
     let (next, text) = held.take()?.finish()?;
     *held = Some(next);
@@ -229,7 +229,7 @@ impl<W: Write + WriteDevice + Drop, R: Wait + Drop> HeldTurn<(), ()> for EndingW
     }
 }
 
-// Writes a text and flushes it. A fault breaks the queue.
+// Writes a text and flushes it. A fault breaks the queue (`Place::break_queue`).
 fn write_and_flush<W: Write + Drop, R: Wait + Drop>(held: &mut Held<W, R>, text: &[u8]) {
     let written = held.item.write_all(text);
     let flushed = held.item.flush();
@@ -238,7 +238,7 @@ fn write_and_flush<W: Write + Drop, R: Wait + Drop>(held: &mut Held<W, R>, text:
     }
 }
 
-// Ends the output if the queue was closed and this number is the last one issued.
+// Ends the output if the queue was closed and this number is the last that `issue_unless_closed` issued.
 fn end_if_last<W: WriteDevice + Drop, R: Wait + Drop>(held: &mut Held<W, R>) {
     if held.place.is_last() {
         held.item.end_out();
@@ -273,7 +273,7 @@ impl<W: Write + Drop, R: Wait + Drop> SequentialWriter<W, R> {
         self.turn.place.is_broken()
     }
 
-    // Breaks the queue if the inner writer met a fault.
+    // Breaks the queue (`Place::break_queue`) if the inner writer met a fault.
     fn note<T>(&self, outcome: &io::Result<T>) {
         if outcome.is_err() {
             self.turn.place.break_queue();
@@ -296,8 +296,8 @@ impl<W: Write + Drop, R: Wait + Drop> SequentialWriter<W, R> {
 
 impl<W: Write + WriteDevice + Drop, R: Wait + Drop> SequentialWriter<W, R> {
     /// Ends its turn with a text, which is written and flushed once the turn has come. Doesn't wait for any turn. After
-    /// the text of the last writer (`is_last`) `end_out` ends the output, even if the queue was closed only after this
-    /// call. It doesn't if the drop of an earlier `SequentialWriter` writes the text.
+    /// the text of the last writer (`is_last`) `end_out` ends the output, even if the queue was closed after this call,
+    /// but before the text is written. It doesn't if the drop of an earlier `SequentialWriter` writes the text.
     #[doc(hidden)]
     pub fn leave(self, text: Vec<u8>) {
         let Self { turn, failures: _ } = self;
@@ -311,8 +311,8 @@ impl<W: Write + WriteDevice + Drop, R: Wait + Drop> SequentialWriter<W, R> {
         }
     }
 
-    /// Ends its turn without a flush: the caller has flushed what it wrote. Doesn't wait for any turn. If this is the
-    /// last writer (`is_last`), `end_out` ends the output first.
+    /// Ends its turn without a flush: the caller must have flushed what it wrote. Doesn't wait for any turn. If this is
+    /// the last writer (`is_last`), `end_out` ends the output first.
     #[doc(hidden)]
     pub fn pass(self) {
         let Self { turn, failures: _ } = self;

@@ -240,7 +240,8 @@ impl<J: Job + Drop> Sharing<J> {
     }
 }
 
-// Runs jobs, beginning with this one; or returns the job if the thread for its worker couldn't be created.
+// Runs jobs, beginning with this one. If `is_refused` is set, since the thread for the worker couldn't be created,
+// returns the job instead.
 fn work_unless<J: Job + Drop, R: Wait + Clock + Drop>(
     rt: R,
     is_refused: Arc<AtomicBool>,

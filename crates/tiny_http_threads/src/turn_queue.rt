@@ -33,7 +33,7 @@ struct TurnQueueState<T> {
     turns: Turns<Box<T>>,
     // The last number that `issue_unless_closed` issued.
     last: Option<u64>,
-    // How many numbers were issued.
+    // How many numbers have been issued.
     issued: u64,
     // The counter of unfinished numbers, if one is set.
     open: Option<Arc<AtomicU64>>,
@@ -143,14 +143,14 @@ impl<T: Drop> TurnQueueState<T> {
         self.turns.first_unfinished() == number
     }
 
-    // Returns the number of unfinished numbers: those issued and not finished yet.
+    // Returns the count of unfinished numbers: those that have been issued and not yet finished.
     fn open(&self) -> u64
         ensures { result ≡ length self.now.turns.marks - first_unfinished self.now.turns.marks }
     {
         self.issued.saturating_sub(self.turns.first_unfinished())
     }
 
-    // Returns whether fewer than `most` numbers are unfinished, or whether none is if `most` is 0.
+    // Returns whether fewer than `most` numbers are unfinished, or, if `most` is 0, whether none is.
     fn has_room(&self, most: usize) -> bool
         ensures { IsTrue result ↔ (length self.now.turns.marks - first_unfinished self.now.turns.marks < max most 1) }
     {
@@ -164,7 +164,7 @@ impl<T: Drop> TurnQueueState<T> {
         }
     }
 
-    // Stores the number of unfinished numbers in this counter, now and whenever it changes.
+    // Stores the count of unfinished numbers in this counter, now and whenever it changes.
     fn set_open(&mut self, counter: Arc<AtomicU64>)
         ensures { self.new ≡ record self.old { counter = Some counter } }
     {
@@ -193,7 +193,8 @@ impl<T: Drop> TurnQueueState<T> {
         self.wants_room = true;
     }
 
-    // Returns whether a thread waits until a number is finished, and clears that mark: the caller wakes the thread.
+    // Returns whether a thread waits until a number is finished, and clears that mark: the caller must then wake the
+    // thread.
     fn gives_room(&mut self) -> bool
         ensures wanted { result ≡ self.old.wants_room }
         ensures room { self.new ≡ record self.old { wants_room = false } }
@@ -224,7 +225,7 @@ impl<T: Drop> TurnQueueState<T> {
         }
     }
 
-    // Leaves an open number with a text, or holds it if its turn has come, as `Turns` does.
+    // Leaves a text for an open number, or holds the number if its turn has come, as `Turns` does.
     fn leave(&mut self, number: u64, text: Vec<u8>) -> Leaving<Box<T>>
         ensures marks { self.new.turns.marks ≡ marks_after_step (Leave number text.items) self.old.turns.marks }
         ensures item { LeavesTurn (turn_answer (Leave number text.items) self.old.turns.marks) self.old.turns.resting
@@ -235,8 +236,8 @@ impl<T: Drop> TurnQueueState<T> {
         self.turns.leave(number, text)
     }
 
-    // Finishes a held number, as `Turns` does. If no number then holds the item, also returns the condition that wakes
-    // the thread of the next turn, whose number no longer waits.
+    // Finishes a held number, as `Turns` does. If no number then holds the item, and the thread of the next number
+    // waits, also removes that number from those that wait, and returns the condition that wakes its thread.
     fn finish(&mut self, number: u64, item: Box<T>) -> (Finishing<Box<T>>, Option<Arc<Condvar>>)
         ensures marks { self.new.turns.marks ≡ marks_after_step (Finish number) self.old.turns.marks }
         ensures item { Finishes (turn_answer (Finish number) self.old.turns.marks) item self.old.turns.resting
@@ -271,9 +272,9 @@ fn share<T: Drop>(
     Ok(Arc::new(alloc, queue)?)
 }
 
-/// An item that threads use one at a time, in the order of the numbers issued to them. A number may be left with a
-/// text: the thread that holds the item when the turn of that number comes writes the text. The item and the texts are
-/// moved out, so no I/O is done under the lock.
+/// An item that threads use one at a time, in the order of the numbers issued to them. A text may be left for a number:
+/// the thread that holds the item when the turn of that number comes writes the text. The item and the texts are moved
+/// out, so no I/O is done under the lock.
 #[derive(Drop)]
 pub(crate) struct TurnQueue<T> {
     state: Mutex<TurnQueueState<T>>,
@@ -283,17 +284,18 @@ pub(crate) struct TurnQueue<T> {
     is_closed: AtomicBool,
     // Whether the queue closes when its item breaks.
     closes_when_broken: AtomicBool,
-    // Whether the queue was closed because its item broke: what numbers do with the item from then on is lost.
+    // Whether `break_queue` closed the queue: its item has failed or was ended, and what is done with it from then on
+    // is lost.
     is_broken: AtomicBool,
 }
 
 impl<T: Drop> TurnQueue<T> {
-    /// Creates a queue of which no number is issued yet. Fails if memory is refused.
+    /// Creates a queue from which no number has been issued yet. Fails if memory is refused.
     pub fn new(alloc: Global, item: T) -> Result<Arc<TurnQueue<T>>, AllocError> {
         share(alloc, TurnQueueState::new(alloc, item)?)
     }
 
-    /// Issues the next number, and returns it with whether its turn has come. Fails if memory is refused, or no number
+    /// Issues the next number, and returns it, and whether its turn has come. Fails if memory is refused, or no number
     /// is left.
     pub fn issue<R: Wait>(&self, rt: &R) -> Result<(u64, bool), AllocError> {
         let mut state = self.state.lock(rt);
@@ -312,12 +314,12 @@ impl<T: Drop> TurnQueue<T> {
         Ok(Some((number, state.is_first(number))))
     }
 
-    /// Stores the number of issued and unfinished numbers in this counter, now and whenever it changes.
+    /// Stores the count of unfinished numbers in this counter, now and whenever it changes.
     pub fn set_open<R: Wait>(&self, rt: &R, open: Arc<AtomicU64>) {
         self.state.lock(rt).set_open(open);
     }
 
-    /// Waits until fewer than `most` numbers are unfinished, or until none is if `most` is 0.
+    /// Waits until fewer than `most` numbers are unfinished, or, if `most` is 0, until none is.
     pub fn wait_for_room<R: Wait>(&self, rt: &R, most: usize) {
         let mut state = self.state.lock(rt);
         for _ in rt.forever() {
@@ -339,7 +341,7 @@ impl<T: Drop> TurnQueue<T> {
         self.closes_when_broken.store(true, Ordering::SeqCst);
     }
 
-    /// Leaves a number with a text, which is written in the turn of the number. If that turn has come, holds the number
+    /// Leaves a text for a number; it is written in the turn of the number. If that turn has come, holds the number
     /// instead, and returns the item and the text. Doesn't wait for any turn.
     pub fn leave<R: Wait>(&self, rt: &R, number: u64, text: Vec<u8>) -> Option<(Box<T>, Vec<u8>)>
         ensures { IfSome result (λ held. held.1 ≡ text) }
@@ -351,7 +353,7 @@ impl<T: Drop> TurnQueue<T> {
         }
     }
 
-    /// Finishes a held number. If the next number was left with a text, that number is now held, and the same item and
+    /// Finishes a held number. If a text was left for the next number, that number is now held, and the same item and
     /// the text are returned. Otherwise wakes the thread that waits for the next turn, if there is one.
     pub fn finish<R: Wait>(&self, rt: &R, number: u64, item: Box<T>) -> Option<(Box<T>, Vec<u8>)>
         ensures { IfSome result (λ next. next.0 ≡ item) }
@@ -394,7 +396,7 @@ impl<T: Drop, R: Wait + Drop> Place<T, R> {
         self.queue.closes_when_broken.load(Ordering::SeqCst)
     }
 
-    /// Closes the queue because its item is broken, if `close_when_broken` was called.
+    /// Closes the queue because its item has failed or was ended, if `close_when_broken` was called.
     pub fn break_queue(&self) {
         if self.closes_when_broken() {
             self.queue.is_broken.store(true, Ordering::SeqCst);
@@ -402,7 +404,7 @@ impl<T: Drop, R: Wait + Drop> Place<T, R> {
         }
     }
 
-    /// Returns whether the queue was closed because its item is broken.
+    /// Returns whether `break_queue` closed the queue.
     pub fn is_broken(&self) -> bool {
         self.queue.is_broken.load(Ordering::SeqCst)
     }
@@ -520,7 +522,7 @@ impl<T: Drop, R: Wait + Drop> Turn<T, R> {
         }
     }
 
-    /// Leaves the number with this text. If its turn has come, holds the number instead, and returns it with the text.
+    /// Leaves this text for the number. If its turn has come, holds the number instead, and returns it with the text.
     /// Doesn't wait for any turn.
     pub fn leave(self, text: Vec<u8>) -> Option<(Held<T, R>, Vec<u8>)>
         ensures { IfSome result (λ held. held.1 ≡ text) }
@@ -567,7 +569,7 @@ impl<T: Drop, R: Wait + Drop> Held<T, R> {
         Ok(Arc::try_clone(&self.place.queue)?)
     }
 
-    /// Finishes the number. If the next number was left with a text, that number is now held, and is returned with the
+    /// Finishes the number. If a text was left for the next number, that number is now held, and is returned with the
     /// same item and the text.
     pub fn finish(self) -> Option<(Held<T, R>, Vec<u8>)>
         ensures { IfSome result (λ next. next.0.item ≡ self.item) }

@@ -11,7 +11,7 @@ BeginsWithValue [] = ⊤
 BeginsWithValue (None ∷ kept) = ⊥
 BeginsWithValue (Some value ∷ kept) = ⊤
 
--- the value under a number, if the number exists and has one
+-- the value of an entry, if there is an entry and it has a value
 abbrev pub value_of : {T : Type 0} → Option (Option T) → Option T
 value_of None = None
 value_of (Some value) = value

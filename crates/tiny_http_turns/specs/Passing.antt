@@ -29,7 +29,8 @@ abbrev pub FinishesOne : {T N O : Type 0} → FinishesNumber T N → Holds T N O
 FinishesOne finishes here left there =
     finishes here.turn here.numbers left there.turn there.numbers × (there.output ≡ here.output)
 
--- whether this text was written, then those that were left for the next n numbers
+-- whether this text was written, then those that were left for the next n numbers, each once the number before it was
+-- finished
 abbrev pub WritesTexts : {T N O : Type 0} → Writes T O → FinishesNumber T N → ℕ → Holds T N O → List ℕ → Holds T N O
     → Type 0
 WritesTexts writes finishes zero here text there = WritesText writes here text there
@@ -39,8 +40,9 @@ WritesTexts {T = T} {N = N} {O = O} writes finishes (suc n) here text there =
     × FinishesOne finishes held (Some left) next
     × WritesText writes next left.items there
 
--- A TURN IS PASSED ON with this text and the texts that waited directly after it, up to the first number without a
--- text. After 2^64 numbers the turn goes no further.
+-- A TURN IS PASSED ON: this text and the texts that were left for the numbers directly after it are written, and each
+-- number is finished after its text, up to the first number without a text. It also ends after 2^64 further numbers, of
+-- which the last is then still held.
 pub record PassesOn {T N O : Type 0} (writes : Writes T O) (finishes : FinishesNumber T N) (here : Holds T N O)
     (text : List ℕ) (there : Holds T N O) : Type 0 where
   pub passed : ℕ

@@ -85,7 +85,7 @@ pub data TurnAnswer : Type 0 where
   Passed : TurnAnswer
   -- the text waits for the number's turn
   Waits : TurnAnswer
-  -- the number, for which this text was left, is held now
+  -- this number is held now, and this text, given or left for it, comes out
   Goes : (number : ℕ) → (text : List ℕ) → TurnAnswer
   -- the number isn't in the right state, its turn hasn't come, or it was never issued; nothing has changed
   Strange : TurnAnswer
@@ -94,7 +94,7 @@ pub data TurnAnswer : Type 0 where
 abbrev pub TurnOutcome : Type 0
 TurnOutcome = TurnAnswer × List Mark
 
--- the outcome of `Take`: an open number is held if all numbers before it are finished
+-- the outcome of `Take`: an open number is held if all numbers before it are finished; otherwise the step is `Strange`
 abbrev pub take_at : Option Mark → ℕ → List Mark → TurnOutcome
 take_at None k marks = (Strange, marks)
 take_at (Some Open) k marks = if k == first_unfinished marks then (Taken, slice_set marks k Held) else (Strange, marks)
@@ -102,7 +102,7 @@ take_at (Some Held) k marks = (Strange, marks)
 take_at (Some (Left text)) k marks = (Strange, marks)
 take_at (Some Finished) k marks = (Strange, marks)
 
--- the outcome of `PutBack`: a held number is open again
+-- the outcome of `PutBack`: a held number is open again; for any other number the step is `Strange`
 abbrev pub put_back_at : Option Mark → ℕ → List Mark → TurnOutcome
 put_back_at None k marks = (Strange, marks)
 put_back_at (Some Open) k marks = (Strange, marks)
@@ -118,13 +118,15 @@ pass_to (Some Held) k marks = (Passed, marks)
 pass_to (Some (Left text)) k marks = (Goes k text, slice_set marks k Held)
 pass_to (Some Finished) k marks = (Passed, marks)
 
--- whether the returned text is the one that this step reports for number `at`
+-- whether the returned text is the one that this step reports for number `at`, or none was returned and it reports
+-- `Passed`
 abbrev pub ReportsPass : TurnAnswer → ℕ → Option (Vec ℕ) → Type 0
 ReportsPass (Goes number text) at (Some with) = (number ≡ at) × (with.items ≡ text)
 ReportsPass Passed at None = Unit {0}
 ReportsPass _ at result = ⊥
 
--- the outcome of `Finish`: a held number is finished, and the turn passes to the next number
+-- the outcome of `Finish`: a held number is finished, and the turn passes to the next number; for any other number the
+-- step is `Strange`
 abbrev pub finish_at : Option Mark → ℕ → List Mark → TurnOutcome
 finish_at None k marks = (Strange, marks)
 finish_at (Some Open) k marks = (Strange, marks)
@@ -132,7 +134,8 @@ finish_at (Some Held) k marks = pass_to (slice_get marks (suc k)) (suc k) (slice
 finish_at (Some (Left text)) k marks = (Strange, marks)
 finish_at (Some Finished) k marks = (Strange, marks)
 
--- the outcome of `Leave`: a text is left for an open number, or the number is held if its turn has come
+-- the outcome of `Leave`: a text is left for an open number, or the number is held if its turn has come; for any other
+-- number the step is `Strange`
 abbrev pub leave_at : Option Mark → ℕ → List ℕ → List Mark → TurnOutcome
 leave_at None k text marks = (Strange, marks)
 leave_at (Some Open) k text marks =

@@ -26,21 +26,22 @@ module _ {T : Type 0} where
   PutsBack Strange item old (Err back) new = (back ≡ item) × (new ≡ old)
   PutsBack _ item old result new = ⊥
 
-  -- whether `finish` stored the item, returned it with the text left for the next number, or returned it alone
+  -- whether `finish`, as the step reports, stored the item, returned it with the text left for the next number, or
+  -- returned it alone
   abbrev pub Finishes : TurnAnswer → T → Option T → Finishing T → Option T → Type 0
   Finishes Passed item old IsPassed new = new ≡ Some item
   Finishes (Goes number text) item old (FinishGo on with) new = (on ≡ item) × (with.items ≡ text) × (new ≡ None)
   Finishes Strange item old (FinishStrange back) new = (back ≡ item) × (new ≡ old)
   Finishes _ item old result new = ⊥
 
-  -- whether `leave` kept the text, returned it with the item if the turn has come, or returned it alone
+  -- whether `leave`, as the step reports, kept the text, returned it with the item, or returned it alone
   abbrev pub LeavesTurn : TurnAnswer → Option T → Leaving T → Option T → Type 0
   LeavesTurn Waits old IsLeft new = new ≡ old
   LeavesTurn (Goes number text) old (LeaveGo item back) new = (old ≡ Some item) × (back.items ≡ text) × (new ≡ None)
   LeavesTurn Strange old (LeaveStrange back) new = new ≡ old
   LeavesTurn _ old result new = ⊥
 
-  -- whether a returned text is the one that was given
+  -- whether the text that `leave` returned, if it did, is the one that it was given
   abbrev pub GivesBack : Leaving T → Vec ℕ → Type 0
   GivesBack IsLeft given = Unit {0}
   GivesBack (LeaveGo item back) given = back ≡ given

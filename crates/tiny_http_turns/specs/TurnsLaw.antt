@@ -71,7 +71,7 @@ texts_left n [] marks = []
 texts_left n (step ∷ steps) marks =
     text_left n step (turn_answer step marks) ++ texts_left n steps (marks_after_step step marks)
 
--- the text that waits at a mark, if one does
+-- the text that waits for a number with this mark, if one does
 abbrev pub text_waiting : Option Mark → List (List ℕ)
 text_waiting None = []
 text_waiting (Some Open) = []

@@ -15,7 +15,7 @@ use std::mem;
 /// entry for each number.
 #[derive(Drop)]
 pub struct ByNumber<T> {
-    // The entries from `passed` on. The first one has a value.
+    // The entries from `passed` on. The first one, if there is one, has a value.
     kept: VecDeque<Option<T>>,
     // No number below this one has a value.
     passed: u64,
@@ -64,7 +64,7 @@ impl<T: Drop> ByNumber<T> {
     }
 
     /// Adds an entry under the next number. Fails with `Exhausted` if there are 2^64 - 1 numbers, and only then; with
-    /// `Memory` if memory is refused. A call that fails changes nothing.
+    /// `Memory` if memory is refused. A call that fails drops the value and changes nothing else.
     #[inline(always)]
     pub fn push(&mut self, value: Option<T>) -> Result<(), TurnsError>
         ensures ok { OnOk result (self.new ≡ self.old ++ (value ∷ [])) }
@@ -95,8 +95,8 @@ impl<T: Drop> ByNumber<T> {
         Some(None)
     }
 
-    /// Replaces the value under a number and returns the old value. If the number has no value, it returns `None`,
-    /// nothing changes, and the new value is dropped.
+    /// Replaces the value under a number with `value`, or removes it if `value` is `None`, and returns the old value.
+    /// If the number has no value, it returns `None`, nothing changes, and the new value is dropped.
     #[inline(always)]
     pub fn replace(&mut self, number: u64, value: Option<T>) -> Option<T>
         ensures some { IfSome result (λ was. (slice_get self.old number ≡ Some (Some was))
@@ -110,7 +110,8 @@ impl<T: Drop> ByNumber<T> {
     }
 }
 
-// Replaces the value at this index and returns the old value. If there is none, it returns `None` and nothing changes.
+// Replaces the value at this index with `value`, or removes it if `value` is `None`, and returns the old value. If
+// there is no value at this index, it returns `None` and nothing changes.
 #[inline(always)]
 fn exchange<T: Drop>(kept: &mut VecDeque<Option<T>>, at: usize, value: Option<T>) -> Option<T>
     ensures some { IfSome result (λ was. (slice_get kept.old.items at ≡ Some (Some was))

@@ -1,16 +1,18 @@
-//! Passing a turn on: the text of the held number is written before that number is finished, then the texts that wait
-//! directly after it, in order.
+//! Passing a turn on: the text of a held number is written and the number is finished, and then the same is done for
+//! each number directly after it for which a text was left.
 ghost use Rattle.std.specs.Prelude.{ℕ, List, Option};
 ghost use Rattle.std.specs.Global.{Vec as Bytes};
 ghost use Rattle.tiny_http_turns.specs.Passing.{holds, PassesOn};
 
 /// A held number in whose turn texts are written. `N` keeps the numbers, and `O` is the output; calls borrow both.
 pub trait HeldTurn<N, O> {
-    /// Whether this text was written in the turn.
+    /// The effect of writing a text in the turn, as a relation between the turn and the output before it and those
+    /// after it.
     ghost writes: { Self → O → List ℕ → Self → O → Type 0 };
 
-    /// Whether the number was finished. If a text was left for the next number, that number is held now, and this is
-    /// the text.
+    /// The effect of finishing the number, as a relation between the turn and the numbers before it, the text that was
+    /// left for the next number, if one was, and the turn and the numbers after it. With such a text the next number is
+    /// held now.
     ghost finishes: { Self → N → Option (Bytes ℕ) → Self → N → Type 0 };
 
     /// Writes a text in the turn. Faults are not reported.
@@ -23,7 +25,7 @@ pub trait HeldTurn<N, O> {
 }
 
 /// Writes the text of a held number and finishes that number, then does the same for each number directly after it for
-/// which a text was left. It allocates nothing. It stops after 2^64 numbers.
+/// which a text was left. It allocates nothing itself. It stops once it has written the texts of 2^64 further numbers.
 pub fn pass_on<N, O, T: HeldTurn<N, O>>(
     turn: &mut T,
     numbers: &mut N,

@@ -11,24 +11,24 @@ use std::marker::Model;
 use std::mem;
 use thiserror::Error;
 
-/// The reason why no number is issued.
+/// The reason why no number was issued.
 #[derive(Clone, Copy, Debug, PartialEq, Eq, Error)]
 pub enum TurnsError {
     /// Memory for the number's entry was refused.
     #[error("out of memory")]
     Memory,
-    /// 2^64 - 1 numbers were issued.
+    /// 2^64 - 1 numbers have been issued.
     #[error("no number is left")]
     Exhausted,
 }
 
-/// The result of finishing a turn.
+/// The result of finishing a number.
 #[derive(Drop)]
 pub enum Finishing<T> {
     /// The number is finished. The item is stored until the next number takes it.
     Passed,
-    /// The number is finished, and the next number, for which a text was left, is held. The caller writes the text with
-    /// the item before it finishes that next number.
+    /// The number is finished, and the next number, for which this text was left, is held. The caller must write the
+    /// text with the item before it finishes that next number.
     Go(T, Vec<u8>),
     /// The number isn't held. The item is returned, and nothing has changed.
     Strange(T),
@@ -39,8 +39,8 @@ pub enum Finishing<T> {
 pub enum Leaving<T> {
     /// The text waits for the number's turn. The call that finishes the previous number returns it.
     Left,
-    /// The number's turn has come, and the number is held. The caller writes the text with the item before it finishes
-    /// the number.
+    /// The number's turn has come, and the number is held. The caller must write the text with the item before it
+    /// finishes the number.
     Go(T, Vec<u8>),
     /// The number isn't open. The text is returned, and nothing has changed.
     Strange(Vec<u8>),
@@ -86,7 +86,7 @@ impl<T: Drop> Turns<T> {
     ghost use Rattle.tiny_http_turns.specs.Turns.{IsInOrder};
     ghost use Rattle.tiny_http_turns.specs.TurnsCalls.{new_turns, TakesTurn, PutsBack, Finishes, LeavesTurn, GivesBack};
 
-    /// Stores the item. No number is issued yet.
+    /// Stores the item. No number has been issued yet.
     pub fn new(alloc: Global, item: T) -> Turns<T>
         ensures in_order { IsInOrder result }
         ensures new { result ≡ new_turns item }
@@ -98,8 +98,8 @@ impl<T: Drop> Turns<T> {
         }
     }
 
-    /// Issues the next number, starting from 0. Fails with `Exhausted` if 2^64 - 1 numbers were issued, and only then;
-    /// with `Memory` if memory for the entry is refused. A call that fails changes nothing.
+    /// Issues the next number, starting from 0. Fails with `Exhausted` if 2^64 - 1 numbers have been issued, and only
+    /// then; with `Memory` if memory for the entry is refused. A call that fails changes nothing.
     pub fn issue(&mut self) -> Result<u64, TurnsError>
         ensures in_order { IsInOrder self.new }
         ensures number { IfOk result (λ n. turn_answer Issue self.old.marks ≡ Issued n) }
@@ -210,7 +210,7 @@ impl<T: Drop> Turns<T> {
         }
     }
 
-    /// Returns the item, or `None` while a number holds it.
+    /// Returns the item, or `None` if a number holds it.
     pub fn into_item(self) -> Option<T>
         ensures { result ≡ self.resting }
     {
@@ -246,7 +246,7 @@ fn set_entry(entries: &mut VecDeque<Entry>, at: usize, entry: Entry)
     }
 }
 
-// Holds the first unfinished number and returns the text that was left for it, if there is one.
+// If a text was left for the first unfinished number, holds that number and returns the text.
 fn hold_left(entries: &mut VecDeque<Entry>) -> Option<Vec<u8>>
     ensures marks { let old = map mark_of entries.old.items in
         map mark_of entries.new.items ≡ (pass_to (slice_get old 0) 0 old).1 }

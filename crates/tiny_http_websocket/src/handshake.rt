@@ -23,12 +23,12 @@ use websocket::handshake::server::accept_key;
 pub enum Handshake<R: ReadDevice + Drop, W: WriteDevice + Drop, Rt: Wait + Drop> {
     /// The connection is a WebSocket now. The stream reads and writes the frames of the WebSocket.
     Accepted(CustomStream<Body<R, Rt>, SequentialWriter<Outlet<W>, Rt>>),
-    /// The request doesn't ask for a WebSocket, its body isn't whole, or the limit of upgraded connections is reached.
-    /// The request can be answered, as with the response of `refusal`.
+    /// The request doesn't ask for a WebSocket, its body isn't whole (which only `Standard` requires), or the limit of
+    /// upgraded connections is reached. The request can be answered, as with the response of `refusal`.
     Refused(RefusedUpgrade<R, W, Rt>),
 }
 
-// Returns the number of headers with this name.
+// Returns how many headers have this name.
 fn count_named(headers: &[Header], name: &str) -> usize
     ensures { result ≡ count_by (has_name name.now) headers.now }
 {
@@ -40,7 +40,7 @@ fn count_named(headers: &[Header], name: &str) -> usize
 
 /// Returns the key that accepts a request for a WebSocket, which is the value of `Sec-WebSocket-Accept` (RFC 6455,
 /// section 4.2.2), or `None` for any other request. A request for a WebSocket is a `GET` in version 1.1 that asks for
-/// an upgrade to `websocket` (`Request::is_upgrade`, and the list of its `Upgrade` headers), whose
+/// an upgrade to `websocket` (`Request::is_upgrade`, and the list of its `Upgrade` headers), whose first
 /// `Sec-WebSocket-Version` is 13, and which has exactly one `Sec-WebSocket-Key`, a valid one (RFC 6455, sections 4.2.1
 /// and 11.3.1).
 pub fn accepting_key<R: ReadDevice + Drop, W: WriteDevice + Drop, Rt: Wait + Drop>(
@@ -65,8 +65,8 @@ pub fn accepting_key<R: ReadDevice + Drop, W: WriteDevice + Drop, Rt: Wait + Dro
 }
 
 /// Upgrades a request for a WebSocket: sends the 101, dated `now`, in the request's turn. Returns `Refused`, with the
-/// request, if the request isn't for a WebSocket, its body isn't whole, or the limit of upgraded connections is
-/// reached. Fails if memory is refused; then the request is dropped.
+/// request, if the request isn't for a WebSocket, its body isn't whole (which only `Standard` requires), or the limit
+/// of upgraded connections is reached. Fails if memory is refused; then the request is dropped.
 pub fn accept<R: ReadDevice + Drop, W: WriteDevice + Drop, Rt: Wait + Drop>(
     alloc: Global,
     request: Request<R, W, Rt>,
@@ -87,8 +87,9 @@ pub fn accept<R: ReadDevice + Drop, W: WriteDevice + Drop, Rt: Wait + Drop>(
     }
 }
 
-/// Returns the response to a refused request: a 503 with its reason phrase as text if the limit of upgraded connections
-/// is reached, otherwise the response of `upgrade_required`. Fails if memory is refused.
+/// Returns the response to a request whose handshake was refused with this error: a 503 with its reason phrase as text
+/// if the limit of upgraded connections is reached, otherwise the response of `upgrade_required`. Fails if memory is
+/// refused.
 pub fn refusal(alloc: Global, error: UpgradeError) -> io::Result<Response<Cursor<Vec<u8>>>>
     ensures full { error ≡ UpgradeError.TooMany → IfOk result (λ r. r.answer.status ≡ 503) }
     ensures other { error ≢ UpgradeError.TooMany → IfOk result (λ r. r.answer.status ≡ 426) }

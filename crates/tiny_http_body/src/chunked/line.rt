@@ -11,7 +11,7 @@ use crate::chunked::{ChunkRules, LONGEST_LINE};
 use std::io::ErrorKind;
 use tiny_http_io::device::ReadDevice;
 
-/// The meaning of the bytes of a line: a chunk size and, by the standard, a field line.
+/// The meaning of the bytes of a line: the states of a chunk size and, under `Standard`, of a field line.
 #[derive(Clone, Copy, Drop)]
 pub(crate) struct Said {
     pub(crate) size: Size,
@@ -37,7 +37,7 @@ impl Said {
         }
     }
 
-    /// Returns whether a nonempty line is a trailer line.
+    /// Returns whether a nonempty line with this meaning may be a trailer line.
     pub(crate) fn is_trailer(self, rules: ChunkRules) -> bool
         ensures { result ≡ is_trailer_said rules self }
     {
@@ -111,7 +111,7 @@ pub(crate) fn next_byte<R: ReadDevice>(reader: &mut R) -> Result<u8, ErrorKind>
     }
 }
 
-// Returns whether a byte that doesn't end the line is malformed: by the standard, an LF is.
+// Returns whether a byte that doesn't end the line is malformed: under `Standard`, an LF is.
 fn breaks_line(rules: ChunkRules, b: u8) -> bool
     ensures { result ≡ breaks_line rules b }
 {
@@ -121,9 +121,9 @@ fn breaks_line(rules: ChunkRules, b: u8) -> bool
     }
 }
 
-/// Consumes the next line, of at most `LONGEST_LINE` bytes, and its CR LF. Fails with `InvalidData` once `LONGEST_LINE`
-/// + 2 bytes came without a CR LF, and as `next_byte` does if the reader stops before. By the standard it also fails
-/// with `InvalidData` as soon as an LF without a CR before it is read.
+/// Consumes the next line, of at most `LONGEST_LINE` bytes, and its CR LF. Fails with `InvalidData` once two bytes more
+/// than `LONGEST_LINE` came without a CR LF, and as `next_byte` does if the reader stops before. Under `Standard` it
+/// also fails with `InvalidData` as soon as an LF without a CR before it is read.
 pub(crate) fn next_line<R: ReadDevice>(
     reader: &mut R,
     rules: ChunkRules,

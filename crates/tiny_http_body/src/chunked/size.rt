@@ -11,17 +11,17 @@ use httparse::is_header_value_token;
 pub(crate) enum Size {
     /// Only blanks: bytes 9 and 32.
     Blank,
-    /// Blanks, then digits: the value and the number of the digits.
+    /// Perhaps blanks, then digits: their value, and how many there are.
     Digits(u64, u8),
-    /// Blanks, digits with this value, and blanks.
+    /// Perhaps blanks, then digits with this value, then blanks.
     Behind(u64),
-    /// Blanks, digits with this value, perhaps blanks, and then a `;` and any bytes.
+    /// Perhaps blanks, then digits with this value, perhaps blanks, and then a `;` and any bytes.
     Extension(u64),
     /// Not a chunk size, whatever follows.
     Wrong,
 }
 
-// Returns the value of a hexadecimal digit of either case.
+// Returns the value of a hexadecimal digit of either case, or `None` for any other byte.
 fn hex(b: u8) -> Option<u64>
     ensures is { result ≡ hex_of b }
     ensures digit { IfSome result (λ digit. digit < 16) }
@@ -86,7 +86,7 @@ impl Size {
         }
     }
 
-    // Returns whether the standard allows the byte here: no blank before the digits, and no control byte except tab.
+    // Returns whether `Standard` allows the byte here: no blank before the digits, and no control byte except tab.
     fn may_be_followed_by(self, b: u8) -> bool
         ensures { result ≡ may_follow self b }
     {
@@ -98,7 +98,7 @@ impl Size {
         }
     }
 
-    /// Returns the state after one more byte, by the standard.
+    /// Returns the state after one more byte, under `Standard`.
     pub(crate) fn then_by_standard(self, b: u8) -> Size
         requires { SizeFits self }
         ensures is { result ≡ standard_step self b }
@@ -111,7 +111,7 @@ impl Size {
         }
     }
 
-    /// Returns the chunk size that the line gives if it ends here.
+    /// Returns the chunk size that the line gives if it ends here, or `None` if it gives none.
     pub(crate) fn value(self) -> Option<u64>
         ensures { result ≡ size_value self }
     {
