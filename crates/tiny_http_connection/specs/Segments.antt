@@ -50,8 +50,8 @@ drop_response = response_of 500 [] []
 abbrev pub continue_response : ResponseValue
 continue_response = response_of 100 [] []
 
--- The printing of a response to a request: in the request's version, in the coding that its headers ask for, and
--- without a body for HEAD. Under Standard the response says whether the connection closes (`closes`).
+-- The printing of a response to a request: for the request's version, in the coding that its headers ask for, and
+-- without a body for HEAD. Under Standard, if `closes` holds, the response says that the connection closes.
 abbrev pub to_request : Bool → Request → HttpDate → Printing
 to_request closes r date =
     printing_to (coding_for r.framing.by_standard r.message.headers) r.message.version

@@ -239,8 +239,8 @@ impl<R: ReadDevice, W: WriteDevice> Connection<R, W> {
     }
 
     /// Returns why no further request is handed out, or `None` if that isn't known yet. It is known once an `ask` has
-    /// returned `Ended` or `Memory`, once a response made with `with_close` was sent, and, under `Standard`, once a
-    /// request that was answered, dropped, upgraded or gave its raw writer has ended the requests as `ask` describes.
+    /// returned `Ended` or `Memory`, once a response made with `with_close` has been sent, and, under `Standard`, once
+    /// a request that was answered, dropped, upgraded or gave its raw writer has ended the requests as `ask` describes.
     /// After the connection's last head it may be `None` until the next `ask`.
     pub fn end_of_requests(&self) -> Option<EndOfRequests>
         ensures { result ≡ self.now.end }
@@ -431,7 +431,7 @@ impl<R: ReadDevice, W: WriteDevice> Connection<R, W> {
     ///
     /// Under `Standard` the response says `Connection: close` if the request is the last according to its head, its 100
     /// is owed, more than 65,536 bytes of a body with a `Content-Length` weren't given out, or the end of its body
-    /// isn't known. It doesn't depend on what a later `ask` finds.
+    /// isn't known. This doesn't depend on what a later `ask` finds.
     ///
     /// After a response that was made with `with_close` no further head is read: a later `ask` is `Ended`. Under
     /// `Standard` the response to the last number issued so far says `Connection: close`: this response, or that to a

@@ -192,9 +192,9 @@ pub fn the_end_has_a_reason()
 ///
 /// The client reads the response to a refused head as one to a GET, except that under `Lenient` and `Strict` it reads
 /// the 505 to a HEAD as one to a HEAD. It reads the version, which under `Standard` is 1.1, the status, the headers as
-/// they are printed (with `Server`, `Date`, under `Standard` `Connection` and `Upgrade`, and the header that frames the
-/// body), and the body that is sent. It skips a 100 before the response. After the last response nothing remains, or an
-/// unfinished prefix of the next number's text.
+/// they are printed (with `Server`, `Date` and the header that frames the body, and under `Standard` with `Connection`
+/// and `Upgrade` if they are needed), and the body that is sent. It skips a 100 before the response. After the last
+/// response nothing remains, or an unfinished prefix of the next number's text.
 pub fn conversation_is_read()
     // However the writer failed, all that was sent and is held is the responses of the first numbers, then what
     // remains.
